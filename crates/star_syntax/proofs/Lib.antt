@@ -1,0 +1,5 @@
+mod Cuts
+mod Layouts
+mod Order
+mod Parts
+mod Signs
