@@ -1,0 +1,11 @@
+pub mod Arithmetic
+pub mod Equal
+pub mod Key
+pub mod Names
+pub mod Order
+pub mod Range
+pub mod Spend
+pub mod Store
+pub mod Text
+pub mod Truth
+pub mod Write

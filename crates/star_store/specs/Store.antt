@@ -1,0 +1,119 @@
+-- The stores: the cells that a running module has made, those of the published modules, and what a value leads to.
+use Rattle.std.specs.Prelude.{ℕ, zero, suc, ◌+◌, ◌-◌, nat_eq, Bool, true, false, List, [], ◌∷◌, ◌++◌, Option, Some, None, length, replicate, slice_get, slice_set, if◌then◌else◌}
+use Rattle.std.specs.Option.{option_map}
+use Rattle.std.specs.Cmp.Lexicographic.{pointwise}
+use Rattle.star_store.specs.declared.values.Value.{Value}
+use Rattle.star_store.specs.declared.values.Value.TheVariants as value
+use Rattle.star_store.specs.declared.values.Cell.{Cell}
+use Rattle.star_store.specs.declared.values.Cell.TheVariants as cell
+use Rattle.star_store.specs.declared.values.Counted.{Counted}
+
+-- a module's file, and the cells that it has made, in order
+pub record Store : Type 0 where
+  pub home : ℕ
+  pub cells : List Counted
+
+-- a published module: its cells, and its globals by name, which nothing changes any more
+pub record Published : Type 0 where
+  pub cells : List Counted
+  pub globals : List (List ℕ × Value)
+
+-- the published modules that a running one reaches, each at the place of its file's number
+abbrev pub Shelf : Type 0
+Shelf = List (Option Published)
+
+-- the cells of a place of the shelf
+abbrev pub published_cells : Option (Option Published) → List Counted
+published_cells None = []
+published_cells (Some None) = []
+published_cells (Some (Some p)) = p.cells
+
+-- the cells of a file: the running module's own, or those of a published one
+abbrev pub cells_of : Store → Shelf → ℕ → List Counted
+cells_of s shelf home = if nat_eq home s.home then s.cells else published_cells (slice_get shelf home)
+
+-- the cell that a value leads to, with its open iterations
+abbrev pub counted_at : Store → Shelf → Value → Option Counted
+counted_at s shelf (value.Ref home at) = slice_get (cells_of s shelf home) at
+counted_at s shelf _ = None
+
+-- the cell that a value leads to
+abbrev pub look : Store → Shelf → Value → Option Cell
+look s shelf v = option_map (λ e. e.cell) (counted_at s shelf v)
+
+-- the value that leads to the next new cell
+abbrev pub next_value : Store → Value
+next_value s = value.Ref s.home (length s.cells)
+
+-- a new cell is the last, with no iteration open
+abbrev pub made : Cell → Store → Store
+made c s = record s { cells = s.cells ++ record { iterations = 0; cell = c } ∷ [] }
+
+-- the cells with one of them changed
+abbrev pub changed_at : (Counted → Counted) → List Counted → ℕ → List Counted
+changed_at f [] at = []
+changed_at f (e ∷ es) zero = f e ∷ es
+changed_at f (e ∷ es) (suc at) = e ∷ changed_at f es at
+
+-- the store with a cell of its own changed; another value's cell is left as it is
+abbrev pub changed : (Counted → Counted) → Value → Store → Store
+changed f (value.Ref home at) s = if nat_eq home s.home then record s { cells = changed_at f s.cells at } else s
+changed f _ s = s
+
+-- a frame with a value in one slot
+abbrev pub bound_cell : ℕ → Value → Cell → Cell
+bound_cell slot v (cell.Frame f) = cell.Frame (record f { slots = slice_set f.slots slot (Some v) })
+bound_cell slot v c = c
+
+-- gives a slot of a frame a value
+abbrev pub bound : Value → ℕ → Value → Store → Store
+bound frame slot v s = changed (λ e. record e { cell = bound_cell slot v e.cell }) frame s
+
+-- whether a cell is a list or a dictionary
+abbrev pub is_container : Cell → Bool
+is_container (cell.List xs) = true
+is_container (cell.Dict es) = true
+is_container _ = false
+
+-- one iteration more is open, where the cell is a list or a dictionary
+abbrev pub opened_in : Counted → Counted
+opened_in e = if is_container e.cell then record e { iterations = e.iterations + 1 } else e
+
+-- one less
+abbrev pub closed_in : Counted → Counted
+closed_in e = if is_container e.cell then record e { iterations = e.iterations - 1 } else e
+
+-- opens an iteration of a list or dictionary of the module's own
+abbrev pub opened : Value → Store → Store
+opened v s = changed opened_in v s
+
+-- closes one
+abbrev pub closed : Value → Store → Store
+closed v s = changed closed_in v s
+
+-- the iterations that are open on a list or a dictionary
+abbrev pub iterations_in : Option Counted → ℕ
+iterations_in None = 0
+iterations_in (Some e) = if is_container e.cell then e.iterations else 0
+
+-- the iterations that are open on a list or dictionary of the module's own
+abbrev pub iterations_of : Store → Value → ℕ
+iterations_of s (value.Ref home at) = if nat_eq home s.home then iterations_in (slice_get s.cells at) else 0
+iterations_of s _ = 0
+
+-- the shelf with places up to so many, with nothing at those that it did not have
+abbrev pub widened : ℕ → Shelf → Shelf
+widened n shelf = shelf ++ replicate (n - length shelf) None
+
+abbrev pub is_taken : Option (Option Published) → Bool
+is_taken (Some (Some p)) = true
+is_taken _ = false
+
+-- puts a published module on the shelf, at the place of its file; a module that stands there stays
+abbrev pub put_up : ℕ → Published → Shelf → Shelf
+put_up home p shelf = if is_taken (slice_get shelf home) then shelf else slice_set (widened (home + 1) shelf) home (Some p)
+
+-- the value of the first global with a name
+abbrev pub global_of : List ℕ → List (List ℕ × Value) → Option Value
+global_of name [] = None
+global_of name (g ∷ gs) = if pointwise nat_eq g.0 name then Some g.1 else global_of name gs

@@ -1,0 +1,177 @@
+-- The texts of values, over stores that do not change, by the levels and the steps that are left.
+use Rattle.std.specs.Prelude.{◌≡◌, ℕ, zero, suc, ◌+◌, ◌/◌, ◌%◌, nat_lt, nat_eq, Bool, false, ◌&&◌, ◌||◌, List, [], ◌∷◌, ◌++◌, length, slice_get, Option, Some, None, Result, Ok, Err, if◌then◌else◌, pos, codes}
+use Rattle.std.specs.List.{list_any, flat_map}
+use Rattle.std.specs.Fmt.{signed_decimal}
+use Rattle.std.specs.Ordering.{int_eq}
+use Rattle.star_store.specs.declared.values.Value.{Value}
+use Rattle.star_store.specs.declared.values.Value.TheVariants as value
+use Rattle.star_store.specs.declared.values.Cell.{Cell}
+use Rattle.star_store.specs.declared.values.Cell.TheVariants as cell
+use Rattle.star_store.specs.declared.range.Range.{Range}
+use Rattle.star_store.specs.declared.names.Method.{Method}
+use Rattle.star_store.specs.declared.fault.StoreFault.{StoreFault}
+use Rattle.star_store.specs.declared.fault.StoreFault.TheVariants.{Deep, Memory}
+use Rattle.star_store.specs.Names.{built_in_name, method_name, receiver_type}
+use Rattle.star_store.specs.Spend.{Spend, Spent, Enough, Lacks, answer, spend_then, visited}
+
+-- a lower-case hexadecimal digit
+abbrev pub hex_digit : ℕ → ℕ
+hex_digit n = if nat_lt n 10 then 48 + n else 87 + n
+
+-- a byte of a string, as its text shows it
+abbrev pub shown_byte : ℕ → List ℕ
+shown_byte b =
+    if nat_eq b 34 || nat_eq b 92 then 92 ∷ b ∷ []
+    else (if nat_eq b 10 then codes "\\n"
+    else (if nat_eq b 13 then codes "\\r"
+    else (if nat_eq b 9 then codes "\\t"
+    else (if nat_lt b 32 || nat_eq b 127 then codes "\\x" ++ hex_digit (b / 16) ∷ hex_digit (b % 16) ∷ []
+    else b ∷ []))))
+
+-- a string in quotes
+abbrev pub quoted : List ℕ → List ℕ
+quoted t = codes "\"" ++ flat_map shown_byte t ++ codes "\""
+
+-- pieces put behind what stands there already, in order
+abbrev pub behind : List ℕ → List (List ℕ) → List ℕ
+behind out [] = out
+behind out (t ∷ ts) = behind (out ++ t) ts
+
+-- stop alone, or start and stop, or start, stop and step
+abbrev pub bounds_parts : Range → List (List ℕ)
+bounds_parts r =
+    if int_eq r.step (pos 1) then
+    (if int_eq r.start (pos 0) then signed_decimal r.stop ∷ []
+    else signed_decimal r.start ∷ codes ", " ∷ signed_decimal r.stop ∷ [])
+    else signed_decimal r.start ∷ codes ", " ∷ signed_decimal r.stop ∷ codes ", " ∷ signed_decimal r.step ∷ []
+
+-- range(stop), range(start, stop) or range(start, stop, step)
+abbrev pub range_behind : List ℕ → Range → List ℕ
+range_behind out r = behind (out ++ codes "range(") (bounds_parts r) ++ codes ")"
+
+abbrev pub function_parts : List ℕ → List (List ℕ)
+function_parts name = codes "<function " ∷ name ∷ codes ">" ∷ []
+
+abbrev pub built_in_parts : List ℕ → List (List ℕ)
+built_in_parts name = codes "<built-in function " ∷ name ∷ codes ">" ∷ []
+
+abbrev pub method_parts : Method → List (List ℕ)
+method_parts m = codes "<built-in method " ∷ method_name m ∷ codes " of " ∷ receiver_type m ∷ codes " value>" ∷ []
+
+abbrev pub bool_text : Bool → List ℕ
+bool_text b = if b then codes "True" else codes "False"
+
+-- a text that is put behind what stands there already
+abbrev pub Say : Type 0
+Say = List ℕ → Spend (List ℕ)
+
+-- these bytes, for nothing
+abbrev pub say : List ℕ → Say
+say t = λ out. answer (out ++ t)
+
+-- these pieces, for nothing
+abbrev pub say_parts : List (List ℕ) → Say
+say_parts ts = λ out. answer (behind out ts)
+
+-- one text and then another
+abbrev pub then_say : Say → Say → Say
+then_say a b = λ out left. spend_then (a out left) b
+
+-- the texts of so many places, from the i-th on
+abbrev pub all_said : (ℕ → Say) → ℕ → ℕ → Say
+all_said f zero i = λ out. answer out
+all_said f (suc n) i = then_say (f i) (all_said f n (i + 1))
+
+-- a comma and a space stand before each item but the first
+abbrev pub separator : ℕ → List ℕ
+separator i = if nat_eq i 0 then [] else codes ", "
+
+abbrev pub say_item : (Value → Say) → Option Value → Say
+say_item f (Some x) = f x
+say_item f None = say []
+
+-- the item at a place
+abbrev pub say_place : (Value → Say) → List Value → ℕ → Say
+say_place f xs i = then_say (say (separator i)) (say_item f (slice_get xs i))
+
+-- items, with commas
+abbrev pub say_items : (Value → Say) → List Value → Say
+say_items f xs = all_said (say_place f xs) (length xs) 0
+
+-- a key, a colon and a value
+abbrev pub say_pair : (Value → Say) → Option (Value × Value) → Say
+say_pair f (Some e) = then_say (f e.0) (then_say (say (codes ": ")) (f e.1))
+say_pair f None = say []
+
+-- the entry at a place
+abbrev pub say_entry : (Value → Say) → List (Value × Value) → ℕ → Say
+say_entry f es i = then_say (say (separator i)) (say_pair f (slice_get es i))
+
+-- entries, with commas
+abbrev pub say_entries : (Value → Say) → List (Value × Value) → Say
+say_entries f es = all_said (say_entry f es) (length es) 0
+
+-- a tuple of one item has a comma behind it
+abbrev pub tuple_end : List Value → List ℕ
+tuple_end xs = if nat_eq (length xs) 1 then codes ",)" else codes ")"
+
+-- whether a value's cell is on the path
+abbrev pub same_address : Value → Value → Bool
+same_address (value.Ref h a) (value.Ref k b) = nat_eq h k && nat_eq a b
+same_address _ _ = false
+
+abbrev pub on_path : Value → List Value → Bool
+on_path v path = list_any (same_address v) path
+
+abbrev pub say_tuple : (Value → Say) → List Value → Say
+say_tuple f xs = then_say (say (codes "(")) (then_say (say_items f xs) (say (tuple_end xs)))
+
+abbrev pub say_new_list : (Value → Say) → List Value → Say
+say_new_list f xs = then_say (say (codes "[")) (then_say (say_items f xs) (say (codes "]")))
+
+abbrev pub say_new_dict : (Value → Say) → List (Value × Value) → Say
+say_new_dict f es = then_say (say (codes "{")) (then_say (say_entries f es) (say (codes "}")))
+
+-- a list that stands on its own path is not said again
+abbrev pub say_list : (List Value → Value → Say) → List Value → Value → List Value → Say
+say_list f path v xs = λ out left. if on_path v path then say (codes "[...]") out left else say_new_list (f (path ++ v ∷ [])) xs out left
+
+-- nor is a dictionary
+abbrev pub say_dict : (List Value → Value → Say) → List Value → Value → List (Value × Value) → Say
+say_dict f path v es = λ out left. if on_path v path then say (codes "{...}") out left else say_new_dict (f (path ++ v ∷ [])) es out left
+
+-- what a value leads to; a frame is no value of the language and says nothing
+abbrev pub say_cell : (List Value → Value → Say) → List Value → Value → Option Cell → Say
+say_cell f path v (Some (cell.Text t)) = say (quoted t)
+say_cell f path v (Some (cell.Range r)) = λ out. answer (range_behind out r)
+say_cell f path v (Some (cell.Tuple xs)) = say_tuple (f path) xs
+say_cell f path v (Some (cell.List xs)) = say_list f path v xs
+say_cell f path v (Some (cell.Dict es)) = say_dict f path v es
+say_cell f path v (Some (cell.Func g)) = say_parts (function_parts g.name)
+say_cell f path v (Some (cell.Frame g)) = say []
+say_cell f path v (Some (cell.Bound m x)) = say_parts (method_parts m)
+say_cell f path v None = say []
+
+abbrev pub say_value : (Value → Option Cell) → (List Value → Value → Say) → List Value → Value → Say
+say_value look f path value.NoneValue = say (codes "None")
+say_value look f path (value.Bool b) = say (bool_text b)
+say_value look f path (value.Int n) = say (signed_decimal n)
+say_value look f path (value.Builtin b) = say_parts (built_in_parts (built_in_name b))
+say_value look f path (value.Ref h a) = say_cell f path (value.Ref h a) (look (value.Ref h a))
+
+-- the text of a value below a path, where so many levels may be opened: a value opens one, and then pays its visit
+unfoldable pub text : (Value → Option Cell) → ℕ → List Value → Value → Say
+text look zero path v = λ out n. Lacks Deep n
+text look (suc levels) path v = λ out. visited (say_value look (text look levels) path v out)
+
+-- What a function answered, the text that it left and the steps that it left are what was to be said, unless memory ran out.
+abbrev pub Says : Spent (List ℕ) → Result (Unit {0}) StoreFault → List ℕ → ℕ → Type 0
+Says o (Ok x) out left = o ≡ Enough out left
+Says o (Err Memory) out left = Unit {0}
+Says o (Err f) out left = o ≡ Lacks f left
+
+-- The same of a function that answers the text.
+abbrev pub Tells : Spent (List ℕ) → Result (List ℕ) StoreFault → ℕ → Type 0
+Tells o (Ok t) left = o ≡ Enough t left
+Tells o (Err Memory) left = Unit {0}
+Tells o (Err f) left = o ≡ Lacks f left

@@ -1,0 +1,307 @@
+// The store of a module while it runs, and the published stores that it reaches.
+
+ghost use Rattle.std.specs.Prelude.{◌≡◌, List, ℕ, [], ◌∷◌, ◌++◌, ◌+◌, ◌<◌, ◌^◌, length, OnOk, OnErr, IfOk, IfErr, slice_get, map, replicate, string_bytes, ◌-◌};
+ghost use Rattle.std.specs.Option.{option_copied};
+ghost use Rattle.star_store.specs.Store.{bound, bound_cell, changed_at, closed, closed_in, counted_at, global_of, is_container, is_taken, iterations_in, iterations_of, look, made, next_value, opened, opened_in, published_cells, put_up};
+ghost use Rattle.star_store.specs.declared.fault.StoreFault.TheVariants.{Memory};
+
+pub mod write;
+
+use crate::fault::StoreFault;
+use crate::values::{Cell, Counted, Value};
+use std::alloc::{AllocError, Global};
+use std::marker::Model;
+
+/// The store of a module while it runs. Its cells can change.
+#[derive(Drop)]
+pub struct Arena {
+    home: u32,
+    cells: Vec<Counted>,
+}
+
+impl Model for Arena {
+    ghost use Rattle.star_store.specs.Store.{Store};
+
+    ghost Value = { Store };
+
+    ghost view = { λ a. record { home = a.home; cells = a.cells.items } };
+}
+
+/// The store of a published module: its cells and its globals, which nothing changes any more.
+#[derive(Drop)]
+pub struct Frozen {
+    cells: Vec<Counted>,
+    globals: Vec<(String, Value)>,
+}
+
+impl Model for Frozen {
+    ghost use Rattle.std.specs.Prelude.{map, string_bytes};
+    ghost use Rattle.star_store.specs.Store.{Published};
+
+    ghost Value = { Published };
+
+    ghost view = { λ f. record { cells = f.cells.items; globals = map (λ g. (string_bytes g.0, g.1)) f.globals.items } };
+}
+
+/// The published stores that a module reaches, each under the number of its file.
+#[derive(Drop)]
+pub struct Homes<'a> {
+    stores: Vec<Option<&'a Frozen>>,
+}
+
+impl<'a> Model for Homes<'a> {
+    ghost use Rattle.std.specs.Prelude.{map};
+    ghost use Rattle.std.specs.Option.{option_copied};
+    ghost use Rattle.star_store.specs.Store.{Shelf};
+
+    ghost Value = { Shelf };
+
+    ghost view = { λ h. map option_copied h.stores.items };
+}
+
+impl<'a> Homes<'a> {
+    /// No published store.
+    pub fn new(alloc: Global) -> Homes<'a>
+        ensures { result ≡ [] }
+    {
+        Homes {
+            stores: Vec::new(alloc),
+        }
+    }
+
+    /// Adds the store of a file. A file that has one already keeps it.
+    pub fn add(&mut self, home: u32, store: &'a Frozen) -> Result<(), AllocError>
+        ensures added { OnOk result (self.new ≡ put_up home store.now self.old) }
+        ensures refused { OnErr result (self.new ≡ self.old) }
+    {
+        add_store(&mut self.stores, home, store)
+    }
+
+    /// The cells of a published module, or none.
+    fn cells(&self, home: u32) -> &[Counted]
+        ensures { result.now ≡ published_cells (slice_get self.now home) }
+    {
+        match self.stores.get(home as usize) {
+            Some(Some(store)) => &store.cells,
+            _ => &[],
+        }
+    }
+}
+
+impl Arena {
+    /// The store of this file's module, with no cell.
+    pub fn new(alloc: Global, home: u32) -> Arena
+        ensures { result ≡ record { home = home; cells = [] } }
+    {
+        Arena {
+            home,
+            cells: Vec::new(alloc),
+        }
+    }
+
+    /// How many cells there are.
+    pub fn len(&self) -> usize
+        ensures { result ≡ length self.now.cells }
+    {
+        self.cells.len()
+    }
+
+    /// A new cell, behind all others. `Memory` where a growth is refused: then nothing has changed.
+    pub fn make(&mut self, cell: Cell) -> Result<Value, StoreFault>
+        requires { length self.old.cells + 1 < 2 ^ 32 }
+        ensures made { IfOk result (λ v. (v ≡ next_value self.old) × (self.new ≡ made cell self.old)) }
+        ensures refused { IfErr result (λ e. (e ≡ Memory) × (self.new ≡ self.old)) }
+    {
+        let at = self.cells.len() as u32;
+        self.cells.push(Counted {
+            iterations: 0,
+            cell,
+        })?;
+        Ok(Value::Ref {
+            home: self.home,
+            at,
+        })
+    }
+
+    /// The cell that a value leads to, with its open iterations.
+    fn counted<'a>(&'a self, homes: &'a Homes, value: Value) -> Option<&'a Counted>
+        ensures { option_copied result ≡ counted_at self.now homes.now value }
+    {
+        match value {
+            Value::Ref { home, at } if home == self.home => self.cells.get(at as usize),
+            Value::Ref { home, at } => homes.cells(home).get(at as usize),
+            _ => None,
+        }
+    }
+
+    /// The cell that a value leads to: none for what is no `Ref` or leads nowhere.
+    pub fn read<'a>(&'a self, homes: &'a Homes, value: Value) -> Option<&'a Cell>
+        ensures { option_copied result ≡ look self.now homes.now value }
+    {
+        match self.counted(homes, value) {
+            Some(counted) => Some(&counted.cell),
+            None => None,
+        }
+    }
+
+    /// Gives a slot of a frame of this arena a value. Where there is no such slot, nothing changes.
+    pub fn bind(&mut self, frame: Value, slot: usize, value: Value)
+        ensures { self.new ≡ bound frame slot value self.old }
+    {
+        if let Value::Ref { home, at } = frame {
+            if home == self.home {
+                bind_at(&mut self.cells, at, slot, value);
+            }
+        }
+    }
+
+    /// Opens an iteration of a list or dictionary of this module. For another value nothing changes.
+    pub fn open_iter(&mut self, value: Value)
+        requires { iterations_of self.old value + 1 < 2 ^ 32 }
+        ensures { self.new ≡ opened value self.old }
+    {
+        if let Value::Ref { home, at } = value {
+            if home == self.home {
+                open_at(&mut self.cells, at);
+            }
+        }
+    }
+
+    /// Closes an iteration of a list or dictionary of this module. For another value, and where none is open, nothing
+    /// changes.
+    pub fn close_iter(&mut self, value: Value)
+        ensures { self.new ≡ closed value self.old }
+    {
+        if let Value::Ref { home, at } = value {
+            if home == self.home {
+                close_at(&mut self.cells, at);
+            }
+        }
+    }
+}
+
+#[tactic(auto, using(crate::proofs::Store::shelved))]
+fn add_store<'a>(
+    stores: &mut Vec<Option<&'a Frozen>>,
+    home: u32,
+    store: &'a Frozen,
+) -> Result<(), AllocError>
+    ensures added { OnOk result (map option_copied stores.new.items ≡ put_up home store.now (map option_copied stores.old.items)) }
+    ensures refused { OnErr result (stores.new.items ≡ stores.old.items) }
+{
+    let at = home as usize;
+    if is_taken(stores, at) {
+        return Ok(());
+    }
+    widen(stores, at + 1)?;
+    stores[at] = Some(store);
+    Ok(())
+}
+
+#[tactic(auto, using(crate::proofs::Store::copied_at))]
+fn is_taken<'a>(stores: &[Option<&'a Frozen>], at: usize) -> bool
+    ensures { result ≡ is_taken (slice_get (map option_copied stores.now) at) }
+{
+    match stores.get(at) {
+        Some(Some(_)) => true,
+        _ => false,
+    }
+}
+
+/// Adds places with nothing, up to so many.
+fn widen<'a>(stores: &mut Vec<Option<&'a Frozen>>, count: usize) -> Result<(), AllocError>
+    ensures widened { OnOk result (stores.new.items ≡ stores.old.items ++ replicate (count - length stores.old.items) None) }
+    ensures refused { OnErr result (stores.new.items ≡ stores.old.items) }
+{
+    if stores.len() < count {
+        stores.resize(count, None)?;
+    }
+    Ok(())
+}
+
+/// Publishes a module: its cells and its globals, by name, as they are.
+pub fn freeze(arena: Arena, globals: Vec<(String, Value)>) -> Frozen
+    ensures { result ≡ record { cells = arena.cells; globals = map (λ g. (string_bytes g.0, g.1)) globals.items } }
+{
+    let Arena { home: _, cells } = arena;
+    Frozen { cells, globals }
+}
+
+impl Frozen {
+    /// The value of the first global with this name.
+    pub fn global(&self, name: &str) -> Option<Value>
+        ensures { result ≡ global_of name.now self.now.globals }
+    {
+        global_in(&self.globals, name)
+    }
+}
+
+fn global_in(globals: &[(String, Value)], name: &str) -> Option<Value>
+    ensures { result ≡ global_of name.now (map (λ g. (string_bytes g.0, g.1)) globals.now) }
+{
+    for global in globals {
+        if global.0.as_str() == name {
+            return Some(global.1);
+        }
+    }
+    None
+}
+
+#[tactic(auto, using(crate::proofs::Store::changed_in, crate::proofs::Store::changed_out))]
+fn bind_at(cells: &mut [Counted], at: u32, slot: usize, value: Value)
+    ensures { cells.new ≡ changed_at (λ e. record e { cell = bound_cell slot value e.cell }) cells.old at }
+{
+    if (at as usize) < cells.len() {
+        bind_in(&mut cells[at as usize], slot, value);
+    }
+}
+
+fn bind_in(counted: &mut Counted, slot: usize, value: Value)
+    ensures { counted.new ≡ record counted.old { cell = bound_cell slot value counted.old.cell } }
+{
+    if let Cell::Frame(frame) = &mut counted.cell {
+        frame.slots.set(slot, value);
+    }
+}
+
+#[tactic(auto, using(crate::proofs::Store::changed_in, crate::proofs::Store::changed_out))]
+fn open_at(cells: &mut [Counted], at: u32)
+    requires { iterations_in (slice_get cells.old at) + 1 < 2 ^ 32 }
+    ensures { cells.new ≡ changed_at opened_in cells.old at }
+{
+    if (at as usize) < cells.len() {
+        open_in(&mut cells[at as usize]);
+    }
+}
+
+fn open_in(counted: &mut Counted)
+    requires { iterations_in (Some counted.old) + 1 < 2 ^ 32 }
+    ensures { counted.new ≡ opened_in counted.old }
+{
+    if is_container(&counted.cell) {
+        counted.iterations += 1;
+    }
+}
+
+#[tactic(auto, using(crate::proofs::Store::changed_in, crate::proofs::Store::changed_out))]
+fn close_at(cells: &mut [Counted], at: u32)
+    ensures { cells.new ≡ changed_at closed_in cells.old at }
+{
+    if (at as usize) < cells.len() {
+        close_in(&mut cells[at as usize]);
+    }
+}
+
+fn close_in(counted: &mut Counted)
+    ensures { counted.new ≡ closed_in counted.old }
+{
+    if is_container(&counted.cell) && counted.iterations > 0 {
+        counted.iterations -= 1;
+    }
+}
+
+fn is_container(cell: &Cell) -> bool
+    ensures { result ≡ is_container cell.now }
+{
+    matches!(cell, Cell::List(_) | Cell::Dict(_))
+}

@@ -1,0 +1,131 @@
+// The arithmetic of ints.
+
+ghost use Rattle.std.specs.Prelude.{◌≡◌, ◌≢◌, ◌<◌, ◌^◌, ◌+ℤ◌, ◌-ℤ◌, ◌*ℤ◌, ◌≤ℤ◌, ◌<ℤ◌, neg_ℤ, pos, unsigned_abs};
+ghost use Rattle.star_store.specs.Arithmetic.{checked, floored, left_by, left_over};
+
+use crate::fault::StoreFault;
+
+/// The sum. `Overflow` where it is outside 64 bits.
+pub fn add(x: i64, y: i64) -> Result<i64, StoreFault>
+    ensures { result ≡ checked (x +ℤ y) }
+{
+    x.checked_add(y).ok_or(StoreFault::Overflow)
+}
+
+/// The difference. `Overflow` where it is outside 64 bits.
+pub fn sub(x: i64, y: i64) -> Result<i64, StoreFault>
+    ensures { result ≡ checked (x -ℤ y) }
+{
+    x.checked_sub(y).ok_or(StoreFault::Overflow)
+}
+
+/// The product. `Overflow` where it is outside 64 bits.
+pub fn mul(x: i64, y: i64) -> Result<i64, StoreFault>
+    ensures { result ≡ checked (x *ℤ y) }
+{
+    x.checked_mul(y).ok_or(StoreFault::Overflow)
+}
+
+/// The negative. `Overflow` for the least int.
+pub fn neg(x: i64) -> Result<i64, StoreFault>
+    ensures { result ≡ checked (neg_ℤ x) }
+{
+    x.checked_neg().ok_or(StoreFault::Overflow)
+}
+
+/// The quotient, rounded down. `Overflow` for the least int by -1.
+pub fn floor_div(x: i64, y: i64) -> Result<i64, StoreFault>
+    requires { y ≢ pos 0 }
+    ensures { result ≡ checked (floored x y) }
+{
+    narrow(quotient(x, y))
+}
+
+#[tactic(auto, using(crate::proofs::Ints::floored_up, crate::proofs::Ints::floored_down))]
+fn quotient(x: i64, y: i64) -> i128
+    requires { y ≢ pos 0 }
+    ensures { result ≡ floored x y }
+{
+    let (x, y) = (x as i128, y as i128);
+    if y > 0 {
+        return x.div_euclid(y);
+    }
+    (-x).div_euclid(-y)
+}
+
+fn narrow(x: i128) -> Result<i64, StoreFault>
+    ensures { result ≡ checked x }
+{
+    if x < i64::MIN as i128 || x > i64::MAX as i128 {
+        return Err(StoreFault::Overflow);
+    }
+    Ok(x as i64)
+}
+
+/// What the quotient, rounded down, leaves over: it has the sign of the divisor. `Overflow` where it is outside 64 bits.
+pub fn floor_mod(x: i64, y: i64) -> Result<i64, StoreFault>
+    requires { y ≢ pos 0 }
+    ensures { result ≡ checked (left_over x y) }
+{
+    narrow(remainder(x, y))
+}
+
+#[tactic(auto, using(crate::proofs::Ints::left_up, crate::proofs::Ints::left_below))]
+fn remainder(x: i64, y: i64) -> i128
+    requires { y ≢ pos 0 }
+    ensures { result ≡ left_over x y }
+{
+    if y > 0 {
+        return (x as i128).rem_euclid(y as i128);
+    }
+    -(remainder_turned(x, y) as i128)
+}
+
+/// What the quotient by a divisor below 0 leaves over, with both signs turned.
+#[tactic(auto, using(crate::proofs::Ints::left_turned))]
+fn remainder_turned(x: i64, y: i64) -> u64
+    requires { y <ℤ pos 0 }
+    ensures { result ≡ left_by (neg_ℤ x) (unsigned_abs y) }
+{
+    let (x, y) = (-(x as i128), -(y as i128));
+    x.rem_euclid(y) as u64
+}
+
+/// The int, doubled so many times. `Overflow` where the result is outside 64 bits.
+#[tactic(auto, using(crate::proofs::Ints::doubled_out))]
+pub fn shl(x: i64, count: i64) -> Result<i64, StoreFault>
+    requires { pos 0 ≤ℤ count }
+    ensures { result ≡ checked (x *ℤ pos (2 ^ unsigned_abs count)) }
+{
+    let count = count.unsigned_abs();
+    if x == 0 {
+        return Ok(0);
+    }
+    if count < 63 {
+        return mul(x, power_of_two(count));
+    }
+    if count > 63 {
+        return Err(StoreFault::Overflow);
+    }
+    shl_63(x)
+}
+
+/// The int, if it is not 0, doubled 63 times.
+#[tactic(auto, using(crate::proofs::Ints::doubled_far))]
+fn shl_63(x: i64) -> Result<i64, StoreFault>
+    requires { x ≢ pos 0 }
+    ensures { result ≡ checked (x *ℤ pos (2 ^ 63)) }
+{
+    if x == -1 {
+        return Ok(i64::MIN);
+    }
+    Err(StoreFault::Overflow)
+}
+
+#[tactic(auto, using(crate::proofs::Ints::power_fits))]
+fn power_of_two(n: u64) -> i64
+    requires { n < 63 }
+    ensures { result ≡ pos (2 ^ n) }
+{
+    2i64.pow(n as u32)
+}

@@ -1,0 +1,211 @@
+// Equality of values, which pays a step for each pair that it visits.
+
+ghost use Rattle.std.specs.Prelude.{◌≡◌, List, ℕ, ◌≤◌, ◌&&◌, ◌-◌, nat_eq, length, slice_get};
+ghost use Rattle.std.specs.Option.{option_copied};
+ghost use Rattle.star_store.specs.Store.{look};
+ghost use Rattle.star_store.specs.Spend.{Spends};
+ghost use Rattle.star_store.specs.Equal.{same, same_cells, same_entries, same_entry, same_items, same_place, same_values};
+ghost use Rattle.star_store.specs.Range.{same_range};
+
+use crate::arena::{Arena, Homes};
+use crate::budget::Budget;
+use crate::fault::StoreFault;
+use crate::key::value_of;
+use crate::range::Range;
+use crate::values::{Cell, Entries, Value, Values};
+
+/// Whether two values are equal. It visits the pair, and in lists, tuples and dictionaries the pairs that they hold, up
+/// to the first difference: a visit opens a level (else `Deep`) and then pays a step (else `Steps`).
+pub fn equal(
+    arena: &Arena,
+    homes: &Homes,
+    budget: &mut Budget,
+    x: Value,
+    y: Value,
+) -> Result<bool, StoreFault>
+    ensures answer { Spends (same (look arena.now homes.now) budget.old.levels x y budget.old.steps) result budget.new.steps }
+    ensures less { budget.new.steps ≤ budget.old.steps }
+    ensures levels { budget.new.levels ≡ budget.old.levels }
+{
+    same(arena, homes, budget.levels, &mut budget.steps, x, y)
+}
+
+#[cycle(same)]
+#[tactic(auto, using(crate::proofs::Equals::same_at, crate::proofs::Equals::same_at_none))]
+fn same<'a>(
+    arena: &'a Arena,
+    homes: &'a Homes<'a>,
+    levels: u32,
+    steps: &mut u64,
+    x: Value,
+    y: Value,
+) -> Result<bool, StoreFault>
+    ensures answer { Spends (same (look arena.now homes.now) levels x y steps.old) result steps.new }
+    ensures less { steps.new ≤ steps.old }
+{
+    if levels == 0 {
+        return Err(StoreFault::Deep);
+    }
+    if *steps < 1 {
+        return Err(StoreFault::Steps);
+    }
+    *steps -= 1;
+    same_values(arena, homes, levels - 1, steps, x, y)
+}
+
+#[cycle(same)]
+fn same_values<'a>(
+    arena: &'a Arena,
+    homes: &'a Homes<'a>,
+    levels: u32,
+    steps: &mut u64,
+    x: Value,
+    y: Value,
+) -> Result<bool, StoreFault>
+    ensures answer { Spends (same_values (look arena.now homes.now) (same (look arena.now homes.now) levels) x y steps.old) result steps.new }
+    ensures less { steps.new ≤ steps.old }
+{
+    match (x, y) {
+        (Value::NoneValue, Value::NoneValue) => Ok(true),
+        (Value::Bool(b), Value::Bool(c)) => Ok(b == c),
+        (Value::Int(m), Value::Int(n)) => Ok(m == n),
+        (Value::Builtin(f), Value::Builtin(g)) => Ok(f.number() == g.number()),
+        (Value::Ref { home: h, at: a }, Value::Ref { home: k, at: b }) => {
+            let left = arena.read(homes, x);
+            let right = arena.read(homes, y);
+            same_cells(arena, homes, levels, steps, h == k && a == b, left, right)
+        }
+        _ => Ok(false),
+    }
+}
+
+#[cycle(same)]
+fn same_cells<'a>(
+    arena: &'a Arena,
+    homes: &'a Homes<'a>,
+    levels: u32,
+    steps: &mut u64,
+    one: bool,
+    left: Option<&'a Cell>,
+    right: Option<&'a Cell>,
+) -> Result<bool, StoreFault>
+    ensures answer { Spends (same_cells (look arena.now homes.now) (same (look arena.now homes.now) levels) one (option_copied left.entry) (option_copied right.entry) steps.old) result steps.new }
+    ensures less { steps.new ≤ steps.old }
+{
+    match (left, right) {
+        (Some(Cell::Text(t)), Some(Cell::Text(u))) => Ok(t.as_bytes() == u.as_bytes()),
+        (Some(Cell::Range(r)), Some(Cell::Range(s))) => Ok(same_range(*r, *s)),
+        (Some(Cell::Tuple(xs)), Some(Cell::Tuple(ys))) => {
+            same_items(arena, homes, levels, steps, xs, ys)
+        }
+        (Some(Cell::List(xs)), Some(Cell::List(ys))) => {
+            same_items(arena, homes, levels, steps, xs, ys)
+        }
+        (Some(Cell::Dict(xs)), Some(Cell::Dict(ys))) => {
+            same_entries(arena, homes, levels, steps, xs, ys)
+        }
+        (Some(Cell::Func(_)), Some(Cell::Func(_))) => Ok(one),
+        (Some(Cell::Bound(_, _)), Some(Cell::Bound(_, _))) => Ok(one),
+        _ => Ok(false),
+    }
+}
+
+/// Whether two ranges have the same ints.
+fn same_range(r: Range, s: Range) -> bool
+    ensures { result ≡ same_range r s }
+{
+    let count = r.len();
+    count == s.len() && (count == 0 || (r.start == s.start && (count == 1 || r.step == s.step)))
+}
+
+#[cycle(same)]
+#[tactic(auto, using(crate::proofs::Equals::all_places_next))]
+fn same_items<'a>(
+    arena: &'a Arena,
+    homes: &'a Homes<'a>,
+    levels: u32,
+    steps: &mut u64,
+    xs: &'a Values,
+    ys: &'a Values,
+) -> Result<bool, StoreFault>
+    ensures answer { Spends (same_items (same (look arena.now homes.now) levels) xs.now ys.now steps.old) result steps.new }
+    ensures less { steps.new ≤ steps.old }
+{
+    let count = xs.len();
+    if count != ys.len() {
+        return Ok(false);
+    }
+    for i in 0..count {
+        if !same_place(arena, homes, levels, steps, xs, ys, i)? {
+            return Ok(false);
+        }
+    }
+    Ok(true)
+}
+
+/// Whether the items of two rows at a place are equal.
+#[cycle(same)]
+pub fn same_place<'a>(
+    arena: &'a Arena,
+    homes: &'a Homes<'a>,
+    levels: u32,
+    steps: &mut u64,
+    xs: &'a Values,
+    ys: &'a Values,
+    i: usize,
+) -> Result<bool, StoreFault>
+    ensures answer { Spends (same_place (same (look arena.now homes.now) levels) xs.now ys.now i steps.old) result steps.new }
+    ensures less { steps.new ≤ steps.old }
+{
+    match (xs.get(i), ys.get(i)) {
+        (Some(x), Some(y)) => same(arena, homes, levels, steps, x, y),
+        _ => Ok(true),
+    }
+}
+
+#[cycle(same)]
+#[tactic(auto, using(crate::proofs::Equals::all_places_next))]
+fn same_entries<'a>(
+    arena: &'a Arena,
+    homes: &'a Homes<'a>,
+    levels: u32,
+    steps: &mut u64,
+    xs: &'a Entries,
+    ys: &'a Entries,
+) -> Result<bool, StoreFault>
+    ensures answer { Spends (same_entries (look arena.now homes.now) (same (look arena.now homes.now) levels) xs.now ys.now steps.old) result steps.new }
+    ensures less { steps.new ≤ steps.old }
+{
+    let count = xs.len();
+    if count != ys.len() {
+        return Ok(false);
+    }
+    for i in 0..count {
+        if !same_entry(arena, homes, levels, steps, xs, ys, i)? {
+            return Ok(false);
+        }
+    }
+    Ok(true)
+}
+
+#[cycle(same)]
+fn same_entry<'a>(
+    arena: &'a Arena,
+    homes: &'a Homes<'a>,
+    levels: u32,
+    steps: &mut u64,
+    xs: &'a Entries,
+    ys: &'a Entries,
+    i: usize,
+) -> Result<bool, StoreFault>
+    ensures answer { Spends (same_entry (look arena.now homes.now) (same (look arena.now homes.now) levels) xs.now ys.now i steps.old) result steps.new }
+    ensures less { steps.new ≤ steps.old }
+{
+    let Some((key, value)) = xs.get(i) else {
+        return Ok(true);
+    };
+    match value_of(arena, homes, key, ys) {
+        Some(other) => same(arena, homes, levels, steps, value, other),
+        None => Ok(false),
+    }
+}

@@ -1,0 +1,548 @@
+// The texts of values, which pay a step for each value that they show.
+
+ghost use Rattle.std.specs.Prelude.{◌≡◌, ◌≤◌, ◌<◌, ◌++◌, ◌∷◌, ◌-◌, [], OnOk, codes, take, vec_len};
+ghost use Rattle.std.specs.Fmt.{signed_decimal};
+ghost use Rattle.std.specs.Option.{option_copied};
+ghost use Rattle.star_store.specs.Names.{built_in_name};
+ghost use Rattle.star_store.specs.Store.{look};
+ghost use Rattle.star_store.specs.Text.{Says, Tells, behind, bool_text, bounds_parts, built_in_parts, function_parts, hex_digit, method_parts, on_path, quoted, range_behind, same_address, say_cell, say_dict, say_entries, say_entry, say_items, say_list, say_new_dict, say_new_list, say_place, say_tuple, say_value, separator, shown_byte, text, tuple_end};
+
+use crate::arena::{Arena, Homes};
+use crate::budget::Budget;
+use crate::fault::StoreFault;
+use crate::names::Method;
+use crate::range::Range;
+use crate::values::{Cell, Entries, Text, Value, Values};
+use std::alloc::{AllocError, Global};
+
+/// A text that grows, the steps that are left, and the lists and dictionaries in which it now stands.
+#[derive(Drop)]
+struct Page {
+    alloc: Global,
+    out: Vec<u8>,
+    path: Vec<Value>,
+    steps: u64,
+}
+
+/// The text of a value. It visits the value and what stands in it: a visit opens a level (else `Deep`) and then pays a
+/// step (else `Steps`). A list or dictionary inside itself is `[...]` or `{...}`. `Memory` where a growth is refused.
+pub fn repr(
+    alloc: Global,
+    arena: &Arena,
+    homes: &Homes,
+    budget: &mut Budget,
+    value: Value,
+) -> Result<Text, StoreFault>
+    ensures answer { Tells (text (look arena.now homes.now) budget.old.levels [] value [] budget.old.steps) result budget.new.steps }
+    ensures less { budget.new.steps ≤ budget.old.steps }
+    ensures levels { budget.new.levels ≡ budget.old.levels }
+{
+    let mut page = Page {
+        alloc,
+        out: Vec::new(alloc),
+        path: Vec::new(alloc),
+        steps: budget.steps,
+    };
+    let answer = put_text(arena, homes, budget.levels, &mut page, value);
+    budget.steps = page.steps;
+    answer?;
+    Ok(Text::new(page.out))
+}
+
+#[cycle(text)]
+#[tactic(auto, using(crate::proofs::Texts::text_at, crate::proofs::Texts::text_at_none))]
+fn put_text<'a>(
+    arena: &'a Arena,
+    homes: &'a Homes<'a>,
+    levels: u32,
+    page: &mut Page,
+    value: Value,
+) -> Result<(), StoreFault>
+    ensures answer { Says (text (look arena.now homes.now) levels page.old.path.items value page.old.out.items page.old.steps) result page.new.out.items page.new.steps }
+    ensures less { page.new.steps ≤ page.old.steps }
+    ensures path { OnOk result (page.new.path.items ≡ page.old.path.items) }
+{
+    if levels == 0 {
+        return Err(StoreFault::Deep);
+    }
+    if page.steps < 1 {
+        return Err(StoreFault::Steps);
+    }
+    page.steps -= 1;
+    put_value(arena, homes, levels - 1, page, value)
+}
+
+#[cycle(text)]
+fn put_value<'a>(
+    arena: &'a Arena,
+    homes: &'a Homes<'a>,
+    levels: u32,
+    page: &mut Page,
+    value: Value,
+) -> Result<(), StoreFault>
+    ensures answer { Says (say_value (look arena.now homes.now) (text (look arena.now homes.now) levels) page.old.path.items value page.old.out.items page.old.steps) result page.new.out.items page.new.steps }
+    ensures less { page.new.steps ≤ page.old.steps }
+    ensures path { OnOk result (page.new.path.items ≡ page.old.path.items) }
+{
+    match value {
+        Value::NoneValue => page.say(b"None")?,
+        Value::Bool(b) => page.say_bool(b)?,
+        Value::Int(n) => page.say_int(n)?,
+        Value::Builtin(b) => page.say_built_in(b.name())?,
+        Value::Ref { .. } => {
+            put_cell(arena, homes, levels, page, value, arena.read(homes, value))?;
+        }
+    }
+    Ok(())
+}
+
+#[cycle(text)]
+fn put_cell<'a>(
+    arena: &'a Arena,
+    homes: &'a Homes<'a>,
+    levels: u32,
+    page: &mut Page,
+    value: Value,
+    cell: Option<&'a Cell>,
+) -> Result<(), StoreFault>
+    ensures answer { Says (say_cell (text (look arena.now homes.now) levels) page.old.path.items value (option_copied cell.entry) page.old.out.items page.old.steps) result page.new.out.items page.new.steps }
+    ensures less { page.new.steps ≤ page.old.steps }
+    ensures path { OnOk result (page.new.path.items ≡ page.old.path.items) }
+{
+    match cell {
+        Some(Cell::Text(t)) => page.say_quoted(t.as_bytes())?,
+        Some(Cell::Range(range)) => page.say_range(*range)?,
+        Some(Cell::Tuple(items)) => put_tuple(arena, homes, levels, page, items)?,
+        Some(Cell::List(items)) => put_list(arena, homes, levels, page, value, items)?,
+        Some(Cell::Dict(entries)) => put_dict(arena, homes, levels, page, value, entries)?,
+        Some(Cell::Func(function)) => page.say_function(&function.name)?,
+        Some(Cell::Bound(method, _)) => page.say_method(*method)?,
+        Some(Cell::Frame(_)) | None => page.say(b"")?,
+    }
+    Ok(())
+}
+
+#[cycle(text)]
+fn put_tuple<'a>(
+    arena: &'a Arena,
+    homes: &'a Homes<'a>,
+    levels: u32,
+    page: &mut Page,
+    items: &'a Values,
+) -> Result<(), StoreFault>
+    ensures answer { Says (say_tuple (text (look arena.now homes.now) levels page.old.path.items) items.now page.old.out.items page.old.steps) result page.new.out.items page.new.steps }
+    ensures less { page.new.steps ≤ page.old.steps }
+    ensures path { OnOk result (page.new.path.items ≡ page.old.path.items) }
+{
+    page.say(b"(")?;
+    put_items(arena, homes, levels, page, items)?;
+    page.say_tuple_end(items)?;
+    Ok(())
+}
+
+#[cycle(text)]
+fn put_list<'a>(
+    arena: &'a Arena,
+    homes: &'a Homes<'a>,
+    levels: u32,
+    page: &mut Page,
+    value: Value,
+    items: &'a Values,
+) -> Result<(), StoreFault>
+    ensures answer { Says (say_list (text (look arena.now homes.now) levels) page.old.path.items value items.now page.old.out.items page.old.steps) result page.new.out.items page.new.steps }
+    ensures less { page.new.steps ≤ page.old.steps }
+    ensures path { OnOk result (page.new.path.items ≡ page.old.path.items) }
+{
+    if page.is_within(value) {
+        page.say(b"[...]")?;
+        return Ok(());
+    }
+    put_new_list(arena, homes, levels, page, value, items)
+}
+
+#[cycle(text)]
+fn put_new_list<'a>(
+    arena: &'a Arena,
+    homes: &'a Homes<'a>,
+    levels: u32,
+    page: &mut Page,
+    value: Value,
+    items: &'a Values,
+) -> Result<(), StoreFault>
+    ensures answer { Says (say_new_list (text (look arena.now homes.now) levels (page.old.path.items ++ value ∷ [])) items.now page.old.out.items page.old.steps) result page.new.out.items page.new.steps }
+    ensures less { page.new.steps ≤ page.old.steps }
+    ensures path { OnOk result (page.new.path.items ≡ page.old.path.items) }
+{
+    page.say(b"[")?;
+    put_inner_items(arena, homes, levels, page, value, items)?;
+    page.say(b"]")?;
+    Ok(())
+}
+
+#[cycle(text)]
+fn put_dict<'a>(
+    arena: &'a Arena,
+    homes: &'a Homes<'a>,
+    levels: u32,
+    page: &mut Page,
+    value: Value,
+    entries: &'a Entries,
+) -> Result<(), StoreFault>
+    ensures answer { Says (say_dict (text (look arena.now homes.now) levels) page.old.path.items value entries.now page.old.out.items page.old.steps) result page.new.out.items page.new.steps }
+    ensures less { page.new.steps ≤ page.old.steps }
+    ensures path { OnOk result (page.new.path.items ≡ page.old.path.items) }
+{
+    if page.is_within(value) {
+        page.say(b"{...}")?;
+        return Ok(());
+    }
+    put_new_dict(arena, homes, levels, page, value, entries)
+}
+
+#[cycle(text)]
+fn put_new_dict<'a>(
+    arena: &'a Arena,
+    homes: &'a Homes<'a>,
+    levels: u32,
+    page: &mut Page,
+    value: Value,
+    entries: &'a Entries,
+) -> Result<(), StoreFault>
+    ensures answer { Says (say_new_dict (text (look arena.now homes.now) levels (page.old.path.items ++ value ∷ [])) entries.now page.old.out.items page.old.steps) result page.new.out.items page.new.steps }
+    ensures less { page.new.steps ≤ page.old.steps }
+    ensures path { OnOk result (page.new.path.items ≡ page.old.path.items) }
+{
+    page.say(b"{")?;
+    put_inner_entries(arena, homes, levels, page, value, entries)?;
+    page.say(b"}")?;
+    Ok(())
+}
+
+#[cycle(text)]
+fn put_inner_items<'a>(
+    arena: &'a Arena,
+    homes: &'a Homes<'a>,
+    levels: u32,
+    page: &mut Page,
+    value: Value,
+    items: &'a Values,
+) -> Result<(), StoreFault>
+    ensures answer { Says (say_items (text (look arena.now homes.now) levels (page.old.path.items ++ value ∷ [])) items.now page.old.out.items page.old.steps) result page.new.out.items page.new.steps }
+    ensures less { page.new.steps ≤ page.old.steps }
+    ensures path { OnOk result (page.new.path.items ≡ page.old.path.items) }
+{
+    page.enter(value)?;
+    put_items(arena, homes, levels, page, items)?;
+    page.leave();
+    Ok(())
+}
+
+#[cycle(text)]
+#[tactic(auto, using(crate::proofs::Texts::all_said_next))]
+fn put_items<'a>(
+    arena: &'a Arena,
+    homes: &'a Homes<'a>,
+    levels: u32,
+    page: &mut Page,
+    items: &'a Values,
+) -> Result<(), StoreFault>
+    ensures answer { Says (say_items (text (look arena.now homes.now) levels page.old.path.items) items.now page.old.out.items page.old.steps) result page.new.out.items page.new.steps }
+    ensures less { page.new.steps ≤ page.old.steps }
+    ensures path { OnOk result (page.new.path.items ≡ page.old.path.items) }
+{
+    let count = items.len();
+    for i in 0..count {
+        put_place(arena, homes, levels, page, items, i)?;
+    }
+    Ok(())
+}
+
+#[cycle(text)]
+fn put_place<'a>(
+    arena: &'a Arena,
+    homes: &'a Homes<'a>,
+    levels: u32,
+    page: &mut Page,
+    items: &'a Values,
+    i: usize,
+) -> Result<(), StoreFault>
+    ensures answer { Says (say_place (text (look arena.now homes.now) levels page.old.path.items) items.now i page.old.out.items page.old.steps) result page.new.out.items page.new.steps }
+    ensures less { page.new.steps ≤ page.old.steps }
+    ensures path { OnOk result (page.new.path.items ≡ page.old.path.items) }
+{
+    page.say_separator(i)?;
+    match items.get(i) {
+        Some(item) => put_text(arena, homes, levels, page, item)?,
+        None => page.say(b"")?,
+    }
+    Ok(())
+}
+
+#[cycle(text)]
+fn put_inner_entries<'a>(
+    arena: &'a Arena,
+    homes: &'a Homes<'a>,
+    levels: u32,
+    page: &mut Page,
+    value: Value,
+    entries: &'a Entries,
+) -> Result<(), StoreFault>
+    ensures answer { Says (say_entries (text (look arena.now homes.now) levels (page.old.path.items ++ value ∷ [])) entries.now page.old.out.items page.old.steps) result page.new.out.items page.new.steps }
+    ensures less { page.new.steps ≤ page.old.steps }
+    ensures path { OnOk result (page.new.path.items ≡ page.old.path.items) }
+{
+    page.enter(value)?;
+    put_entries(arena, homes, levels, page, entries)?;
+    page.leave();
+    Ok(())
+}
+
+#[cycle(text)]
+#[tactic(auto, using(crate::proofs::Texts::all_said_next))]
+fn put_entries<'a>(
+    arena: &'a Arena,
+    homes: &'a Homes<'a>,
+    levels: u32,
+    page: &mut Page,
+    entries: &'a Entries,
+) -> Result<(), StoreFault>
+    ensures answer { Says (say_entries (text (look arena.now homes.now) levels page.old.path.items) entries.now page.old.out.items page.old.steps) result page.new.out.items page.new.steps }
+    ensures less { page.new.steps ≤ page.old.steps }
+    ensures path { OnOk result (page.new.path.items ≡ page.old.path.items) }
+{
+    let count = entries.len();
+    for i in 0..count {
+        put_entry(arena, homes, levels, page, entries, i)?;
+    }
+    Ok(())
+}
+
+#[cycle(text)]
+fn put_entry<'a>(
+    arena: &'a Arena,
+    homes: &'a Homes<'a>,
+    levels: u32,
+    page: &mut Page,
+    entries: &'a Entries,
+    i: usize,
+) -> Result<(), StoreFault>
+    ensures answer { Says (say_entry (text (look arena.now homes.now) levels page.old.path.items) entries.now i page.old.out.items page.old.steps) result page.new.out.items page.new.steps }
+    ensures less { page.new.steps ≤ page.old.steps }
+    ensures path { OnOk result (page.new.path.items ≡ page.old.path.items) }
+{
+    page.say_separator(i)?;
+    match entries.get(i) {
+        Some((key, value)) => {
+            put_text(arena, homes, levels, page, key)?;
+            page.say(b": ")?;
+            put_text(arena, homes, levels, page, value)?;
+        }
+        None => page.say(b"")?,
+    }
+    Ok(())
+}
+
+/// Whether two values lead to one cell.
+fn same_address(x: Value, y: Value) -> bool
+    ensures { result ≡ same_address x y }
+{
+    match (x, y) {
+        (Value::Ref { home: h, at: a }, Value::Ref { home: k, at: b }) => h == k && a == b,
+        _ => false,
+    }
+}
+
+impl Page {
+    /// Puts bytes behind the text.
+    fn say(&mut self, bytes: &[u8]) -> Result<(), AllocError>
+        ensures said { OnOk result (self.new.out.items ≡ self.old.out.items ++ bytes.now) }
+        ensures path { self.new.path.items ≡ self.old.path.items }
+        ensures steps { self.new.steps ≡ self.old.steps }
+    {
+        self.out.extend_from_slice(bytes)
+    }
+
+    fn say_bool(&mut self, b: bool) -> Result<(), AllocError>
+        ensures said { OnOk result (self.new.out.items ≡ self.old.out.items ++ bool_text b) }
+        ensures path { self.new.path.items ≡ self.old.path.items }
+        ensures steps { self.new.steps ≡ self.old.steps }
+    {
+        if b {
+            self.say(b"True")
+        } else {
+            self.say(b"False")
+        }
+    }
+
+    fn say_int(&mut self, n: i64) -> Result<(), AllocError>
+        ensures said { OnOk result (self.new.out.items ≡ self.old.out.items ++ signed_decimal n) }
+        ensures path { self.new.path.items ≡ self.old.path.items }
+        ensures steps { self.new.steps ≡ self.old.steps }
+    {
+        let digits = format!(in self.alloc; "{n}")?;
+        self.say(digits.as_bytes())
+    }
+
+    fn say_built_in(&mut self, name: &str) -> Result<(), AllocError>
+        ensures said { OnOk result (self.new.out.items ≡ behind self.old.out.items (built_in_parts name.now)) }
+        ensures path { self.new.path.items ≡ self.old.path.items }
+        ensures steps { self.new.steps ≡ self.old.steps }
+    {
+        self.say(b"<built-in function ")?;
+        self.say(name.as_bytes())?;
+        self.say(b">")
+    }
+
+    fn say_function(&mut self, name: &Text) -> Result<(), AllocError>
+        ensures said { OnOk result (self.new.out.items ≡ behind self.old.out.items (function_parts name.now)) }
+        ensures path { self.new.path.items ≡ self.old.path.items }
+        ensures steps { self.new.steps ≡ self.old.steps }
+    {
+        self.say(b"<function ")?;
+        self.say(name.as_bytes())?;
+        self.say(b">")
+    }
+
+    fn say_method(&mut self, method: Method) -> Result<(), AllocError>
+        ensures said { OnOk result (self.new.out.items ≡ behind self.old.out.items (method_parts method)) }
+        ensures path { self.new.path.items ≡ self.old.path.items }
+        ensures steps { self.new.steps ≡ self.old.steps }
+    {
+        self.say(b"<built-in method ")?;
+        self.say(method.name().as_bytes())?;
+        self.say(b" of ")?;
+        self.say(method.receiver().as_bytes())?;
+        self.say(b" value>")
+    }
+
+    fn say_range(&mut self, range: Range) -> Result<(), AllocError>
+        ensures said { OnOk result (self.new.out.items ≡ range_behind self.old.out.items range) }
+        ensures path { self.new.path.items ≡ self.old.path.items }
+        ensures steps { self.new.steps ≡ self.old.steps }
+    {
+        self.say(b"range(")?;
+        self.say_bounds(range)?;
+        self.say(b")")
+    }
+
+    fn say_bounds(&mut self, range: Range) -> Result<(), AllocError>
+        ensures said { OnOk result (self.new.out.items ≡ behind self.old.out.items (bounds_parts range)) }
+        ensures path { self.new.path.items ≡ self.old.path.items }
+        ensures steps { self.new.steps ≡ self.old.steps }
+    {
+        if range.step != 1 {
+            return self.say_three(range);
+        }
+        if range.start == 0 {
+            return self.say_int(range.stop);
+        }
+        self.say_int(range.start)?;
+        self.say(b", ")?;
+        self.say_int(range.stop)
+    }
+
+    fn say_three(&mut self, range: Range) -> Result<(), AllocError>
+        ensures said { OnOk result (self.new.out.items ≡ self.old.out.items ++ signed_decimal range.start ++ codes ", " ++ signed_decimal range.stop ++ codes ", " ++ signed_decimal range.step) }
+        ensures path { self.new.path.items ≡ self.old.path.items }
+        ensures steps { self.new.steps ≡ self.old.steps }
+    {
+        self.say_int(range.start)?;
+        self.say(b", ")?;
+        self.say_int(range.stop)?;
+        self.say(b", ")?;
+        self.say_int(range.step)
+    }
+
+    fn say_separator(&mut self, i: usize) -> Result<(), AllocError>
+        ensures said { OnOk result (self.new.out.items ≡ self.old.out.items ++ separator i) }
+        ensures path { self.new.path.items ≡ self.old.path.items }
+        ensures steps { self.new.steps ≡ self.old.steps }
+    {
+        if i == 0 {
+            self.say(b"")
+        } else {
+            self.say(b", ")
+        }
+    }
+
+    fn say_tuple_end(&mut self, items: &Values) -> Result<(), AllocError>
+        ensures said { OnOk result (self.new.out.items ≡ self.old.out.items ++ tuple_end items.now) }
+        ensures path { self.new.path.items ≡ self.old.path.items }
+        ensures steps { self.new.steps ≡ self.old.steps }
+    {
+        if items.len() == 1 {
+            self.say(b",)")
+        } else {
+            self.say(b")")
+        }
+    }
+
+    fn say_quoted(&mut self, bytes: &[u8]) -> Result<(), AllocError>
+        ensures said { OnOk result (self.new.out.items ≡ self.old.out.items ++ quoted bytes.now) }
+        ensures path { self.new.path.items ≡ self.old.path.items }
+        ensures steps { self.new.steps ≡ self.old.steps }
+    {
+        put_quoted(&mut self.out, bytes)
+    }
+
+    /// Whether the text now stands in this list or dictionary.
+    fn is_within(&self, value: Value) -> bool
+        ensures { result ≡ on_path value self.now.path.items }
+    {
+        self.path.iter().any(|v| same_address(value, *v))
+    }
+
+    /// The text now stands in this list or dictionary.
+    fn enter(&mut self, value: Value) -> Result<(), AllocError>
+        ensures path { OnOk result (self.new.path.items ≡ self.old.path.items ++ value ∷ []) }
+        ensures said { self.new.out.items ≡ self.old.out.items }
+        ensures steps { self.new.steps ≡ self.old.steps }
+    {
+        self.path.push(value)?;
+        Ok(())
+    }
+
+    /// The text stands in the last list or dictionary no longer.
+    fn leave(&mut self)
+        ensures path { self.new.path.items ≡ take (vec_len self.old.path - 1) self.old.path.items }
+        ensures said { self.new.out.items ≡ self.old.out.items }
+        ensures steps { self.new.steps ≡ self.old.steps }
+    {
+        self.path.truncate(self.path.len().saturating_sub(1));
+    }
+}
+
+/// Puts a string in quotes behind a text.
+fn put_quoted(out: &mut Vec<u8>, bytes: &[u8]) -> Result<(), AllocError>
+    ensures { OnOk result (out.new.items ≡ out.old.items ++ quoted bytes.now) }
+{
+    out.extend_from_slice(b"\"")?;
+    for byte in bytes {
+        put_byte(out, *byte)?;
+    }
+    out.extend_from_slice(b"\"")
+}
+
+/// Puts a byte of a string, as its text shows it, behind a text.
+fn put_byte(out: &mut Vec<u8>, byte: u8) -> Result<(), AllocError>
+    ensures { OnOk result (out.new.items ≡ out.old.items ++ shown_byte byte) }
+{
+    match byte {
+        b'"' | b'\\' => out.extend_from_slice(&[b'\\', byte]),
+        b'\n' => out.extend_from_slice(b"\\n"),
+        b'\r' => out.extend_from_slice(b"\\r"),
+        b'\t' => out.extend_from_slice(b"\\t"),
+        0..32 | 127 => {
+            out.extend_from_slice(&[b'\\', b'x', hex_digit(byte / 16), hex_digit(byte % 16)])
+        }
+        _ => out.extend_from_slice(&[byte]),
+    }
+}
+
+/// A lower-case hexadecimal digit.
+fn hex_digit(n: u8) -> u8
+    requires { n < 16 }
+    ensures { result ≡ hex_digit n }
+{
+    if n < 10 { b'0' + n } else { b'a' - 10 + n }
+}

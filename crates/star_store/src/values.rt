@@ -1,0 +1,301 @@
+// Values, and the cells that they lead to.
+
+ghost use Rattle.std.specs.Prelude.{◌≡◌, ◌<◌, ◌≤◌, List, ℕ, [], ◌∷◌, ◌++◌, length, slice_get, slice_set, OnOk, OnErr};
+ghost use Rattle.std.specs.List.{insert, remove};
+
+use crate::names::{BuiltIn, Method};
+use crate::range::Range;
+use std::alloc::{AllocError, Global};
+use std::marker::Model;
+
+/// A value. What is larger than an int stands in a cell, to which the value leads: the module that made the cell (by
+/// the number of its file), and the number of cells that it had made before.
+#[derive(Clone, Copy, Debug, PartialEq, Eq)]
+pub enum Value {
+    NoneValue,
+    Bool(bool),
+    Int(i64),
+    Builtin(BuiltIn),
+    Ref { home: u32, at: u32 },
+}
+
+/// The bytes of a string, in UTF-8.
+#[derive(Drop)]
+pub struct Text {
+    bytes: Vec<u8>,
+}
+
+impl Model for Text {
+    ghost Value = { List ℕ };
+
+    ghost view = { λ t. t.bytes.items };
+}
+
+/// A row of values: the items of a list or a tuple, or the defaults of a function.
+#[derive(Drop)]
+pub struct Values {
+    items: Vec<Value>,
+}
+
+impl Model for Values {
+    ghost use Rattle.std.specs.Prelude.{List};
+    ghost use Rattle.star_store.specs.declared.values.Value.{Value as AnyValue};
+
+    ghost Value = { List AnyValue };
+
+    ghost view = { λ r. r.items.items };
+}
+
+/// The entries of a dictionary, in the order in which their keys were put in.
+#[derive(Drop)]
+pub struct Entries {
+    pairs: Vec<(Value, Value)>,
+}
+
+impl Model for Entries {
+    ghost use Rattle.std.specs.Prelude.{List};
+    ghost use Rattle.star_store.specs.declared.values.Value.{Value as AnyValue};
+
+    ghost Value = { List (AnyValue × AnyValue) };
+
+    ghost view = { λ d. d.pairs.items };
+}
+
+/// The variables of a frame by their slots, each with a value or unbound.
+#[derive(Drop)]
+pub struct Slots {
+    values: Vec<Option<Value>>,
+}
+
+impl Model for Slots {
+    ghost use Rattle.std.specs.Prelude.{List, Option};
+    ghost use Rattle.star_store.specs.declared.values.Value.{Value as AnyValue};
+
+    ghost Value = { List (Option AnyValue) };
+
+    ghost view = { λ s. s.values.items };
+}
+
+/// A function: the file and the number of its definition, its name, the defaults of its parameters, and the frame in
+/// which it was defined.
+#[derive(Drop)]
+pub struct Function {
+    pub file: u32,
+    pub definition: u32,
+    pub name: Text,
+    pub defaults: Values,
+    pub frame: Value,
+}
+
+/// A frame: the file and the number of its block, the frame around it, and its variables.
+#[derive(Drop)]
+pub struct Frame {
+    pub file: u32,
+    pub block: u32,
+    pub parent: Option<Value>,
+    pub slots: Slots,
+}
+
+/// What a value leads to.
+#[derive(Drop)]
+pub enum Cell {
+    Text(Text),
+    Range(Range),
+    Tuple(Values),
+    List(Values),
+    Dict(Entries),
+    Func(Function),
+    Frame(Frame),
+    Bound(Method, Value),
+}
+
+/// A cell, and the number of iterations that are open on it.
+#[derive(Drop)]
+pub struct Counted {
+    pub iterations: u32,
+    pub cell: Cell,
+}
+
+impl Text {
+    /// The string of these bytes.
+    pub fn new(bytes: Vec<u8>) -> Text
+        ensures { result ≡ bytes.items }
+    {
+        Text { bytes }
+    }
+
+    /// The bytes of the string.
+    pub fn as_bytes(&self) -> &[u8]
+        ensures { result.now ≡ self.now }
+    {
+        &self.bytes
+    }
+}
+
+impl Values {
+    /// A row of these values.
+    pub fn new(items: Vec<Value>) -> Values
+        ensures { result ≡ items.items }
+    {
+        Values { items }
+    }
+
+    /// The values of the row.
+    pub fn as_slice(&self) -> &[Value]
+        ensures { result.now ≡ self.now }
+    {
+        &self.items
+    }
+
+    /// How many they are.
+    pub fn len(&self) -> usize
+        ensures { result ≡ length self.now }
+    {
+        self.items.len()
+    }
+
+    /// The value at a place.
+    pub fn get(&self, at: usize) -> Option<Value>
+        ensures { result ≡ slice_get self.now at }
+    {
+        self.items.get(at).copied()
+    }
+
+    /// Adds a value behind all others.
+    pub fn push(&mut self, value: Value) -> Result<(), AllocError>
+        ensures pushed { OnOk result (self.new ≡ self.old ++ value ∷ []) }
+        ensures refused { OnErr result (self.new ≡ self.old) }
+    {
+        self.items.push(value)?;
+        Ok(())
+    }
+
+    /// Puts another value at a place.
+    pub fn set(&mut self, at: usize, value: Value)
+        requires { at < length self.old }
+        ensures { self.new ≡ slice_set self.old at value }
+    {
+        self.items[at] = value;
+    }
+
+    /// Puts a value before the one at a place, or behind all others.
+    pub fn insert(&mut self, at: usize, value: Value) -> Result<(), AllocError>
+        requires { at ≤ length self.old }
+        ensures inserted { OnOk result (self.new ≡ insert self.old at value) }
+        ensures refused { OnErr result (self.new ≡ self.old) }
+    {
+        self.items.insert(at, value)?;
+        Ok(())
+    }
+
+    /// Takes the value at a place out.
+    pub fn remove(&mut self, at: usize)
+        requires { at < length self.old }
+        ensures { self.new ≡ remove self.old at }
+    {
+        let _value = self.items.remove(at);
+    }
+
+    /// Takes all values out.
+    pub fn clear(&mut self)
+        ensures { self.new ≡ [] }
+    {
+        self.items.clear();
+    }
+}
+
+impl Entries {
+    /// A dictionary with no entry.
+    pub fn new(alloc: Global) -> Entries
+        ensures { result ≡ [] }
+    {
+        Entries {
+            pairs: Vec::new(alloc),
+        }
+    }
+
+    /// How many entries there are.
+    pub fn len(&self) -> usize
+        ensures { result ≡ length self.now }
+    {
+        self.pairs.len()
+    }
+
+    /// The entries, each with its key and its value.
+    pub fn as_slice(&self) -> &[(Value, Value)]
+        ensures { result.now ≡ self.now }
+    {
+        &self.pairs
+    }
+
+    /// The key and the value of the entry at a place.
+    pub fn get(&self, at: usize) -> Option<(Value, Value)>
+        ensures { result ≡ slice_get self.now at }
+    {
+        self.pairs.get(at).copied()
+    }
+
+    /// Adds an entry behind all others.
+    pub fn push(&mut self, key: Value, value: Value) -> Result<(), AllocError>
+        ensures pushed { OnOk result (self.new ≡ self.old ++ (key, value) ∷ []) }
+        ensures refused { OnErr result (self.new ≡ self.old) }
+    {
+        self.pairs.push((key, value))?;
+        Ok(())
+    }
+
+    /// Puts another entry at a place.
+    pub fn set(&mut self, at: usize, key: Value, value: Value)
+        requires { at < length self.old }
+        ensures { self.new ≡ slice_set self.old at (key, value) }
+    {
+        self.pairs[at] = (key, value);
+    }
+
+    /// Takes the entry at a place out; those behind it close up.
+    pub fn remove(&mut self, at: usize)
+        requires { at < length self.old }
+        ensures { self.new ≡ remove self.old at }
+    {
+        let _entry = self.pairs.remove(at);
+    }
+
+    /// Takes all entries out.
+    pub fn clear(&mut self)
+        ensures { self.new ≡ [] }
+    {
+        self.pairs.clear();
+    }
+}
+
+impl Slots {
+    /// The variables with these values, in order of their slots.
+    pub fn new(values: Vec<Option<Value>>) -> Slots
+        ensures { result ≡ values.items }
+    {
+        Slots { values }
+    }
+
+    /// How many slots there are.
+    pub fn len(&self) -> usize
+        ensures { result ≡ length self.now }
+    {
+        self.values.len()
+    }
+
+    /// What a slot has: none where there is no such slot, and none inside where its variable is unbound.
+    pub fn get(&self, at: usize) -> Option<Option<Value>>
+        ensures { result ≡ slice_get self.now at }
+    {
+        self.values.get(at).copied()
+    }
+
+    /// Gives a slot a value. Where there is no such slot, nothing changes.
+    pub fn set(&mut self, at: usize, value: Value)
+        ensures { self.new ≡ slice_set self.old at (Some value) }
+    {
+        if at < self.values.len() {
+            self.values[at] = Some(value);
+        }
+    }
+}
