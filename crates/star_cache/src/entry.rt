@@ -1,0 +1,49 @@
+ghost use Rattle.std.specs.Prelude.{◌≡◌, ◌≢◌, true, MatchResult};
+ghost use Rattle.star_cache.specs.Step.{IsStanding};
+
+use crate::product::Product;
+use crate::reply::{BookError, Reply};
+
+/// How far a file has come.
+#[derive(Drop)]
+pub enum Entry<P> {
+    /// Nobody has begun it.
+    Fresh,
+    /// One loader runs it.
+    Running,
+    /// It has ended with this product.
+    Done(P),
+    /// Its loader gave it up.
+    Spoiled,
+}
+
+// How an entry stands for who asks, with the reply where it has ended.
+#[derive(Drop)]
+pub enum Standing<P> {
+    Fresh,
+    Running,
+    Ended(Reply<P>),
+}
+
+// How an entry stands, with a share of its product where it is done.
+pub fn standing_of<P: Product>(entry: &mut Entry<P>) -> Result<Standing<P>, BookError>
+    ensures standing { MatchResult result (λ it. IsStanding P.is_good entry.old it)
+        (λ e. (e ≡ BookError.Memory) × ((p : P) × (entry.old ≡ Entry.Done p)) × (P.always_shares ≢ true)) }
+    ensures same { entry.new ≡ entry.old }
+{
+    match entry {
+        Entry::Fresh => Ok(Standing::Fresh),
+        Entry::Running => Ok(Standing::Running),
+        Entry::Spoiled => Ok(Standing::Ended(Reply::Spoiled)),
+        Entry::Done(product) => match product.share() {
+            Err(_) => Err(BookError::Memory),
+            Ok(shared) => {
+                if shared.good() {
+                    Ok(Standing::Ended(Reply::Ready(shared)))
+                } else {
+                    Ok(Standing::Ended(Reply::Failed(shared)))
+                }
+            }
+        },
+    }
+}

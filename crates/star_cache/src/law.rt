@@ -1,0 +1,27 @@
+ghost use Rattle.std.specs.Prelude.{ℕ, suc, List};
+ghost use Rattle.star_cache.specs.State.{Loads};
+ghost use Rattle.star_cache.specs.Walk.{IsOnCycle};
+
+use std::marker::PhantomData;
+
+/// What is meant by a good file, counted by depth. Only contracts see it.
+pub trait ByDepth {
+    // the files that a file loads
+    ghost loads: { ℕ → List ℕ };
+
+    // the files that are good at a depth
+    ghost GoodAt: { ℕ → ℕ → Type 0 };
+
+    // nothing is good at depth 0
+    ghost never: { (n : ℕ) → GoodAt 0 n → ⊥ };
+
+    // each load of a good file is good at the depth below
+    ghost below: { (d n m : ℕ) → GoodAt (suc d) n → Loads loads n m → GoodAt d m };
+}
+
+/// A file on a load cycle is good at no depth, nor is the next file on it.
+///
+/// So a load that is refused as a cycle is refused only where neither the file that loads nor its target could be good.
+pub fn no_cycle_is_good<D: ByDepth>(_depths: PhantomData<D>)
+    ensures { (d n m : ℕ) → IsOnCycle (Loads D.loads) n m → (D.GoodAt d n → ⊥) × (D.GoodAt d m → ⊥) }
+{}
