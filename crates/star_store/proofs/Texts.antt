@@ -1,5 +1,5 @@
 -- Texts at a number of levels, by the number below it.
-use Rattle.std.proofs.Common.{◌≡◌, ℕ, zero, suc, ◌+◌, ◌-◌, ◌<◌, List, Option, refl, ap, arith}
+use Rattle.std.proofs.Common.{◌≡◌, ℕ, zero, suc, ◌+◌, ◌-◌, ◌<◌, List, [], ◌∷◌, map, Option, refl, ap, arith}
 use Rattle.star_store.specs.declared.values.Value.{Value}
 use Rattle.star_store.specs.declared.values.Cell.{Cell}
 use Rattle.star_store.specs.declared.fault.StoreFault.TheVariants.{Deep}
@@ -21,3 +21,7 @@ all_said_more f (suc n) m i out left h = ap (λ k. spend_then (f i out left) (al
 
 pub all_said_next : (f : ℕ → Say) (n i : ℕ) (out : List ℕ) (left : ℕ) → i < n → all_said f (n - i) i out left ≡ spend_then (f i out left) (all_said f (n - (i + 1)) (i + 1))
 all_said_next f n i out left h = all_said_more f (n - i) (n - (i + 1)) i out left (omega arith)
+
+pub map_self : (xs : List ℕ) → map (λ x. x) xs ≡ xs
+map_self [] = refl
+map_self (x ∷ xs) = ap (λ ys. x ∷ ys) (map_self xs)

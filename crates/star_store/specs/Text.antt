@@ -1,7 +1,9 @@
 -- The texts of values, over stores that do not change, by the levels and the steps that are left.
 use Rattle.std.specs.Prelude.{◌≡◌, ℕ, zero, suc, ◌+◌, ◌/◌, ◌%◌, nat_lt, nat_eq, Bool, false, ◌&&◌, ◌||◌, List, [], ◌∷◌, ◌++◌, length, slice_get, Option, Some, None, Result, Ok, Err, if◌then◌else◌, pos, codes}
 use Rattle.std.specs.List.{list_any, flat_map}
+use Rattle.std.specs.Char.{digit_char, encode_utf8}
 use Rattle.std.specs.Fmt.{signed_decimal}
+use Rattle.std.specs.Str.{chars}
 use Rattle.std.specs.Ordering.{int_eq}
 use Rattle.star_store.specs.declared.values.Value.{Value}
 use Rattle.star_store.specs.declared.values.Value.TheVariants as value
@@ -14,23 +16,27 @@ use Rattle.star_store.specs.declared.fault.StoreFault.TheVariants.{Deep, Memory}
 use Rattle.star_store.specs.Names.{built_in_name, method_name, receiver_type}
 use Rattle.star_store.specs.Spend.{Spend, Spent, Enough, Lacks, answer, spend_then, visited}
 
--- a lower-case hexadecimal digit
-abbrev pub hex_digit : ℕ → ℕ
-hex_digit n = if nat_lt n 10 then 48 + n else 87 + n
+-- a character that stands for itself, or, below 32 and at 127, by its two lower-case hexadecimal digits
+abbrev pub plain_char : ℕ → List ℕ
+plain_char c = if nat_lt c 32 || nat_eq c 127 then codes "\\x" ++ digit_char (c / 16) ∷ digit_char (c % 16) ∷ [] else encode_utf8 c
 
--- a byte of a string, as its text shows it
-abbrev pub shown_byte : ℕ → List ℕ
-shown_byte b =
-    if nat_eq b 34 || nat_eq b 92 then 92 ∷ b ∷ []
-    else (if nat_eq b 10 then codes "\\n"
-    else (if nat_eq b 13 then codes "\\r"
-    else (if nat_eq b 9 then codes "\\t"
-    else (if nat_lt b 32 || nat_eq b 127 then codes "\\x" ++ hex_digit (b / 16) ∷ hex_digit (b % 16) ∷ []
-    else b ∷ []))))
+-- a character of a string, as its text shows it
+unfoldable pub shown_char : ℕ → List ℕ
+shown_char c =
+    if nat_eq c 34 then codes "\\\""
+    else (if nat_eq c 92 then codes "\\\\"
+    else (if nat_eq c 10 then codes "\\n"
+    else (if nat_eq c 13 then codes "\\r"
+    else (if nat_eq c 9 then codes "\\t"
+    else plain_char c))))
+
+-- the characters of a string, as its text shows them
+abbrev pub shown : List ℕ → List ℕ
+shown t = flat_map shown_char (chars t)
 
 -- a string in quotes
 abbrev pub quoted : List ℕ → List ℕ
-quoted t = codes "\"" ++ flat_map shown_byte t ++ codes "\""
+quoted t = codes "\"" ++ shown t ++ codes "\""
 
 -- pieces put behind what stands there already, in order
 abbrev pub behind : List ℕ → List (List ℕ) → List ℕ

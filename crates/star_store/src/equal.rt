@@ -93,7 +93,9 @@ fn same_cells<'a>(
     ensures less { steps.new ≤ steps.old }
 {
     match (left, right) {
-        (Some(Cell::Text(t)), Some(Cell::Text(u))) => Ok(t.as_bytes() == u.as_bytes()),
+        (Some(Cell::Text(t)), Some(Cell::Text(u))) => Ok(
+            t.as_str().as_bytes() == u.as_str().as_bytes(),
+        ),
         (Some(Cell::Range(r)), Some(Cell::Range(s))) => Ok(same_range(*r, *s)),
         (Some(Cell::Tuple(xs)), Some(Cell::Tuple(ys))) => {
             same_items(arena, homes, levels, steps, xs, ys)

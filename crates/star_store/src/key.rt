@@ -66,7 +66,8 @@ fn same_key<'a>(arena: &'a Arena, homes: &'a Homes<'a>, levels: u32, x: Value, y
         (Value::Int(m), Value::Int(n)) => m == n,
         (Value::Ref { .. }, Value::Ref { .. }) => {
             match (arena.read(homes, x), arena.read(homes, y)) {
-                (Some(Cell::Text(t)), Some(Cell::Text(u))) => t.as_bytes() == u.as_bytes(),
+                (Some(Cell::Text(t)), Some(Cell::Text(u))) => t.as_str().as_bytes()
+                    == u.as_str().as_bytes(),
                 (Some(Cell::Tuple(xs)), Some(Cell::Tuple(ys))) => {
                     same_key_items(arena, homes, levels - 1, xs, ys)
                 }

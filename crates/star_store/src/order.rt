@@ -102,7 +102,9 @@ fn order_cells<'a>(
     ensures less { steps.new ≤ steps.old }
 {
     match (left, right) {
-        (Some(Cell::Text(t)), Some(Cell::Text(u))) => Ok(t.as_bytes().cmp(u.as_bytes())),
+        (Some(Cell::Text(t)), Some(Cell::Text(u))) => Ok(
+            t.as_str().as_bytes().cmp(u.as_str().as_bytes()),
+        ),
         (Some(Cell::Tuple(xs)), Some(Cell::Tuple(ys))) => {
             order_items(arena, homes, levels, steps, xs, ys)
         }

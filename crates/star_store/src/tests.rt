@@ -12,7 +12,8 @@ use crate::order::order;
 use crate::range::Range;
 use crate::text::repr;
 use crate::truth::is_true;
-use crate::values::{Cell, Entries, Frame, Function, Slots, Text, Value, Values};
+use crate::values::{Cell, Entries, Frame, Function, Slots, Value, Values};
+use star_text::Text;
 use std::alloc::Global;
 use std::cmp::Ordering;
 use std::process::Abort;
@@ -30,8 +31,7 @@ fn made(rt: &impl Abort, arena: &mut Arena, cell: Cell) -> Result<Value, Fail> {
 }
 
 fn text(alloc: Global, rt: &impl Abort, arena: &mut Arena, content: &str) -> Result<Value, Fail> {
-    let bytes = Vec::from_slice(alloc, content.as_bytes())?;
-    made(rt, arena, Cell::Text(Text::new(bytes)))
+    made(rt, arena, Cell::Text(Text::new(alloc, content)?))
 }
 
 fn list(alloc: Global, rt: &impl Abort, arena: &mut Arena, items: &[Value]) -> Result<Value, Fail> {
@@ -74,7 +74,7 @@ fn shows(
 ) -> Result<(), Fail> {
     let mut budget = AMPLE;
     let text = repr(alloc, arena, homes, &mut budget, value)?;
-    assert!(rt; text.as_bytes() == want.as_bytes());
+    assert_eq!(rt; text.as_str(), want);
     Ok(())
 }
 
@@ -724,7 +724,7 @@ fn frames_and_functions(rt: HostRuntime) -> Result<(), Fail> {
     let function = Function {
         file: 0,
         definition: 3,
-        name: Text::new(Vec::from_slice(alloc, b"f")?),
+        name: Text::new(alloc, "f")?,
         defaults: Values::new(Vec::new(alloc)),
         frame,
     };

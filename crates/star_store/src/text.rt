@@ -1,25 +1,27 @@
 // The texts of values, which pay a step for each value that they show.
 
-ghost use Rattle.std.specs.Prelude.{◌≡◌, ◌≤◌, ◌<◌, ◌++◌, ◌∷◌, ◌-◌, [], OnOk, codes, take, vec_len};
+ghost use Rattle.std.specs.Prelude.{◌≡◌, ◌≤◌, ◌<◌, ◌++◌, ◌∷◌, ◌-◌, [], OnOk, codes, string_bytes, take, vec_len};
+ghost use Rattle.std.specs.Char.{digit_char};
 ghost use Rattle.std.specs.Fmt.{signed_decimal};
 ghost use Rattle.std.specs.Option.{option_copied};
 ghost use Rattle.star_store.specs.Names.{built_in_name};
 ghost use Rattle.star_store.specs.Store.{look};
-ghost use Rattle.star_store.specs.Text.{Says, Tells, behind, bool_text, bounds_parts, built_in_parts, function_parts, hex_digit, method_parts, on_path, quoted, range_behind, same_address, say_cell, say_dict, say_entries, say_entry, say_items, say_list, say_new_dict, say_new_list, say_place, say_tuple, say_value, separator, shown_byte, text, tuple_end};
+ghost use Rattle.star_store.specs.Text.{Says, Tells, behind, bool_text, bounds_parts, built_in_parts, function_parts, method_parts, on_path, plain_char, quoted, range_behind, same_address, say_cell, say_dict, say_entries, say_entry, say_items, say_list, say_new_dict, say_new_list, say_place, say_tuple, say_value, separator, shown, shown_char, text, tuple_end};
 
 use crate::arena::{Arena, Homes};
 use crate::budget::Budget;
 use crate::fault::StoreFault;
 use crate::names::Method;
 use crate::range::Range;
-use crate::values::{Cell, Entries, Text, Value, Values};
+use crate::values::{Cell, Entries, Value, Values};
+use star_text::Text;
 use std::alloc::{AllocError, Global};
 
 /// A text that grows, the steps that are left, and the lists and dictionaries in which it now stands.
 #[derive(Drop)]
 struct Page {
     alloc: Global,
-    out: Vec<u8>,
+    out: String,
     path: Vec<Value>,
     steps: u64,
 }
@@ -39,14 +41,14 @@ pub fn repr(
 {
     let mut page = Page {
         alloc,
-        out: Vec::new(alloc),
+        out: String::new(alloc),
         path: Vec::new(alloc),
         steps: budget.steps,
     };
     let answer = put_text(arena, homes, budget.levels, &mut page, value);
     budget.steps = page.steps;
     answer?;
-    Ok(Text::new(page.out))
+    Ok(Text::from(page.out))
 }
 
 #[cycle(text)]
@@ -58,7 +60,7 @@ fn put_text<'a>(
     page: &mut Page,
     value: Value,
 ) -> Result<(), StoreFault>
-    ensures answer { Says (text (look arena.now homes.now) levels page.old.path.items value page.old.out.items page.old.steps) result page.new.out.items page.new.steps }
+    ensures answer { Says (text (look arena.now homes.now) levels page.old.path.items value (string_bytes page.old.out) page.old.steps) result (string_bytes page.new.out) page.new.steps }
     ensures less { page.new.steps ≤ page.old.steps }
     ensures path { OnOk result (page.new.path.items ≡ page.old.path.items) }
 {
@@ -80,12 +82,12 @@ fn put_value<'a>(
     page: &mut Page,
     value: Value,
 ) -> Result<(), StoreFault>
-    ensures answer { Says (say_value (look arena.now homes.now) (text (look arena.now homes.now) levels) page.old.path.items value page.old.out.items page.old.steps) result page.new.out.items page.new.steps }
+    ensures answer { Says (say_value (look arena.now homes.now) (text (look arena.now homes.now) levels) page.old.path.items value (string_bytes page.old.out) page.old.steps) result (string_bytes page.new.out) page.new.steps }
     ensures less { page.new.steps ≤ page.old.steps }
     ensures path { OnOk result (page.new.path.items ≡ page.old.path.items) }
 {
     match value {
-        Value::NoneValue => page.say(b"None")?,
+        Value::NoneValue => page.say("None")?,
         Value::Bool(b) => page.say_bool(b)?,
         Value::Int(n) => page.say_int(n)?,
         Value::Builtin(b) => page.say_built_in(b.name())?,
@@ -105,19 +107,19 @@ fn put_cell<'a>(
     value: Value,
     cell: Option<&'a Cell>,
 ) -> Result<(), StoreFault>
-    ensures answer { Says (say_cell (text (look arena.now homes.now) levels) page.old.path.items value (option_copied cell.entry) page.old.out.items page.old.steps) result page.new.out.items page.new.steps }
+    ensures answer { Says (say_cell (text (look arena.now homes.now) levels) page.old.path.items value (option_copied cell.entry) (string_bytes page.old.out) page.old.steps) result (string_bytes page.new.out) page.new.steps }
     ensures less { page.new.steps ≤ page.old.steps }
     ensures path { OnOk result (page.new.path.items ≡ page.old.path.items) }
 {
     match cell {
-        Some(Cell::Text(t)) => page.say_quoted(t.as_bytes())?,
+        Some(Cell::Text(t)) => page.say_quoted(t.as_str())?,
         Some(Cell::Range(range)) => page.say_range(*range)?,
         Some(Cell::Tuple(items)) => put_tuple(arena, homes, levels, page, items)?,
         Some(Cell::List(items)) => put_list(arena, homes, levels, page, value, items)?,
         Some(Cell::Dict(entries)) => put_dict(arena, homes, levels, page, value, entries)?,
         Some(Cell::Func(function)) => page.say_function(&function.name)?,
         Some(Cell::Bound(method, _)) => page.say_method(*method)?,
-        Some(Cell::Frame(_)) | None => page.say(b"")?,
+        Some(Cell::Frame(_)) | None => page.say("")?,
     }
     Ok(())
 }
@@ -130,11 +132,11 @@ fn put_tuple<'a>(
     page: &mut Page,
     items: &'a Values,
 ) -> Result<(), StoreFault>
-    ensures answer { Says (say_tuple (text (look arena.now homes.now) levels page.old.path.items) items.now page.old.out.items page.old.steps) result page.new.out.items page.new.steps }
+    ensures answer { Says (say_tuple (text (look arena.now homes.now) levels page.old.path.items) items.now (string_bytes page.old.out) page.old.steps) result (string_bytes page.new.out) page.new.steps }
     ensures less { page.new.steps ≤ page.old.steps }
     ensures path { OnOk result (page.new.path.items ≡ page.old.path.items) }
 {
-    page.say(b"(")?;
+    page.say("(")?;
     put_items(arena, homes, levels, page, items)?;
     page.say_tuple_end(items)?;
     Ok(())
@@ -149,12 +151,12 @@ fn put_list<'a>(
     value: Value,
     items: &'a Values,
 ) -> Result<(), StoreFault>
-    ensures answer { Says (say_list (text (look arena.now homes.now) levels) page.old.path.items value items.now page.old.out.items page.old.steps) result page.new.out.items page.new.steps }
+    ensures answer { Says (say_list (text (look arena.now homes.now) levels) page.old.path.items value items.now (string_bytes page.old.out) page.old.steps) result (string_bytes page.new.out) page.new.steps }
     ensures less { page.new.steps ≤ page.old.steps }
     ensures path { OnOk result (page.new.path.items ≡ page.old.path.items) }
 {
     if page.is_within(value) {
-        page.say(b"[...]")?;
+        page.say("[...]")?;
         return Ok(());
     }
     put_new_list(arena, homes, levels, page, value, items)
@@ -169,13 +171,13 @@ fn put_new_list<'a>(
     value: Value,
     items: &'a Values,
 ) -> Result<(), StoreFault>
-    ensures answer { Says (say_new_list (text (look arena.now homes.now) levels (page.old.path.items ++ value ∷ [])) items.now page.old.out.items page.old.steps) result page.new.out.items page.new.steps }
+    ensures answer { Says (say_new_list (text (look arena.now homes.now) levels (page.old.path.items ++ value ∷ [])) items.now (string_bytes page.old.out) page.old.steps) result (string_bytes page.new.out) page.new.steps }
     ensures less { page.new.steps ≤ page.old.steps }
     ensures path { OnOk result (page.new.path.items ≡ page.old.path.items) }
 {
-    page.say(b"[")?;
+    page.say("[")?;
     put_inner_items(arena, homes, levels, page, value, items)?;
-    page.say(b"]")?;
+    page.say("]")?;
     Ok(())
 }
 
@@ -188,12 +190,12 @@ fn put_dict<'a>(
     value: Value,
     entries: &'a Entries,
 ) -> Result<(), StoreFault>
-    ensures answer { Says (say_dict (text (look arena.now homes.now) levels) page.old.path.items value entries.now page.old.out.items page.old.steps) result page.new.out.items page.new.steps }
+    ensures answer { Says (say_dict (text (look arena.now homes.now) levels) page.old.path.items value entries.now (string_bytes page.old.out) page.old.steps) result (string_bytes page.new.out) page.new.steps }
     ensures less { page.new.steps ≤ page.old.steps }
     ensures path { OnOk result (page.new.path.items ≡ page.old.path.items) }
 {
     if page.is_within(value) {
-        page.say(b"{...}")?;
+        page.say("{...}")?;
         return Ok(());
     }
     put_new_dict(arena, homes, levels, page, value, entries)
@@ -208,13 +210,13 @@ fn put_new_dict<'a>(
     value: Value,
     entries: &'a Entries,
 ) -> Result<(), StoreFault>
-    ensures answer { Says (say_new_dict (text (look arena.now homes.now) levels (page.old.path.items ++ value ∷ [])) entries.now page.old.out.items page.old.steps) result page.new.out.items page.new.steps }
+    ensures answer { Says (say_new_dict (text (look arena.now homes.now) levels (page.old.path.items ++ value ∷ [])) entries.now (string_bytes page.old.out) page.old.steps) result (string_bytes page.new.out) page.new.steps }
     ensures less { page.new.steps ≤ page.old.steps }
     ensures path { OnOk result (page.new.path.items ≡ page.old.path.items) }
 {
-    page.say(b"{")?;
+    page.say("{")?;
     put_inner_entries(arena, homes, levels, page, value, entries)?;
-    page.say(b"}")?;
+    page.say("}")?;
     Ok(())
 }
 
@@ -227,7 +229,7 @@ fn put_inner_items<'a>(
     value: Value,
     items: &'a Values,
 ) -> Result<(), StoreFault>
-    ensures answer { Says (say_items (text (look arena.now homes.now) levels (page.old.path.items ++ value ∷ [])) items.now page.old.out.items page.old.steps) result page.new.out.items page.new.steps }
+    ensures answer { Says (say_items (text (look arena.now homes.now) levels (page.old.path.items ++ value ∷ [])) items.now (string_bytes page.old.out) page.old.steps) result (string_bytes page.new.out) page.new.steps }
     ensures less { page.new.steps ≤ page.old.steps }
     ensures path { OnOk result (page.new.path.items ≡ page.old.path.items) }
 {
@@ -246,7 +248,7 @@ fn put_items<'a>(
     page: &mut Page,
     items: &'a Values,
 ) -> Result<(), StoreFault>
-    ensures answer { Says (say_items (text (look arena.now homes.now) levels page.old.path.items) items.now page.old.out.items page.old.steps) result page.new.out.items page.new.steps }
+    ensures answer { Says (say_items (text (look arena.now homes.now) levels page.old.path.items) items.now (string_bytes page.old.out) page.old.steps) result (string_bytes page.new.out) page.new.steps }
     ensures less { page.new.steps ≤ page.old.steps }
     ensures path { OnOk result (page.new.path.items ≡ page.old.path.items) }
 {
@@ -266,14 +268,14 @@ fn put_place<'a>(
     items: &'a Values,
     i: usize,
 ) -> Result<(), StoreFault>
-    ensures answer { Says (say_place (text (look arena.now homes.now) levels page.old.path.items) items.now i page.old.out.items page.old.steps) result page.new.out.items page.new.steps }
+    ensures answer { Says (say_place (text (look arena.now homes.now) levels page.old.path.items) items.now i (string_bytes page.old.out) page.old.steps) result (string_bytes page.new.out) page.new.steps }
     ensures less { page.new.steps ≤ page.old.steps }
     ensures path { OnOk result (page.new.path.items ≡ page.old.path.items) }
 {
     page.say_separator(i)?;
     match items.get(i) {
         Some(item) => put_text(arena, homes, levels, page, item)?,
-        None => page.say(b"")?,
+        None => page.say("")?,
     }
     Ok(())
 }
@@ -287,7 +289,7 @@ fn put_inner_entries<'a>(
     value: Value,
     entries: &'a Entries,
 ) -> Result<(), StoreFault>
-    ensures answer { Says (say_entries (text (look arena.now homes.now) levels (page.old.path.items ++ value ∷ [])) entries.now page.old.out.items page.old.steps) result page.new.out.items page.new.steps }
+    ensures answer { Says (say_entries (text (look arena.now homes.now) levels (page.old.path.items ++ value ∷ [])) entries.now (string_bytes page.old.out) page.old.steps) result (string_bytes page.new.out) page.new.steps }
     ensures less { page.new.steps ≤ page.old.steps }
     ensures path { OnOk result (page.new.path.items ≡ page.old.path.items) }
 {
@@ -306,7 +308,7 @@ fn put_entries<'a>(
     page: &mut Page,
     entries: &'a Entries,
 ) -> Result<(), StoreFault>
-    ensures answer { Says (say_entries (text (look arena.now homes.now) levels page.old.path.items) entries.now page.old.out.items page.old.steps) result page.new.out.items page.new.steps }
+    ensures answer { Says (say_entries (text (look arena.now homes.now) levels page.old.path.items) entries.now (string_bytes page.old.out) page.old.steps) result (string_bytes page.new.out) page.new.steps }
     ensures less { page.new.steps ≤ page.old.steps }
     ensures path { OnOk result (page.new.path.items ≡ page.old.path.items) }
 {
@@ -326,7 +328,7 @@ fn put_entry<'a>(
     entries: &'a Entries,
     i: usize,
 ) -> Result<(), StoreFault>
-    ensures answer { Says (say_entry (text (look arena.now homes.now) levels page.old.path.items) entries.now i page.old.out.items page.old.steps) result page.new.out.items page.new.steps }
+    ensures answer { Says (say_entry (text (look arena.now homes.now) levels page.old.path.items) entries.now i (string_bytes page.old.out) page.old.steps) result (string_bytes page.new.out) page.new.steps }
     ensures less { page.new.steps ≤ page.old.steps }
     ensures path { OnOk result (page.new.path.items ≡ page.old.path.items) }
 {
@@ -334,10 +336,10 @@ fn put_entry<'a>(
     match entries.get(i) {
         Some((key, value)) => {
             put_text(arena, homes, levels, page, key)?;
-            page.say(b": ")?;
+            page.say(": ")?;
             put_text(arena, homes, levels, page, value)?;
         }
-        None => page.say(b"")?,
+        None => page.say("")?,
     }
     Ok(())
 }
@@ -353,80 +355,80 @@ fn same_address(x: Value, y: Value) -> bool
 }
 
 impl Page {
-    /// Puts bytes behind the text.
-    fn say(&mut self, bytes: &[u8]) -> Result<(), AllocError>
-        ensures said { OnOk result (self.new.out.items ≡ self.old.out.items ++ bytes.now) }
+    /// Puts more behind the text.
+    fn say(&mut self, more: &str) -> Result<(), AllocError>
+        ensures said { OnOk result ((string_bytes self.new.out) ≡ (string_bytes self.old.out) ++ more.now) }
         ensures path { self.new.path.items ≡ self.old.path.items }
         ensures steps { self.new.steps ≡ self.old.steps }
     {
-        self.out.extend_from_slice(bytes)
+        self.out.push_str(more)
     }
 
     fn say_bool(&mut self, b: bool) -> Result<(), AllocError>
-        ensures said { OnOk result (self.new.out.items ≡ self.old.out.items ++ bool_text b) }
+        ensures said { OnOk result ((string_bytes self.new.out) ≡ (string_bytes self.old.out) ++ bool_text b) }
         ensures path { self.new.path.items ≡ self.old.path.items }
         ensures steps { self.new.steps ≡ self.old.steps }
     {
         if b {
-            self.say(b"True")
+            self.say("True")
         } else {
-            self.say(b"False")
+            self.say("False")
         }
     }
 
     fn say_int(&mut self, n: i64) -> Result<(), AllocError>
-        ensures said { OnOk result (self.new.out.items ≡ self.old.out.items ++ signed_decimal n) }
+        ensures said { OnOk result ((string_bytes self.new.out) ≡ (string_bytes self.old.out) ++ signed_decimal n) }
         ensures path { self.new.path.items ≡ self.old.path.items }
         ensures steps { self.new.steps ≡ self.old.steps }
     {
         let digits = format!(in self.alloc; "{n}")?;
-        self.say(digits.as_bytes())
+        self.say(digits.as_str())
     }
 
     fn say_built_in(&mut self, name: &str) -> Result<(), AllocError>
-        ensures said { OnOk result (self.new.out.items ≡ behind self.old.out.items (built_in_parts name.now)) }
+        ensures said { OnOk result ((string_bytes self.new.out) ≡ behind (string_bytes self.old.out) (built_in_parts name.now)) }
         ensures path { self.new.path.items ≡ self.old.path.items }
         ensures steps { self.new.steps ≡ self.old.steps }
     {
-        self.say(b"<built-in function ")?;
-        self.say(name.as_bytes())?;
-        self.say(b">")
+        self.say("<built-in function ")?;
+        self.say(name)?;
+        self.say(">")
     }
 
     fn say_function(&mut self, name: &Text) -> Result<(), AllocError>
-        ensures said { OnOk result (self.new.out.items ≡ behind self.old.out.items (function_parts name.now)) }
+        ensures said { OnOk result ((string_bytes self.new.out) ≡ behind (string_bytes self.old.out) (function_parts name.now)) }
         ensures path { self.new.path.items ≡ self.old.path.items }
         ensures steps { self.new.steps ≡ self.old.steps }
     {
-        self.say(b"<function ")?;
-        self.say(name.as_bytes())?;
-        self.say(b">")
+        self.say("<function ")?;
+        self.say(name.as_str())?;
+        self.say(">")
     }
 
     fn say_method(&mut self, method: Method) -> Result<(), AllocError>
-        ensures said { OnOk result (self.new.out.items ≡ behind self.old.out.items (method_parts method)) }
+        ensures said { OnOk result ((string_bytes self.new.out) ≡ behind (string_bytes self.old.out) (method_parts method)) }
         ensures path { self.new.path.items ≡ self.old.path.items }
         ensures steps { self.new.steps ≡ self.old.steps }
     {
-        self.say(b"<built-in method ")?;
-        self.say(method.name().as_bytes())?;
-        self.say(b" of ")?;
-        self.say(method.receiver().as_bytes())?;
-        self.say(b" value>")
+        self.say("<built-in method ")?;
+        self.say(method.name())?;
+        self.say(" of ")?;
+        self.say(method.receiver())?;
+        self.say(" value>")
     }
 
     fn say_range(&mut self, range: Range) -> Result<(), AllocError>
-        ensures said { OnOk result (self.new.out.items ≡ range_behind self.old.out.items range) }
+        ensures said { OnOk result ((string_bytes self.new.out) ≡ range_behind (string_bytes self.old.out) range) }
         ensures path { self.new.path.items ≡ self.old.path.items }
         ensures steps { self.new.steps ≡ self.old.steps }
     {
-        self.say(b"range(")?;
+        self.say("range(")?;
         self.say_bounds(range)?;
-        self.say(b")")
+        self.say(")")
     }
 
     fn say_bounds(&mut self, range: Range) -> Result<(), AllocError>
-        ensures said { OnOk result (self.new.out.items ≡ behind self.old.out.items (bounds_parts range)) }
+        ensures said { OnOk result ((string_bytes self.new.out) ≡ behind (string_bytes self.old.out) (bounds_parts range)) }
         ensures path { self.new.path.items ≡ self.old.path.items }
         ensures steps { self.new.steps ≡ self.old.steps }
     {
@@ -437,52 +439,48 @@ impl Page {
             return self.say_int(range.stop);
         }
         self.say_int(range.start)?;
-        self.say(b", ")?;
+        self.say(", ")?;
         self.say_int(range.stop)
     }
 
     fn say_three(&mut self, range: Range) -> Result<(), AllocError>
-        ensures said { OnOk result (self.new.out.items ≡ self.old.out.items ++ signed_decimal range.start ++ codes ", " ++ signed_decimal range.stop ++ codes ", " ++ signed_decimal range.step) }
+        ensures said { OnOk result ((string_bytes self.new.out) ≡ (string_bytes self.old.out) ++ signed_decimal range.start ++ codes ", " ++ signed_decimal range.stop ++ codes ", " ++ signed_decimal range.step) }
         ensures path { self.new.path.items ≡ self.old.path.items }
         ensures steps { self.new.steps ≡ self.old.steps }
     {
         self.say_int(range.start)?;
-        self.say(b", ")?;
+        self.say(", ")?;
         self.say_int(range.stop)?;
-        self.say(b", ")?;
+        self.say(", ")?;
         self.say_int(range.step)
     }
 
     fn say_separator(&mut self, i: usize) -> Result<(), AllocError>
-        ensures said { OnOk result (self.new.out.items ≡ self.old.out.items ++ separator i) }
+        ensures said { OnOk result ((string_bytes self.new.out) ≡ (string_bytes self.old.out) ++ separator i) }
         ensures path { self.new.path.items ≡ self.old.path.items }
         ensures steps { self.new.steps ≡ self.old.steps }
     {
-        if i == 0 {
-            self.say(b"")
-        } else {
-            self.say(b", ")
-        }
+        if i == 0 { self.say("") } else { self.say(", ") }
     }
 
     fn say_tuple_end(&mut self, items: &Values) -> Result<(), AllocError>
-        ensures said { OnOk result (self.new.out.items ≡ self.old.out.items ++ tuple_end items.now) }
+        ensures said { OnOk result ((string_bytes self.new.out) ≡ (string_bytes self.old.out) ++ tuple_end items.now) }
         ensures path { self.new.path.items ≡ self.old.path.items }
         ensures steps { self.new.steps ≡ self.old.steps }
     {
         if items.len() == 1 {
-            self.say(b",)")
+            self.say(",)")
         } else {
-            self.say(b")")
+            self.say(")")
         }
     }
 
-    fn say_quoted(&mut self, bytes: &[u8]) -> Result<(), AllocError>
-        ensures said { OnOk result (self.new.out.items ≡ self.old.out.items ++ quoted bytes.now) }
+    fn say_quoted(&mut self, text: &str) -> Result<(), AllocError>
+        ensures said { OnOk result ((string_bytes self.new.out) ≡ (string_bytes self.old.out) ++ quoted text.now) }
         ensures path { self.new.path.items ≡ self.old.path.items }
         ensures steps { self.new.steps ≡ self.old.steps }
     {
-        put_quoted(&mut self.out, bytes)
+        put_quoted(&mut self.out, text)
     }
 
     /// Whether the text now stands in this list or dictionary.
@@ -495,7 +493,7 @@ impl Page {
     /// The text now stands in this list or dictionary.
     fn enter(&mut self, value: Value) -> Result<(), AllocError>
         ensures path { OnOk result (self.new.path.items ≡ self.old.path.items ++ value ∷ []) }
-        ensures said { self.new.out.items ≡ self.old.out.items }
+        ensures said { (string_bytes self.new.out) ≡ (string_bytes self.old.out) }
         ensures steps { self.new.steps ≡ self.old.steps }
     {
         self.path.push(value)?;
@@ -505,7 +503,7 @@ impl Page {
     /// The text stands in the last list or dictionary no longer.
     fn leave(&mut self)
         ensures path { self.new.path.items ≡ take (vec_len self.old.path - 1) self.old.path.items }
-        ensures said { self.new.out.items ≡ self.old.out.items }
+        ensures said { (string_bytes self.new.out) ≡ (string_bytes self.old.out) }
         ensures steps { self.new.steps ≡ self.old.steps }
     {
         self.path.truncate(self.path.len().saturating_sub(1));
@@ -513,36 +511,61 @@ impl Page {
 }
 
 /// Puts a string in quotes behind a text.
-fn put_quoted(out: &mut Vec<u8>, bytes: &[u8]) -> Result<(), AllocError>
-    ensures { OnOk result (out.new.items ≡ out.old.items ++ quoted bytes.now) }
+fn put_quoted(out: &mut String, text: &str) -> Result<(), AllocError>
+    ensures { OnOk result (string_bytes out.new ≡ string_bytes out.old ++ quoted text.now) }
 {
-    out.extend_from_slice(b"\"")?;
-    for byte in bytes {
-        put_byte(out, *byte)?;
-    }
-    out.extend_from_slice(b"\"")
+    out.push('"')?;
+    put_chars(out, text)?;
+    out.push('"')
 }
 
-/// Puts a byte of a string, as its text shows it, behind a text.
-fn put_byte(out: &mut Vec<u8>, byte: u8) -> Result<(), AllocError>
-    ensures { OnOk result (out.new.items ≡ out.old.items ++ shown_byte byte) }
+/// Puts the characters of a string, as its text shows them, behind a text.
+fn put_chars(out: &mut String, text: &str) -> Result<(), AllocError>
+    ensures { OnOk result (string_bytes out.new ≡ string_bytes out.old ++ shown text.now) }
 {
-    match byte {
-        b'"' | b'\\' => out.extend_from_slice(&[b'\\', byte]),
-        b'\n' => out.extend_from_slice(b"\\n"),
-        b'\r' => out.extend_from_slice(b"\\r"),
-        b'\t' => out.extend_from_slice(b"\\t"),
-        0..32 | 127 => {
-            out.extend_from_slice(&[b'\\', b'x', hex_digit(byte / 16), hex_digit(byte % 16)])
-        }
-        _ => out.extend_from_slice(&[byte]),
+    for c in text.chars() {
+        put_char(out, c)?;
+    }
+    Ok(())
+}
+
+/// Puts a character of a string, as its text shows it, behind a text.
+#[tactic(auto, unfolding(crate::specs::Text::shown_char))]
+fn put_char(out: &mut String, c: char) -> Result<(), AllocError>
+    ensures { OnOk result (string_bytes out.new ≡ string_bytes out.old ++ shown_char c) }
+{
+    match c {
+        '"' => out.push_str("\\\""),
+        '\\' => out.push_str("\\\\"),
+        '\n' => out.push_str("\\n"),
+        '\r' => out.push_str("\\r"),
+        '\t' => out.push_str("\\t"),
+        _ => put_plain(out, c),
+    }
+}
+
+/// Puts a character that has no letter behind a backslash.
+fn put_plain(out: &mut String, c: char) -> Result<(), AllocError>
+    ensures { OnOk result (string_bytes out.new ≡ string_bytes out.old ++ plain_char c) }
+{
+    if (c as u32) < 32 || c as u32 == 127 {
+        out.push_str("\\x")?;
+        out.push(hex_digit(c as u32 / 16))?;
+        out.push(hex_digit(c as u32 % 16))
+    } else {
+        out.push(c)
     }
 }
 
 /// A lower-case hexadecimal digit.
-fn hex_digit(n: u8) -> u8
+fn hex_digit(n: u32) -> char
     requires { n < 16 }
-    ensures { result ≡ hex_digit n }
+    ensures value { result ≡ digit_char n }
+    ensures ascii { result < 128 }
 {
-    if n < 10 { b'0' + n } else { b'a' - 10 + n }
+    if n < 10 {
+        (b'0' + n as u8) as char
+    } else {
+        (b'a' + (n - 10) as u8) as char
+    }
 }

@@ -17,7 +17,7 @@ pub fn is_true(arena: &Arena, homes: &Homes, value: Value) -> bool
         Value::Int(n) => n != 0,
         Value::Builtin(_) => true,
         Value::Ref { .. } => match arena.read(homes, value) {
-            Some(Cell::Text(text)) => text.as_bytes().len() != 0,
+            Some(Cell::Text(text)) => text.as_str().len() != 0,
             Some(Cell::Range(range)) => range.len() != 0,
             Some(Cell::Tuple(items)) => items.len() != 0,
             Some(Cell::List(items)) => items.len() != 0,

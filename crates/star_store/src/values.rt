@@ -5,6 +5,7 @@ ghost use Rattle.std.specs.List.{insert, remove};
 
 use crate::names::{BuiltIn, Method};
 use crate::range::Range;
+use star_text::Text;
 use std::alloc::{AllocError, Global};
 use std::marker::Model;
 
@@ -17,18 +18,6 @@ pub enum Value {
     Int(i64),
     Builtin(BuiltIn),
     Ref { home: u32, at: u32 },
-}
-
-/// The bytes of a string, in UTF-8.
-#[derive(Drop)]
-pub struct Text {
-    bytes: Vec<u8>,
-}
-
-impl Model for Text {
-    ghost Value = { List ℕ };
-
-    ghost view = { λ t. t.bytes.items };
 }
 
 /// A row of values: the items of a list or a tuple, or the defaults of a function.
@@ -114,22 +103,6 @@ pub enum Cell {
 pub struct Counted {
     pub iterations: u32,
     pub cell: Cell,
-}
-
-impl Text {
-    /// The string of these bytes.
-    pub fn new(bytes: Vec<u8>) -> Text
-        ensures { result ≡ bytes.items }
-    {
-        Text { bytes }
-    }
-
-    /// The bytes of the string.
-    pub fn as_bytes(&self) -> &[u8]
-        ensures { result.now ≡ self.now }
-    {
-        &self.bytes
-    }
 }
 
 impl Values {

@@ -1,0 +1,329 @@
+//! Cuts a text into pieces.
+
+ghost use Rattle.std.specs.Prelude.{◌≡◌, ◌+◌, ◌≤◌, ◌∷◌, length, map, take, IfSome, IfOk, true};
+ghost use Rattle.star_lex.specs.Tokens as spec;
+ghost use Rattle.star_lex.specs.Pieces as pieces;
+ghost use Rattle.star_lex.specs.Signs as signs;
+ghost use Rattle.star_lex.specs.Values as values;
+ghost use Rattle.star_lex.specs.Values.{Leads};
+
+use crate::run::{Class, begins, is_in, is_line_end, line_end_size, run};
+use crate::token::{Keyword, Kind, Sign, Span};
+use crate::value::{Quoting, closed, int_of, opening, quoting_of};
+use std::alloc::{AllocError, Global};
+
+/// What a piece of a text is.
+#[derive(Clone, Copy)]
+pub enum Piece {
+    /// Spaces.
+    Blank,
+    /// Spaces and tabs, with a tab.
+    Tabbed,
+    Comment,
+    LineEnd,
+    /// A backslash and a line end.
+    Joint,
+    /// A token that is written.
+    Lexeme(Kind),
+    /// What fits nothing.
+    Bad,
+}
+
+/// A piece, the lines on which it begins and ends, and its bytes.
+#[derive(Clone, Copy)]
+pub struct Cut {
+    pub piece: Piece,
+    pub line: usize,
+    pub last: usize,
+    pub span: Span,
+}
+
+const KEYWORDS: [(&[u8], Keyword); 33] = [
+    (b"and", Keyword::And),
+    (b"break", Keyword::Break),
+    (b"continue", Keyword::Continue),
+    (b"def", Keyword::Def),
+    (b"elif", Keyword::Elif),
+    (b"else", Keyword::Else),
+    (b"for", Keyword::For),
+    (b"if", Keyword::If),
+    (b"in", Keyword::In),
+    (b"lambda", Keyword::Lambda),
+    (b"load", Keyword::Load),
+    (b"not", Keyword::Not),
+    (b"or", Keyword::Or),
+    (b"pass", Keyword::Pass),
+    (b"return", Keyword::Return),
+    (b"as", Keyword::Reserved),
+    (b"assert", Keyword::Reserved),
+    (b"async", Keyword::Reserved),
+    (b"await", Keyword::Reserved),
+    (b"class", Keyword::Reserved),
+    (b"del", Keyword::Reserved),
+    (b"except", Keyword::Reserved),
+    (b"finally", Keyword::Reserved),
+    (b"from", Keyword::Reserved),
+    (b"global", Keyword::Reserved),
+    (b"import", Keyword::Reserved),
+    (b"is", Keyword::Reserved),
+    (b"nonlocal", Keyword::Reserved),
+    (b"raise", Keyword::Reserved),
+    (b"try", Keyword::Reserved),
+    (b"while", Keyword::Reserved),
+    (b"with", Keyword::Reserved),
+    (b"yield", Keyword::Reserved),
+];
+
+fn keyword_in(mut rows: &[(&[u8], Keyword)], word: &[u8]) -> Option<Keyword>
+    ensures { result ≡ spec.keyword_in (map (λ r. (r.0.now, r.1)) rows.entry.now) word.now }
+{
+    while let [row, others @ ..] = rows {
+        if row.0.len() == word.len() && begins(word, row.0) {
+            return Some(row.1);
+        }
+        rows = others;
+    }
+    None
+}
+
+/// The keyword that a word is; `None` for a name.
+#[tactic(auto, unfolding(crate::specs::Tokens::keyword))]
+pub fn keyword(word: &[u8]) -> Option<Keyword>
+    ensures { result ≡ spec.keyword word.now }
+{
+    keyword_in(&KEYWORDS, word)
+}
+
+/// The sign of one byte that begins no other.
+fn mark(first: u8) -> Option<(Sign, usize)>
+    ensures { result ≡ signs.mark first }
+{
+    let sign = match first {
+        b'~' => Sign::Tilde,
+        b'.' => Sign::Dot,
+        b',' => Sign::Comma,
+        b';' => Sign::Semicolon,
+        b':' => Sign::Colon,
+        b'(' => Sign::LeftParen,
+        b')' => Sign::RightParen,
+        b'[' => Sign::LeftBracket,
+        b']' => Sign::RightBracket,
+        b'{' => Sign::LeftBrace,
+        b'}' => Sign::RightBrace,
+        _ => return None,
+    };
+    Some((sign, 1))
+}
+
+fn assigned(short: Sign, long: Sign, size: usize, rest: &[u8]) -> (Sign, usize)
+    requires { size ≤ 2 }
+    ensures value { result ≡ signs.assigned short long size rest.now }
+    ensures within { (size ≤ result.1) × (result.1 ≤ size + length rest.now) }
+{
+    if begins(rest, b"=") {
+        (long, size + 1)
+    } else {
+        (short, size)
+    }
+}
+
+/// The sign of a byte that the byte itself or `=` may follow.
+fn doubled(first: u8, rest: &[u8]) -> Option<(Sign, usize)>
+    ensures value { result ≡ signs.doubled first rest.now }
+    ensures within { IfSome result (λ s. (1 ≤ s.1) × (s.1 ≤ 1 + length rest.now)) }
+{
+    let twice = begins(rest, &[first]);
+    let after = if twice { &rest[1..] } else { rest };
+    match first {
+        b'*' if twice => Some((Sign::StarStar, 2)),
+        b'*' => Some(assigned(Sign::Star, Sign::StarAssign, 1, rest)),
+        b'/' if twice => Some(assigned(Sign::SlashSlash, Sign::SlashSlashAssign, 2, after)),
+        b'<' if twice => Some(assigned(Sign::ShiftLeft, Sign::ShiftLeftAssign, 2, after)),
+        b'<' => Some(assigned(Sign::Less, Sign::LessEqual, 1, rest)),
+        b'>' if twice => Some(assigned(Sign::ShiftRight, Sign::ShiftRightAssign, 2, after)),
+        b'>' => Some(assigned(Sign::Greater, Sign::GreaterEqual, 1, rest)),
+        b'!' if begins(rest, b"=") => Some((Sign::NotEqual, 2)),
+        _ => None,
+    }
+}
+
+/// The sign of a byte that only `=` may follow.
+fn single(first: u8, rest: &[u8]) -> Option<(Sign, usize)>
+    ensures value { result ≡ signs.single first rest.now }
+    ensures within { IfSome result (λ s. (1 ≤ s.1) × (s.1 ≤ 1 + length rest.now)) }
+{
+    let (short, long) = match first {
+        b'+' => (Sign::Plus, Sign::PlusAssign),
+        b'-' => (Sign::Minus, Sign::MinusAssign),
+        b'%' => (Sign::Percent, Sign::PercentAssign),
+        b'&' => (Sign::Ampersand, Sign::AmpersandAssign),
+        b'|' => (Sign::Bar, Sign::BarAssign),
+        b'^' => (Sign::Caret, Sign::CaretAssign),
+        b'=' => (Sign::Assign, Sign::EqualEqual),
+        _ => return None,
+    };
+    Some(assigned(short, long, 1, rest))
+}
+
+/// The sign at the front of `first` and `rest`, and how many bytes it takes.
+#[tactic(auto, using(crate::proofs::Signs::by_first), unfolding(crate::specs::Signs::operator))]
+fn sign(first: u8, rest: &[u8]) -> Option<(Sign, usize)>
+    ensures value { result ≡ spec.sign (first ∷ rest.now) }
+    ensures within { IfSome result (λ s. (1 ≤ s.1) × (s.1 ≤ 1 + length rest.now)) }
+{
+    if let Some(found) = doubled(first, rest) {
+        return Some(found);
+    }
+    if let Some(found) = single(first, rest) {
+        return Some(found);
+    }
+    mark(first)
+}
+
+fn blanks(text: &[u8]) -> (Piece, usize)
+    requires { Leads Class.Blank text.now }
+    ensures value { result ≡ pieces.blanks text.now }
+    ensures within { (1 ≤ result.1) × (result.1 ≤ length text.now) }
+{
+    let size = run(Class::Blank, text);
+    if run(Class::Space, text) == size {
+        (Piece::Blank, size)
+    } else {
+        (Piece::Tabbed, size)
+    }
+}
+
+/// What a backslash begins.
+fn joint(rest: &[u8]) -> (Piece, usize)
+    ensures value { result ≡ pieces.joint rest.now }
+    ensures within { (1 ≤ result.1) × (result.1 ≤ 1 + length rest.now) }
+{
+    match rest {
+        [first, ..] if is_line_end(*first) => (Piece::Joint, 1 + line_end_size(rest)),
+        _ => (Piece::Bad, 1 + rest.len()),
+    }
+}
+
+fn string(quoting: Quoting, text: &[u8]) -> (Piece, usize)
+    requires { (1 ≤ values.opening quoting) × (values.opening quoting ≤ length text.now) }
+    ensures value { result ≡ pieces.text quoting text.now }
+    ensures within { (1 ≤ result.1) × (result.1 ≤ length text.now) }
+{
+    let start = opening(quoting);
+    match closed(quoting, &text[start..]) {
+        None => (Piece::Bad, text.len()),
+        Some(size) => (Piece::Lexeme(Kind::Text), start + size),
+    }
+}
+
+fn int(text: &[u8]) -> (Piece, usize)
+    requires { Leads Class.Word text.now }
+    ensures value { result ≡ pieces.int text.now }
+    ensures within { (1 ≤ result.1) × (result.1 ≤ length text.now) }
+{
+    let size = run(Class::Word, text);
+    match int_of(&text[..size]) {
+        None => (Piece::Bad, text.len()),
+        Some(_) => (Piece::Lexeme(Kind::Int), size),
+    }
+}
+
+fn word(text: &[u8]) -> (Piece, usize)
+    requires { Leads Class.Word text.now }
+    ensures value { result ≡ pieces.word text.now }
+    ensures within { (1 ≤ result.1) × (result.1 ≤ length text.now) }
+{
+    let size = run(Class::Word, text);
+    match keyword(&text[..size]) {
+        None => (Piece::Lexeme(Kind::Name), size),
+        Some(keyword) => (Piece::Lexeme(Kind::Keyword(keyword)), size),
+    }
+}
+
+fn unquoted(first: u8, rest: &[u8], text: &[u8]) -> (Piece, usize)
+    requires { text.now ≡ first ∷ rest.now }
+    ensures value { result ≡ pieces.unquoted first text.now }
+    ensures within { (1 ≤ result.1) × (result.1 ≤ length text.now) }
+{
+    if first.is_ascii_digit() {
+        return int(text);
+    }
+    if is_in(Class::Word, first) {
+        return word(text);
+    }
+    match sign(first, rest) {
+        None => (Piece::Bad, text.len()),
+        Some((sign, size)) => (Piece::Lexeme(Kind::Sign(sign)), size),
+    }
+}
+
+/// The piece at the front of a text, and how many bytes it takes.
+#[tactic(auto, unfolding(crate::specs::Pieces::first))]
+fn first(text: &[u8]) -> (Piece, usize)
+    requires { 1 ≤ length text.now }
+    ensures value { result ≡ pieces.first text.now }
+    ensures within { (1 ≤ result.1) × (result.1 ≤ length text.now) }
+{
+    let [first, rest @ ..] = text else {
+        return (Piece::Bad, 0);
+    };
+    if is_in(Class::Blank, *first) {
+        return blanks(text);
+    }
+    if is_line_end(*first) {
+        return (Piece::LineEnd, line_end_size(text));
+    }
+    match *first {
+        b'#' => (Piece::Comment, run(Class::Line, text)),
+        b'\\' => joint(rest),
+        byte => match quoting_of(text) {
+            None => unquoted(byte, rest, text),
+            Some(quoting) => string(quoting, text),
+        },
+    }
+}
+
+/// How many line ends a text has.
+pub fn line_ends(text: &[u8]) -> usize
+    ensures value { result ≡ pieces.line_ends text.now }
+    ensures within { result ≤ length text.now }
+{
+    let mut rest = text;
+    let mut count = 0;
+    while let [byte, more @ ..] = rest {
+        if *byte == b'\n' || (*byte == b'\r' && !begins(more, b"\n")) {
+            count += 1;
+        }
+        rest = more;
+    }
+    count
+}
+
+/// The pieces of a text, whose texts, joined, are the text.
+pub fn pieces(alloc: Global, text: &[u8]) -> Result<Vec<Cut>, AllocError>
+    ensures value { IfOk result (λ cuts. cuts.items ≡ pieces.pieces text.now) }
+    ensures joined { IfOk result (λ cuts. pieces.joined text.now cuts.items ≡ text.now) }
+    ensures tiles { IfOk result (λ cuts. pieces.Tiles 0 cuts.items (length text.now)) }
+{
+    let mut cuts = Vec::new(alloc);
+    let mut rest = text;
+    let mut line = 1;
+    while !rest.is_empty() {
+        let (piece, size) = first(rest);
+        let start = text.len() - rest.len();
+        let last = line + line_ends(&rest[..size]);
+        let span = Span {
+            start,
+            end: start + size,
+        };
+        cuts.push(Cut {
+            piece,
+            line,
+            last,
+            span,
+        })?;
+        line = last;
+        rest = &rest[size..];
+    }
+    Ok(cuts)
+}

@@ -1,0 +1,234 @@
+//! Lays out the pieces of a text: its logical lines, their indentation and their tokens.
+
+ghost use Rattle.std.specs.Prelude.{◌≡◌, ◌+◌, ◌-◌, ◌<◌, ◌≤◌, ◌^◌, ◌∷◌, ◌++◌, [], length, replicate, IfSome, IfOk};
+ghost use Rattle.star_lex.specs.Lines as spec;
+ghost use Rattle.star_lex.specs.Lines.{Pushes};
+
+use crate::cut::{Cut, Piece};
+use crate::token::{Kind, Sign, Span, SyntaxFault, Token};
+use std::alloc::Global;
+
+fn depth_after(depth: usize, piece: Piece) -> usize
+    requires { depth + 1 < 2 ^ 64 }
+    ensures value { result ≡ spec.depth_after depth piece }
+    ensures near { result ≤ depth + 1 }
+{
+    match piece {
+        Piece::Lexeme(Kind::Sign(Sign::LeftParen | Sign::LeftBracket | Sign::LeftBrace)) => depth
+            + 1,
+        Piece::Lexeme(Kind::Sign(Sign::RightParen | Sign::RightBracket | Sign::RightBrace)) =>
+            depth.saturating_sub(1),
+        _ => depth,
+    }
+}
+
+fn ends_line(depth: usize, piece: Piece) -> bool
+    ensures { result ≡ spec.ends_line depth piece }
+{
+    depth == 0 && matches!(piece, Piece::LineEnd)
+}
+
+/// How many pieces the first logical line has, and the depth behind it.
+fn line_size(cuts: &[Cut]) -> (usize, usize)
+    ensures value { result ≡ spec.line_size 0 cuts.now }
+    ensures within { result.0 ≤ length cuts.now }
+{
+    let mut rest = cuts;
+    let mut size = 0;
+    let mut depth = 0;
+    while let [cut, more @ ..] = rest {
+        if ends_line(depth, cut.piece) {
+            return (size, 0);
+        }
+        depth = depth_after(depth, cut.piece);
+        size += 1;
+        rest = more;
+    }
+    (size, depth)
+}
+
+/// How many of the open indentations, the innermost first, a width closes; `None` where none of them is equal to it.
+fn closing(opened: &[usize], width: usize) -> Option<usize>
+    ensures value { result ≡ spec.closing opened.now width }
+    ensures within { IfSome result (λ n. n < length opened.now) }
+{
+    let mut rest = opened;
+    let mut count = 0;
+    while let [first, more @ ..] = rest {
+        if *first == width {
+            return Some(count);
+        }
+        if *first < width {
+            return None;
+        }
+        count += 1;
+        rest = more;
+    }
+    None
+}
+
+/// The first piece of a line that says something.
+fn leader(line: &[Cut]) -> Option<Cut>
+    ensures { result ≡ spec.leader line.now }
+{
+    let mut rest = line;
+    while let [cut, more @ ..] = rest {
+        match cut.piece {
+            Piece::Blank | Piece::Tabbed | Piece::Comment | Piece::LineEnd => {}
+            _ => return Some(*cut),
+        }
+        rest = more;
+    }
+    None
+}
+
+/// How many spaces lead a line; `None` where there is a tab among them.
+fn width(line: &[Cut]) -> Option<usize>
+    ensures { result ≡ spec.width line.now }
+{
+    let [first, ..] = line else {
+        return Some(0);
+    };
+    match first.piece {
+        Piece::Tabbed => None,
+        Piece::Blank => Some(first.span.end.saturating_sub(first.span.start)),
+        _ => Some(0),
+    }
+}
+
+fn empty_token(kind: Kind, line: usize, at: usize) -> Token
+    ensures { result ≡ spec.mark kind line at }
+{
+    let span = Span { start: at, end: at };
+    Token { kind, line, span }
+}
+
+/// Pushes so many equal tokens.
+fn push_times(out: &mut Vec<Token>, token: Token, times: usize) -> Result<(), SyntaxFault>
+    ensures { Pushes (Ok (out.old.items ++ replicate times token)) result out.new.items }
+{
+    for _turn in 0..times {
+        out.push(token)?;
+    }
+    Ok(())
+}
+
+/// Opens or closes the indentations before a line.
+fn indent(
+    out: &mut Vec<Token>,
+    opened: &mut Vec<usize>,
+    width: usize,
+    line: usize,
+    at: usize,
+) -> Result<(), SyntaxFault>
+    ensures tokens { Pushes (spec.onto_marks out.old.items (spec.layout opened.old.items width) line at) result out.new.items }
+    ensures opened { IfOk result (λ _. opened.new.items ≡ spec.opened_by opened.old.items (spec.layout opened.old.items width) (Some width)) }
+{
+    match opened.first() {
+        Some(innermost) if *innermost < width => {
+            out.push(empty_token(Kind::Indent, line, at))?;
+            opened.insert(0, width)?;
+            return Ok(());
+        }
+        _ => {}
+    }
+    let Some(count) = closing(opened, width) else {
+        return Err(SyntaxFault::BadIndent { line });
+    };
+    opened.drain(..count);
+    push_times(out, empty_token(Kind::Outdent, line, at), count)
+}
+
+/// Pushes the tokens of a line, with the NEWLINE behind the last where the line ends at depth 0.
+#[tactic(auto, using(crate::proofs::Layouts::onto_onto))]
+fn push_tokens(out: &mut Vec<Token>, line: &[Cut], depth: usize) -> Result<(), SyntaxFault>
+    ensures { Pushes (spec.onto out.old.items (spec.tokens depth None line.now)) result out.new.items }
+{
+    let mut rest = line;
+    let mut before: Option<Cut> = None;
+    while let [cut, more @ ..] = rest {
+        match cut.piece {
+            Piece::Blank | Piece::Tabbed | Piece::Comment | Piece::LineEnd => {}
+            Piece::Lexeme(kind) => {
+                let (line, span) = (cut.line, cut.span);
+                out.push(Token { kind, line, span })?;
+                before = Some(*cut);
+            }
+            Piece::Joint => {
+                if before.is_none() {
+                    return Err(SyntaxFault::BadToken { line: cut.line });
+                }
+            }
+            Piece::Bad => return Err(SyntaxFault::BadToken { line: cut.line }),
+        }
+        rest = more;
+    }
+    match before {
+        Some(cut) if depth == 0 => {
+            out.push(empty_token(Kind::Newline, cut.last, cut.span.end))?;
+            Ok(())
+        }
+        _ => Ok(()),
+    }
+}
+
+/// Pushes the tokens of a logical line with those of its indentation; none where no piece says something.
+#[tactic(auto, using(crate::proofs::Layouts::onto_onto))]
+fn push_line(
+    out: &mut Vec<Token>,
+    opened: &mut Vec<usize>,
+    line: &[Cut],
+    depth: usize,
+) -> Result<(), SyntaxFault>
+    ensures tokens { Pushes (spec.onto out.old.items (spec.line_tokens opened.old.items (spec.line_of line.now depth))) result out.new.items }
+    ensures opened { IfOk result (λ _. opened.new.items ≡ spec.opened_after opened.old.items (spec.line_of line.now depth)) }
+{
+    let Some(leader) = leader(line) else {
+        return Ok(());
+    };
+    let Some(width) = width(line) else {
+        return Err(SyntaxFault::BadIndent { line: leader.line });
+    };
+    indent(out, opened, width, leader.line, leader.span.start)?;
+    push_tokens(out, line, depth)
+}
+
+/// Pushes what stands at the end of the text.
+fn finish(
+    out: &mut Vec<Token>,
+    opened: &[usize],
+    depth: usize,
+    line: usize,
+    at: usize,
+) -> Result<(), SyntaxFault>
+    ensures { Pushes (Ok (out.old.items ++ spec.finish depth opened.now line at)) result out.new.items }
+{
+    if depth == 0 {
+        let token = empty_token(Kind::Outdent, line, at);
+        push_times(out, token, opened.len().saturating_sub(1))?;
+    }
+    out.push(empty_token(Kind::End, line, at))?;
+    Ok(())
+}
+
+/// The tokens of pieces; `line` and `at` are those of the end of the text.
+pub fn lay(alloc: Global, cuts: &[Cut], line: usize, at: usize) -> Result<Vec<Token>, SyntaxFault>
+    ensures { spec.Answers (spec.lay line at (0 ∷ []) 0 (spec.lines 0 cuts.now)) result }
+{
+    let mut out = Vec::new(alloc);
+    let mut opened = Vec::new(alloc);
+    opened.push(0)?;
+    let mut rest = cuts;
+    'lines: loop {
+        let (size, depth) = line_size(rest);
+        let (first, behind) = rest.split_at(size);
+        push_line(&mut out, &mut opened, first, depth)?;
+        match behind {
+            [] => {
+                finish(&mut out, &opened, depth, line, at)?;
+                return Ok(out);
+            }
+            [_, others @ ..] => rest = others,
+        }
+    }
+}

@@ -1,7 +1,0 @@
-use Rattle.std.proofs.Common.{◌+◌, length}
-use Rattle.star_syntax.proofs.Order.{in_order}
-use Rattle.star_syntax.proofs.lex.Goals as goal
-
-pub returns-clause-order : goal.returns-clause-order
-returns-clause-order c =
-    rw (← c.as_bytes-bytes.ensures.len) (in_order (1 + c.line_ends.result) (length c.as_bytes-bytes.result.now) c.deref.result.now c.lay.result (rw c.deref.ensures.value c.in_ok-cuts.ensures.tiles) c.lay.ensures)

@@ -1,9 +1,0 @@
-use Rattle.std.proofs.Common.{◌≡◌, ◌-◌, ◌≤◌, length}
-use Rattle.star_syntax.specs.Values.{closed, more}
-use Rattle.star_syntax.proofs.value.closed.Given as goal
-
-abbrev pub invariant-loop-rest : goal.invariant-loop-rest
-invariant-loop-rest l = record { whole : closed l.quoting l.text ≡ more (length l.text - length l.rest) (closed l.quoting l.rest); within : length l.rest ≤ length l.text }
-
-abbrev pub decreases-loop-rest : goal.decreases-loop-rest
-decreases-loop-rest l = length l.rest
