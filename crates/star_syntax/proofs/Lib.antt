@@ -1,0 +1,15 @@
+pub mod ExpressionTable
+pub mod Forms
+pub mod Language
+pub mod Levels
+pub mod Lists
+pub mod Once
+pub mod Quiet
+pub mod Ranks
+pub mod Reading
+pub mod ReadsBack
+pub mod Rounds
+pub mod StatementTable
+pub mod Targets
+pub mod Weights
+pub mod Writing

@@ -1,0 +1,30 @@
+-- Rounds of a repetition, beside a loop that counts up.
+use Rattle.std.proofs.Common.{◌≡◌, ℕ, zero, suc, ◌+◌, ◌-◌, ◌<◌, ◌≤◌, List, Option, Some, None, ap, refl, sym, ◌∙◌, arith}
+use Rattle.star_syntax.specs.declared.leaf.Leaf.{Leaf}
+use Rattle.star_syntax.specs.Grammar.{Answer, rounds}
+
+round : {A B : Type 0} (f : A → B → A) (h : List Leaf → Answer B) (n : ℕ) (x : A) (ts : List Leaf) (p : B × List Leaf) → h ts ≡ Some p → rounds f h (suc n) x ts ≡ rounds f h n (f x p.0) p.1
+unfolding rounds
+round f h n x ts p e = rw (e, rounds) refl
+
+rest : {A B : Type 0} (f : A → B → A) (h : List Leaf → Answer B) (n : ℕ) (x : A) (ts : List Leaf) → h ts ≡ None → rounds f h n x ts ≡ Some (x, ts)
+unfolding rounds
+rest f h zero x ts e = refl
+rest f h (suc n) x ts e = rw (e, rounds) refl
+
+pub more_rounds : {A B : Type 0} {whole : Answer A} (f : A → B → A) (h : List Leaf → Answer B) (n at : ℕ) (x : A) (ts : List Leaf) (p : B × List Leaf)
+    → at < n → whole ≡ rounds f h (n - at) x ts → h ts ≡ Some p → whole ≡ rounds f h (n - (at + 1)) (f x p.0) p.1
+more_rounds f h n at x ts p below e found =
+    let turn : n - at ≡ suc (n - (at + 1)) = omega arith in
+    e ∙ ap (λ m. rounds f h m x ts) turn ∙ round f h (n - (at + 1)) x ts p found
+
+pub last_round : {A B : Type 0} {whole : Answer A} (f : A → B → A) (h : List Leaf → Answer B) (n : ℕ) (x : A) (ts : List Leaf)
+    → whole ≡ rounds f h n x ts → h ts ≡ None → whole ≡ Some (x, ts)
+last_round f h n x ts e none = e ∙ rest f h n x ts none
+
+pub no_turns : {A B : Type 0} {whole : Answer A} (f : A → B → A) (h : List Leaf → Answer B) (n at : ℕ) (x : A) (ts : List Leaf)
+    → n ≤ at → whole ≡ rounds f h (n - at) x ts → whole ≡ Some (x, ts)
+unfolding rounds
+no_turns f h n at x ts over e =
+    let none : n - at ≡ 0 = omega arith in
+    e ∙ ap (λ m. rounds f h m x ts) none

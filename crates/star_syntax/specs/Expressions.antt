@@ -1,0 +1,601 @@
+-- The grammar of expressions: a line for each production, which stands above it.
+use Rattle.std.specs.Prelude.{ℕ, zero, suc, ◌==◌, Bool, true, false, if◌then◌else◌, List, [], ◌∷◌, ◌++◌, Option, Some, None}
+use denote.Enum.Bare.{sameb}
+use Rattle.star_lex.specs.contracts.token.Sign.{the_type as sign_type}
+use Rattle.star_lex.specs.contracts.token.Keyword.{the_type as keyword_type}
+use Rattle.star_lex.specs.declared.token.Sign.{Sign}
+use Rattle.star_lex.specs.declared.token.Sign.TheVariants as s
+use Rattle.star_lex.specs.declared.token.Keyword.{Keyword}
+use Rattle.star_lex.specs.declared.token.Keyword.TheVariants as k
+use Rattle.star_syntax.specs.declared.leaf.Word.{Word}
+use Rattle.star_syntax.specs.declared.leaf.Word.TheVariants as word
+use Rattle.star_syntax.specs.declared.leaf.Leaf.{Leaf}
+use Rattle.star_syntax.specs.declared.level.Level.TheVariants as levels
+use Rattle.star_syntax.specs.declared.level.Suffix.{Suffix}
+use Rattle.star_syntax.specs.declared.level.Suffix.TheVariants as suffixes
+use Rattle.star_syntax.specs.declared.tree.Position.{Position}
+use Rattle.star_syntax.specs.declared.tree.Name.{Name}
+use Rattle.star_syntax.specs.declared.tree.UnaryOperator.{UnaryOperator}
+use Rattle.star_syntax.specs.declared.tree.UnaryOperator.TheVariants as unaries
+use Rattle.star_syntax.specs.declared.tree.BinaryOperator.{BinaryOperator}
+use Rattle.star_syntax.specs.declared.tree.BinaryOperator.TheVariants as binaries
+use Rattle.star_syntax.specs.declared.tree.Comparator.{Comparator}
+use Rattle.star_syntax.specs.declared.tree.Comparator.TheVariants as comparators
+use Rattle.star_syntax.specs.declared.tree.Expression.{Expression}
+use Rattle.star_syntax.specs.declared.tree.Expression.TheVariants as e
+use Rattle.star_syntax.specs.declared.tree.Entry.{Entry, roll-Entry}
+use Rattle.star_syntax.specs.declared.tree.Argument.{Argument}
+use Rattle.star_syntax.specs.declared.tree.Argument.TheVariants as arguments
+use Rattle.star_syntax.specs.declared.tree.Parameter.{Parameter}
+use Rattle.star_syntax.specs.declared.tree.Parameter.TheVariants as parameters
+use Rattle.star_syntax.specs.declared.tree.Target.{Target}
+use Rattle.star_syntax.specs.declared.tree.Clauses.{Clauses, roll-Clauses}
+use Rattle.star_syntax.specs.declared.tree.Clause.{Clause}
+use Rattle.star_syntax.specs.declared.tree.Clause.TheVariants as clauses
+use Rattle.star_syntax.specs.Sorts.{Sort, Val, both, maybe, list}
+use Rattle.star_syntax.specs.Sorts as sorts
+use Rattle.star_syntax.specs.Grammar.{level, G, one, empty, seq, alt, fold, act, when, the}
+use Rattle.star_syntax.specs.Keeps.{keep, arguments_in_order, parameters_in_order, target_of}
+
+-- ---- words for productions
+
+abbrev pub left_of : {A B : Type 0} → A × B → A
+left_of p = p.0
+
+abbrev pub right_of : {A B : Type 0} → A × B → B
+right_of p = p.1
+
+abbrev pub none_of : {A : Type 0} → Unit {0} → Option A
+none_of u = None
+
+abbrev pub nil_of : {A : Type 0} → Unit {0} → List A
+nil_of u = []
+
+abbrev pub single : {A : Type 0} → A → List A
+single x = x ∷ []
+
+abbrev pub snoc : {A : Type 0} → List A → A → List A
+snoc xs x = xs ++ x ∷ []
+
+-- `[ g ]`
+abbrev pub opt : {a : Sort} → G a → G (maybe a)
+opt g = alt (act Some g) (act none_of empty)
+
+-- `{ g }`
+abbrev pub rep : {a : Sort} → G a → G (list a)
+rep g = fold snoc (act nil_of empty) g
+
+-- the second of two, where the first says nothing more
+abbrev pub after : {a b : Sort} → G a → G b → G b
+after g h = act right_of (seq g h)
+
+-- the first of two, where the second says nothing more
+abbrev pub before : {a b : Sort} → G a → G b → G a
+before g h = act left_of (seq g h)
+
+-- ---- leaves
+
+-- `==` on signs and on keywords
+unfoldable pub same_sign : Sign → Sign → Bool
+same_sign = sameb sign_type
+
+unfoldable pub same_keyword : Keyword → Keyword → Bool
+same_keyword = sameb keyword_type
+
+abbrev pub said : Bool → Option (Unit {0})
+said b = if b then Some tt else None
+
+abbrev pub is_sign : Sign → Word → Option (Unit {0})
+is_sign sign (word.Sign found) = said (same_sign sign found)
+is_sign sign _ = None
+
+abbrev pub is_keyword : Keyword → Word → Option (Unit {0})
+is_keyword keyword (word.Keyword found) = said (same_keyword keyword found)
+is_keyword keyword _ = None
+
+abbrev pub placed_at : Position → Option (Unit {0}) → Option Position
+placed_at position None = None
+placed_at position (Some u) = Some position
+
+abbrev pub name_of : Position → Word → Option Name
+name_of position (word.Name text) = Some (record { text = text; position = position })
+name_of position _ = None
+
+-- a name, an int or a string as an operand
+abbrev pub atom_of : Position → Word → Option Expression
+atom_of position (word.Name text) = Some (e.Name (record { text = text; position = position }))
+atom_of position (word.Int value) = Some (e.Int value)
+atom_of position (word.Text text) = Some (e.Text text)
+atom_of position _ = None
+
+abbrev pub unary_sign : Sign → Option UnaryOperator
+unary_sign s.Plus = Some unaries.Plus
+unary_sign s.Minus = Some unaries.Minus
+unary_sign s.Tilde = Some unaries.Invert
+unary_sign _ = None
+
+abbrev pub unary_word : Word → Option UnaryOperator
+unary_word (word.Sign sign) = unary_sign sign
+unary_word _ = None
+
+-- the signs between two operands
+abbrev pub binary_sign : Sign → Option BinaryOperator
+binary_sign s.Star = Some binaries.Multiply
+binary_sign s.SlashSlash = Some binaries.FloorDivide
+binary_sign s.Percent = Some binaries.Modulo
+binary_sign s.Plus = Some binaries.Add
+binary_sign s.Minus = Some binaries.Subtract
+binary_sign s.ShiftLeft = Some binaries.ShiftLeft
+binary_sign s.ShiftRight = Some binaries.ShiftRight
+binary_sign s.Ampersand = Some binaries.BitAnd
+binary_sign s.Caret = Some binaries.BitXor
+binary_sign s.Bar = Some binaries.BitOr
+binary_sign _ = None
+
+-- how loosely they bind: 0 is the tightest
+abbrev pub looseness : BinaryOperator → ℕ
+looseness binaries.Multiply = 0
+looseness binaries.FloorDivide = 0
+looseness binaries.Modulo = 0
+looseness binaries.Add = 1
+looseness binaries.Subtract = 1
+looseness binaries.ShiftLeft = 2
+looseness binaries.ShiftRight = 2
+looseness binaries.BitAnd = 3
+looseness binaries.BitXor = 4
+looseness binaries.BitOr = 5
+
+abbrev pub only_at : ℕ → Option BinaryOperator → Option BinaryOperator
+only_at n None = None
+only_at n (Some operator) = if looseness operator == n then Some operator else None
+
+abbrev pub binary_word : ℕ → Word → Option BinaryOperator
+binary_word n (word.Sign sign) = only_at n (binary_sign sign)
+binary_word n _ = None
+
+abbrev pub comparator_sign : Sign → Option Comparator
+comparator_sign s.EqualEqual = Some comparators.Equal
+comparator_sign s.NotEqual = Some comparators.NotEqual
+comparator_sign s.Less = Some comparators.Less
+comparator_sign s.Greater = Some comparators.Greater
+comparator_sign s.LessEqual = Some comparators.LessEqual
+comparator_sign s.GreaterEqual = Some comparators.GreaterEqual
+comparator_sign _ = None
+
+abbrev pub comparator_word : Word → Option Comparator
+comparator_word (word.Sign sign) = comparator_sign sign
+comparator_word (word.Keyword k.In) = Some comparators.In
+comparator_word _ = None
+
+abbrev pub sign_ : Sign → G sorts.nothing
+sign_ sign = one (λ t. is_sign sign t.word)
+
+abbrev pub keyword_ : Keyword → G sorts.nothing
+keyword_ keyword = one (λ t. is_keyword keyword t.word)
+
+-- a sign or a keyword, with its position
+abbrev pub sign_at : Sign → G sorts.position
+sign_at sign = one (λ t. placed_at t.position (is_sign sign t.word))
+
+abbrev pub keyword_at : Keyword → G sorts.position
+keyword_at keyword = one (λ t. placed_at t.position (is_keyword keyword t.word))
+
+abbrev pub name : G sorts.name
+name = one (λ t. name_of t.position t.word)
+
+abbrev pub unary_operator : G sorts.unary
+unary_operator = one (λ t. unary_word t.word)
+
+abbrev pub binary_operator : ℕ → G sorts.binary
+binary_operator n = one (λ t. binary_word n t.word)
+
+-- ---- what productions make
+
+abbrev pub unary_of : UnaryOperator × Expression → Expression
+unary_of p = e.Unary p.0 p.1
+
+abbrev pub denied_of : Expression → Expression
+denied_of x = e.Unary unaries.Not x
+
+abbrev pub binary_of : Expression → BinaryOperator × Expression → Expression
+binary_of left p = e.Binary p.0 left p.1
+
+abbrev pub not_in_of : Unit {0} × Unit {0} → Comparator
+not_in_of u = comparators.NotIn
+
+abbrev pub comparison_of : Expression × Option (Comparator × Expression) → Expression
+comparison_of (left, None) = left
+comparison_of (left, Some p) = e.Compare p.0 left p.1
+
+abbrev pub and_of : Expression → Expression → Expression
+and_of left right = e.And left right
+
+abbrev pub or_of : Expression → Expression → Expression
+or_of left right = e.Or left right
+
+abbrev pub conditional_of : Expression × Option (Expression × Expression) → Expression
+conditional_of (chosen, None) = chosen
+conditional_of (chosen, Some p) = e.Conditional p.0 chosen p.1
+
+abbrev pub lambda_of : Position × (List Parameter × Expression) → Expression
+lambda_of p = e.Lambda p.0 p.1.0 p.1.1
+
+abbrev pub tuple_unless_one : List Expression → Expression
+tuple_unless_one [] = e.Tuple []
+tuple_unless_one (x ∷ []) = x
+tuple_unless_one (x ∷ y ∷ more) = e.Tuple (x ∷ y ∷ more)
+
+-- what stands in parentheses, and whether a comma ends it
+abbrev pub parentheses_of : Option (List Expression × Option (Unit {0})) → Expression
+parentheses_of None = e.Tuple []
+parentheses_of (Some (xs, None)) = tuple_unless_one xs
+parentheses_of (Some (xs, Some comma)) = e.Tuple xs
+
+-- what stands behind the first element or entry of a display: clauses, or further ones
+abbrev pub as_clauses : {A : Type 0} → Clauses → Option Clauses × List A
+as_clauses c = (Some c, [])
+
+abbrev pub as_further : {A : Type 0} → List A → Option Clauses × List A
+as_further more = (None, more)
+
+abbrev pub list_of : Position × Option (Expression × (Option Clauses × List Expression)) → Expression
+list_of (position, None) = e.List []
+list_of (position, Some (x, (None, more))) = e.List (x ∷ more)
+list_of (position, Some (x, (Some c, more))) = e.ListComprehension position x c
+
+abbrev pub entry_of : Expression × Expression → Entry
+entry_of p = roll-Entry (record { key = p.0; value = p.1 })
+
+abbrev pub dict_of : Position × Option (Entry × (Option Clauses × List Entry)) → Expression
+dict_of (position, None) = e.Dict []
+dict_of (position, Some (x, (None, more))) = e.Dict (x ∷ more)
+dict_of (position, Some (x, (Some c, more))) = e.DictComprehension position x c
+
+abbrev pub clause_of : Target × Expression → Clause
+clause_of p = clauses.For p.0 p.1
+
+abbrev pub clauses_of : (Target × Expression) × List Clause → Clauses
+clauses_of p = roll-Clauses (record { target = p.0.0; iterable = p.0.1; more = p.1 })
+
+-- where a slice stops, and its stride
+abbrev pub Cut : Type 0
+Cut = Option Expression × Option Expression
+
+abbrev pub as_cut : {A : Type 0} → Cut → Option Cut × List A
+as_cut c = (Some c, [])
+
+abbrev pub as_index : {A : Type 0} → List A → Option Cut × List A
+as_index more = (None, more)
+
+abbrev pub cut_from_start : Cut → Suffix
+cut_from_start c = suffixes.Slice None c.0 c.1
+
+abbrev pub subscript_of : Expression × (Option Cut × List Expression) → Suffix
+subscript_of (x, (None, more)) = suffixes.Index (tuple_unless_one (x ∷ more))
+subscript_of (x, (Some c, more)) = suffixes.Slice (Some x) c.0 c.1
+
+abbrev pub with_suffix : Expression → Suffix → Expression
+with_suffix value (suffixes.Attribute attribute) = e.Attribute value attribute
+with_suffix value (suffixes.Call given) = e.Call value given
+with_suffix value (suffixes.Index index) = e.Index value index
+with_suffix value (suffixes.Slice start stop stride) = e.Slice value start stop stride
+
+abbrev pub named_of : Name × Expression → Argument
+named_of p = arguments.Named p.0 p.1
+
+abbrev pub parameter_of : Name × Option Expression → Parameter
+parameter_of (bound, None) = parameters.Plain bound
+parameter_of (bound, Some x) = parameters.Default bound x
+
+abbrev pub star_of : Option Name → Parameter
+star_of None = parameters.BareStar
+star_of (Some bound) = parameters.Star bound
+
+-- ---- productions
+
+-- Test
+abbrev pub a_test : G sorts.expression
+a_test = the (level levels.Test)
+
+-- ',' Test
+unfoldable pub next_test : G sorts.expression
+next_test = after (sign_ s.Comma) a_test
+
+-- Test {',' Test}
+unfoldable pub list_of_tests : G (list sorts.expression)
+list_of_tests = fold snoc (act single a_test) next_test
+
+-- Tests = Test {',' Test}
+unfoldable pub tests : G sorts.expression
+tests = act tuple_unless_one list_of_tests
+
+-- ---- targets, clauses
+
+-- ',' Primary
+unfoldable pub next_primary : G sorts.expression
+next_primary = after (sign_ s.Comma) (the (level levels.Primary))
+
+-- Primary {',' Primary}
+unfoldable pub list_of_primaries : G (list sorts.expression)
+list_of_primaries = fold snoc (act single (the (level levels.Primary))) next_primary
+
+-- Primary {',' Primary}, several as a tuple
+unfoldable pub primaries : G sorts.expression
+primaries = act tuple_unless_one list_of_primaries
+
+-- Targets = Primary {',' Primary}, where they are a target
+unfoldable pub targets : G sorts.target
+targets = when target_of primaries
+
+-- ForClause = 'for' Targets 'in' Or
+unfoldable pub for_clause : G (both sorts.target sorts.expression)
+for_clause = after (keyword_ k.For) (seq targets (after (keyword_ k.In) (the (level levels.Or))))
+
+-- 'if' Or
+unfoldable pub if_clause : G sorts.clause
+if_clause = act clauses.If (after (keyword_ k.If) (the (level levels.Or)))
+
+-- ForClause | 'if' Or
+unfoldable pub next_clause : G sorts.clause
+next_clause = alt (act clause_of for_clause) if_clause
+
+-- {ForClause | 'if' Or}
+unfoldable pub further_clauses : G (list sorts.clause)
+further_clauses = rep next_clause
+
+-- Clauses = ForClause {ForClause | 'if' Or}
+unfoldable pub all_clauses : G sorts.clauses
+all_clauses = act clauses_of (seq for_clause further_clauses)
+
+-- ---- parentheses and displays
+
+-- [Tests [',']]
+unfoldable pub inside : G (maybe (both (list sorts.expression) (maybe sorts.nothing)))
+inside = opt (seq list_of_tests (opt (sign_ s.Comma)))
+
+-- '(' [Tests [',']] ')'
+unfoldable pub parentheses : G sorts.expression
+parentheses = after (sign_ s.LeftParen) (act parentheses_of (before inside (sign_ s.RightParen)))
+
+-- {',' Test}
+unfoldable pub further_tests : G (list sorts.expression)
+further_tests = rep next_test
+
+-- Clauses | {',' Test} [',']
+unfoldable pub behind_element : G (both (maybe sorts.clauses) (list sorts.expression))
+behind_element = alt (act as_clauses all_clauses) (act as_further (before further_tests (opt (sign_ s.Comma))))
+
+-- [Test (Clauses | {',' Test} [','])]
+unfoldable pub elements : G (maybe (both sorts.expression (both (maybe sorts.clauses) (list sorts.expression))))
+elements = opt (seq a_test behind_element)
+
+-- '[' [Tests [',']] ']' | '[' Test Clauses ']'
+unfoldable pub list_display : G sorts.expression
+list_display = act list_of (seq (sign_at s.LeftBracket) (before elements (sign_ s.RightBracket)))
+
+-- Entry = Test ':' Test
+unfoldable pub entry : G sorts.entry
+entry = act entry_of (seq a_test (after (sign_ s.Colon) a_test))
+
+-- ',' Entry
+unfoldable pub next_entry : G sorts.entry
+next_entry = after (sign_ s.Comma) entry
+
+-- {',' Entry}
+unfoldable pub further_entries : G (list sorts.entry)
+further_entries = rep next_entry
+
+-- Clauses | {',' Entry} [',']
+unfoldable pub behind_entry : G (both (maybe sorts.clauses) (list sorts.entry))
+behind_entry = alt (act as_clauses all_clauses) (act as_further (before further_entries (opt (sign_ s.Comma))))
+
+-- [Entry (Clauses | {',' Entry} [','])]
+unfoldable pub entries : G (maybe (both sorts.entry (both (maybe sorts.clauses) (list sorts.entry))))
+entries = opt (seq entry behind_entry)
+
+-- '{' [Entry {',' Entry} [',']] '}' | '{' Entry Clauses '}'
+unfoldable pub dict_display : G sorts.expression
+dict_display = act dict_of (seq (sign_at s.LeftBrace) (before entries (sign_ s.RightBrace)))
+
+-- name | int | string
+unfoldable pub atom : G sorts.expression
+atom = one (λ t. atom_of t.position t.word)
+
+-- Operand = name | int | string | '(' .. ')' | '[' .. ']' | '{' .. '}'
+unfoldable pub operand : G sorts.expression
+operand = alt atom (alt parentheses (alt list_display dict_display))
+
+-- ---- arguments
+
+-- name '=' Test
+unfoldable pub named : G sorts.argument
+named = act named_of (seq (before name (sign_ s.Assign)) a_test)
+
+-- name '=' Test | '*' Test | '**' Test | Test: a name before '=' begins a named argument
+unfoldable pub argument : G sorts.argument
+argument = alt named (alt (act arguments.Star (after (sign_ s.Star) a_test)) (alt (act arguments.StarStar (after (sign_ s.StarStar) a_test)) (act arguments.Positional a_test)))
+
+-- ',' argument
+unfoldable pub next_argument : G sorts.argument
+next_argument = after (sign_ s.Comma) argument
+
+-- argument {',' argument}
+unfoldable pub list_of_arguments : G (list sorts.argument)
+list_of_arguments = fold snoc (act single argument) next_argument
+
+-- Args = argument {',' argument}, in order
+unfoldable pub ordered_arguments : G (list sorts.argument)
+ordered_arguments = when (keep arguments_in_order) list_of_arguments
+
+-- [Args [',']]
+unfoldable pub given : G (list sorts.argument)
+given = alt (before ordered_arguments (opt (sign_ s.Comma))) (act nil_of empty)
+
+-- ---- parameters
+
+-- '=' Test
+unfoldable pub default : G sorts.expression
+default = after (sign_ s.Assign) a_test
+
+-- name ['=' Test]
+unfoldable pub plain : G sorts.parameter
+plain = act parameter_of (seq name (opt default))
+
+-- '*' [name]
+unfoldable pub star : G sorts.parameter
+star = act star_of (after (sign_ s.Star) (opt name))
+
+-- '**' name
+unfoldable pub star_star : G sorts.parameter
+star_star = act parameters.StarStar (after (sign_ s.StarStar) name)
+
+-- name ['=' Test] | '*' [name] | '**' name
+unfoldable pub parameter : G sorts.parameter
+parameter = alt plain (alt star star_star)
+
+-- ',' parameter
+unfoldable pub next_parameter : G sorts.parameter
+next_parameter = after (sign_ s.Comma) parameter
+
+-- parameter {',' parameter}
+unfoldable pub list_of_parameters : G (list sorts.parameter)
+list_of_parameters = fold snoc (act single parameter) next_parameter
+
+-- Params = parameter {',' parameter}, in order
+unfoldable pub ordered_parameters : G (list sorts.parameter)
+ordered_parameters = when (keep parameters_in_order) list_of_parameters
+
+-- [Params [',']]
+unfoldable pub taken : G (list sorts.parameter)
+taken = alt (before ordered_parameters (opt (sign_ s.Comma))) (act nil_of empty)
+
+-- '(' [Params [',']] ')'
+unfoldable pub parameters_in_parentheses : G (list sorts.parameter)
+parameters_in_parentheses = after (sign_ s.LeftParen) (before taken (sign_ s.RightParen))
+
+-- [Params]
+unfoldable pub lambda_parameters : G (list sorts.parameter)
+lambda_parameters = alt ordered_parameters (act nil_of empty)
+
+-- 'lambda' [Params] ':' Test
+unfoldable pub lambda : G sorts.expression
+lambda = act lambda_of (seq (keyword_at k.Lambda) (seq lambda_parameters (after (sign_ s.Colon) a_test)))
+
+-- ---- what stands behind an operand
+
+-- '.' name
+unfoldable pub attribute : G sorts.suffix
+attribute = act suffixes.Attribute (after (sign_ s.Dot) name)
+
+-- '(' [Args [',']] ')'
+unfoldable pub call : G sorts.suffix
+call = act suffixes.Call (after (sign_ s.LeftParen) (before given (sign_ s.RightParen)))
+
+-- [':' [Test]]
+unfoldable pub stride : G (maybe sorts.expression)
+stride = alt (after (sign_ s.Colon) (opt a_test)) (act none_of empty)
+
+-- ':' [Test] [':' [Test]]
+unfoldable pub cut : G (both (maybe sorts.expression) (maybe sorts.expression))
+cut = after (sign_ s.Colon) (seq (opt a_test) stride)
+
+-- ':' [Test] [':' [Test]] | {',' Test}
+unfoldable pub behind_start : G (both (maybe (both (maybe sorts.expression) (maybe sorts.expression))) (list sorts.expression))
+behind_start = alt (act as_cut cut) (act as_index further_tests)
+
+-- Test (':' [Test] [':' [Test]] | {',' Test})
+unfoldable pub from_test : G sorts.suffix
+from_test = act subscript_of (seq a_test behind_start)
+
+-- Tests | [Test] ':' [Test] [':' [Test]]
+unfoldable pub in_brackets : G sorts.suffix
+in_brackets = alt from_test (act cut_from_start cut)
+
+-- '[' Tests ']' | '[' [Test] ':' [Test] [':' [Test]] ']'
+unfoldable pub subscript : G sorts.suffix
+subscript = after (sign_ s.LeftBracket) (before in_brackets (sign_ s.RightBracket))
+
+-- '.' name | '(' .. ')' | '[' .. ']'
+unfoldable pub suffix : G sorts.suffix
+suffix = alt attribute (alt call subscript)
+
+-- Primary = Operand {suffix}
+unfoldable pub primary : G sorts.expression
+primary = fold with_suffix operand suffix
+
+-- ---- operators
+
+-- ('+' | '-' | '~') Unary
+unfoldable pub signed : G sorts.expression
+signed = act unary_of (seq unary_operator (the (level levels.Unary)))
+
+-- Unary = ('+' | '-' | '~') Unary | Primary
+unfoldable pub unary : G sorts.expression
+unary = alt signed primary
+
+-- the levels of signs between two operands, the tightest first:
+-- Term = Unary {('*' | '//' | '%') Unary}
+-- Sum = Term {('+' | '-') Term}
+-- Shift = Sum {('<<' | '>>') Sum}
+-- BitAnd = Shift {'&' Shift}
+-- BitXor = BitAnd {'^' BitAnd}
+-- BitOr = BitXor {'|' BitXor}
+unfoldable pub climb : ℕ → G sorts.expression
+climb zero = unary
+climb (suc n) = fold binary_of (climb n) (seq (binary_operator n) (climb n))
+
+-- a sign of a level, and the operand behind it
+abbrev pub round_at : ℕ → G (both sorts.binary sorts.expression)
+round_at n = seq (binary_operator n) (climb n)
+
+-- BitOr
+unfoldable pub bit_or : G sorts.expression
+bit_or = climb 6
+
+-- CmpOp = '==' | '!=' | '<' | '>' | '<=' | '>=' | 'in' | 'not' 'in'
+unfoldable pub comparator : G sorts.comparator
+comparator = alt (one (λ t. comparator_word t.word)) (act not_in_of (seq (keyword_ k.Not) (keyword_ k.In)))
+
+-- CmpOp BitOr
+unfoldable pub compared : G (both sorts.comparator sorts.expression)
+compared = seq comparator bit_or
+
+-- Cmp = BitOr [CmpOp BitOr]
+unfoldable pub comparison : G sorts.expression
+comparison = act comparison_of (seq bit_or (opt compared))
+
+-- 'not' Not
+unfoldable pub denied : G sorts.expression
+denied = act denied_of (after (keyword_ k.Not) (the (level levels.Negation)))
+
+-- Not = 'not' Not | Cmp
+unfoldable pub negation : G sorts.expression
+negation = alt denied comparison
+
+-- 'and' Not
+unfoldable pub next_negation : G sorts.expression
+next_negation = after (keyword_ k.And) negation
+
+-- And = Not {'and' Not}
+unfoldable pub conjunction : G sorts.expression
+conjunction = fold and_of negation next_negation
+
+-- 'or' And
+unfoldable pub next_conjunction : G sorts.expression
+next_conjunction = after (keyword_ k.Or) conjunction
+
+-- Or = And {'or' And}
+unfoldable pub disjunction : G sorts.expression
+disjunction = fold or_of conjunction next_conjunction
+
+-- 'if' Or 'else' Test
+unfoldable pub choice : G (both sorts.expression sorts.expression)
+choice = after (keyword_ k.If) (seq disjunction (after (keyword_ k.Else) a_test))
+
+-- Or ['if' Or 'else' Test]
+unfoldable pub conditional : G sorts.expression
+conditional = act conditional_of (seq disjunction (opt choice))
+
+-- Test = Or ['if' Or 'else' Test] | 'lambda' [Params] ':' Test
+unfoldable pub test : G sorts.expression
+test = alt lambda conditional

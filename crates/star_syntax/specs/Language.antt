@@ -1,0 +1,66 @@
+-- The grammar of a file, its reading, and what the readers of its parts answer.
+use Rattle.std.specs.Prelude.{◌≡◌, ℕ, List, [], Option, Some, None, Result, Ok, Err}
+use Rattle.std.specs.Borrow.{Bor}
+use Rattle.std.specs.declared.alloc.Global.{Global}
+use Rattle.std.specs.declared.alloc.AllocError.{AllocError}
+use Rattle.star_syntax.specs.declared.leaf.Leaf.{Leaf}
+use Rattle.star_syntax.specs.declared.level.Level.{Level}
+use Rattle.star_syntax.specs.declared.level.Level.TheVariants as levels
+use Rattle.star_syntax.specs.declared.tree.Expression.{Expression}
+use Rattle.star_syntax.specs.declared.tree.Statement.{Statement}
+use Rattle.star_syntax.specs.Sorts.{Sort, Val, list}
+use Rattle.star_syntax.specs.Sorts as sorts
+use Rattle.star_syntax.specs.Grammar.{Rule, level, statement, sort, G, Answer, run, step, Reads, Spells}
+use Rattle.star_syntax.specs.Expressions.{test, disjunction, negation, unary, primary}
+use Rattle.star_syntax.specs.Statements.{one_statement, file}
+
+abbrev pub rule_of_level : Level → G sorts.expression
+rule_of_level levels.Test = test
+rule_of_level levels.Or = disjunction
+rule_of_level levels.Negation = negation
+rule_of_level levels.Unary = unary
+rule_of_level levels.Primary = primary
+
+-- the productions of the parts that hold themselves
+abbrev pub rule : (r : Rule) → G (sort r)
+rule (level l) = rule_of_level l
+rule statement = one_statement
+
+-- the tree that spells all the leaves, where each repetition or option takes a further round wherever a round reads at that place
+pub record Reading (tree : List Statement) (leaves : List Leaf) : Type 0 where
+  pub spells : Spells rule (list sorts.statement) file tree leaves
+  pub greedy : Reads rule (list sorts.statement) file leaves (Some (tree, []))
+
+-- what a part reads, with parts that hold themselves nested no deeper than the number
+abbrev pub reads : ℕ → {s : Sort} → G s → List Leaf → Answer (Val s)
+reads depth g ts = step (run rule depth) g ts
+
+-- ---- what the code answers
+
+abbrev pub Finds : {A : Type 0} → Answer A → Option (A × Bor (List Leaf)) → Type 0
+Finds r None = r ≡ None
+Finds r (Some p) = r ≡ Some (p.0, p.1.now)
+
+abbrev pub Gives : {A : Type 0} → Answer A → Result (Option (A × Bor (List Leaf))) AllocError → Type 0
+Gives r (Ok found) = Finds r found
+Gives r (Err e) = Unit {0}
+
+-- a function that reads expressions to a depth
+pub record Nests (depth : ℕ) (pre : Global → ℕ → Level → Bor (List Leaf) → Type 0)
+    (post : Global → ℕ → Level → Bor (List Leaf) → Result (Option (Expression × Bor (List Leaf))) AllocError → Type 0) : Type 0 where
+  pub callable : (alloc : Global) (l : Level) (ts : Bor (List Leaf)) → pre alloc depth l ts
+  pub reads : (alloc : Global) (l : Level) (ts : Bor (List Leaf)) (r : Result (Option (Expression × Bor (List Leaf))) AllocError) → post alloc depth l ts r
+      → Gives (run rule depth (level l) ts.now) r
+
+-- a function that reads statements to a depth
+pub record Blocks (depth : ℕ) (pre : Global → ℕ → Bor (List Leaf) → Type 0)
+    (post : Global → ℕ → Bor (List Leaf) → Result (Option (List Statement × Bor (List Leaf))) AllocError → Type 0) : Type 0 where
+  pub callable : (alloc : Global) (ts : Bor (List Leaf)) → pre alloc depth ts
+  pub reads : (alloc : Global) (ts : Bor (List Leaf)) (r : Result (Option (List Statement × Bor (List Leaf))) AllocError) → post alloc depth ts r
+      → Gives (run rule depth statement ts.now) r
+
+-- what reading a whole file answers: its reading, or nothing where there is none
+abbrev pub Parsed : List Leaf → Result (Option (List Statement)) AllocError → Type 0
+Parsed leaves (Err e) = Unit {0}
+Parsed leaves (Ok (Some tree)) = Reading tree leaves
+Parsed leaves (Ok None) = (tree : List Statement) → Reading tree leaves → ⊥

@@ -1,0 +1,13 @@
+pub mod Sorts
+pub mod Grammar
+pub mod Keeps
+pub mod Expressions
+pub mod Statements
+pub mod Language
+pub mod Leaves
+pub mod Names
+pub mod Nesting
+pub mod Sources
+pub mod Laws
+pub mod Written
+pub mod InOrder

@@ -1,0 +1,278 @@
+-- The grammar of statements: a line for each production, which stands above it.
+use Rattle.std.specs.Prelude.{if◌then◌else◌, List, [], ◌∷◌, ◌++◌, Option, Some, None}
+use Rattle.star_lex.specs.declared.token.Sign.{Sign}
+use Rattle.star_lex.specs.declared.token.Sign.TheVariants as s
+use Rattle.star_lex.specs.declared.token.Keyword.TheVariants as k
+use Rattle.star_syntax.specs.declared.leaf.Word.{Word}
+use Rattle.star_syntax.specs.declared.leaf.Word.TheVariants as word
+use Rattle.star_syntax.specs.declared.leaf.Leaf.{Leaf}
+use Rattle.star_syntax.specs.declared.tree.Position.{Position}
+use Rattle.star_syntax.specs.declared.tree.Name.{Name}
+use Rattle.star_syntax.specs.declared.tree.Literal.{Literal}
+use Rattle.star_syntax.specs.declared.tree.BinaryOperator.{BinaryOperator}
+use Rattle.star_syntax.specs.declared.tree.BinaryOperator.TheVariants as binaries
+use Rattle.star_syntax.specs.declared.tree.Expression.{Expression}
+use Rattle.star_syntax.specs.declared.tree.Parameter.{Parameter}
+use Rattle.star_syntax.specs.declared.tree.Target.{Target}
+use Rattle.star_syntax.specs.declared.tree.Statement.{Statement, roll-Statement}
+use Rattle.star_syntax.specs.declared.tree.Form.{Form}
+use Rattle.star_syntax.specs.declared.tree.Form.TheVariants as f
+use Rattle.star_syntax.specs.declared.tree.Arm.{Arm, roll-Arm}
+use Rattle.star_syntax.specs.declared.tree.LoadedName.{LoadedName}
+use Rattle.star_syntax.specs.Names.{is_name}
+use Rattle.star_syntax.specs.Sorts.{Sort, Val, both, maybe, list}
+use Rattle.star_syntax.specs.Sorts as sorts
+use Rattle.star_syntax.specs.Grammar.{statement, G, one, empty, seq, alt, fold, act, when, placed, the}
+use Rattle.star_syntax.specs.Keeps.{target_of, augmented_of}
+use Rattle.star_syntax.specs.Expressions.{left_of, none_of, nil_of, single, snoc, opt, rep, after, before, sign_, keyword_, name, a_test, tests, targets, parameters_in_parentheses}
+
+-- ---- leaves
+
+abbrev pub is_newline : Word → Option (Unit {0})
+is_newline word.Newline = Some tt
+is_newline _ = None
+
+abbrev pub is_indent : Word → Option (Unit {0})
+is_indent word.Indent = Some tt
+is_indent _ = None
+
+abbrev pub is_outdent : Word → Option (Unit {0})
+is_outdent word.Outdent = Some tt
+is_outdent _ = None
+
+abbrev pub is_end : Word → Option (Unit {0})
+is_end word.End = Some tt
+is_end _ = None
+
+abbrev pub newline : G sorts.nothing
+newline = one (λ t. is_newline t.word)
+
+abbrev pub indent : G sorts.nothing
+indent = one (λ t. is_indent t.word)
+
+abbrev pub outdent : G sorts.nothing
+outdent = one (λ t. is_outdent t.word)
+
+abbrev pub end : G sorts.nothing
+end = one (λ t. is_end t.word)
+
+abbrev pub literal_of : Position → Word → Option Literal
+literal_of position (word.Text text) = Some (record { text = text; position = position })
+literal_of position _ = None
+
+abbrev pub literal : G sorts.literal
+literal = one (λ t. literal_of t.position t.word)
+
+-- AugOp: the sign before its `=`
+abbrev pub augmenting_sign : Sign → Option BinaryOperator
+augmenting_sign s.PlusAssign = Some binaries.Add
+augmenting_sign s.MinusAssign = Some binaries.Subtract
+augmenting_sign s.StarAssign = Some binaries.Multiply
+augmenting_sign s.SlashSlashAssign = Some binaries.FloorDivide
+augmenting_sign s.PercentAssign = Some binaries.Modulo
+augmenting_sign s.AmpersandAssign = Some binaries.BitAnd
+augmenting_sign s.BarAssign = Some binaries.BitOr
+augmenting_sign s.CaretAssign = Some binaries.BitXor
+augmenting_sign s.ShiftLeftAssign = Some binaries.ShiftLeft
+augmenting_sign s.ShiftRightAssign = Some binaries.ShiftRight
+augmenting_sign _ = None
+
+abbrev pub augmenting_word : Word → Option BinaryOperator
+augmenting_word (word.Sign sign) = augmenting_sign sign
+augmenting_word _ = None
+
+abbrev pub augmenting : G sorts.binary
+augmenting = one (λ t. augmenting_word t.word)
+
+-- ---- what productions make
+
+abbrev pub append : {A : Type 0} → List A → List A → List A
+append xs ys = xs ++ ys
+
+abbrev pub statement_of : Position × Form → Statement
+statement_of p = roll-Statement (record { position = p.0; form = p.1 })
+
+abbrev pub break_of : Unit {0} → Form
+break_of u = f.Break
+
+abbrev pub continue_of : Unit {0} → Form
+continue_of u = f.Continue
+
+abbrev pub pass_of : Unit {0} → Form
+pass_of u = f.Pass
+
+-- the name that a loaded one is bound to: its own, where no other is written
+abbrev pub local_of : Option Name → Literal → Name
+local_of None loaded = record { text = loaded.text; position = loaded.position }
+local_of (Some local) loaded = local
+
+-- a loaded name's string has the form of a name that is no keyword
+abbrev pub loaded_of : Option Name × Literal → Option LoadedName
+loaded_of p = if is_name p.1.text then Some (record { local = local_of p.0 p.1; loaded = p.1 }) else None
+
+abbrev pub load_of : Literal × List LoadedName → Form
+load_of p = f.Load p.0 p.1
+
+abbrev pub assign_of : Option Target → Expression → Option Form
+assign_of None value = None
+assign_of (Some target) value = Some (f.Assign target value)
+
+abbrev pub augment_of : Option Target → BinaryOperator → Expression → Option Form
+augment_of None operator value = None
+augment_of (Some target) operator value = Some (f.Augment target operator value)
+
+-- an expression, or an assignment: what stands before `=` is a target, before another sign a name or an index
+abbrev pub told_with : Expression → Option BinaryOperator → Expression → Option Form
+told_with left None value = assign_of (target_of left) value
+told_with left (Some operator) value = augment_of (augmented_of left) operator value
+
+abbrev pub told_of : Expression × Option (Option BinaryOperator × Expression) → Option Form
+told_of (left, None) = Some (f.Expression left)
+told_of (left, Some (operator, value)) = told_with left operator value
+
+abbrev pub arm_of : Expression × List Statement → Arm
+arm_of p = roll-Arm (record { condition = p.0; body = p.1 })
+
+abbrev pub if_of : List Arm × Option (List Statement) → Form
+if_of (all, None) = f.If all []
+if_of (all, Some others) = f.If all others
+
+abbrev pub for_of : Target × (Expression × List Statement) → Form
+for_of p = f.For p.0 p.1.0 p.1.1
+
+abbrev pub def_of : Name × (List Parameter × List Statement) → Form
+def_of p = f.Def p.0 p.1.0 p.1.1
+
+-- ---- small statements
+
+-- 'return' [Tests]
+unfoldable pub returned : G sorts.form
+returned = act f.Return (after (keyword_ k.Return) (opt tests))
+
+-- [name '=']
+unfoldable pub local : G (maybe sorts.name)
+local = opt (before name (sign_ s.Assign))
+
+-- [name '='] string
+unfoldable pub loaded : G sorts.loaded
+loaded = when loaded_of (seq local literal)
+
+-- ',' [name '='] string
+unfoldable pub next_loaded : G sorts.loaded
+next_loaded = after (sign_ s.Comma) loaded
+
+-- {',' [name '='] string}
+unfoldable pub all_loaded : G (list sorts.loaded)
+all_loaded = rep next_loaded
+
+-- '(' string {',' [name '='] string} [','] ')'
+unfoldable pub loads : G (both sorts.literal (list sorts.loaded))
+loads = after (sign_ s.LeftParen) (before (seq literal (before all_loaded (opt (sign_ s.Comma)))) (sign_ s.RightParen))
+
+-- Load = 'load' '(' string {',' [name '='] string} [','] ')'
+unfoldable pub load : G sorts.form
+load = act load_of (after (keyword_ k.Load) loads)
+
+-- '=' | AugOp
+unfoldable pub assigning : G (maybe sorts.binary)
+assigning = alt (act none_of (sign_ s.Assign)) (act Some augmenting)
+
+-- ('=' | AugOp) Tests
+unfoldable pub right_side : G (both (maybe sorts.binary) sorts.expression)
+right_side = seq assigning tests
+
+-- Tests | Tests '=' Tests | Tests AugOp Tests
+unfoldable pub told : G sorts.form
+told = when told_of (seq tests (opt right_side))
+
+-- 'break' | 'continue' | 'pass'
+unfoldable pub plain : G sorts.form
+plain = alt (act break_of (keyword_ k.Break)) (alt (act continue_of (keyword_ k.Continue)) (act pass_of (keyword_ k.Pass)))
+
+-- Small = 'return' [Tests] | 'break' | 'continue' | 'pass' | Load | Tests | Tests '=' Tests | Tests AugOp Tests
+unfoldable pub small_form : G sorts.form
+small_form = alt returned (alt plain (alt load told))
+
+unfoldable pub small : G sorts.statement
+small = act statement_of (placed small_form)
+
+-- ';' Small
+unfoldable pub next_small : G sorts.statement
+next_small = after (sign_ s.Semicolon) small
+
+-- Small {';' Small}
+unfoldable pub smalls : G (list sorts.statement)
+smalls = fold snoc (act single small) next_small
+
+-- Simple = Small {';' Small} [';'] NEWLINE
+unfoldable pub simple : G (list sorts.statement)
+simple = before smalls (seq (opt (sign_ s.Semicolon)) newline)
+
+-- ---- statements that hold others
+
+-- Statement {Statement}
+unfoldable pub body : G (list sorts.statement)
+body = fold append (the statement) (the statement)
+
+-- NEWLINE INDENT Statement {Statement} OUTDENT
+unfoldable pub block : G (list sorts.statement)
+block = after newline (after indent (before body outdent))
+
+-- Suite = Simple | NEWLINE INDENT Statement {Statement} OUTDENT
+unfoldable pub suite : G (list sorts.statement)
+suite = alt simple block
+
+-- ':' Suite
+unfoldable pub colon_suite : G (list sorts.statement)
+colon_suite = after (sign_ s.Colon) suite
+
+-- Test ':' Suite
+unfoldable pub arm : G sorts.arm
+arm = act arm_of (seq a_test colon_suite)
+
+-- 'elif' Test ':' Suite
+unfoldable pub next_arm : G sorts.arm
+next_arm = after (keyword_ k.Elif) arm
+
+-- 'if' Test ':' Suite
+unfoldable pub first_arm : G sorts.arm
+first_arm = after (keyword_ k.If) arm
+
+-- 'if' Test ':' Suite {'elif' Test ':' Suite}
+unfoldable pub arms : G (list sorts.arm)
+arms = fold snoc (act single first_arm) next_arm
+
+-- 'else' ':' Suite
+unfoldable pub otherwise : G (list sorts.statement)
+otherwise = after (keyword_ k.Else) colon_suite
+
+-- If = 'if' Test ':' Suite {'elif' Test ':' Suite} ['else' ':' Suite]
+unfoldable pub condition : G sorts.form
+condition = act if_of (seq arms (opt otherwise))
+
+-- For = 'for' Targets 'in' Tests ':' Suite
+unfoldable pub iteration : G sorts.form
+iteration = act for_of (after (keyword_ k.For) (seq targets (after (keyword_ k.In) (seq tests colon_suite))))
+
+-- Def = 'def' name '(' [Params [',']] ')' ':' Suite
+unfoldable pub definition : G sorts.form
+definition = act def_of (after (keyword_ k.Def) (seq name (seq parameters_in_parentheses colon_suite)))
+
+-- Def | If | For
+unfoldable pub compound_form : G sorts.form
+compound_form = alt definition (alt condition iteration)
+
+unfoldable pub compound : G sorts.statement
+compound = act statement_of (placed compound_form)
+
+-- Statement = Def | If | For | Simple
+unfoldable pub one_statement : G (list sorts.statement)
+one_statement = alt (act single compound) simple
+
+-- {Statement}
+unfoldable pub statements : G (list sorts.statement)
+statements = fold append (act nil_of empty) (the statement)
+
+-- File = {Statement} END
+unfoldable pub file : G (list sorts.statement)
+file = before statements end

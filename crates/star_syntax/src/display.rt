@@ -1,0 +1,427 @@
+//! The readers of parentheses, displays and comprehensions.
+
+ghost use Rattle.std.specs.Prelude.{◌≡◌, ◌∷◌, IfOk};
+ghost use Rattle.star_syntax.specs.Expressions as spec;
+ghost use Rattle.star_syntax.specs.Language.{Gives, Nests, reads};
+
+use crate::leaf::Leaf;
+use crate::level::Level;
+use crate::make::target_of;
+use crate::reader::{Grammar, Read, keyword, sign, sign_at, tuple_unless_one};
+use crate::tree::{Clause, Clauses, Entry, Expression, Position, Target};
+use sqlite_items::{Boxed, Items};
+use star_lex::token::{Keyword, Sign};
+use std::alloc::{AllocError, Global};
+
+/// What stands behind the first element or entry of a display: clauses, or further ones.
+type Behind<T> = (Option<Clauses>, Items<T>);
+
+/// What stands between parentheses, and whether a comma ends it.
+type Inside = Option<(Items<Expression>, Option<()>)>;
+
+/// The first, and behind it the others.
+fn onto<T: Drop>(alloc: Global, first: T, more: Items<T>) -> Result<Items<T>, AllocError>
+    ensures { IfOk result (λ all. all ≡ first ∷ more) }
+{
+    let mut all = Items::new(alloc);
+    all.push(first)?;
+    all.append(more)?;
+    Ok(all)
+}
+
+/// The expression that parentheses hold.
+fn parentheses_of(alloc: Global, found: Inside) -> Expression
+    ensures { result ≡ spec.parentheses_of found }
+{
+    match found {
+        None => Expression::Tuple(Items::new(alloc)),
+        Some((found, Some(_))) => Expression::Tuple(found),
+        Some((found, None)) => tuple_unless_one(found),
+    }
+}
+
+/// The list display or comprehension with these parts.
+fn list_of(
+    alloc: Global,
+    position: Position,
+    found: Option<(Expression, Behind<Expression>)>,
+) -> Result<Expression, AllocError>
+    ensures { IfOk result (λ made. made ≡ spec.list_of (position, found)) }
+{
+    match found {
+        None => Ok(Expression::List(Items::new(alloc))),
+        Some((first, behind)) => {
+            let (clauses, more) = behind;
+            match clauses {
+                None => Ok(Expression::List(onto(alloc, first, more)?)),
+                Some(clauses) => {
+                    let element = Boxed::new(alloc, first)?;
+                    Ok(Expression::ListComprehension {
+                        position,
+                        element,
+                        clauses,
+                    })
+                }
+            }
+        }
+    }
+}
+
+/// The dictionary display or comprehension with these parts.
+fn dict_of(
+    alloc: Global,
+    position: Position,
+    found: Option<(Entry, Behind<Entry>)>,
+) -> Result<Expression, AllocError>
+    ensures { IfOk result (λ made. made ≡ spec.dict_of (position, found)) }
+{
+    match found {
+        None => Ok(Expression::Dict(Items::new(alloc))),
+        Some((first, behind)) => {
+            let (clauses, more) = behind;
+            match clauses {
+                None => Ok(Expression::Dict(onto(alloc, first, more)?)),
+                Some(clauses) => {
+                    let entry = Boxed::new(alloc, first)?;
+                    Ok(Expression::DictComprehension {
+                        position,
+                        entry,
+                        clauses,
+                    })
+                }
+            }
+        }
+    }
+}
+
+/// A key and its value.
+fn entry_of(key: Boxed<Expression>, value: Boxed<Expression>) -> Entry
+    ensures { result ≡ spec.entry_of (key, value) }
+{
+    Entry { key, value }
+}
+
+/// Clauses: the first, and what follows it.
+fn clauses_of(
+    alloc: Global,
+    target: Target,
+    iterable: Expression,
+    more: Items<Clause>,
+) -> Result<Clauses, AllocError>
+    ensures { IfOk result (λ made. made ≡ spec.clauses_of ((target, iterable), more)) }
+{
+    let iterable = Boxed::new(alloc, iterable)?;
+    Ok(Clauses {
+        target,
+        iterable,
+        more,
+    })
+}
+
+impl<F: Fn(Global, u128, Level, &[Leaf]) -> Read<'_, Expression>> Grammar<F> {
+    #[tactic(auto, unfolding(crate::specs::Expressions::next_primary))]
+    fn next_primary<'a>(&self, leaves: &'a [Leaf]) -> Read<'a, Expression>
+        requires { Nests self.now.depth (F.pre self.now.expression) (F.post self.now.expression) }
+        ensures { Gives (reads self.now.depth spec.next_primary leaves.now) result }
+    {
+        let Some((_, rest)) = sign(Sign::Comma, leaves) else {
+            return Ok(None);
+        };
+        self.nested(Level::Primary, rest)
+    }
+
+    #[tactic(auto, unfolding(crate::specs::Expressions::list_of_primaries))]
+    fn list_of_primaries<'a>(&self, leaves: &'a [Leaf]) -> Read<'a, Items<Expression>>
+        requires { Nests self.now.depth (F.pre self.now.expression) (F.post self.now.expression) }
+        ensures { Gives (reads self.now.depth spec.list_of_primaries leaves.now) result }
+    {
+        let Some((first, mut rest)) = self.nested(Level::Primary, leaves)? else {
+            return Ok(None);
+        };
+        let mut found = Items::new(self.alloc);
+        found.push(first)?;
+        for _turn in 0..rest.len() {
+            let Some((next, after)) = self.next_primary(rest)? else {
+                return Ok(Some((found, rest)));
+            };
+            found.push(next)?;
+            rest = after;
+        }
+        Ok(Some((found, rest)))
+    }
+
+    #[tactic(auto, unfolding(crate::specs::Expressions::primaries))]
+    fn primaries<'a>(&self, leaves: &'a [Leaf]) -> Read<'a, Expression>
+        requires { Nests self.now.depth (F.pre self.now.expression) (F.post self.now.expression) }
+        ensures { Gives (reads self.now.depth spec.primaries leaves.now) result }
+    {
+        let Some((found, rest)) = self.list_of_primaries(leaves)? else {
+            return Ok(None);
+        };
+        Ok(Some((tuple_unless_one(found), rest)))
+    }
+
+    #[tactic(auto, unfolding(crate::specs::Expressions::targets))]
+    pub fn targets<'a>(&self, leaves: &'a [Leaf]) -> Read<'a, Target>
+        requires { Nests self.now.depth (F.pre self.now.expression) (F.post self.now.expression) }
+        ensures { Gives (reads self.now.depth spec.targets leaves.now) result }
+    {
+        let Some((found, rest)) = self.primaries(leaves)? else {
+            return Ok(None);
+        };
+        match target_of(self.alloc, found)? {
+            Some(target) => Ok(Some((target, rest))),
+            None => Ok(None),
+        }
+    }
+
+    #[tactic(auto, unfolding(crate::specs::Expressions::for_clause))]
+    fn for_clause<'a>(&self, leaves: &'a [Leaf]) -> Read<'a, (Target, Expression)>
+        requires { Nests self.now.depth (F.pre self.now.expression) (F.post self.now.expression) }
+        ensures { Gives (reads self.now.depth spec.for_clause leaves.now) result }
+    {
+        let Some((_, rest)) = keyword(Keyword::For, leaves) else {
+            return Ok(None);
+        };
+        let Some((target, rest)) = self.targets(rest)? else {
+            return Ok(None);
+        };
+        let Some((_, rest)) = keyword(Keyword::In, rest) else {
+            return Ok(None);
+        };
+        let Some((iterable, rest)) = self.nested(Level::Or, rest)? else {
+            return Ok(None);
+        };
+        Ok(Some(((target, iterable), rest)))
+    }
+
+    #[tactic(auto, unfolding(crate::specs::Expressions::if_clause))]
+    fn if_clause<'a>(&self, leaves: &'a [Leaf]) -> Read<'a, Clause>
+        requires { Nests self.now.depth (F.pre self.now.expression) (F.post self.now.expression) }
+        ensures { Gives (reads self.now.depth spec.if_clause leaves.now) result }
+    {
+        let Some((_, rest)) = keyword(Keyword::If, leaves) else {
+            return Ok(None);
+        };
+        let Some((condition, rest)) = self.nested(Level::Or, rest)? else {
+            return Ok(None);
+        };
+        Ok(Some((Clause::If(condition), rest)))
+    }
+
+    #[tactic(auto, unfolding(crate::specs::Expressions::next_clause))]
+    fn next_clause<'a>(&self, leaves: &'a [Leaf]) -> Read<'a, Clause>
+        requires { Nests self.now.depth (F.pre self.now.expression) (F.post self.now.expression) }
+        ensures { Gives (reads self.now.depth spec.next_clause leaves.now) result }
+    {
+        if let Some(((target, iterable), rest)) = self.for_clause(leaves)? {
+            return Ok(Some((Clause::For { target, iterable }, rest)));
+        }
+        self.if_clause(leaves)
+    }
+
+    #[tactic(auto, unfolding(crate::specs::Expressions::further_clauses))]
+    fn further_clauses<'a>(&self, leaves: &'a [Leaf]) -> Read<'a, Items<Clause>>
+        requires { Nests self.now.depth (F.pre self.now.expression) (F.post self.now.expression) }
+        ensures { Gives (reads self.now.depth spec.further_clauses leaves.now) result }
+    {
+        let mut found = Items::new(self.alloc);
+        let mut rest = leaves;
+        for _turn in 0..leaves.len() {
+            let Some((next, after)) = self.next_clause(rest)? else {
+                return Ok(Some((found, rest)));
+            };
+            found.push(next)?;
+            rest = after;
+        }
+        Ok(Some((found, rest)))
+    }
+
+    #[tactic(auto, unfolding(crate::specs::Expressions::all_clauses))]
+    fn all_clauses<'a>(&self, leaves: &'a [Leaf]) -> Read<'a, Clauses>
+        requires { Nests self.now.depth (F.pre self.now.expression) (F.post self.now.expression) }
+        ensures { Gives (reads self.now.depth spec.all_clauses leaves.now) result }
+    {
+        let Some(((target, iterable), rest)) = self.for_clause(leaves)? else {
+            return Ok(None);
+        };
+        let Some((more, rest)) = self.further_clauses(rest)? else {
+            return Ok(None);
+        };
+        Ok(Some((clauses_of(self.alloc, target, iterable, more)?, rest)))
+    }
+
+    #[tactic(auto, unfolding(crate::specs::Expressions::inside))]
+    fn inside<'a>(&self, leaves: &'a [Leaf]) -> Read<'a, Inside>
+        requires { Nests self.now.depth (F.pre self.now.expression) (F.post self.now.expression) }
+        ensures { Gives (reads self.now.depth spec.inside leaves.now) result }
+    {
+        let Some((found, rest)) = self.list_of_tests(leaves)? else {
+            return Ok(Some((None, leaves)));
+        };
+        match sign(Sign::Comma, rest) {
+            Some((_, rest)) => Ok(Some((Some((found, Some(()))), rest))),
+            None => Ok(Some((Some((found, None)), rest))),
+        }
+    }
+
+    #[tactic(auto, unfolding(crate::specs::Expressions::parentheses))]
+    pub fn parentheses<'a>(&self, leaves: &'a [Leaf]) -> Read<'a, Expression>
+        requires { Nests self.now.depth (F.pre self.now.expression) (F.post self.now.expression) }
+        ensures { Gives (reads self.now.depth spec.parentheses leaves.now) result }
+    {
+        let Some((_, rest)) = sign(Sign::LeftParen, leaves) else {
+            return Ok(None);
+        };
+        let Some((found, rest)) = self.inside(rest)? else {
+            return Ok(None);
+        };
+        let Some((_, rest)) = sign(Sign::RightParen, rest) else {
+            return Ok(None);
+        };
+        Ok(Some((parentheses_of(self.alloc, found), rest)))
+    }
+
+    #[tactic(auto, unfolding(crate::specs::Expressions::behind_element))]
+    fn behind_element<'a>(&self, leaves: &'a [Leaf]) -> Read<'a, Behind<Expression>>
+        requires { Nests self.now.depth (F.pre self.now.expression) (F.post self.now.expression) }
+        ensures { Gives (reads self.now.depth spec.behind_element leaves.now) result }
+    {
+        if let Some((clauses, rest)) = self.all_clauses(leaves)? {
+            return Ok(Some(((Some(clauses), Items::new(self.alloc)), rest)));
+        }
+        let Some((more, rest)) = self.further_tests(leaves)? else {
+            return Ok(None);
+        };
+        match sign(Sign::Comma, rest) {
+            Some((_, rest)) => Ok(Some(((None, more), rest))),
+            None => Ok(Some(((None, more), rest))),
+        }
+    }
+
+    #[tactic(auto, unfolding(crate::specs::Expressions::elements))]
+    fn elements<'a>(&self, leaves: &'a [Leaf]) -> Read<'a, Option<(Expression, Behind<Expression>)>>
+        requires { Nests self.now.depth (F.pre self.now.expression) (F.post self.now.expression) }
+        ensures { Gives (reads self.now.depth spec.elements leaves.now) result }
+    {
+        let Some((first, rest)) = self.nested(Level::Test, leaves)? else {
+            return Ok(Some((None, leaves)));
+        };
+        match self.behind_element(rest)? {
+            Some((behind, rest)) => Ok(Some((Some((first, behind)), rest))),
+            None => Ok(Some((None, leaves))),
+        }
+    }
+
+    #[tactic(auto, unfolding(crate::specs::Expressions::list_display))]
+    pub fn list_display<'a>(&self, leaves: &'a [Leaf]) -> Read<'a, Expression>
+        requires { Nests self.now.depth (F.pre self.now.expression) (F.post self.now.expression) }
+        ensures { Gives (reads self.now.depth spec.list_display leaves.now) result }
+    {
+        let Some((position, rest)) = sign_at(Sign::LeftBracket, leaves) else {
+            return Ok(None);
+        };
+        let Some((found, rest)) = self.elements(rest)? else {
+            return Ok(None);
+        };
+        let Some((_, rest)) = sign(Sign::RightBracket, rest) else {
+            return Ok(None);
+        };
+        Ok(Some((list_of(self.alloc, position, found)?, rest)))
+    }
+
+    #[tactic(auto, unfolding(crate::specs::Expressions::entry))]
+    fn entry<'a>(&self, leaves: &'a [Leaf]) -> Read<'a, Entry>
+        requires { Nests self.now.depth (F.pre self.now.expression) (F.post self.now.expression) }
+        ensures { Gives (reads self.now.depth spec.entry leaves.now) result }
+    {
+        let Some((key, rest)) = self.nested(Level::Test, leaves)? else {
+            return Ok(None);
+        };
+        let key = Boxed::new(self.alloc, key)?;
+        let Some((_, rest)) = sign(Sign::Colon, rest) else {
+            return Ok(None);
+        };
+        let Some((value, rest)) = self.nested(Level::Test, rest)? else {
+            return Ok(None);
+        };
+        let value = Boxed::new(self.alloc, value)?;
+        Ok(Some((entry_of(key, value), rest)))
+    }
+
+    #[tactic(auto, unfolding(crate::specs::Expressions::next_entry))]
+    fn next_entry<'a>(&self, leaves: &'a [Leaf]) -> Read<'a, Entry>
+        requires { Nests self.now.depth (F.pre self.now.expression) (F.post self.now.expression) }
+        ensures { Gives (reads self.now.depth spec.next_entry leaves.now) result }
+    {
+        let Some((_, rest)) = sign(Sign::Comma, leaves) else {
+            return Ok(None);
+        };
+        self.entry(rest)
+    }
+
+    #[tactic(auto, unfolding(crate::specs::Expressions::further_entries))]
+    fn further_entries<'a>(&self, leaves: &'a [Leaf]) -> Read<'a, Items<Entry>>
+        requires { Nests self.now.depth (F.pre self.now.expression) (F.post self.now.expression) }
+        ensures { Gives (reads self.now.depth spec.further_entries leaves.now) result }
+    {
+        let mut found = Items::new(self.alloc);
+        let mut rest = leaves;
+        for _turn in 0..leaves.len() {
+            let Some((next, after)) = self.next_entry(rest)? else {
+                return Ok(Some((found, rest)));
+            };
+            found.push(next)?;
+            rest = after;
+        }
+        Ok(Some((found, rest)))
+    }
+
+    #[tactic(auto, unfolding(crate::specs::Expressions::behind_entry))]
+    fn behind_entry<'a>(&self, leaves: &'a [Leaf]) -> Read<'a, Behind<Entry>>
+        requires { Nests self.now.depth (F.pre self.now.expression) (F.post self.now.expression) }
+        ensures { Gives (reads self.now.depth spec.behind_entry leaves.now) result }
+    {
+        if let Some((clauses, rest)) = self.all_clauses(leaves)? {
+            return Ok(Some(((Some(clauses), Items::new(self.alloc)), rest)));
+        }
+        let Some((more, rest)) = self.further_entries(leaves)? else {
+            return Ok(None);
+        };
+        match sign(Sign::Comma, rest) {
+            Some((_, rest)) => Ok(Some(((None, more), rest))),
+            None => Ok(Some(((None, more), rest))),
+        }
+    }
+
+    #[tactic(auto, unfolding(crate::specs::Expressions::entries))]
+    fn entries<'a>(&self, leaves: &'a [Leaf]) -> Read<'a, Option<(Entry, Behind<Entry>)>>
+        requires { Nests self.now.depth (F.pre self.now.expression) (F.post self.now.expression) }
+        ensures { Gives (reads self.now.depth spec.entries leaves.now) result }
+    {
+        let Some((first, rest)) = self.entry(leaves)? else {
+            return Ok(Some((None, leaves)));
+        };
+        match self.behind_entry(rest)? {
+            Some((behind, rest)) => Ok(Some((Some((first, behind)), rest))),
+            None => Ok(Some((None, leaves))),
+        }
+    }
+
+    #[tactic(auto, unfolding(crate::specs::Expressions::dict_display))]
+    pub fn dict_display<'a>(&self, leaves: &'a [Leaf]) -> Read<'a, Expression>
+        requires { Nests self.now.depth (F.pre self.now.expression) (F.post self.now.expression) }
+        ensures { Gives (reads self.now.depth spec.dict_display leaves.now) result }
+    {
+        let Some((position, rest)) = sign_at(Sign::LeftBrace, leaves) else {
+            return Ok(None);
+        };
+        let Some((found, rest)) = self.entries(rest)? else {
+            return Ok(None);
+        };
+        let Some((_, rest)) = sign(Sign::RightBrace, rest) else {
+            return Ok(None);
+        };
+        Ok(Some((dict_of(self.alloc, position, found)?, rest)))
+    }
+}

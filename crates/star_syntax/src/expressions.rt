@@ -1,0 +1,77 @@
+//! The readers of expressions to a depth.
+
+ghost use Rattle.std.specs.Prelude.{◌≡◌};
+ghost use Rattle.star_syntax.specs.Grammar.{level as at_level, run};
+ghost use Rattle.star_syntax.specs.Expressions as spec;
+ghost use Rattle.star_syntax.specs.Language.{Gives, reads, rule};
+
+use crate::leaf::Leaf;
+use crate::level::Level;
+use crate::reader::{Grammar, Read};
+use crate::tree::{Expression, Parameter, Target};
+use sqlite_items::Items;
+use std::alloc::Global;
+
+/// An expression of a level, with others nested in it no deeper than `depth`.
+pub fn expression(alloc: Global, depth: u128, level: Level, leaves: &[Leaf]) -> Read<'_, Expression>
+    ensures { Gives (run rule depth (at_level level) leaves.now) result }
+{
+    if depth == 0 {
+        return Ok(None);
+    }
+    let grammar = Grammar {
+        alloc,
+        depth: depth - 1,
+        expression,
+    };
+    match level {
+        Level::Test => grammar.test(leaves),
+        Level::Or => grammar.disjunction(leaves),
+        Level::Negation => grammar.negation(leaves),
+        Level::Unary => grammar.unary(leaves),
+        Level::Primary => grammar.primary(leaves),
+    }
+}
+
+/// A test.
+pub fn test_at(alloc: Global, depth: u128, leaves: &[Leaf]) -> Read<'_, Expression>
+    ensures { Gives (reads depth spec.a_test leaves.now) result }
+{
+    expression(alloc, depth, Level::Test, leaves)
+}
+
+/// Tests: one, or several as a tuple.
+pub fn tests_at(alloc: Global, depth: u128, leaves: &[Leaf]) -> Read<'_, Expression>
+    ensures { Gives (reads depth spec.tests leaves.now) result }
+{
+    let grammar = Grammar {
+        alloc,
+        depth,
+        expression,
+    };
+    grammar.tests(leaves)
+}
+
+/// The parameters of a definition, with their parentheses.
+pub fn parameters_at(alloc: Global, depth: u128, leaves: &[Leaf]) -> Read<'_, Items<Parameter>>
+    ensures { Gives (reads depth spec.parameters_in_parentheses leaves.now) result }
+{
+    let grammar = Grammar {
+        alloc,
+        depth,
+        expression,
+    };
+    grammar.parameters_in_parentheses(leaves)
+}
+
+/// Targets, as those of a loop.
+pub fn targets_at(alloc: Global, depth: u128, leaves: &[Leaf]) -> Read<'_, Target>
+    ensures { Gives (reads depth spec.targets leaves.now) result }
+{
+    let grammar = Grammar {
+        alloc,
+        depth,
+        expression,
+    };
+    grammar.targets(leaves)
+}

@@ -1,0 +1,27 @@
+//! The parts of the grammar of expressions that hold themselves, and what stands behind an operand.
+
+use crate::tree::{Argument, Expression, Name};
+use sqlite_items::{Boxed, Items};
+
+/// A level of expressions, the loosest first: each holds the ones below it.
+#[derive(Clone, Copy)]
+pub enum Level {
+    Test,
+    Or,
+    Negation,
+    Unary,
+    Primary,
+}
+
+/// What stands behind an operand: `.name`, `(arguments)`, `[index]` or `[start:stop:stride]`.
+#[derive(Drop)]
+pub enum Suffix {
+    Attribute(Name),
+    Call(Items<Argument>),
+    Index(Boxed<Expression>),
+    Slice {
+        start: Option<Boxed<Expression>>,
+        stop: Option<Boxed<Expression>>,
+        stride: Option<Boxed<Expression>>,
+    },
+}

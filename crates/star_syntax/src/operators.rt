@@ -1,0 +1,440 @@
+//! Readers of operators: from signs before an operand up to tests.
+
+ghost use Rattle.std.specs.Prelude.{◌≡◌, IfOk};
+ghost use Rattle.star_syntax.specs.Grammar.{first};
+ghost use Rattle.star_syntax.specs.Expressions as spec;
+ghost use Rattle.star_syntax.specs.Language.{Finds, Gives, Nests, reads};
+
+use crate::leaf::{Leaf, Word};
+use crate::level::Level;
+use crate::reader::{Grammar, Read, keyword};
+use crate::tree::{BinaryOperator, Comparator, Expression, UnaryOperator};
+use sqlite_items::Boxed;
+use star_lex::token::{Keyword, Sign};
+use std::alloc::{AllocError, Global};
+
+fn unary_sign(sign: Sign) -> Option<UnaryOperator>
+    ensures { result ≡ spec.unary_sign sign }
+{
+    match sign {
+        Sign::Plus => Some(UnaryOperator::Plus),
+        Sign::Minus => Some(UnaryOperator::Minus),
+        Sign::Tilde => Some(UnaryOperator::Invert),
+        _ => None,
+    }
+}
+
+fn unary_word(word: &Word) -> Option<UnaryOperator>
+    ensures { result ≡ spec.unary_word word.now }
+{
+    match word {
+        Word::Sign(sign) => unary_sign(*sign),
+        _ => None,
+    }
+}
+
+fn unary_operator(leaves: &[Leaf]) -> Option<(UnaryOperator, &[Leaf])>
+    ensures { Finds (first (λ t. spec.unary_word t.word) leaves.now) result }
+{
+    match leaves {
+        [leaf, rest @ ..] => match unary_word(&leaf.word) {
+            Some(operator) => Some((operator, rest)),
+            None => None,
+        },
+        [] => None,
+    }
+}
+
+fn binary_sign(sign: Sign) -> Option<BinaryOperator>
+    ensures { result ≡ spec.binary_sign sign }
+{
+    match sign {
+        Sign::Star => Some(BinaryOperator::Multiply),
+        Sign::SlashSlash => Some(BinaryOperator::FloorDivide),
+        Sign::Percent => Some(BinaryOperator::Modulo),
+        Sign::Plus => Some(BinaryOperator::Add),
+        Sign::Minus => Some(BinaryOperator::Subtract),
+        Sign::ShiftLeft => Some(BinaryOperator::ShiftLeft),
+        Sign::ShiftRight => Some(BinaryOperator::ShiftRight),
+        Sign::Ampersand => Some(BinaryOperator::BitAnd),
+        Sign::Caret => Some(BinaryOperator::BitXor),
+        Sign::Bar => Some(BinaryOperator::BitOr),
+        _ => None,
+    }
+}
+
+fn looseness(operator: BinaryOperator) -> usize
+    ensures { result ≡ spec.looseness operator }
+{
+    match operator {
+        BinaryOperator::Multiply | BinaryOperator::FloorDivide | BinaryOperator::Modulo => 0,
+        BinaryOperator::Add | BinaryOperator::Subtract => 1,
+        BinaryOperator::ShiftLeft | BinaryOperator::ShiftRight => 2,
+        BinaryOperator::BitAnd => 3,
+        BinaryOperator::BitXor => 4,
+        BinaryOperator::BitOr => 5,
+    }
+}
+
+fn binary_word(level: usize, word: &Word) -> Option<BinaryOperator>
+    ensures { result ≡ spec.binary_word level word.now }
+{
+    match word {
+        Word::Sign(sign) => match binary_sign(*sign) {
+            Some(operator) if looseness(operator) == level => Some(operator),
+            _ => None,
+        },
+        _ => None,
+    }
+}
+
+fn binary_operator(level: usize, leaves: &[Leaf]) -> Option<(BinaryOperator, &[Leaf])>
+    ensures { Finds (first (λ t. spec.binary_word level t.word) leaves.now) result }
+{
+    match leaves {
+        [leaf, rest @ ..] => match binary_word(level, &leaf.word) {
+            Some(operator) => Some((operator, rest)),
+            None => None,
+        },
+        [] => None,
+    }
+}
+
+fn comparator_sign(sign: Sign) -> Option<Comparator>
+    ensures { result ≡ spec.comparator_sign sign }
+{
+    match sign {
+        Sign::EqualEqual => Some(Comparator::Equal),
+        Sign::NotEqual => Some(Comparator::NotEqual),
+        Sign::Less => Some(Comparator::Less),
+        Sign::Greater => Some(Comparator::Greater),
+        Sign::LessEqual => Some(Comparator::LessEqual),
+        Sign::GreaterEqual => Some(Comparator::GreaterEqual),
+        _ => None,
+    }
+}
+
+fn comparator_word(word: &Word) -> Option<Comparator>
+    ensures { result ≡ spec.comparator_word word.now }
+{
+    match word {
+        Word::Sign(sign) => comparator_sign(*sign),
+        Word::Keyword(Keyword::In) => Some(Comparator::In),
+        _ => None,
+    }
+}
+
+fn one_comparator(leaves: &[Leaf]) -> Option<(Comparator, &[Leaf])>
+    ensures { Finds (first (λ t. spec.comparator_word t.word) leaves.now) result }
+{
+    match leaves {
+        [leaf, rest @ ..] => match comparator_word(&leaf.word) {
+            Some(found) => Some((found, rest)),
+            None => None,
+        },
+        [] => None,
+    }
+}
+
+fn unary_of(
+    alloc: Global,
+    operator: UnaryOperator,
+    operand: Expression,
+) -> Result<Expression, AllocError>
+    ensures { IfOk result (λ made. made ≡ Expression.Unary operator operand) }
+{
+    let operand = Boxed::new(alloc, operand)?;
+    Ok(Expression::Unary { operator, operand })
+}
+
+fn binary_of(
+    alloc: Global,
+    operator: BinaryOperator,
+    left: Expression,
+    right: Expression,
+) -> Result<Expression, AllocError>
+    ensures { IfOk result (λ made. made ≡ Expression.Binary operator left right) }
+{
+    let left = Boxed::new(alloc, left)?;
+    let right = Boxed::new(alloc, right)?;
+    Ok(Expression::Binary {
+        operator,
+        left,
+        right,
+    })
+}
+
+fn and_of(alloc: Global, left: Expression, right: Expression) -> Result<Expression, AllocError>
+    ensures { IfOk result (λ made. made ≡ Expression.And left right) }
+{
+    let left = Boxed::new(alloc, left)?;
+    let right = Boxed::new(alloc, right)?;
+    Ok(Expression::And { left, right })
+}
+
+fn or_of(alloc: Global, left: Expression, right: Expression) -> Result<Expression, AllocError>
+    ensures { IfOk result (λ made. made ≡ Expression.Or left right) }
+{
+    let left = Boxed::new(alloc, left)?;
+    let right = Boxed::new(alloc, right)?;
+    Ok(Expression::Or { left, right })
+}
+
+fn conditional_of(
+    alloc: Global,
+    condition: Boxed<Expression>,
+    chosen: Expression,
+    otherwise: Boxed<Expression>,
+) -> Result<Expression, AllocError>
+    ensures { IfOk result (λ made. made ≡ Expression.Conditional condition chosen otherwise) }
+{
+    let chosen = Boxed::new(alloc, chosen)?;
+    Ok(Expression::Conditional {
+        condition,
+        chosen,
+        otherwise,
+    })
+}
+
+impl<F: Fn(Global, u128, Level, &[Leaf]) -> Read<'_, Expression>> Grammar<F> {
+    #[tactic(auto, unfolding(crate::specs::Expressions::comparator))]
+    fn comparator<'a>(&self, leaves: &'a [Leaf]) -> Option<(Comparator, &'a [Leaf])>
+        ensures { Finds (reads self.now.depth spec.comparator leaves.now) result }
+    {
+        if let Some(found) = one_comparator(leaves) {
+            return Some(found);
+        }
+        let Some((_, rest)) = keyword(Keyword::Not, leaves) else {
+            return None;
+        };
+        let Some((_, rest)) = keyword(Keyword::In, rest) else {
+            return None;
+        };
+        Some((Comparator::NotIn, rest))
+    }
+
+    #[tactic(auto, unfolding(crate::specs::Expressions::signed))]
+    fn signed<'a>(&self, leaves: &'a [Leaf]) -> Read<'a, Expression>
+        requires { Nests self.now.depth (F.pre self.now.expression) (F.post self.now.expression) }
+        ensures { Gives (reads self.now.depth spec.signed leaves.now) result }
+    {
+        let Some((operator, rest)) = unary_operator(leaves) else {
+            return Ok(None);
+        };
+        let Some((operand, rest)) = self.nested(Level::Unary, rest)? else {
+            return Ok(None);
+        };
+        Ok(Some((unary_of(self.alloc, operator, operand)?, rest)))
+    }
+
+    #[tactic(auto, unfolding(crate::specs::Expressions::unary))]
+    pub fn unary<'a>(&self, leaves: &'a [Leaf]) -> Read<'a, Expression>
+        requires { Nests self.now.depth (F.pre self.now.expression) (F.post self.now.expression) }
+        ensures { Gives (reads self.now.depth spec.unary leaves.now) result }
+    {
+        if let Some(found) = self.signed(leaves)? {
+            return Ok(Some(found));
+        }
+        self.primary(leaves)
+    }
+
+    #[tactic(auto, unfolding(crate::specs::Expressions::climb))]
+    fn climb<'a>(&self, level: usize, leaves: &'a [Leaf]) -> Read<'a, Expression>
+        requires { Nests self.now.depth (F.pre self.now.expression) (F.post self.now.expression) }
+        ensures { Gives (reads self.now.depth (spec.climb level) leaves.now) result }
+    {
+        if level == 0 {
+            return self.unary(leaves);
+        }
+        let Some((mut left, mut rest)) = self.climb(level - 1, leaves)? else {
+            return Ok(None);
+        };
+        for _turn in 0..rest.len() {
+            let Some((sign, after)) = binary_operator(level - 1, rest) else {
+                return Ok(Some((left, rest)));
+            };
+            let Some((right, after)) = self.climb(level - 1, after)? else {
+                return Ok(Some((left, rest)));
+            };
+            left = binary_of(self.alloc, sign, left, right)?;
+            rest = after;
+        }
+        Ok(Some((left, rest)))
+    }
+
+    #[tactic(auto, unfolding(crate::specs::Expressions::bit_or))]
+    fn bit_or<'a>(&self, leaves: &'a [Leaf]) -> Read<'a, Expression>
+        requires { Nests self.now.depth (F.pre self.now.expression) (F.post self.now.expression) }
+        ensures { Gives (reads self.now.depth spec.bit_or leaves.now) result }
+    {
+        self.climb(6, leaves)
+    }
+
+    #[tactic(auto, unfolding(crate::specs::Expressions::compared))]
+    fn compared<'a>(&self, leaves: &'a [Leaf]) -> Read<'a, (Comparator, Expression)>
+        requires { Nests self.now.depth (F.pre self.now.expression) (F.post self.now.expression) }
+        ensures { Gives (reads self.now.depth spec.compared leaves.now) result }
+    {
+        let Some((comparator, rest)) = self.comparator(leaves) else {
+            return Ok(None);
+        };
+        let Some((right, rest)) = self.bit_or(rest)? else {
+            return Ok(None);
+        };
+        Ok(Some(((comparator, right), rest)))
+    }
+
+    #[tactic(auto, unfolding(crate::specs::Expressions::comparison))]
+    fn comparison<'a>(&self, leaves: &'a [Leaf]) -> Read<'a, Expression>
+        requires { Nests self.now.depth (F.pre self.now.expression) (F.post self.now.expression) }
+        ensures { Gives (reads self.now.depth spec.comparison leaves.now) result }
+    {
+        let Some((left, rest)) = self.bit_or(leaves)? else {
+            return Ok(None);
+        };
+        let Some(((comparator, right), after)) = self.compared(rest)? else {
+            return Ok(Some((left, rest)));
+        };
+        let left = Boxed::new(self.alloc, left)?;
+        let right = Boxed::new(self.alloc, right)?;
+        Ok(Some((
+            Expression::Compare {
+                comparator,
+                left,
+                right,
+            },
+            after,
+        )))
+    }
+
+    #[tactic(auto, unfolding(crate::specs::Expressions::denied))]
+    fn denied<'a>(&self, leaves: &'a [Leaf]) -> Read<'a, Expression>
+        requires { Nests self.now.depth (F.pre self.now.expression) (F.post self.now.expression) }
+        ensures { Gives (reads self.now.depth spec.denied leaves.now) result }
+    {
+        let Some((_, rest)) = keyword(Keyword::Not, leaves) else {
+            return Ok(None);
+        };
+        let Some((operand, rest)) = self.nested(Level::Negation, rest)? else {
+            return Ok(None);
+        };
+        Ok(Some((unary_of(self.alloc, UnaryOperator::Not, operand)?, rest)))
+    }
+
+    #[tactic(auto, unfolding(crate::specs::Expressions::negation))]
+    pub fn negation<'a>(&self, leaves: &'a [Leaf]) -> Read<'a, Expression>
+        requires { Nests self.now.depth (F.pre self.now.expression) (F.post self.now.expression) }
+        ensures { Gives (reads self.now.depth spec.negation leaves.now) result }
+    {
+        if let Some(found) = self.denied(leaves)? {
+            return Ok(Some(found));
+        }
+        self.comparison(leaves)
+    }
+
+    #[tactic(auto, unfolding(crate::specs::Expressions::next_negation))]
+    fn next_negation<'a>(&self, leaves: &'a [Leaf]) -> Read<'a, Expression>
+        requires { Nests self.now.depth (F.pre self.now.expression) (F.post self.now.expression) }
+        ensures { Gives (reads self.now.depth spec.next_negation leaves.now) result }
+    {
+        let Some((_, rest)) = keyword(Keyword::And, leaves) else {
+            return Ok(None);
+        };
+        self.negation(rest)
+    }
+
+    #[tactic(auto, unfolding(crate::specs::Expressions::conjunction))]
+    fn conjunction<'a>(&self, leaves: &'a [Leaf]) -> Read<'a, Expression>
+        requires { Nests self.now.depth (F.pre self.now.expression) (F.post self.now.expression) }
+        ensures { Gives (reads self.now.depth spec.conjunction leaves.now) result }
+    {
+        let Some((mut left, mut rest)) = self.negation(leaves)? else {
+            return Ok(None);
+        };
+        for _turn in 0..rest.len() {
+            let Some((next, after)) = self.next_negation(rest)? else {
+                return Ok(Some((left, rest)));
+            };
+            left = and_of(self.alloc, left, next)?;
+            rest = after;
+        }
+        Ok(Some((left, rest)))
+    }
+
+    #[tactic(auto, unfolding(crate::specs::Expressions::next_conjunction))]
+    fn next_conjunction<'a>(&self, leaves: &'a [Leaf]) -> Read<'a, Expression>
+        requires { Nests self.now.depth (F.pre self.now.expression) (F.post self.now.expression) }
+        ensures { Gives (reads self.now.depth spec.next_conjunction leaves.now) result }
+    {
+        let Some((_, rest)) = keyword(Keyword::Or, leaves) else {
+            return Ok(None);
+        };
+        self.conjunction(rest)
+    }
+
+    #[tactic(auto, unfolding(crate::specs::Expressions::disjunction))]
+    pub fn disjunction<'a>(&self, leaves: &'a [Leaf]) -> Read<'a, Expression>
+        requires { Nests self.now.depth (F.pre self.now.expression) (F.post self.now.expression) }
+        ensures { Gives (reads self.now.depth spec.disjunction leaves.now) result }
+    {
+        let Some((mut left, mut rest)) = self.conjunction(leaves)? else {
+            return Ok(None);
+        };
+        for _turn in 0..rest.len() {
+            let Some((next, after)) = self.next_conjunction(rest)? else {
+                return Ok(Some((left, rest)));
+            };
+            left = or_of(self.alloc, left, next)?;
+            rest = after;
+        }
+        Ok(Some((left, rest)))
+    }
+
+    #[tactic(auto, unfolding(crate::specs::Expressions::choice))]
+    fn choice<'a>(&self, leaves: &'a [Leaf]) -> Read<'a, (Boxed<Expression>, Boxed<Expression>)>
+        requires { Nests self.now.depth (F.pre self.now.expression) (F.post self.now.expression) }
+        ensures { Gives (reads self.now.depth spec.choice leaves.now) result }
+    {
+        let Some((_, rest)) = keyword(Keyword::If, leaves) else {
+            return Ok(None);
+        };
+        let Some((condition, rest)) = self.disjunction(rest)? else {
+            return Ok(None);
+        };
+        let condition = Boxed::new(self.alloc, condition)?;
+        let Some((_, rest)) = keyword(Keyword::Else, rest) else {
+            return Ok(None);
+        };
+        let Some((otherwise, rest)) = self.nested(Level::Test, rest)? else {
+            return Ok(None);
+        };
+        let otherwise = Boxed::new(self.alloc, otherwise)?;
+        Ok(Some(((condition, otherwise), rest)))
+    }
+
+    #[tactic(auto, unfolding(crate::specs::Expressions::conditional))]
+    pub fn conditional<'a>(&self, leaves: &'a [Leaf]) -> Read<'a, Expression>
+        requires { Nests self.now.depth (F.pre self.now.expression) (F.post self.now.expression) }
+        ensures { Gives (reads self.now.depth spec.conditional leaves.now) result }
+    {
+        let Some((chosen, rest)) = self.disjunction(leaves)? else {
+            return Ok(None);
+        };
+        let Some(((condition, otherwise), after)) = self.choice(rest)? else {
+            return Ok(Some((chosen, rest)));
+        };
+        let made = conditional_of(self.alloc, condition, chosen, otherwise)?;
+        Ok(Some((made, after)))
+    }
+
+    #[tactic(auto, unfolding(crate::specs::Expressions::test))]
+    pub fn test<'a>(&self, leaves: &'a [Leaf]) -> Read<'a, Expression>
+        requires { Nests self.now.depth (F.pre self.now.expression) (F.post self.now.expression) }
+        ensures { Gives (reads self.now.depth spec.test leaves.now) result }
+    {
+        if let Some(found) = self.lambda(leaves)? {
+            return Ok(Some(found));
+        }
+        self.conditional(leaves)
+    }
+}

@@ -1,0 +1,248 @@
+//! Readers of operands and of what stands behind them.
+
+ghost use Rattle.std.specs.Prelude.{◌≡◌, ◌∷◌, IfOk};
+ghost use Rattle.star_syntax.specs.Expressions as spec;
+ghost use Rattle.star_syntax.specs.Language.{Gives, Nests, reads};
+
+use crate::leaf::Leaf;
+use crate::level::{Level, Suffix};
+use crate::reader::{Grammar, Read, atom, name, sign, tuple_unless_one};
+use crate::tree::Expression;
+use sqlite_items::{Boxed, Items};
+use star_lex::token::Sign;
+use std::alloc::{AllocError, Global};
+
+/// Where a slice stops, and its stride.
+type Cut = (Option<Boxed<Expression>>, Option<Boxed<Expression>>);
+
+fn with_suffix(value: Boxed<Expression>, suffix: Suffix) -> Expression
+    ensures { result ≡ spec.with_suffix value suffix }
+{
+    match suffix {
+        Suffix::Attribute(name) => Expression::Attribute { value, name },
+        Suffix::Call(arguments) => Expression::Call {
+            function: value,
+            arguments,
+        },
+        Suffix::Index(index) => Expression::Index { value, index },
+        Suffix::Slice {
+            start,
+            stop,
+            stride,
+        } => Expression::Slice {
+            value,
+            start,
+            stop,
+            stride,
+        },
+    }
+}
+
+fn onto(
+    alloc: Global,
+    first: Expression,
+    more: Items<Expression>,
+) -> Result<Items<Expression>, AllocError>
+    ensures { IfOk result (λ made. made ≡ first ∷ more) }
+{
+    let mut made = Items::new(alloc);
+    made.push(first)?;
+    made.append(more)?;
+    Ok(made)
+}
+
+impl<F: Fn(Global, u128, Level, &[Leaf]) -> Read<'_, Expression>> Grammar<F> {
+    #[tactic(auto, unfolding(crate::specs::Expressions::atom))]
+    fn atom<'a>(&self, leaves: &'a [Leaf]) -> Read<'a, Expression>
+        ensures { Gives (reads self.now.depth spec.atom leaves.now) result }
+    {
+        atom(self.alloc, leaves)
+    }
+
+    #[tactic(auto, unfolding(crate::specs::Expressions::operand))]
+    fn operand<'a>(&self, leaves: &'a [Leaf]) -> Read<'a, Expression>
+        requires { Nests self.now.depth (F.pre self.now.expression) (F.post self.now.expression) }
+        ensures { Gives (reads self.now.depth spec.operand leaves.now) result }
+    {
+        if let Some(found) = self.atom(leaves)? {
+            return Ok(Some(found));
+        }
+        if let Some(found) = self.parentheses(leaves)? {
+            return Ok(Some(found));
+        }
+        if let Some(found) = self.list_display(leaves)? {
+            return Ok(Some(found));
+        }
+        self.dict_display(leaves)
+    }
+
+    #[tactic(auto, unfolding(crate::specs::Expressions::attribute))]
+    fn attribute<'a>(&self, leaves: &'a [Leaf]) -> Read<'a, Suffix>
+        ensures { Gives (reads self.now.depth spec.attribute leaves.now) result }
+    {
+        let Some((_, rest)) = sign(Sign::Dot, leaves) else {
+            return Ok(None);
+        };
+        let Some((found, rest)) = name(self.alloc, rest)? else {
+            return Ok(None);
+        };
+        Ok(Some((Suffix::Attribute(found), rest)))
+    }
+
+    /// A test, where one stands there.
+    fn maybe_bound<'a>(&self, leaves: &'a [Leaf]) -> Read<'a, Option<Boxed<Expression>>>
+        requires { Nests self.now.depth (F.pre self.now.expression) (F.post self.now.expression) }
+        ensures { Gives (reads self.now.depth (spec.opt spec.a_test) leaves.now) result }
+    {
+        match self.nested(Level::Test, leaves)? {
+            Some((found, rest)) => Ok(Some((Some(Boxed::new(self.alloc, found)?), rest))),
+            None => Ok(Some((None, leaves))),
+        }
+    }
+
+    #[tactic(auto, unfolding(crate::specs::Expressions::stride))]
+    fn stride<'a>(&self, leaves: &'a [Leaf]) -> Read<'a, Option<Boxed<Expression>>>
+        requires { Nests self.now.depth (F.pre self.now.expression) (F.post self.now.expression) }
+        ensures { Gives (reads self.now.depth spec.stride leaves.now) result }
+    {
+        match sign(Sign::Colon, leaves) {
+            Some((_, rest)) => self.maybe_bound(rest),
+            None => Ok(Some((None, leaves))),
+        }
+    }
+
+    #[tactic(auto, unfolding(crate::specs::Expressions::cut))]
+    fn cut<'a>(&self, leaves: &'a [Leaf]) -> Read<'a, Cut>
+        requires { Nests self.now.depth (F.pre self.now.expression) (F.post self.now.expression) }
+        ensures { Gives (reads self.now.depth spec.cut leaves.now) result }
+    {
+        let Some((_, rest)) = sign(Sign::Colon, leaves) else {
+            return Ok(None);
+        };
+        let Some((stop, rest)) = self.maybe_bound(rest)? else {
+            return Ok(None);
+        };
+        let Some((stride, rest)) = self.stride(rest)? else {
+            return Ok(None);
+        };
+        Ok(Some(((stop, stride), rest)))
+    }
+
+    #[tactic(auto, unfolding(crate::specs::Expressions::behind_start))]
+    fn behind_start<'a>(&self, leaves: &'a [Leaf]) -> Read<'a, (Option<Cut>, Items<Expression>)>
+        requires { Nests self.now.depth (F.pre self.now.expression) (F.post self.now.expression) }
+        ensures { Gives (reads self.now.depth spec.behind_start leaves.now) result }
+    {
+        if let Some((cut, rest)) = self.cut(leaves)? {
+            return Ok(Some(((Some(cut), Items::new(self.alloc)), rest)));
+        }
+        let Some((more, rest)) = self.further_tests(leaves)? else {
+            return Ok(None);
+        };
+        Ok(Some(((None, more), rest)))
+    }
+
+    /// What stands between the brackets, where it begins with a test.
+    #[tactic(auto, unfolding(crate::specs::Expressions::from_test))]
+    fn from_test<'a>(&self, leaves: &'a [Leaf]) -> Read<'a, Suffix>
+        requires { Nests self.now.depth (F.pre self.now.expression) (F.post self.now.expression) }
+        ensures { Gives (reads self.now.depth spec.from_test leaves.now) result }
+    {
+        let Some((first, rest)) = self.nested(Level::Test, leaves)? else {
+            return Ok(None);
+        };
+        let Some((behind, rest)) = self.behind_start(rest)? else {
+            return Ok(None);
+        };
+        let (cut, more) = behind;
+        match cut {
+            None => {
+                let found = tuple_unless_one(onto(self.alloc, first, more)?);
+                Ok(Some((Suffix::Index(Boxed::new(self.alloc, found)?), rest)))
+            }
+            Some((stop, stride)) => {
+                let start = Some(Boxed::new(self.alloc, first)?);
+                Ok(Some((
+                    Suffix::Slice {
+                        start,
+                        stop,
+                        stride,
+                    },
+                    rest,
+                )))
+            }
+        }
+    }
+
+    /// What stands between the brackets.
+    #[tactic(auto, unfolding(crate::specs::Expressions::in_brackets))]
+    fn in_brackets<'a>(&self, leaves: &'a [Leaf]) -> Read<'a, Suffix>
+        requires { Nests self.now.depth (F.pre self.now.expression) (F.post self.now.expression) }
+        ensures { Gives (reads self.now.depth spec.in_brackets leaves.now) result }
+    {
+        if let Some(found) = self.from_test(leaves)? {
+            return Ok(Some(found));
+        }
+        let Some(((stop, stride), rest)) = self.cut(leaves)? else {
+            return Ok(None);
+        };
+        let start = None;
+        Ok(Some((
+            Suffix::Slice {
+                start,
+                stop,
+                stride,
+            },
+            rest,
+        )))
+    }
+
+    #[tactic(auto, unfolding(crate::specs::Expressions::subscript))]
+    fn subscript<'a>(&self, leaves: &'a [Leaf]) -> Read<'a, Suffix>
+        requires { Nests self.now.depth (F.pre self.now.expression) (F.post self.now.expression) }
+        ensures { Gives (reads self.now.depth spec.subscript leaves.now) result }
+    {
+        let Some((_, rest)) = sign(Sign::LeftBracket, leaves) else {
+            return Ok(None);
+        };
+        let Some((found, rest)) = self.in_brackets(rest)? else {
+            return Ok(None);
+        };
+        let Some((_, rest)) = sign(Sign::RightBracket, rest) else {
+            return Ok(None);
+        };
+        Ok(Some((found, rest)))
+    }
+
+    #[tactic(auto, unfolding(crate::specs::Expressions::suffix))]
+    fn suffix<'a>(&self, leaves: &'a [Leaf]) -> Read<'a, Suffix>
+        requires { Nests self.now.depth (F.pre self.now.expression) (F.post self.now.expression) }
+        ensures { Gives (reads self.now.depth spec.suffix leaves.now) result }
+    {
+        if let Some(found) = self.attribute(leaves)? {
+            return Ok(Some(found));
+        }
+        if let Some(found) = self.call(leaves)? {
+            return Ok(Some(found));
+        }
+        self.subscript(leaves)
+    }
+
+    #[tactic(auto, unfolding(crate::specs::Expressions::primary))]
+    pub fn primary<'a>(&self, leaves: &'a [Leaf]) -> Read<'a, Expression>
+        requires { Nests self.now.depth (F.pre self.now.expression) (F.post self.now.expression) }
+        ensures { Gives (reads self.now.depth spec.primary leaves.now) result }
+    {
+        let Some((mut left, mut rest)) = self.operand(leaves)? else {
+            return Ok(None);
+        };
+        for _turn in 0..rest.len() {
+            let Some((next, after)) = self.suffix(rest)? else {
+                return Ok(Some((left, rest)));
+            };
+            left = with_suffix(Boxed::new(self.alloc, left)?, next);
+            rest = after;
+        }
+        Ok(Some((left, rest)))
+    }
+}

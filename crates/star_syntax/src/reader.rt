@@ -1,0 +1,218 @@
+//! What every reader uses: the answers, the leaves that stand for themselves, and the grammar of expressions to a depth.
+
+ghost use Rattle.std.specs.Prelude.{◌≡◌, IfOk};
+ghost use Rattle.star_syntax.specs.Grammar.{first, level as at_level, run};
+ghost use Rattle.star_syntax.specs.Expressions as spec;
+ghost use Rattle.star_syntax.specs.Language.{Finds, Gives, Nests, reads, rule};
+
+use crate::leaf::{Leaf, Word};
+use crate::level::Level;
+use crate::tree::{Expression, Name, Position};
+use sqlite_items::Items;
+use star_lex::token::{Keyword, Sign};
+use star_text::Text;
+use std::alloc::{AllocError, Global};
+
+/// What a reader answers: the value at the front of the leaves and the leaves behind it, or nothing where it reads none.
+pub type Read<'a, T> = Result<Option<(T, &'a [Leaf])>, AllocError>;
+
+/// The grammar of expressions, with others nested in them no deeper than a depth.
+#[derive(Clone, Copy)]
+pub struct Grammar<F> {
+    pub alloc: Global,
+    /// How deep expressions may still nest.
+    pub depth: u128,
+    /// The reader of the expressions nested in them.
+    pub expression: F,
+}
+
+#[tactic(auto, unfolding(crate::specs::Expressions::same_sign))]
+fn same_sign(one: Sign, other: Sign) -> bool
+    ensures { result ≡ spec.same_sign one other }
+{
+    one == other
+}
+
+#[tactic(auto, unfolding(crate::specs::Expressions::same_keyword))]
+fn same_keyword(one: Keyword, other: Keyword) -> bool
+    ensures { result ≡ spec.same_keyword one other }
+{
+    one == other
+}
+
+fn is_sign(expected: Sign, word: &Word) -> bool
+    ensures { spec.is_sign expected word.now ≡ spec.said result }
+{
+    match word {
+        Word::Sign(found) => same_sign(expected, *found),
+        _ => false,
+    }
+}
+
+fn is_keyword(expected: Keyword, word: &Word) -> bool
+    ensures { spec.is_keyword expected word.now ≡ spec.said result }
+{
+    match word {
+        Word::Keyword(found) => same_keyword(expected, *found),
+        _ => false,
+    }
+}
+
+/// The sign, where it stands at the front of the leaves.
+pub fn sign(expected: Sign, leaves: &[Leaf]) -> Option<((), &[Leaf])>
+    ensures { Finds (first (λ t. spec.is_sign expected t.word) leaves.now) result }
+{
+    match leaves {
+        [leaf, rest @ ..] if is_sign(expected, &leaf.word) => Some(((), rest)),
+        _ => None,
+    }
+}
+
+/// The keyword, where it stands at the front of the leaves.
+pub fn keyword(expected: Keyword, leaves: &[Leaf]) -> Option<((), &[Leaf])>
+    ensures { Finds (first (λ t. spec.is_keyword expected t.word) leaves.now) result }
+{
+    match leaves {
+        [leaf, rest @ ..] if is_keyword(expected, &leaf.word) => Some(((), rest)),
+        _ => None,
+    }
+}
+
+/// The position of the sign, where it stands at the front of the leaves.
+pub fn sign_at(expected: Sign, leaves: &[Leaf]) -> Option<(Position, &[Leaf])>
+    ensures { Finds (first (λ t. spec.placed_at t.position (spec.is_sign expected t.word)) leaves.now) result }
+{
+    match leaves {
+        [leaf, rest @ ..] if is_sign(expected, &leaf.word) => Some((leaf.position, rest)),
+        _ => None,
+    }
+}
+
+/// The position of the keyword, where it stands at the front of the leaves.
+pub fn keyword_at(expected: Keyword, leaves: &[Leaf]) -> Option<(Position, &[Leaf])>
+    ensures { Finds (first (λ t. spec.placed_at t.position (spec.is_keyword expected t.word)) leaves.now) result }
+{
+    match leaves {
+        [leaf, rest @ ..] if is_keyword(expected, &leaf.word) => Some((leaf.position, rest)),
+        _ => None,
+    }
+}
+
+/// The name at the front of the leaves.
+pub fn name(alloc: Global, leaves: &[Leaf]) -> Read<'_, Name>
+    ensures { Gives (first (λ t. spec.name_of t.position t.word) leaves.now) result }
+{
+    match leaves {
+        [leaf, rest @ ..] => match &leaf.word {
+            Word::Name(text) => {
+                let text = Text::new(alloc, text.as_str())?;
+                let position = leaf.position;
+                Ok(Some((Name { text, position }, rest)))
+            }
+            _ => Ok(None),
+        },
+        [] => Ok(None),
+    }
+}
+
+/// The name, int or string at the front of the leaves.
+pub fn atom(alloc: Global, leaves: &[Leaf]) -> Read<'_, Expression>
+    ensures { Gives (first (λ t. spec.atom_of t.position t.word) leaves.now) result }
+{
+    match leaves {
+        [leaf, rest @ ..] => match &leaf.word {
+            Word::Name(text) => {
+                let text = Text::new(alloc, text.as_str())?;
+                let position = leaf.position;
+                Ok(Some((Expression::Name(Name { text, position }), rest)))
+            }
+            Word::Int(value) => Ok(Some((Expression::Int(*value), rest))),
+            Word::Text(text) => {
+                let text = Text::new(alloc, text.as_str())?;
+                Ok(Some((Expression::Text(text), rest)))
+            }
+            _ => Ok(None),
+        },
+        [] => Ok(None),
+    }
+}
+
+/// One test stands for itself, none or several for a tuple of them.
+pub fn tuple_unless_one(mut found: Items<Expression>) -> Expression
+    ensures { result ≡ spec.tuple_unless_one found }
+{
+    if found.len() == 1 {
+        found.remove(0)
+    } else {
+        Expression::Tuple(found)
+    }
+}
+
+impl<F: Fn(Global, u128, Level, &[Leaf]) -> Read<'_, Expression>> Grammar<F> {
+    /// An expression of a level, nested in another.
+    pub fn nested<'a>(&self, level: Level, leaves: &'a [Leaf]) -> Read<'a, Expression>
+        requires { Nests self.now.depth (F.pre self.now.expression) (F.post self.now.expression) }
+        ensures { Gives (run rule self.now.depth (at_level level) leaves.now) result }
+    {
+        (self.expression)(self.alloc, self.depth, level, leaves)
+    }
+
+    #[tactic(auto, unfolding(crate::specs::Expressions::next_test))]
+    pub fn next_test<'a>(&self, leaves: &'a [Leaf]) -> Read<'a, Expression>
+        requires { Nests self.now.depth (F.pre self.now.expression) (F.post self.now.expression) }
+        ensures { Gives (reads self.now.depth spec.next_test leaves.now) result }
+    {
+        let Some((_, rest)) = sign(Sign::Comma, leaves) else {
+            return Ok(None);
+        };
+        self.nested(Level::Test, rest)
+    }
+
+    #[tactic(auto, unfolding(crate::specs::Expressions::list_of_tests))]
+    pub fn list_of_tests<'a>(&self, leaves: &'a [Leaf]) -> Read<'a, Items<Expression>>
+        requires { Nests self.now.depth (F.pre self.now.expression) (F.post self.now.expression) }
+        ensures { Gives (reads self.now.depth spec.list_of_tests leaves.now) result }
+    {
+        let Some((first, mut rest)) = self.nested(Level::Test, leaves)? else {
+            return Ok(None);
+        };
+        let mut found = Items::new(self.alloc);
+        found.push(first)?;
+        for _turn in 0..rest.len() {
+            let Some((next, after)) = self.next_test(rest)? else {
+                return Ok(Some((found, rest)));
+            };
+            found.push(next)?;
+            rest = after;
+        }
+        Ok(Some((found, rest)))
+    }
+
+    #[tactic(auto, unfolding(crate::specs::Expressions::further_tests))]
+    pub fn further_tests<'a>(&self, leaves: &'a [Leaf]) -> Read<'a, Items<Expression>>
+        requires { Nests self.now.depth (F.pre self.now.expression) (F.post self.now.expression) }
+        ensures { Gives (reads self.now.depth spec.further_tests leaves.now) result }
+    {
+        let mut found = Items::new(self.alloc);
+        let mut rest = leaves;
+        for _turn in 0..leaves.len() {
+            let Some((next, after)) = self.next_test(rest)? else {
+                return Ok(Some((found, rest)));
+            };
+            found.push(next)?;
+            rest = after;
+        }
+        Ok(Some((found, rest)))
+    }
+
+    #[tactic(auto, unfolding(crate::specs::Expressions::tests))]
+    pub fn tests<'a>(&self, leaves: &'a [Leaf]) -> Read<'a, Expression>
+        requires { Nests self.now.depth (F.pre self.now.expression) (F.post self.now.expression) }
+        ensures { Gives (reads self.now.depth spec.tests leaves.now) result }
+    {
+        let Some((found, rest)) = self.list_of_tests(leaves)? else {
+            return Ok(None);
+        };
+        Ok(Some((tuple_unless_one(found), rest)))
+    }
+}
