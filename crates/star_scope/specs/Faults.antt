@@ -1,0 +1,38 @@
+-- The static faults of a file, each with the token at which it stands, and which of them is the first.
+use Rattle.std.specs.Prelude.{ℕ, Bool, nat_lt, nat_eq, ◌&&◌, ◌||◌, List, [], ◌∷◌, Option, Some, None, if◌then◌else◌}
+use Rattle.star_scope.specs.declared.error.ScopeFault.{ScopeFault}
+use Rattle.star_scope.specs.declared.error.ScopeFault.TheVariants as fault
+use Rattle.star_scope.specs.declared.error.Refusal.{Refusal}
+use Rattle.star_syntax.specs.declared.tree.Position.{Position}
+
+-- the number of a kind of fault
+abbrev pub rank : ScopeFault → ℕ
+rank (fault.Undefined line) = 1
+rank (fault.BadPlace line) = 2
+rank (fault.Conflict line) = 3
+rank (fault.Private line) = 4
+rank (fault.NoFile line) = 5
+rank (fault.BadLabel line) = 6
+rank fault.Memory = 7
+
+-- a fault stands at a token
+abbrev pub at : Position → (ℕ → ScopeFault) → Refusal
+at p f = record { token = p.token; fault = f p.line }
+
+-- its token stands first; at one token, its kind has the lower number
+abbrev pub stands_before : Refusal → Refusal → Bool
+stands_before a b = nat_lt a.token b.token || (nat_eq a.token b.token && nat_lt (rank a.fault) (rank b.fault))
+
+-- the first of what was found and one more
+abbrev pub earlier : Option Refusal → Refusal → Option Refusal
+earlier None more = Some more
+earlier (Some found) more = if stands_before more found then Some more else Some found
+
+-- the first of what was found and of further faults
+unfoldable pub first_from : Option Refusal → List Refusal → Option Refusal
+first_from found [] = found
+first_from found (f ∷ fs) = first_from (earlier found f) fs
+
+-- the first of all
+abbrev pub first : List Refusal → Option Refusal
+first fs = first_from None fs

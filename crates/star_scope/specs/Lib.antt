@@ -1,0 +1,5 @@
+pub mod Faults
+pub mod Placement
+pub mod Loads
+pub mod Conflicts
+pub mod Bound

@@ -1,0 +1,90 @@
+-- The loads of a file: what each module string leads to, and the faults of load statements.
+use Rattle.std.specs.Prelude.{◌≡◌, ◌<◌, ◌==◌, ℕ, Bool, false, List, [], ◌∷◌, ◌++◌, map, length, Option, None, if◌then◌else◌}
+use Rattle.std.specs.List.{flat_map}
+use Rattle.star_label.specs.Files.{File, label_at}
+use Rattle.star_label.specs.Label.{Reads, label_text, package_of}
+use Rattle.star_syntax.specs.declared.tree.Form.{Form, out-Form}
+use Rattle.star_syntax.specs.declared.tree.Arm.{Arm}
+use Rattle.star_syntax.specs.declared.tree.Statement.{Statement, out-Statement}
+use Rattle.star_syntax.specs.declared.tree.Form.TheOpen as form
+use Rattle.star_syntax.specs.declared.tree.Position.{Position}
+use Rattle.star_syntax.specs.declared.tree.Literal.{Literal}
+use Rattle.star_syntax.specs.declared.tree.LoadedName.{LoadedName}
+use Rattle.star_scope.specs.declared.error.ScopeFault.TheVariants as fault
+use Rattle.star_scope.specs.declared.error.Refusal.{Refusal}
+use Rattle.star_scope.specs.declared.loads.Lead.{Lead}
+use Rattle.star_scope.specs.declared.loads.Lead.TheVariants as lead
+use Rattle.star_scope.specs.declared.loads.Load.{Load}
+use Rattle.star_scope.specs.Faults.{at, first_from}
+
+-- in the package `here`, a module string is the label of the file n, or the label of no file, or no label
+abbrev pub LeadsTo : List File → List ℕ → List ℕ → Lead → Type 0
+LeadsTo files here text (lead.File n) = (p : List ℕ) × (m : List ℕ) × Reads here text p m × (n < length files) × (label_at files n ≡ label_text p m)
+LeadsTo files here text lead.NoFile = (p : List ℕ) × (m : List ℕ) × Reads here text p m × ((n : ℕ) → n < length files → label_at files n ≡ label_text p m → ⊥)
+LeadsTo files here text lead.BadLabel = (p m : List ℕ) → Reads here text p m → ⊥
+
+-- a load statement: where it stands, its module string, and the names that it loads
+pub record Written : Type 0 where
+  pub position : Position
+  pub module_string : Literal
+  pub names : List LoadedName
+
+abbrev pub load_in : Position → form.Form-F Form Arm Statement → List Written
+load_in p (form.Load l ns) = record { position = p; module_string = l; names = ns } ∷ []
+load_in p _ = []
+
+-- the load statements of the file itself, in source order
+abbrev pub written_in : Statement → List Written
+written_in s = load_in (out-Statement s).position (out-Form (out-Statement s).form)
+
+abbrev pub written : List Statement → List Written
+written ss = flat_map written_in ss
+
+-- a load statement beside what its module string leads to
+abbrev pub Read : Type 0
+Read = Written × Lead
+
+abbrev pub AllLead : List File → List ℕ → List Read → Type 0
+AllLead files here [] = Unit {0}
+AllLead files here (r ∷ rs) = LeadsTo files here r.0.module_string.text r.1 × AllLead files here rs
+
+-- these are the load statements, each beside what it leads to
+abbrev pub AreRead : List File → List ℕ → List Written → List Read → Type 0
+AreRead files here ws reads = (map (λ r. r.0) reads ≡ ws) × AllLead files here reads
+
+-- a loaded name that begins with `_` is private
+abbrev pub is_private : List ℕ → Bool
+is_private [] = false
+is_private (b ∷ bs) = b == 95
+
+abbrev pub private_fault : LoadedName → List Refusal
+private_fault n = if is_private n.loaded.text then at n.loaded.position (λ line. fault.Private line) ∷ [] else []
+
+abbrev pub module_fault : Position → Lead → List Refusal
+module_fault p (lead.File n) = []
+module_fault p lead.NoFile = at p (λ line. fault.NoFile line) ∷ []
+module_fault p lead.BadLabel = at p (λ line. fault.BadLabel line) ∷ []
+
+-- the faults of a load statement stand at its module string and at the strings of its names
+abbrev pub faults_of : Read → List Refusal
+faults_of r = module_fault r.0.module_string.position r.1 ++ flat_map private_fault r.0.names
+
+-- the load of a statement whose module string leads to a file, with the place of the statement
+abbrev pub load_at : Position → Lead → List Load
+load_at p (lead.File n) = record { file = n; line = p.line; token = p.token } ∷ []
+load_at p lead.NoFile = []
+load_at p lead.BadLabel = []
+
+abbrev pub load_of : Read → List Load
+load_of r = load_at r.0.position r.1
+
+-- to the loads before come those of load statements; and what was found first, in these and before
+pub record Adds (files : List File) (here : List ℕ) (ws : List Written) (before after : List Load) (found more : Option Refusal) : Type 0 where
+  pub reads : List Read
+  pub are : AreRead files here ws reads
+  pub loads : after ≡ before ++ flat_map load_of reads
+  pub faults : more ≡ first_from found (flat_map faults_of reads)
+
+-- the loads of the statements of the file n, and the first fault of its load statements
+abbrev pub IsLoads : List File → ℕ → List Statement → List Load → Option Refusal → Type 0
+IsLoads files n ss loads found = Adds files (package_of (label_at files n)) (written ss) [] loads None found

@@ -1,0 +1,78 @@
+-- Statements that stand where they must not.
+use Rattle.std.specs.Prelude.{Bool, true, false, List, [], ◌∷◌, ◌++◌, map}
+use Rattle.star_syntax.specs.declared.tree.Form.{Form}
+use Rattle.star_syntax.specs.declared.tree.Arm.{Arm}
+use Rattle.star_syntax.specs.declared.tree.Statement.{Statement}
+use Rattle.star_syntax.specs.declared.tree.Form.TheOpen as form
+use Rattle.star_syntax.specs.declared.tree.Form.TheFolds as form_folds
+use Rattle.star_syntax.specs.declared.tree.Position.{Position}
+use Rattle.star_scope.specs.declared.error.ScopeFault.TheVariants as fault
+use Rattle.star_scope.specs.declared.error.Refusal.{Refusal}
+use Rattle.star_scope.specs.declared.placement.Standing.{Standing}
+use Rattle.star_scope.specs.Faults.{at}
+
+-- the misplaced statements of a part, by where it stands
+abbrev pub Misplaced : Type 0
+Misplaced = Standing → List Refusal
+
+abbrev pub each : List Misplaced → Misplaced
+each [] here = []
+each (s ∷ ss) here = s here ++ each ss here
+
+-- statements of the file itself
+abbrev pub of_file : Standing
+of_file = record { in_file = true; in_function = false; in_loop = false }
+
+-- inside an `if`, inside the body of a loop, and inside the body of a function, which is in no loop of its own
+abbrev pub of_if : Standing → Standing
+of_if here = record { in_file = false; in_function = here.in_function; in_loop = here.in_loop }
+
+abbrev pub of_loop : Standing → Standing
+of_loop here = record { in_file = false; in_function = here.in_function; in_loop = true }
+
+abbrev pub of_function : Standing
+of_function = record { in_file = false; in_function = true; in_loop = false }
+
+-- a statement that may stand there only where this is true
+abbrev pub only : Bool → Position → List Refusal
+only true p = []
+only false p = at p (λ line. fault.BadPlace line) ∷ []
+
+abbrev pub form_step : form.Form-F (Position → Misplaced) Misplaced Misplaced → Position → Misplaced
+form_step (form.Expression e) p here = []
+form_step (form.Assign t e) p here = []
+form_step (form.Augment t op e) p here = []
+form_step form.Pass p here = []
+form_step form.Break p here = only here.in_loop p
+form_step form.Continue p here = only here.in_loop p
+form_step (form.Return e) p here = only here.in_function p
+form_step (form.Load l ns) p here = only here.in_file p
+form_step (form.If arms otherwise) p here = each arms (of_if here) ++ each otherwise (of_if here)
+form_step (form.For t e body) p here = each body (of_loop here)
+form_step (form.Def n ps body) p here = each body of_function
+
+abbrev pub arm_step : form.Arm-F (Position → Misplaced) Misplaced Misplaced → Misplaced
+arm_step a = each a.body
+
+abbrev pub statement_step : form.Statement-F (Position → Misplaced) Misplaced Misplaced → Misplaced
+statement_step s = s.form s.position
+
+abbrev pub in_statement : Statement → Misplaced
+in_statement = form_folds.fold-Statement (Position → Misplaced) Misplaced Misplaced form_step arm_step statement_step
+
+abbrev pub in_arm : Arm → Misplaced
+in_arm = form_folds.fold-Arm (Position → Misplaced) Misplaced Misplaced form_step arm_step statement_step
+
+abbrev pub in_form : Form → Position → Misplaced
+in_form = form_folds.fold-Form (Position → Misplaced) Misplaced Misplaced form_step arm_step statement_step
+
+-- those of statements and of arms that stand somewhere
+abbrev pub in_statements : List Statement → Misplaced
+in_statements ss = each (map in_statement ss)
+
+abbrev pub in_arms : List Arm → Misplaced
+in_arms arms = each (map in_arm arms)
+
+-- the misplaced statements of a file
+abbrev pub misplaced : List Statement → List Refusal
+misplaced ss = in_statements ss of_file

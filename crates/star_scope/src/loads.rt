@@ -1,0 +1,190 @@
+//! The loads of a file.
+
+ghost use Rattle.std.specs.Prelude.{◌≡◌, ◌<◌, ◌++◌, length, true, IfOk, IfErr, OnOk};
+ghost use Rattle.star_label.specs.Label.{is_package};
+ghost use Rattle.star_scope.specs.declared.error.ScopeFault.TheVariants.{Memory};
+ghost use Rattle.star_scope.specs.Faults.{at, first_from};
+ghost use Rattle.star_scope.specs.Loads.{Adds, IsLoads, LeadsTo, load_at, is_private, module_fault, private_fault, written_in};
+ghost use Rattle.std.specs.List.{flat_map};
+
+use crate::error::{Refusal, ScopeFault, earlier};
+use star_label::error::LabelError;
+use star_label::files::Files;
+use star_label::label::Label;
+use star_syntax::tree::{Form, Literal, LoadedName, Position, Statement};
+use std::alloc::{AllocError, Global};
+
+/// What a module string leads to.
+#[derive(Clone, Copy, Debug, PartialEq, Eq)]
+pub enum Lead {
+    /// The file with this number.
+    File(usize),
+    /// It is a label of no file.
+    NoFile,
+    /// It is no label.
+    BadLabel,
+}
+
+/// A load statement of the file itself.
+#[derive(Clone, Copy, Debug, PartialEq, Eq)]
+pub struct Load {
+    /// The number of the file that it loads.
+    pub file: usize,
+    /// The line of the statement.
+    pub line: usize,
+    /// The number of the statement's first token.
+    pub token: usize,
+}
+
+/// The loads of a file, and the first fault of its load statements.
+#[derive(Debug, Drop)]
+pub struct Loads {
+    /// In source order, those that lead to a file.
+    pub loads: Vec<Load>,
+    pub first: Option<Refusal>,
+}
+
+/// What a module string leads to in a file of this package.
+fn lead_of(alloc: Global, files: &Files, package: &str, text: &str) -> Result<Lead, ScopeFault>
+    requires { is_package «package».now ≡ true }
+    ensures leads { IfOk result (λ l. LeadsTo files.now «package».now text.now l) }
+    ensures memory { IfErr result (λ e. e ≡ Memory) }
+{
+    match Label::read(alloc, text, package) {
+        Ok(label) => {
+            match files.find(&label) {
+                Some(n) => Ok(Lead::File(n)),
+                None => Ok(Lead::NoFile),
+            }
+        }
+        Err(LabelError::BadLabel) => Ok(Lead::BadLabel),
+        Err(_) => Err(ScopeFault::Memory),
+    }
+}
+
+/// A loaded name that begins with `_`.
+fn is_private(text: &str) -> bool
+    ensures { result ≡ is_private text.now }
+{
+    match text.as_bytes() {
+        [first, ..] => *first == b'_',
+        _ => false,
+    }
+}
+
+/// What was found first, with the fault of a module string.
+#[tactic(auto, unfolding(crate::specs::Faults::first_from))]
+fn module_fault(found: Option<Refusal>, position: Position, lead: Lead) -> Option<Refusal>
+    ensures { result ≡ first_from found (module_fault position lead) }
+{
+    let fault = match lead {
+        Lead::File(_) => return found,
+        Lead::NoFile => ScopeFault::NoFile {
+            line: position.line,
+        },
+        Lead::BadLabel => ScopeFault::BadLabel {
+            line: position.line,
+        },
+    };
+    earlier(
+        found,
+        Refusal {
+            token: position.token,
+            fault,
+        },
+    )
+}
+
+/// What was found first, with the fault of a loaded name.
+#[tactic(auto, unfolding(crate::specs::Faults::first_from))]
+fn private_fault(found: Option<Refusal>, name: &LoadedName) -> Option<Refusal>
+    ensures { result ≡ first_from found (private_fault name.now) }
+{
+    if !is_private(name.loaded.text.as_str()) {
+        return found;
+    }
+    earlier(
+        found,
+        Refusal {
+            token: name.loaded.position.token,
+            fault: ScopeFault::Private {
+                line: name.loaded.position.line,
+            },
+        },
+    )
+}
+
+/// What was found first, with the faults of loaded names.
+fn private_faults(mut found: Option<Refusal>, names: &[LoadedName]) -> Option<Refusal>
+    ensures { result ≡ first_from found (flat_map private_fault names.now) }
+{
+    for name in names {
+        found = private_fault(found, name);
+    }
+    found
+}
+
+/// Puts the load of a statement behind the others, where its module string leads to a file.
+fn push_load(loads: &mut Vec<Load>, position: Position, lead: Lead) -> Result<(), AllocError>
+    ensures { OnOk result (loads.new.items ≡ loads.old.items ++ load_at position lead) }
+{
+    if let Lead::File(file) = lead {
+        loads.push(Load {
+            file,
+            line: position.line,
+            token: position.token,
+        })?;
+    }
+    Ok(())
+}
+
+/// Adds the load of a statement, and its faults.
+fn add_statement(
+    alloc: Global,
+    files: &Files,
+    package: &str,
+    loads: &mut Loads,
+    statement: &Statement,
+) -> Result<(), ScopeFault>
+    requires { is_package «package».now ≡ true }
+    ensures adds { OnOk result (Adds files.now «package».now (written_in statement.now) loads.old.loads.items loads.new.loads.items loads.old.first loads.new.first) }
+    ensures memory { IfErr result (λ e. e ≡ Memory) }
+{
+    match &statement.form {
+        Form::Load {
+            module: module_string,
+            names,
+        } => {
+            let lead = lead_of(alloc, files, package, module_string.text.as_str())?;
+            let found = module_fault(loads.first, module_string.position, lead);
+            loads.first = private_faults(found, names.as_slice());
+            push_load(&mut loads.loads, statement.position, lead)?;
+            Ok(())
+        }
+        _ => Ok(()),
+    }
+}
+
+/// The loads of the file `n`, whose statements are these, and the first fault of its load statements: `BadLabel` and
+/// `NoFile` at the module string, `Private` at a loaded name that begins with `_` (`docs/LANGUAGE.md`, "Scopes and static
+/// faults"). `Memory` where a growth is refused, and no other error.
+pub fn find_loads(
+    alloc: Global,
+    files: &Files,
+    n: usize,
+    statements: &[Statement],
+) -> Result<Loads, ScopeFault>
+    requires { n < length files.now }
+    ensures loads { IfOk result (λ found. IsLoads files.now n statements.now found.loads.items found.first) }
+    ensures memory { IfErr result (λ e. e ≡ Memory) }
+{
+    let package = files.label(n).package();
+    let mut loads = Loads {
+        loads: Vec::new(alloc),
+        first: None,
+    };
+    for statement in statements {
+        add_statement(alloc, files, package, &mut loads, statement)?;
+    }
+    Ok(loads)
+}

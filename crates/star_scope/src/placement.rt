@@ -1,0 +1,131 @@
+//! Statements that stand where they must not.
+
+ghost use Rattle.std.specs.Prelude.{◌≡◌};
+ghost use Rattle.star_scope.specs.Faults.{at, first, first_from};
+ghost use Rattle.star_scope.specs.Placement.{in_arm, in_arms, in_form, in_statement, in_statements, misplaced, of_file, of_function, of_if, of_loop, only};
+
+use crate::error::{Refusal, ScopeFault, earlier};
+use star_syntax::tree::{Arm, Form, Position, Statement};
+
+/// Where a statement stands.
+#[derive(Clone, Copy, Debug, PartialEq, Eq)]
+pub struct Standing {
+    /// Whether it is a statement of the file itself.
+    pub in_file: bool,
+    /// Whether it stands in the body of a function.
+    pub in_function: bool,
+    /// Whether it stands in the body of a loop of that function, or of the file.
+    pub in_loop: bool,
+}
+
+const OF_FILE: Standing = Standing {
+    in_file: true,
+    in_function: false,
+    in_loop: false,
+};
+
+const OF_FUNCTION: Standing = Standing {
+    in_file: false,
+    in_function: true,
+    in_loop: false,
+};
+
+impl Standing {
+    fn of_if(self) -> Standing
+        ensures { result ≡ of_if self }
+    {
+        Standing {
+            in_file: false,
+            in_function: self.in_function,
+            in_loop: self.in_loop,
+        }
+    }
+
+    fn of_loop(self) -> Standing
+        ensures { result ≡ of_loop self }
+    {
+        Standing {
+            in_file: false,
+            in_function: self.in_function,
+            in_loop: true,
+        }
+    }
+}
+
+/// A statement that may stand there only where `allowed` is true.
+#[tactic(auto, unfolding(crate::specs::Faults::first_from))]
+fn only(found: Option<Refusal>, allowed: bool, position: Position) -> Option<Refusal>
+    ensures { result ≡ first_from found (only allowed position) }
+{
+    if allowed {
+        return found;
+    }
+    earlier(
+        found,
+        Refusal {
+            token: position.token,
+            fault: ScopeFault::BadPlace {
+                line: position.line,
+            },
+        },
+    )
+}
+
+#[cycle(placement)]
+#[tactic(auto, using(crate::proofs::Faults::first_joined, crate::proofs::Faults::first_none, crate::proofs::Placements::form_opened))]
+fn in_form(
+    found: Option<Refusal>,
+    here: Standing,
+    position: Position,
+    form: &Form,
+) -> Option<Refusal>
+    ensures { result ≡ first_from found (in_form form.now position here) }
+{
+    match form {
+        Form::Break | Form::Continue => only(found, here.in_loop, position),
+        Form::Return(_) => only(found, here.in_function, position),
+        Form::Load { .. } => only(found, here.in_file, position),
+        Form::If { arms, otherwise } => {
+            let found = in_arms(found, here.of_if(), arms.as_slice());
+            in_statements(found, here.of_if(), otherwise.as_slice())
+        }
+        Form::For { body, .. } => in_statements(found, here.of_loop(), body.as_slice()),
+        Form::Def { body, .. } => in_statements(found, OF_FUNCTION, body.as_slice()),
+        Form::Expression(_) | Form::Assign { .. } | Form::Augment { .. } | Form::Pass => found,
+    }
+}
+
+#[cycle(placement)]
+#[tactic(auto, using(crate::proofs::Faults::first_joined, crate::proofs::Placements::statements_next, crate::proofs::Faults::first_none))]
+fn in_statements(
+    mut found: Option<Refusal>,
+    here: Standing,
+    statements: &[Statement],
+) -> Option<Refusal>
+    ensures { result ≡ first_from found (in_statements statements.now here) }
+{
+    for statement in statements {
+        found = in_form(found, here, statement.position, &statement.form);
+    }
+    found
+}
+
+#[cycle(placement)]
+#[tactic(auto, using(crate::proofs::Faults::first_joined, crate::proofs::Placements::arms_next, crate::proofs::Faults::first_none))]
+fn in_arms(mut found: Option<Refusal>, here: Standing, arms: &[Arm]) -> Option<Refusal>
+    ensures { result ≡ first_from found (in_arms arms.now here) }
+{
+    for arm in arms {
+        found = in_statements(found, here, arm.body.as_slice());
+    }
+    found
+}
+
+/// The first statement of a file that stands where it must not: `return` outside of a function, `break` or `continue`
+/// outside of a loop of the same function, `load` elsewhere than as a statement of the file itself (`docs/LANGUAGE.md`,
+/// "Scopes and static faults"). It takes no memory.
+pub fn misplaced(statements: &[Statement]) -> Option<Refusal>
+    ensures { result ≡ first (misplaced statements.now) }
+{
+    in_statements(None, OF_FILE, statements)
+}
