@@ -1,0 +1,43 @@
+-- The steps from a JSON value to the one file.
+use Rattle.std.proofs.Common.{◌≡◌, ℕ, ◌<◌, List, [], ◌∷◌, length, Bool, true, false, Option, None, refl, arith, String, not, get_or, ap, sym, ◌∙◌}
+use Rattle.std.specs.declared.alloc.Global.{Global}
+use Rattle.std.specs.Str.{is_utf8, IsUtf8}
+use Rattle.std.proofs.lemmas.Str.{is_utf8-from_IsUtf8, IsUtf8-from_is_utf8}
+use Rattle.std.specs.List.{list_all}
+use Rattle.std.proofs.lemmas.List.Folds.{list_all_at}
+use Rattle.serde_json.specs.Data.{Data}
+use Rattle.serde_json.specs.Read.{read}
+use Rattle.serde_json.specs.View.{members_view}
+use Rattle.serde_json.specs.declared.value.Value.{Value}
+use Rattle.starload.specs.Bundle.{only_text, json_of}
+
+abbrev pub Entry : Type 0
+Entry = String Global × Value
+
+-- more than one member
+pub only_text-more : (es : List Entry) → 1 < length es → None ≡ only_text (members_view es)
+only_text-more [] h = absurd (omega arith)
+only_text-more (e ∷ []) h = absurd (omega arith)
+only_text-more (e ∷ f ∷ es) h = refl
+
+pub false_from_not : (b : Bool) → true ≡ not b → b ≡ false
+false_from_not true h = cc
+false_from_not false h = refl
+
+-- an element fails the test
+pub list_all-stops : {X : Type 0} (p : X → Bool) (xs : List X) (i : ℕ) (x : X) → i < length xs → x ≡ get_or xs i x → p x ≡ false → list_all p xs ≡ false
+list_all-stops p xs i x h e f = list_all_at p xs i x h (ap p (sym e) ∙ f)
+
+-- the bytes are text, and read as d
+pub json_of-read : (bytes : List ℕ) (o : Option Data) → IsUtf8 bytes → read bytes ≡ o → json_of bytes ≡ o
+unfolding json_of
+json_of-read bytes o u e = rw (is_utf8-from_IsUtf8 bytes u) e
+
+json_of-cases : (bytes : List ℕ) (b : Bool) → is_utf8 bytes ≡ b → (IsUtf8 bytes → read bytes ≡ None) → json_of bytes ≡ None
+unfolding json_of
+json_of-cases bytes true e h = rw e (h (IsUtf8-from_is_utf8 bytes e))
+json_of-cases bytes false e h = rw e refl
+
+-- the bytes are no text, or read as nothing
+pub json_of-none : (bytes : List ℕ) → (IsUtf8 bytes → read bytes ≡ None) → json_of bytes ≡ None
+json_of-none bytes h = json_of-cases bytes (is_utf8 bytes) refl h

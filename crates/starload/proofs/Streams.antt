@@ -1,0 +1,13 @@
+-- What went through in two steps.
+use Rattle.std.proofs.Common.{ℕ, ◌-◌, ◌<◌, ◌≤◌, List, ◌++◌, length, take, Option, Some, None, append_assoc, length-append, length-take, arith, ◌∙◌, ap}
+use Rattle.starload.specs.Stream.{Adds}
+
+pub Adds-more : (a b c : Option (List ℕ)) (x y : List ℕ) → Adds a b x → Adds b c y → Adds a c (x ++ y)
+Adds-more None b c x y h g = tt
+Adds-more (Some s) b c x y h g =
+    let after : Adds (Some (s ++ x)) c y = rw h at g in
+    after ∙ ap Some (append_assoc s x y)
+
+-- so many bytes that the two are longer than the limit
+pub longer : (limit : ℕ) (bytes buffer : List ℕ) (n : ℕ) → n ≤ length buffer → limit - length bytes < n → limit < length (bytes ++ take n buffer)
+longer limit bytes buffer n h g = simp (length-append, length-take) (omega arith)

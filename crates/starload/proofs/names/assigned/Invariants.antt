@@ -1,0 +1,10 @@
+use Rattle.std.proofs.Common.{◌≡◌, [], length}
+use Rattle.starload.specs.Names.{with_statements}
+use Rattle.starload.specs.View.{names_view}
+use Rattle.starload.proofs.names.assigned.Given as goal
+
+abbrev pub invariant-loop-rest : goal.invariant-loop-rest
+invariant-loop-rest l = with_statements (names_view l.names) l.rest ≡ with_statements [] l.fn.statements
+
+abbrev pub decreases-loop-rest : goal.decreases-loop-rest
+decreases-loop-rest l = length l.rest

@@ -1,0 +1,12 @@
+pub mod Refusal
+pub mod Stream
+pub mod Bundle
+pub mod Value
+pub mod Small
+pub mod Names
+pub mod Eval
+pub mod Run
+pub mod Meaning
+pub mod View
+pub mod Report
+pub mod Serve
