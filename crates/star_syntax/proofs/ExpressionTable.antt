@@ -2,8 +2,9 @@
 use Rattle.std.proofs.Common.{◌≡◌, ℕ, zero, suc, ◌+◌, ◌≤◌, true, refl, arith}
 use Rattle.star_syntax.specs.declared.level.Level.{Level}
 use Rattle.star_syntax.specs.declared.level.Level.TheVariants as levels
-use Rattle.star_syntax.specs.Grammar.{cost, safe, level}
-use Rattle.star_syntax.specs.Expressions.{next_test, list_of_tests, tests, next_primary, list_of_primaries, primaries, targets, for_clause, if_clause, next_clause, further_clauses, all_clauses, inside, parentheses, further_tests, behind_element, elements, list_display, entry, next_entry, further_entries, behind_entry, entries, dict_display, atom, operand, named, argument, next_argument, list_of_arguments, ordered_arguments, given, default, plain, star, star_star, parameter, next_parameter, list_of_parameters, ordered_parameters, lambda_parameters, lambda, attribute, call, stride, cut, behind_start, from_test, in_brackets, subscript, suffix, primary, signed, unary, climb, bit_or, comparator, compared, comparison, denied, negation, next_negation, conjunction, next_conjunction, disjunction, choice, conditional, test}
+use Rattle.star_syntax.specs.Grammar.{level}
+use Rattle.star_syntax.proofs.Soundness.{cost, safe}
+use Rattle.star_syntax.specs.Expressions.{next_test, list_of_tests, tests, next_primary, list_of_primaries, primaries, targets, for_clause, if_clause, next_clause, further_clauses, all_clauses, inside, parentheses, further_tests, behind_element, elements, list_display, entry, next_entry, further_entries, behind_entry, entries, dict_display, atom, operand, named, argument, next_argument, list_of_arguments, ordered_arguments, given, default, named_parameter, star, star_star, parameter, next_parameter, list_of_parameters, ordered_parameters, lambda_parameters, lambda, attribute, call, stride, stop_and_stride, behind_start, from_test, in_brackets, subscript, suffix, primary, signed, unary, climb, bit_or, comparator, compared, comparison, denied, negation, next_negation, conjunction, next_conjunction, disjunction, choice, conditional, test}
 use Rattle.star_syntax.specs.Language.{rule}
 use Rattle.star_syntax.proofs.Ranks.{rank}
 
@@ -56,11 +57,11 @@ unfolding call given ordered_arguments list_of_arguments argument named next_arg
 call-safe m = refl
 
 subscript-cost : cost subscript ≡ 3
-unfolding subscript in_brackets from_test behind_start cut stride further_tests
+unfolding subscript in_brackets from_test behind_start stop_and_stride stride further_tests
 subscript-cost = refl
 
 subscript-safe : (m : ℕ) → safe rank 2 m subscript ≡ true
-unfolding subscript in_brackets from_test behind_start cut stride further_tests next_test
+unfolding subscript in_brackets from_test behind_start stop_and_stride stride further_tests next_test
 subscript-safe m = refl
 
 suffix-cost : cost suffix ≡ 2
@@ -122,11 +123,11 @@ unfolding disjunction next_conjunction
 disjunction-safe m = simp (conjunction-safe, conjunction-cost)
 
 lambda-safe : (m : ℕ) → safe rank 2 m lambda ≡ true
-unfolding lambda lambda_parameters ordered_parameters list_of_parameters next_parameter parameter plain star star_star default
+unfolding lambda lambda_parameters ordered_parameters list_of_parameters next_parameter parameter named_parameter star star_star default
 lambda-safe m = refl
 
 lambda-cost : cost lambda ≡ 3
-unfolding lambda lambda_parameters ordered_parameters list_of_parameters parameter plain star star_star default
+unfolding lambda lambda_parameters ordered_parameters list_of_parameters parameter named_parameter star star_star default
 lambda-cost = refl
 
 test-cost : cost test ≡ 1

@@ -20,7 +20,7 @@ use Rattle.star_syntax.specs.declared.tree.Expression.{Expression}
 use Rattle.star_syntax.specs.declared.tree.Expression.TheVariants as e
 use Rattle.star_syntax.specs.Sorts as sorts
 use Rattle.star_syntax.specs.Grammar.{level, the, Reads, hit, miss, free, seq-some, seq-first, seq-second, alt-first, alt-second, fold-none, fold-some, act-none, act-some, itself, Rounds, stop, more}
-use Rattle.star_syntax.specs.Expressions.{same_sign, same_keyword, is_sign, is_keyword, binary_operator, snoc, next_test, list_of_tests, for_clause, all_clauses, inside, parentheses, further_tests, behind_element, elements, list_display, atom, operand, attribute, call, cut, behind_start, from_test, in_brackets, subscript, suffix, primary, signed, unary, bit_or, comparator, compared, comparison, denied, negation, next_negation, conjunction, next_conjunction, disjunction, choice, conditional}
+use Rattle.star_syntax.specs.Expressions.{same_sign, same_keyword, is_sign, is_keyword, binary_operator, snoc, next_test, list_of_tests, for_clause, all_clauses, inside, parentheses, further_tests, behind_element, elements, list_display, atom, operand, attribute, call, stop_and_stride, behind_start, from_test, in_brackets, subscript, suffix, primary, signed, unary, bit_or, comparator, compared, comparison, denied, negation, next_negation, conjunction, next_conjunction, disjunction, choice, conditional}
 use Rattle.star_syntax.specs.Language.{rule}
 use Rattle.star_syntax.specs.Written.{mark, spelt, called, IsUnary, positive, negative, inverted, IsBinary, times, divided, modulo, plus, minus, to-left, to-right, bits-and, bits-xor, bits-or, IsComparator, equal, unequal, less, greater, at-most, at-least, contained}
 use Rattle.star_syntax.proofs.Quiet.{BeginsNone, suffix-none, test-none}
@@ -101,7 +101,7 @@ module _ {ts vs us : List Leaf} {x y : Expression} where
 
   pub index-of : (p q : Position) → Reads rule _ operand ts (Some (x, mark p s.LeftBracket ∷ vs)) → Reads rule _ (the (level levels.Test)) vs (Some (y, mark q s.RightBracket ∷ us)) → Reads rule _ suffix us None
       → Reads rule _ primary ts (Some (e.Index x y, us))
-  unfolding primary suffix attribute call subscript in_brackets from_test behind_start cut further_tests next_test same_sign
+  unfolding primary suffix attribute call subscript in_brackets from_test behind_start stop_and_stride further_tests next_test same_sign
   index-of p q d f n = fold-some d (more {y = suffixes.Index y}
       (alt-second (act-none (act-none (seq-first (miss refl)))) (alt-second (act-none (act-none (seq-first (miss refl))))
       (act-some {x = (tt, suffixes.Index y)} (seq-some (hit refl) (act-some {x = (suffixes.Index y, tt)} (seq-some

@@ -6,7 +6,8 @@ use Rattle.star_syntax.specs.declared.level.Level.TheVariants as levels
 use Rattle.star_syntax.specs.declared.tree.Statement.{Statement}
 use Rattle.star_syntax.specs.Sorts.{Sort, list, Val}
 use Rattle.star_syntax.specs.Sorts as sorts
-use Rattle.star_syntax.specs.Grammar.{Rule, level, statement, sort, G, Answer, Reads, Spells, step, run, cost, safe, Sound}
+use Rattle.star_syntax.specs.Grammar.{Rule, level, statement, sort, G, Answer, Reads, Spells, step, run}
+use Rattle.star_syntax.proofs.Soundness.{cost, safe, Sound}
 use Rattle.star_syntax.specs.Statements.{file}
 use Rattle.star_syntax.specs.Language.{rule, Reading}
 use Rattle.star_syntax.proofs.Ranks.{rank}

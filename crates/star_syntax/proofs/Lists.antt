@@ -24,7 +24,7 @@ use Rattle.star_syntax.specs.Sorts.{Sort, Val}
 use Rattle.star_syntax.specs.Sorts as sorts
 use Rattle.star_syntax.specs.Grammar.{level, G, the, Reads, hit, miss, free, seq-some, seq-first, alt-first, alt-second, fold-none, fold-some, act-none, act-some, when-none, when-some, itself, Rounds, stop, more}
 use Rattle.star_syntax.specs.Keeps.{keep, arguments_in_order, parameters_in_order, target_of}
-use Rattle.star_syntax.specs.Expressions.{same_sign, same_keyword, snoc, opt, after, sign_, a_test, name, next_primary, list_of_primaries, primaries, targets, for_clause, if_clause, next_clause, further_clauses, all_clauses, parentheses, behind_element, elements, list_display, entry, next_entry, further_entries, behind_entry, entries, dict_display, atom, operand, named, argument, next_argument, list_of_arguments, ordered_arguments, given, default, plain, star, star_star, parameter, next_parameter, list_of_parameters, ordered_parameters, lambda_parameters, lambda, attribute, call, stride, cut, behind_start, from_test, in_brackets, subscript, suffix, primary, disjunction, test}
+use Rattle.star_syntax.specs.Expressions.{same_sign, same_keyword, snoc, opt, after, sign_, a_test, name, next_primary, list_of_primaries, primaries, targets, for_clause, if_clause, next_clause, further_clauses, all_clauses, parentheses, behind_element, elements, list_display, entry, next_entry, further_entries, behind_entry, entries, dict_display, atom, operand, named, argument, next_argument, list_of_arguments, ordered_arguments, given, default, named_parameter, star, star_star, parameter, next_parameter, list_of_parameters, ordered_parameters, lambda_parameters, lambda, attribute, call, stride, stop_and_stride, behind_start, from_test, in_brackets, subscript, suffix, primary, disjunction, test}
 use Rattle.star_syntax.specs.Language.{rule}
 use Rattle.star_syntax.specs.Written.{mark, spelt, called}
 use Rattle.star_syntax.proofs.Quiet.{BeginsNone, test-none}
@@ -182,15 +182,15 @@ put-of {x = x} d = alt-first (act-some {x = x} d)
 pub left-out-of : {us : List Leaf} → Reads rule _ (the (level levels.Test)) us None → Reads rule _ (opt a_test) us (Some (None, us))
 left-out-of n = alt-second (act-none n) (act-some {x = tt} free)
 
-pub cut-of : {ts us vs : List Leaf} {b c : Option Expression} (p q : Position) → Reads rule _ (opt a_test) ts (Some (b, mark q s.Colon ∷ vs)) → Reads rule _ (opt a_test) vs (Some (c, us)) → Reads rule _ cut (mark p s.Colon ∷ ts) (Some ((b, c), us))
-unfolding cut stride same_sign
-cut-of {b = b} {c = c} p q d f = act-some {x = (tt, (b, c))} (seq-some (hit refl) (seq-some d (alt-first (act-some {x = (tt, c)} (seq-some (hit refl) f)))))
+pub stop-and-stride-of : {ts us vs : List Leaf} {b c : Option Expression} (p q : Position) → Reads rule _ (opt a_test) ts (Some (b, mark q s.Colon ∷ vs)) → Reads rule _ (opt a_test) vs (Some (c, us)) → Reads rule _ stop_and_stride (mark p s.Colon ∷ ts) (Some ((b, c), us))
+unfolding stop_and_stride stride same_sign
+stop-and-stride-of {b = b} {c = c} p q d f = act-some {x = (tt, (b, c))} (seq-some (hit refl) (seq-some d (alt-first (act-some {x = (tt, c)} (seq-some (hit refl) f)))))
 
-pub from-start : {ts us vs : List Leaf} {x : Expression} {b c : Option Expression} → Reads rule _ (the (level levels.Test)) ts (Some (x, vs)) → Reads rule _ cut vs (Some ((b, c), us)) → Reads rule _ in_brackets ts (Some (suffixes.Slice (Some x) b c, us))
+pub from-start : {ts us vs : List Leaf} {x : Expression} {b c : Option Expression} → Reads rule _ (the (level levels.Test)) ts (Some (x, vs)) → Reads rule _ stop_and_stride vs (Some ((b, c), us)) → Reads rule _ in_brackets ts (Some (suffixes.Slice (Some x) b c, us))
 unfolding in_brackets from_test behind_start
 from-start {x = x} {b = b} {c = c} d f = alt-first (act-some {x = (x, (Some (b, c), []))} (seq-some d (alt-first (act-some {x = (b, c)} f))))
 
-pub from-nothing : {ts us : List Leaf} {b c : Option Expression} → Reads rule _ (the (level levels.Test)) ts None → Reads rule _ cut ts (Some ((b, c), us)) → Reads rule _ in_brackets ts (Some (suffixes.Slice None b c, us))
+pub from-nothing : {ts us : List Leaf} {b c : Option Expression} → Reads rule _ (the (level levels.Test)) ts None → Reads rule _ stop_and_stride ts (Some ((b, c), us)) → Reads rule _ in_brackets ts (Some (suffixes.Slice None b c, us))
 unfolding in_brackets from_test
 from-nothing {b = b} {c = c} n f = alt-second (act-none (seq-first n)) (act-some {x = (b, c)} f)
 
@@ -216,23 +216,23 @@ unfolding default same_sign
 closed-colon p ts = record { default' = act-none (seq-first (miss refl)); name' = miss refl }
 
 pub plain-of : (x : Name) {us : List Leaf} → Closed us → Reads rule _ parameter (called x ∷ us) (Some (parameters.Plain x, us))
-unfolding parameter plain
+unfolding parameter named_parameter
 plain-of x n = alt-first (act-some {x = (x, None)} (seq-some (hit refl) (alt-second (act-none n.default') (act-some {x = tt} free))))
 
 pub default-of : (p : Position) (x : Name) {y : Expression} {ts us : List Leaf} → Reads rule _ (the (level levels.Test)) ts (Some (y, us)) → Reads rule _ parameter (called x ∷ mark p s.Assign ∷ ts) (Some (parameters.Default x y, us))
-unfolding parameter plain default same_sign
+unfolding parameter named_parameter default same_sign
 default-of p x {y = y} d = alt-first (act-some {x = (x, Some y)} (seq-some (hit refl) (alt-first (act-some {x = y} (act-some {x = (tt, y)} (seq-some (hit refl) d))))))
 
 pub starred-of : (p : Position) (x : Name) (us : List Leaf) → Reads rule _ parameter (mark p s.Star ∷ called x ∷ us) (Some (parameters.Star x, us))
-unfolding parameter plain star same_sign
+unfolding parameter named_parameter star same_sign
 starred-of p x us = alt-second (act-none (seq-first (miss refl))) (alt-first (act-some {x = Some x} (act-some {x = (tt, Some x)} (seq-some (hit refl) (alt-first (act-some {x = x} (hit refl)))))))
 
 pub bare-star-of : (p : Position) {us : List Leaf} → Closed us → Reads rule _ parameter (mark p s.Star ∷ us) (Some (parameters.BareStar, us))
-unfolding parameter plain star same_sign
+unfolding parameter named_parameter star same_sign
 bare-star-of p n = alt-second (act-none (seq-first (miss refl))) (alt-first (act-some {x = None} (act-some {x = (tt, None)} (seq-some (hit refl) (alt-second (act-none n.name') (act-some {x = tt} free))))))
 
 pub twice-starred-of : (p : Position) (x : Name) (us : List Leaf) → Reads rule _ parameter (mark p s.StarStar ∷ called x ∷ us) (Some (parameters.StarStar x, us))
-unfolding parameter plain star star_star same_sign
+unfolding parameter named_parameter star star_star same_sign
 twice-starred-of p x us = alt-second (act-none (seq-first (miss refl))) (alt-second (act-none (act-none (seq-first (miss refl)))) (act-some {x = x} (act-some {x = (tt, x)} (seq-some (hit refl) (hit refl)))))
 
 pub next-parameter-of : {ts us : List Leaf} {y : Parameter} (p : Position) → Reads rule _ parameter ts (Some (y, us)) → Reads rule _ next_parameter (mark p s.Comma ∷ ts) (Some (y, us))
@@ -244,7 +244,7 @@ unfolding next_parameter same_sign
 no-next-parameter p ts = act-none (seq-first (miss refl))
 
 pub none-taken-of : (p : Position) (us : List Leaf) → Reads rule _ lambda_parameters (mark p s.Colon ∷ us) (Some ([], mark p s.Colon ∷ us))
-unfolding lambda_parameters ordered_parameters list_of_parameters parameter plain star star_star same_sign
+unfolding lambda_parameters ordered_parameters list_of_parameters parameter named_parameter star star_star same_sign
 none-taken-of p us = alt-second (when-none (fold-none (act-none (alt-second (act-none (seq-first (miss refl))) (alt-second (act-none (act-none (seq-first (miss refl)))) (act-none (act-none (seq-first (miss refl))))))))) (act-some {x = tt} free)
 
 pub taken-of : {ts vs us : List Leaf} {y : Parameter} {ys : List Parameter} → parameters_in_order ys ≡ true → Reads rule _ parameter ts (Some (y, vs)) → Listed sorts.parameter next_parameter (y ∷ []) vs ys us → Reads rule _ lambda_parameters ts (Some (ys, us))

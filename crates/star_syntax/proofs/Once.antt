@@ -12,7 +12,7 @@ use Rattle.star_syntax.specs.declared.tree.Tree.{Tree}
 use Rattle.star_syntax.specs.Grammar.{Answer}
 use Rattle.star_syntax.specs.Leaves.{leaves_of}
 use Rattle.star_syntax.specs.Nesting.{too_nested}
-use Rattle.star_syntax.specs.Sources.{ReadAs, Weighed, Cut, Parses}
+use Rattle.star_syntax.specs.Sources.{ReadAs, Weighed, WithTokens, Parses}
 use Rattle.star_syntax.specs.Laws.{OneReading, OneAnswer}
 use Rattle.star_syntax.proofs.Language.{file-only}
 
@@ -40,17 +40,17 @@ weighed-once : (o : Option ℕ) (leaves : List Leaf) (r t : Result Tree SyntaxFa
 weighed-once None leaves r t i j = read-once leaves r t i j
 weighed-once (Some line) leaves r t i j = i ∙ sym j
 
-cut-once : (text : Text) (o : Result (List Token) SyntaxFault) (r t : Result Tree SyntaxFault) → Cut text o r → Cut text o t → r ≡ t
-cut-once text (Err fault) r t i j = i ∙ sym j
-cut-once text (Ok tokens) r t i j = weighed-once (too_nested tokens) (leaves_of text tokens) r t i j
+with-tokens-once : (text : Text) (o : Result (List Token) SyntaxFault) (r t : Result Tree SyntaxFault) → WithTokens text o r → WithTokens text o t → r ≡ t
+with-tokens-once text (Err fault) r t i j = i ∙ sym j
+with-tokens-once text (Ok tokens) r t i j = weighed-once (too_nested tokens) (leaves_of text tokens) r t i j
 
-cut-of : (text : Text) (r : Result Tree SyntaxFault) → (r ≡ Err Memory → ⊥) → Parses text r → Cut text (lexed text) r
-cut-of text (Ok tree) clean p = p
-cut-of text (Err Memory) clean p = absurd (clean refl)
-cut-of text (Err (BadToken line)) clean p = p
-cut-of text (Err (BadIndent line)) clean p = p
-cut-of text (Err (TooNested line)) clean p = p
-cut-of text (Err BadSyntax) clean p = p
+with-tokens : (text : Text) (r : Result Tree SyntaxFault) → (r ≡ Err Memory → ⊥) → Parses text r → WithTokens text (lexed text) r
+with-tokens text (Ok tree) clean p = p
+with-tokens text (Err Memory) clean p = absurd (clean refl)
+with-tokens text (Err (BadToken line)) clean p = p
+with-tokens text (Err (BadIndent line)) clean p = p
+with-tokens text (Err (TooNested line)) clean p = p
+with-tokens text (Err BadSyntax) clean p = p
 
 pub one_answer : OneAnswer
-one_answer text r t clean pure p q = cut-once text (lexed text) r t (cut-of text r clean p) (cut-of text t pure q)
+one_answer text r t clean pure p q = with-tokens-once text (lexed text) r t (with-tokens text r clean p) (with-tokens text t pure q)

@@ -9,7 +9,7 @@ use Rattle.star_syntax.specs.declared.tree.Position.{Position}
 use Rattle.star_syntax.specs.Grammar.{level, the, Reads, miss, over, seq-first, alt-second, fold-none, act-none, itself}
 use Rattle.star_syntax.specs.Expressions.{same_sign, same_keyword, is_sign, is_keyword, unary_word, binary_word, comparator_word, atom_of, placed_at, binary_operator, parentheses, list_display, dict_display, atom, operand, lambda, attribute, call, subscript, suffix, primary, signed, unary, climb, bit_or, comparator, comparison, denied, negation, next_negation, conjunction, next_conjunction, disjunction, choice, conditional, test}
 use Rattle.star_syntax.specs.Language.{rule}
-use Rattle.star_syntax.specs.Written.{EndsBefore, right-paren, right-bracket, right-brace, comma, colon, semicolon, assign, new-line, for', else', Stops, nothing-more, before}
+use Rattle.star_syntax.specs.Written.{EndsBefore, right-paren, right-bracket, right-brace, comma, colon, semicolon, assign, plus-assign, minus-assign, star-assign, slashes-assign, percent-assign, ampersand-assign, bar-assign, caret-assign, left-assign, right-assign, new-line, for', else', Stops, nothing-more, before}
 
 -- ---- what stands behind an operand, or between operands
 
@@ -91,6 +91,16 @@ quiet-word w comma = record { suffix' = record { dot = refl; paren = refl; brack
 quiet-word w colon = record { suffix' = record { dot = refl; paren = refl; bracket = refl }; binary' = λ n. refl; comparator' = record { sign = refl; denial = refl }; and' = refl; or' = refl; if' = refl }
 quiet-word w semicolon = record { suffix' = record { dot = refl; paren = refl; bracket = refl }; binary' = λ n. refl; comparator' = record { sign = refl; denial = refl }; and' = refl; or' = refl; if' = refl }
 quiet-word w assign = record { suffix' = record { dot = refl; paren = refl; bracket = refl }; binary' = λ n. refl; comparator' = record { sign = refl; denial = refl }; and' = refl; or' = refl; if' = refl }
+quiet-word w plus-assign = record { suffix' = record { dot = refl; paren = refl; bracket = refl }; binary' = λ n. refl; comparator' = record { sign = refl; denial = refl }; and' = refl; or' = refl; if' = refl }
+quiet-word w minus-assign = record { suffix' = record { dot = refl; paren = refl; bracket = refl }; binary' = λ n. refl; comparator' = record { sign = refl; denial = refl }; and' = refl; or' = refl; if' = refl }
+quiet-word w star-assign = record { suffix' = record { dot = refl; paren = refl; bracket = refl }; binary' = λ n. refl; comparator' = record { sign = refl; denial = refl }; and' = refl; or' = refl; if' = refl }
+quiet-word w slashes-assign = record { suffix' = record { dot = refl; paren = refl; bracket = refl }; binary' = λ n. refl; comparator' = record { sign = refl; denial = refl }; and' = refl; or' = refl; if' = refl }
+quiet-word w percent-assign = record { suffix' = record { dot = refl; paren = refl; bracket = refl }; binary' = λ n. refl; comparator' = record { sign = refl; denial = refl }; and' = refl; or' = refl; if' = refl }
+quiet-word w ampersand-assign = record { suffix' = record { dot = refl; paren = refl; bracket = refl }; binary' = λ n. refl; comparator' = record { sign = refl; denial = refl }; and' = refl; or' = refl; if' = refl }
+quiet-word w bar-assign = record { suffix' = record { dot = refl; paren = refl; bracket = refl }; binary' = λ n. refl; comparator' = record { sign = refl; denial = refl }; and' = refl; or' = refl; if' = refl }
+quiet-word w caret-assign = record { suffix' = record { dot = refl; paren = refl; bracket = refl }; binary' = λ n. refl; comparator' = record { sign = refl; denial = refl }; and' = refl; or' = refl; if' = refl }
+quiet-word w left-assign = record { suffix' = record { dot = refl; paren = refl; bracket = refl }; binary' = λ n. refl; comparator' = record { sign = refl; denial = refl }; and' = refl; or' = refl; if' = refl }
+quiet-word w right-assign = record { suffix' = record { dot = refl; paren = refl; bracket = refl }; binary' = λ n. refl; comparator' = record { sign = refl; denial = refl }; and' = refl; or' = refl; if' = refl }
 quiet-word w new-line = record { suffix' = record { dot = refl; paren = refl; bracket = refl }; binary' = λ n. refl; comparator' = record { sign = refl; denial = refl }; and' = refl; or' = refl; if' = refl }
 quiet-word w for' = record { suffix' = record { dot = refl; paren = refl; bracket = refl }; binary' = λ n. refl; comparator' = record { sign = refl; denial = refl }; and' = refl; or' = refl; if' = refl }
 quiet-word w else' = record { suffix' = record { dot = refl; paren = refl; bracket = refl }; binary' = λ n. refl; comparator' = record { sign = refl; denial = refl }; and' = refl; or' = refl; if' = refl }

@@ -7,7 +7,8 @@ use Rattle.star_syntax.specs.declared.leaf.Leaf.{Leaf}
 use Rattle.star_syntax.specs.declared.tree.Position.{Position}
 use Rattle.star_syntax.specs.Sorts.{Sort, both, Val}
 use Rattle.star_syntax.specs.Sorts as sorts
-use Rattle.star_syntax.specs.Grammar.{Rule, sort, G, one, empty, seq, alt, fold, act, when, placed, the, Answer, Spells, one', empty', seq', left', right', start', round', act', when', placed', the', Reads, hit, miss, over, free, seq-some, seq-first, seq-second, alt-first, alt-second, fold-none, fold-some, act-none, act-some, when-none, when-broken, when-some, placed-none, placed-some, itself, Rounds, stop, more, step, run, rounds, Knot, first, before_rest, located, and_then, or_else, cost, behind, safe, Sound}
+use Rattle.star_syntax.specs.Grammar.{Rule, sort, G, one, empty, seq, alt, fold, act, when, placed, the, Answer, Spells, one', empty', seq', left', right', start', round', act', when', placed', the', Reads, hit, miss, over, free, seq-some, seq-first, seq-second, alt-first, alt-second, fold-none, fold-some, act-none, act-some, when-none, when-broken, when-some, placed-none, placed-some, itself, Rounds, stop, more, step, run, rounds, Knot, first, before_rest, located, and_then, or_else}
+use Rattle.star_syntax.proofs.Soundness.{cost, rank_after, safe, Sound}
 
 le_true : (a b : ℕ) → nat_le a b ≡ true → a ≤ b
 le_true a b e = leb-true a b e
@@ -117,7 +118,7 @@ module _ (rule : (r : Rule) → G (sort r)) where
       shorter-rounds (stop d) = omega arith
       shorter-rounds (more d r) = let k = shorter d in let l = shorter-rounds r in omega arith
 
-    bound : (lu lt c m n : ℕ) → lu + c ≤ lt → lt * ranks + m ≤ n → lu * ranks + behind ranks c m ≤ n
+    bound : (lu lt c m n : ℕ) → lu + c ≤ lt → lt * ranks + m ≤ n → lu * ranks + rank_after ranks c m ≤ n
     bound lu lt zero m n h b = let e = mul-le-mul_right {m = lu} {n = lt} ranks (omega arith) in omega arith
     bound lu lt (suc c) m n h b = let e = mul-le-mul_right {m = suc lu} {n = lt} ranks (omega arith) in omega arith
 
@@ -221,18 +222,18 @@ module _ (rule : (r : Rule) → G (sort r)) where
     step-reads k n good (one p) m ts s b = reads-one p ts
     step-reads k n good empty m ts s b = free
     step-reads k n good (seq g h) m ts s b =
-        let t = and_split (safe rank ranks m g) (safe rank ranks (behind ranks (cost g) m) h) s in
+        let t = and_split (safe rank ranks m g) (safe rank ranks (rank_after ranks (cost g) m) h) s in
         seq-step g h ts (step k h) (step k g ts) (step-reads k n good g m ts t.0 b)
-        (λ us l. step-reads k n good h (behind ranks (cost g) m) us t.1 (bound (length us) (length ts) (cost g) m n l b))
+        (λ us l. step-reads k n good h (rank_after ranks (cost g) m) us t.1 (bound (length us) (length ts) (cost g) m n l b))
     step-reads k n good (alt g h) m ts s b =
         let t = and_split (safe rank ranks m g) (safe rank ranks m h) s in
         alt-step g h ts (step k g ts) (step k h ts) (step-reads k n good g m ts t.0 b) (step-reads k n good h m ts t.1 b)
     step-reads k n good (fold f g h) m ts s b =
-        let t = and_split (safe rank ranks m g) (safe rank ranks (behind ranks (cost g) m) h && nat_le 1 (cost h)) s in
-        let u = and_split (safe rank ranks (behind ranks (cost g) m) h) (nat_le 1 (cost h)) t.1 in
+        let t = and_split (safe rank ranks m g) (safe rank ranks (rank_after ranks (cost g) m) h && nat_le 1 (cost h)) s in
+        let u = and_split (safe rank ranks (rank_after ranks (cost g) m) h) (nat_le 1 (cost h)) t.1 in
         let some : 1 ≤ cost h = le_true 1 (cost h) u.1 in
         fold-step f g h ts (step k h) (step k g ts) (step-reads k n good g m ts t.0 b) some
-        (λ us l. step-reads k n good h (behind ranks (cost g) m) us u.0 (bound (length us) (length ts) (cost g) m n l b))
+        (λ us l. step-reads k n good h (rank_after ranks (cost g) m) us u.0 (bound (length us) (length ts) (cost g) m n l b))
     step-reads k n good (act f g) m ts s b = act-step f g ts (step k g ts) (step-reads k n good g m ts s b)
     step-reads k n good (when f g) m ts s b = when-step f g ts (step k g ts) (step-reads k n good g m ts s b)
     step-reads k n good (placed g) m ts s b =
@@ -271,17 +272,17 @@ module _ (rule : (r : Rule) → G (sort r)) where
         agrees over m s b = refl
         agrees free m s b = refl
         agrees (seq-some {g = g} {h = h} {ts = ts} {us = us} d e) m s b =
-            let t = and_split (safe rank ranks m g) (safe rank ranks (behind ranks (cost g) m) h) s in
+            let t = and_split (safe rank ranks m g) (safe rank ranks (rank_after ranks (cost g) m) h) s in
             let i = agrees d m t.0 b in
-            let j = agrees e (behind ranks (cost g) m) t.1 (bound (length us) (length ts) (cost g) m n (shorter d) b) in
+            let j = agrees e (rank_after ranks (cost g) m) t.1 (bound (length us) (length ts) (cost g) m n (shorter d) b) in
             rw (← i) (rw (← j) refl)
         agrees (seq-first {g = g} {h = h} d) m s b =
-            let t = and_split (safe rank ranks m g) (safe rank ranks (behind ranks (cost g) m) h) s in
+            let t = and_split (safe rank ranks m g) (safe rank ranks (rank_after ranks (cost g) m) h) s in
             rw (← agrees d m t.0 b) refl
         agrees (seq-second {g = g} {h = h} {ts = ts} {us = us} d e) m s b =
-            let t = and_split (safe rank ranks m g) (safe rank ranks (behind ranks (cost g) m) h) s in
+            let t = and_split (safe rank ranks m g) (safe rank ranks (rank_after ranks (cost g) m) h) s in
             let i = agrees d m t.0 b in
-            let j = agrees e (behind ranks (cost g) m) t.1 (bound (length us) (length ts) (cost g) m n (shorter d) b) in
+            let j = agrees e (rank_after ranks (cost g) m) t.1 (bound (length us) (length ts) (cost g) m n (shorter d) b) in
             rw (← i) (rw (← j) refl)
         agrees (alt-first {g = g} {h = h} d) m s b =
             let t = and_split (safe rank ranks m g) (safe rank ranks m h) s in
@@ -291,13 +292,13 @@ module _ (rule : (r : Rule) → G (sort r)) where
             let i = agrees d m t.0 b in
             rw (← i) (agrees e m t.1 b)
         agrees (fold-none {g = g} {h = h} d) m s b =
-            let t = and_split (safe rank ranks m g) (safe rank ranks (behind ranks (cost g) m) h && nat_le 1 (cost h)) s in
+            let t = and_split (safe rank ranks m g) (safe rank ranks (rank_after ranks (cost g) m) h && nat_le 1 (cost h)) s in
             rw (← agrees d m t.0 b) refl
         agrees (fold-some {g = g} {h = h} {ts = ts} {us = us} d e) m s b =
-            let t = and_split (safe rank ranks m g) (safe rank ranks (behind ranks (cost g) m) h && nat_le 1 (cost h)) s in
-            let u = and_split (safe rank ranks (behind ranks (cost g) m) h) (nat_le 1 (cost h)) t.1 in
+            let t = and_split (safe rank ranks m g) (safe rank ranks (rank_after ranks (cost g) m) h && nat_le 1 (cost h)) s in
+            let u = and_split (safe rank ranks (rank_after ranks (cost g) m) h) (nat_le 1 (cost h)) t.1 in
             let i = agrees d m t.0 b in
-            rw (← i) (agrees-rounds e (behind ranks (cost g) m) u.0 (bound (length us) (length ts) (cost g) m n (shorter d) b) (le_true 1 (cost h) u.1) (length us) (omega arith))
+            rw (← i) (agrees-rounds e (rank_after ranks (cost g) m) u.0 (bound (length us) (length ts) (cost g) m n (shorter d) b) (le_true 1 (cost h) u.1) (length us) (omega arith))
         agrees (act-none d) m s b = rw (← agrees d m s b) refl
         agrees (act-some d) m s b = rw (← agrees d m s b) refl
         agrees (when-none d) m s b = rw (← agrees d m s b) refl

@@ -18,13 +18,13 @@ use Rattle.star_syntax.specs.declared.level.Suffix.TheVariants as suffixes
 use Rattle.star_syntax.specs.Sorts as sorts
 use Rattle.star_syntax.specs.Grammar.{level, the, Reads, hit, miss, seq-first, act-none, alt-first, stop, more}
 use Rattle.star_syntax.specs.Keeps.{arguments_in_order, parameters_in_order}
-use Rattle.star_syntax.specs.Expressions.{next_test, atom, operand, suffix, unary, binary_operator, bit_or, comparator, next_negation, negation, conjunction, next_conjunction, disjunction, same_sign, same_keyword, all_clauses, denied, lambda, opt, a_test, entry, next_entry as following_entry, argument, next_argument as following_argument, given as arguments_given, parameter, next_parameter as following_parameter, lambda_parameters, for_clause, next_clause as following_clause, cut, in_brackets}
+use Rattle.star_syntax.specs.Expressions.{next_test, atom, operand, suffix, unary, binary_operator, bit_or, comparator, next_negation, negation, conjunction, next_conjunction, disjunction, same_sign, same_keyword, all_clauses, denied, lambda, opt, a_test, entry, next_entry as following_entry, argument, next_argument as following_argument, given as arguments_given, parameter, next_parameter as following_parameter, lambda_parameters, for_clause, next_clause as following_clause, stop_and_stride, in_brackets}
 use Rattle.star_syntax.specs.Language.{rule}
 use Rattle.star_syntax.specs.Written.{mark, spelt, right-paren, right-bracket, right-brace, comma, colon, for', before, Written, a-name, an-int, a-text, a-sign, a-denial, a-binary, a-comparison, an-absence, an-and, an-or, a-conditional, an-attribute, an-index, an-empty-tuple, a-tuple, an-empty-list, a-list, an-empty-dict, a-dict, a-list-comprehension, a-dict-comprehension, a-call, a-slice, a-lambda, Enclosed, enclosed, Further, no-further, one-further, Optional, left-out, put, OneEntry, an-entry, FurtherEntries, no-entry, next-entry, OneArgument, positional, by-name, with-star, with-two-stars, FurtherArguments, no-argument, next-argument, Arguments, none-given, some-given, OneParameter, plain, default, starred, bare-star, twice-starred, FurtherParameters, no-parameter, next-parameter, Parameters, none-taken, some-taken, ForPart, for-each, OneClause, each, only-if, FurtherClauses, no-clause, next-clause, AllClauses, clauses-from, ReadsBack}
 use Rattle.star_syntax.proofs.Quiet.{Quiet, quiet, comparator-none, and-none, or-none, test-none}
 use Rattle.star_syntax.proofs.Levels.{Front, front, in_front, primary-of, unary-of, bit-or-of, comparison-of, negation-of, conjunction-of, disjunction-of, test-of, from-disjunction, from-negation, from-comparison, from-bit-or, from-unary, from-primary, from-operand, binary-of}
 use Rattle.star_syntax.proofs.Forms.{after_binary, after_comparator, no_sign_of_comparator, compares, not_in, after_keyword, no_sign, compared-of, and-of, or-of, choice-of, index-of, sign-of, denial-of, attribute-of, enclosed-of, no-test-behind, last-comma, next-test-of, no-clauses, Tests, empty-tuple-of, tuple-of, empty-list-of, list-of, no-bracket}
-use Rattle.star_syntax.proofs.Lists.{Listed, last-listed, one-listed, no-colon, entry-of, next-entry-of, no-next-entry, empty-dict-of, dict-of, list-comprehension-of, dict-comprehension-of, for-of, each-of, only-if-of, no-next-clause, clauses-of, Unnamed, unnamed, positional-of, by-name-of, with-star-of, with-two-stars-of, next-argument-of, no-next-argument, none-given-of, given-of, call-of, put-of, left-out-of, cut-of, from-start, from-nothing, slice-of, Closed, closed-comma, closed-colon, plain-of, default-of, starred-of, bare-star-of, twice-starred-of, next-parameter-of, no-next-parameter, none-taken-of, taken-of, lambda-of}
+use Rattle.star_syntax.proofs.Lists.{Listed, last-listed, one-listed, no-colon, entry-of, next-entry-of, no-next-entry, empty-dict-of, dict-of, list-comprehension-of, dict-comprehension-of, for-of, each-of, only-if-of, no-next-clause, clauses-of, Unnamed, unnamed, positional-of, by-name-of, with-star-of, with-two-stars-of, next-argument-of, no-next-argument, none-given-of, given-of, call-of, put-of, left-out-of, stop-and-stride-of, from-start, from-nothing, slice-of, Closed, closed-comma, closed-colon, plain-of, default-of, starred-of, bare-star-of, twice-starred-of, next-parameter-of, no-next-parameter, none-taken-of, taken-of, lambda-of}
 
 before-comma : (p : Position) (ts : List Leaf) → Quiet (mark p s.Comma ∷ ts)
 before-comma p ts = quiet (mark p s.Comma ∷ ts) (before comma)
@@ -203,7 +203,7 @@ mutual
   law (a-call {p = p} {q = p'} {us = us} i js is) q = from-primary (front-of i) q (call-of p p' (part i) (given-law p' us js is) q.suffix')
   law (a-slice {p = p} {q = q'} {r = r} {t = t} {ws = ws} {zs = zs} {us = us} i a b c) q =
       from-primary (front-of i) q (slice-of p t (part i)
-      (start-law q' ws a (cut-of q' r (optional-law b (before-colon r zs) (test-none r (word.Sign s.Colon) zs no-colon)) (optional-law c (before-bracket t us) (test-none t (word.Sign s.RightBracket) us no-bracket)))) q.suffix')
+      (start-law q' ws a (stop-and-stride-of q' r (optional-law b (before-colon r zs) (test-none r (word.Sign s.Colon) zs no-colon)) (optional-law c (before-bracket t us) (test-none t (word.Sign s.RightBracket) us no-bracket)))) q.suffix')
   law (a-lambda {p = p} {q = p'} {vs = vs} js is i) q = lambda-of p p' (taken-law p' vs js is) (from-operand (front-of i) q (part i))
 
   -- a part in parentheses is an operand
@@ -218,7 +218,7 @@ mutual
   optional-law left-out q n = left-out-of n
   optional-law (put i) q n = put-of (from-operand (front-of i) q (part i))
 
-  start-law : {a b c : Option Expression} {ts us : List Leaf} (p : Position) (ws : List Leaf) → Optional a ts (mark p s.Colon ∷ ws) → Reads rule _ cut (mark p s.Colon ∷ ws) (Some ((b, c), us)) → Reads rule _ in_brackets ts (Some (suffixes.Slice a b c, us))
+  start-law : {a b c : Option Expression} {ts us : List Leaf} (p : Position) (ws : List Leaf) → Optional a ts (mark p s.Colon ∷ ws) → Reads rule _ stop_and_stride (mark p s.Colon ∷ ws) (Some ((b, c), us)) → Reads rule _ in_brackets ts (Some (suffixes.Slice a b c, us))
   start-law p ws left-out d = from-nothing (test-none p (word.Sign s.Colon) ws no-colon) d
   start-law p ws (put i) d = from-start (from-operand (front-of i) (before-colon p ws) (part i)) d
 

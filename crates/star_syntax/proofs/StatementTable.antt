@@ -1,21 +1,21 @@
 -- Statements come back to themselves only behind a leaf or at a lower rank, and their rounds take leaves.
 use Rattle.std.proofs.Common.{◌≡◌, ℕ, ◌≤◌, true, refl, arith}
-use Rattle.star_syntax.specs.Grammar.{cost, safe}
-use Rattle.star_syntax.specs.Expressions.{tests, list_of_tests, next_test, targets, list_of_primaries, primaries, next_primary, parameters_in_parentheses, taken, ordered_parameters, list_of_parameters, next_parameter, parameter, plain as plain_parameter, star, star_star, default}
-use Rattle.star_syntax.specs.Statements.{returned, local, loaded, next_loaded, all_loaded, loads, load, assigning, right_side, told, plain, small_form, small, next_small, smalls, simple, body, block, suite, colon_suite, arm, next_arm, first_arm, arms, otherwise, condition, iteration, definition, compound_form, compound, one_statement, statements, file}
+use Rattle.star_syntax.proofs.Soundness.{cost, safe}
+use Rattle.star_syntax.specs.Expressions.{tests, list_of_tests, next_test, targets, list_of_primaries, primaries, next_primary, parameters_in_parentheses, taken, ordered_parameters, list_of_parameters, next_parameter, parameter, named_parameter, star, star_star, default}
+use Rattle.star_syntax.specs.Statements.{returned, local, loaded, next_loaded, all_loaded, loads, load, assigning, right_side, told, keyword_form, small_form, small, next_small, smalls, simple, body, block, suite, colon_suite, arm, next_arm, first_arm, arms, otherwise, condition, iteration, definition, compound_form, compound, one_statement, statements, file}
 use Rattle.star_syntax.proofs.Ranks.{rank}
 
 small-cost : cost small ≡ 1
-unfolding small small_form returned plain load loads all_loaded next_loaded loaded local told right_side assigning tests list_of_tests
+unfolding small small_form returned keyword_form load loads all_loaded next_loaded loaded local told right_side assigning tests list_of_tests
 small-cost = refl
 
 -- at the front of a statement, and behind a leaf
 first-safe : safe rank 2 1 small ≡ true
-unfolding small small_form returned plain load loads all_loaded next_loaded loaded local told right_side assigning tests list_of_tests next_test
+unfolding small small_form returned keyword_form load loads all_loaded next_loaded loaded local told right_side assigning tests list_of_tests next_test
 first-safe = refl
 
 small-safe : safe rank 2 2 small ≡ true
-unfolding small small_form returned plain load loads all_loaded next_loaded loaded local told right_side assigning tests list_of_tests next_test
+unfolding small small_form returned keyword_form load loads all_loaded next_loaded loaded local told right_side assigning tests list_of_tests next_test
 small-safe = refl
 
 simple-cost : cost simple ≡ 2
@@ -55,7 +55,7 @@ unfolding iteration colon_suite targets primaries list_of_primaries next_primary
 iteration-safe m = suite-safe
 
 definition-safe : (m : ℕ) → safe rank 2 m definition ≡ true
-unfolding definition colon_suite parameters_in_parentheses taken ordered_parameters list_of_parameters next_parameter parameter plain_parameter star star_star default
+unfolding definition colon_suite parameters_in_parentheses taken ordered_parameters list_of_parameters next_parameter parameter named_parameter star star_star default
 definition-safe m = suite-safe
 
 condition-cost : cost condition ≡ 5
@@ -67,7 +67,7 @@ unfolding iteration colon_suite targets primaries list_of_primaries tests list_o
 iteration-cost = simp suite-cost
 
 definition-cost : cost definition ≡ 7
-unfolding definition colon_suite parameters_in_parentheses taken ordered_parameters list_of_parameters parameter plain_parameter star star_star default
+unfolding definition colon_suite parameters_in_parentheses taken ordered_parameters list_of_parameters parameter named_parameter star star_star default
 definition-cost = simp suite-cost
 
 compound-cost : cost compound ≡ 5

@@ -1,5 +1,5 @@
 -- The targets of a list of expressions, made from the last to the first.
-use Rattle.std.proofs.Common.{rules, ◌≡◌, ◌≤◌, ℕ, max, arith, List, [], ◌∷◌, ◌++◌, Option, Some, None, map, reverse, refl, ap, sym, ◌∙◌, append-nil}
+use Rattle.std.proofs.Common.{◌≡◌, ◌≤◌, ℕ, max, arith, List, [], ◌∷◌, ◌++◌, Option, Some, None, map, reverse, refl, ap, sym, ◌∙◌, append-nil}
 use Rattle.std.proofs.lemmas.List.{reverse-append}
 use denote.Param.Weighed.{most, most-append}
 use Rattle.star_syntax.specs.declared.tree.Name.{Name}
@@ -62,7 +62,7 @@ target_level (Expression-F.Expression::Tuple parts) = tuple_target (targets_of p
 target_level (Expression-F.Expression::List parts) = list_target (targets_of parts)
 target_level _ = None
 
-rolled : (l : Layer) → target_of (roll-Expression l) ≡ target_level l
+pub rolled : (l : Layer) → target_of (roll-Expression l) ≡ target_level l
 unfolding target_of targets_of
 rolled (Expression-F.Expression::Name name) = para-roll-Expression _ _ _ _ _ _ _ _ _ _ _ _ _ _ _
 rolled (Expression-F.Expression::Index value index) = para-roll-Expression _ _ _ _ _ _ _ _ _ _ _ _ _ _ _

@@ -5,7 +5,7 @@ use Rattle.std.proofs.lemmas.Bool.{le-ltb}
 use Rattle.star_lex.specs.declared.token.Token.{Token}
 use Rattle.star_syntax.specs.declared.nest.Effect.{Effect}
 use Rattle.star_syntax.specs.declared.nest.Effect.TheVariants as e
-use Rattle.star_syntax.specs.Nesting.{State, of_kind, passes, behind, innermost, outer, raised, semicolon, Each, Within}
+use Rattle.star_syntax.specs.Nesting.{State, of_kind, passes, after_token, innermost, outer, raised, semicolon, Each, Within}
 
 each-more : (m n : ℕ) (rs : List ℕ) → m ≤ n → Each m rs → Each n rs
 each-more m n [] h k = tt
@@ -33,46 +33,46 @@ semicolon-within : (n : ℕ) (s : State) (rs : List ℕ) → s.remembered ≡ rs
 semicolon-within n s [] e k = rw e k.indents
 semicolon-within n s (r ∷ rs) e k = rw e k.weight
 
-pub within-behind : (n : ℕ) (x : Effect) (s : State) → Within n s → Within (n + 1) (behind x s)
-within-behind n e.Nothing s k = within-more n (n + 1) s (omega arith) k
-within-behind n e.Adds s k =
+pub within-after-token : (n : ℕ) (x : Effect) (s : State) → Within n s → Within (n + 1) (after_token x s)
+within-after-token n e.Nothing s k = within-more n (n + 1) s (omega arith) k
+within-after-token n e.Adds s k =
     let a = k.weight in let b = k.indents in
     record { weight = omega arith; remembered = each-more n (n + 1) s.remembered (omega arith) k.remembered; indents = omega arith }
-within-behind n e.Opens s k =
+within-after-token n e.Opens s k =
     let a = k.weight in let b = k.indents in
     record { weight = omega arith; remembered = (omega arith, each-more n (n + 1) s.remembered (omega arith) k.remembered); indents = omega arith }
-within-behind n e.Closes s k =
+within-after-token n e.Closes s k =
     let a = innermost-within n s.weight s.remembered k.weight k.remembered in let b = k.indents in
     record { weight = omega arith; remembered = each-more n (n + 1) (outer s.remembered) (omega arith) (each-outer n s.remembered k.remembered); indents = omega arith }
-within-behind n e.Comma s k =
+within-after-token n e.Comma s k =
     let a = innermost-within n s.weight s.remembered k.weight k.remembered in let b = k.indents in
     record { weight = omega arith; remembered = each-more n (n + 1) s.remembered (omega arith) k.remembered; indents = omega arith }
-within-behind n e.Lambda s k =
+within-after-token n e.Lambda s k =
     let a = k.weight in let b = k.indents in
     record { weight = omega arith; remembered = each-raised n s.remembered k.remembered; indents = omega arith }
-within-behind n e.Semicolon s k =
+within-after-token n e.Semicolon s k =
     let a = semicolon-within n s s.remembered refl k in let b = k.indents in
     record { weight = omega arith; remembered = each-more n (n + 1) s.remembered (omega arith) k.remembered; indents = omega arith }
-within-behind n e.Newline s k =
+within-after-token n e.Newline s k =
     let b = k.indents in
     record { weight = omega arith; remembered = each-more n (n + 1) s.remembered (omega arith) k.remembered; indents = omega arith }
-within-behind n e.Indent s k =
+within-after-token n e.Indent s k =
     let b = k.indents in
     record { weight = omega arith; remembered = each-more n (n + 1) s.remembered (omega arith) k.remembered; indents = omega arith }
-within-behind n e.Outdent s k =
+within-after-token n e.Outdent s k =
     let b = k.indents in
     record { weight = omega arith; remembered = each-more n (n + 1) s.remembered (omega arith) k.remembered; indents = omega arith }
 
-pub within-next : (all left next : ℕ) (x : Effect) (s t : State) → t ≡ behind x s → next + 1 ≡ left → left ≤ all → Within (all - left) s → Within (all - next) t
+pub within-next : (all left next : ℕ) (x : Effect) (s t : State) → t ≡ after_token x s → next + 1 ≡ left → left ≤ all → Within (all - left) s → Within (all - next) t
 within-next all left next x s t e h l k =
     let a : all - next ≡ all - left + 1 = omega arith in
-    rw (e, a) (within-behind (all - left) x s k)
+    rw (e, a) (within-after-token (all - left) x s k)
 
 -- a token behind which the weight is not above the limit is passed
 pub passed : (whole : Option ℕ) (s t : State) (x : Effect) (d : Token) (ts : List Token) → 1 ≤ length ts → whole ≡ passes s ts
-    → x ≡ of_kind (get_or ts 0 d).kind → t ≡ behind x s → t.weight ≤ 100 → whole ≡ passes t (drop 1 ts)
+    → x ≡ of_kind (get_or ts 0 d).kind → t ≡ after_token x s → t.weight ≤ 100 → whole ≡ passes t (drop 1 ts)
 passed whole s t x d [] some e k b l = absurd (omega arith)
 passed whole s t x d (y ∷ ts) some e k b l =
-    let z : behind (of_kind y.kind) s ≡ t = ap (λ o. behind o s) (sym k) ∙ sym b in
+    let z : after_token (of_kind y.kind) s ≡ t = ap (λ o. after_token o s) (sym k) ∙ sym b in
     let v : nat_lt 100 t.weight ≡ false = le-ltb 100 t.weight l in
     e ∙ rw (z, v) refl

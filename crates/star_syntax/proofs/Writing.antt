@@ -1,5 +1,5 @@
 -- Each expression whose arguments and parameters stand in order can be written with a parenthesis round each part.
-use Rattle.std.proofs.Common.{◌≡◌, Bool, true, false, ◌&&◌, List, [], ◌∷◌, map, Option, Some, None, refl, ap, sym, ◌∙◌, subst}
+use Rattle.std.proofs.Common.{◌≡◌, Bool, true, ◌&&◌, List, [], ◌∷◌, map, Option, Some, None, refl, ap, sym, ◌∙◌, subst}
 use Rattle.star_lex.specs.declared.token.Sign.TheVariants as s
 use Rattle.star_lex.specs.declared.token.Keyword.TheVariants as keyword
 use Rattle.star_syntax.specs.declared.leaf.Leaf.{Leaf}
@@ -10,13 +10,13 @@ use Rattle.star_syntax.specs.declared.tree.BinaryOperator.{BinaryOperator}
 use Rattle.star_syntax.specs.declared.tree.BinaryOperator.TheVariants as binaries
 use Rattle.star_syntax.specs.declared.tree.Comparator.{Comparator}
 use Rattle.star_syntax.specs.declared.tree.Comparator.TheVariants as comparators
-use Rattle.star_syntax.specs.declared.tree.Argument.{Argument, roll-Argument, para-roll-Argument}
-use Rattle.star_syntax.specs.declared.tree.Clause.{Clause, roll-Clause, para-roll-Clause}
-use Rattle.star_syntax.specs.declared.tree.Expression.{Expression, roll-Expression, para-roll-Expression, ind-Expression}
-use Rattle.star_syntax.specs.declared.tree.Parameter.{Parameter, roll-Parameter, para-roll-Parameter}
-use Rattle.star_syntax.specs.declared.tree.Target.{Target, roll-Target, para-roll-Target}
-use Rattle.star_syntax.specs.declared.tree.Clauses.{Clauses, roll-Clauses, para-roll-Clauses}
-use Rattle.star_syntax.specs.declared.tree.Entry.{Entry, roll-Entry, para-roll-Entry}
+use Rattle.star_syntax.specs.declared.tree.Argument.{Argument, roll-Argument}
+use Rattle.star_syntax.specs.declared.tree.Clause.{Clause, roll-Clause}
+use Rattle.star_syntax.specs.declared.tree.Expression.{Expression, roll-Expression, ind-Expression}
+use Rattle.star_syntax.specs.declared.tree.Parameter.{Parameter, roll-Parameter}
+use Rattle.star_syntax.specs.declared.tree.Target.{Target, roll-Target}
+use Rattle.star_syntax.specs.declared.tree.Clauses.{Clauses, roll-Clauses}
+use Rattle.star_syntax.specs.declared.tree.Entry.{Entry, roll-Entry}
 use Rattle.star_syntax.specs.declared.tree.Argument.TheVariants as arguments
 use Rattle.star_syntax.specs.declared.tree.Parameter.TheVariants as parameters
 use Rattle.star_syntax.specs.declared.tree.Clause.TheVariants as clauses
@@ -25,37 +25,14 @@ use Rattle.star_syntax.specs.declared.tree.Expression.TheVariants as e
 use Rattle.star_syntax.specs.declared.tree.Argument.TheOpen as tree
 use Rattle.star_syntax.specs.declared.tree.Argument.TheFolds as folds
 use Rattle.star_syntax.specs.Keeps.{target_of, targets_of, tuple_target, list_target, arguments_in_order, parameters_in_order}
-use Rattle.star_syntax.specs.InOrder.{all_of, firsts, argument_step, clause_step, expression_step, parameter_step, target_step, clauses_step, entry_step, in_order, Writable, AllWritable}
+use Rattle.star_syntax.specs.InOrder.{each_in_order, firsts, in_order, parameter_in_order, target_in_order, Writable, AllWritable}
 use Rattle.star_syntax.specs.Written.{a-name, an-int, a-text, a-sign, a-denial, a-binary, a-comparison, an-absence, an-and, an-or, a-conditional, an-attribute, an-index, an-empty-tuple, a-tuple, an-empty-list, a-list, an-empty-dict, a-dict, a-list-comprehension, a-dict-comprehension, a-call, a-slice, a-lambda, Enclosed, enclosed, Further, no-further, one-further, Optional, left-out, put, OneEntry, an-entry, FurtherEntries, no-entry, next-entry, OneArgument, positional, by-name, with-star, with-two-stars, FurtherArguments, no-argument, next-argument, Arguments, none-given, some-given, OneParameter, plain, default, starred, bare-star, twice-starred, FurtherParameters, no-parameter, next-parameter, Parameters, none-taken, some-taken, ForPart, for-each, OneClause, each, only-if, FurtherClauses, no-clause, next-clause, AllClauses, clauses-from, positive, negative, inverted, times, divided, modulo, plus, minus, to-left, to-right, bits-and, bits-xor, bits-or, equal, unequal, less, greater, at-most, at-least, contained, mark, spelt}
+use Rattle.star_syntax.proofs.Kept.{unpaired}
+use Rattle.star_syntax.proofs.Orders.{both-true, argument_in_order, clause_in_order, clauses_in_order, entry_in_order, FormArgument, openedArgument, FormClause, openedClause, FormExpression, openedExpression, FormParameter, openedParameter, FormTarget, openedTarget, FormClauses, openedClauses, FormEntry, openedEntry}
 use Rattle.star_syntax.proofs.Targets.{target-Name, target-Index, target-Tuple, target-List}
 
 at : Position
 at = record { line = 0; token = 0 }
-
-both-true : (a b : Bool) → (a && b) ≡ true → (a ≡ true) × (b ≡ true)
-both-true true b e = (refl, e)
-both-true false b e = absurd (no-truth e)
-  where
-    no-truth : false ≡ true → ⊥
-    no-truth e = cc
-
-unfoldable of_argument : Argument → Bool
-of_argument = folds.para-Argument Bool Bool Bool Bool Bool Bool Bool argument_step clause_step expression_step parameter_step target_step clauses_step entry_step
-
-unfoldable of_clause : Clause → Bool
-of_clause = folds.para-Clause Bool Bool Bool Bool Bool Bool Bool argument_step clause_step expression_step parameter_step target_step clauses_step entry_step
-
-unfoldable of_parameter : Parameter → Bool
-of_parameter = folds.para-Parameter Bool Bool Bool Bool Bool Bool Bool argument_step clause_step expression_step parameter_step target_step clauses_step entry_step
-
-unfoldable of_target : Target → Bool
-of_target = folds.para-Target Bool Bool Bool Bool Bool Bool Bool argument_step clause_step expression_step parameter_step target_step clauses_step entry_step
-
-unfoldable of_clauses : Clauses → Bool
-of_clauses = folds.para-Clauses Bool Bool Bool Bool Bool Bool Bool argument_step clause_step expression_step parameter_step target_step clauses_step entry_step
-
-unfoldable of_entry : Entry → Bool
-of_entry = folds.para-Entry Bool Bool Bool Bool Bool Bool Bool argument_step clause_step expression_step parameter_step target_step clauses_step entry_step
 
 abbrev Inside : Expression → Type 0
 Inside x = (us : List Leaf) → (ts : List Leaf) × Enclosed x ts us
@@ -67,25 +44,22 @@ abbrev PE : Expression → Type 0
 PE x = in_order x ≡ true → Writable x
 
 abbrev PA : Argument → Type 0
-PA x = of_argument x ≡ true → (us : List Leaf) → (ts : List Leaf) × OneArgument x ts us
+PA x = argument_in_order x ≡ true → (us : List Leaf) → (ts : List Leaf) × OneArgument x ts us
 
 abbrev PC : Clause → Type 0
-PC x = of_clause x ≡ true → (us : List Leaf) → (ts : List Leaf) × OneClause x ts us
+PC x = clause_in_order x ≡ true → (us : List Leaf) → (ts : List Leaf) × OneClause x ts us
 
 abbrev PP : Parameter → Type 0
-PP x = of_parameter x ≡ true → (us : List Leaf) → (ts : List Leaf) × OneParameter x ts us
+PP x = parameter_in_order x ≡ true → (us : List Leaf) → (ts : List Leaf) × OneParameter x ts us
 
 abbrev PT : Target → Type 0
-PT x = of_target x ≡ true → (z : Expression) × (target_of z ≡ Some x) × Writable z
+PT x = target_in_order x ≡ true → (z : Expression) × (target_of z ≡ Some x) × Writable z
 
 abbrev PS : Clauses → Type 0
-PS x = of_clauses x ≡ true → (us : List Leaf) → (ts : List Leaf) × AllClauses x ts us
+PS x = clauses_in_order x ≡ true → (us : List Leaf) → (ts : List Leaf) × AllClauses x ts us
 
 abbrev PN : Entry → Type 0
-PN x = of_entry x ≡ true → (us : List Leaf) → (ts : List Leaf) × OneEntry x ts us
-
-abbrev FormArgument : Type 0
-FormArgument = tree.Argument-F Argument Clause Expression Parameter Target Clauses Entry
+PN x = entry_in_order x ≡ true → (us : List Leaf) → (ts : List Leaf) × OneEntry x ts us
 
 abbrev SuchArgument : Type 0
 SuchArgument = tree.Argument-F ((x : Argument) × PA x) ((x : Clause) × PC x) ((x : Expression) × PE x) ((x : Parameter) × PP x) ((x : Target) × PT x) ((x : Clauses) × PS x) ((x : Entry) × PN x)
@@ -93,25 +67,11 @@ SuchArgument = tree.Argument-F ((x : Argument) × PA x) ((x : Clause) × PC x) (
 abbrev bareArgument : SuchArgument → FormArgument
 bareArgument y = folds.map-Argument ((x : Argument) × PA x) ((x : Clause) × PC x) ((x : Expression) × PE x) ((x : Parameter) × PP x) ((x : Target) × PT x) ((x : Clauses) × PS x) ((x : Entry) × PN x) Argument Clause Expression Parameter Target Clauses Entry (λ z. z.0) (λ z. z.0) (λ z. z.0) (λ z. z.0) (λ z. z.0) (λ z. z.0) (λ z. z.0) y
 
-openedArgument : (l : FormArgument) → of_argument (roll-Argument l) ≡ argument_step (folds.map-Argument Argument Clause Expression Parameter Target Clauses Entry (Argument × Bool) (Clause × Bool) (Expression × Bool) (Parameter × Bool) (Target × Bool) (Clauses × Bool) (Entry × Bool) (λ z. (z, of_argument z)) (λ z. (z, of_clause z)) (λ z. (z, in_order z)) (λ z. (z, of_parameter z)) (λ z. (z, of_target z)) (λ z. (z, of_clauses z)) (λ z. (z, of_entry z)) l)
-unfolding in_order of_argument of_clause of_parameter of_target of_clauses of_entry
-openedArgument l = para-roll-Argument _ _ _ _ _ _ _ _ _ _ _ _ _ _ _
-
-abbrev FormClause : Type 0
-FormClause = tree.Clause-F Argument Clause Expression Parameter Target Clauses Entry
-
 abbrev SuchClause : Type 0
 SuchClause = tree.Clause-F ((x : Argument) × PA x) ((x : Clause) × PC x) ((x : Expression) × PE x) ((x : Parameter) × PP x) ((x : Target) × PT x) ((x : Clauses) × PS x) ((x : Entry) × PN x)
 
 abbrev bareClause : SuchClause → FormClause
 bareClause y = folds.map-Clause ((x : Argument) × PA x) ((x : Clause) × PC x) ((x : Expression) × PE x) ((x : Parameter) × PP x) ((x : Target) × PT x) ((x : Clauses) × PS x) ((x : Entry) × PN x) Argument Clause Expression Parameter Target Clauses Entry (λ z. z.0) (λ z. z.0) (λ z. z.0) (λ z. z.0) (λ z. z.0) (λ z. z.0) (λ z. z.0) y
-
-openedClause : (l : FormClause) → of_clause (roll-Clause l) ≡ clause_step (folds.map-Clause Argument Clause Expression Parameter Target Clauses Entry (Argument × Bool) (Clause × Bool) (Expression × Bool) (Parameter × Bool) (Target × Bool) (Clauses × Bool) (Entry × Bool) (λ z. (z, of_argument z)) (λ z. (z, of_clause z)) (λ z. (z, in_order z)) (λ z. (z, of_parameter z)) (λ z. (z, of_target z)) (λ z. (z, of_clauses z)) (λ z. (z, of_entry z)) l)
-unfolding in_order of_argument of_clause of_parameter of_target of_clauses of_entry
-openedClause l = para-roll-Clause _ _ _ _ _ _ _ _ _ _ _ _ _ _ _
-
-abbrev FormExpression : Type 0
-FormExpression = tree.Expression-F Argument Clause Expression Parameter Target Clauses Entry
 
 abbrev SuchExpression : Type 0
 SuchExpression = tree.Expression-F ((x : Argument) × PA x) ((x : Clause) × PC x) ((x : Expression) × PE x) ((x : Parameter) × PP x) ((x : Target) × PT x) ((x : Clauses) × PS x) ((x : Entry) × PN x)
@@ -119,25 +79,11 @@ SuchExpression = tree.Expression-F ((x : Argument) × PA x) ((x : Clause) × PC 
 abbrev bareExpression : SuchExpression → FormExpression
 bareExpression y = folds.map-Expression ((x : Argument) × PA x) ((x : Clause) × PC x) ((x : Expression) × PE x) ((x : Parameter) × PP x) ((x : Target) × PT x) ((x : Clauses) × PS x) ((x : Entry) × PN x) Argument Clause Expression Parameter Target Clauses Entry (λ z. z.0) (λ z. z.0) (λ z. z.0) (λ z. z.0) (λ z. z.0) (λ z. z.0) (λ z. z.0) y
 
-openedExpression : (l : FormExpression) → in_order (roll-Expression l) ≡ expression_step (folds.map-Expression Argument Clause Expression Parameter Target Clauses Entry (Argument × Bool) (Clause × Bool) (Expression × Bool) (Parameter × Bool) (Target × Bool) (Clauses × Bool) (Entry × Bool) (λ z. (z, of_argument z)) (λ z. (z, of_clause z)) (λ z. (z, in_order z)) (λ z. (z, of_parameter z)) (λ z. (z, of_target z)) (λ z. (z, of_clauses z)) (λ z. (z, of_entry z)) l)
-unfolding in_order of_argument of_clause of_parameter of_target of_clauses of_entry
-openedExpression l = para-roll-Expression _ _ _ _ _ _ _ _ _ _ _ _ _ _ _
-
-abbrev FormParameter : Type 0
-FormParameter = tree.Parameter-F Argument Clause Expression Parameter Target Clauses Entry
-
 abbrev SuchParameter : Type 0
 SuchParameter = tree.Parameter-F ((x : Argument) × PA x) ((x : Clause) × PC x) ((x : Expression) × PE x) ((x : Parameter) × PP x) ((x : Target) × PT x) ((x : Clauses) × PS x) ((x : Entry) × PN x)
 
 abbrev bareParameter : SuchParameter → FormParameter
 bareParameter y = folds.map-Parameter ((x : Argument) × PA x) ((x : Clause) × PC x) ((x : Expression) × PE x) ((x : Parameter) × PP x) ((x : Target) × PT x) ((x : Clauses) × PS x) ((x : Entry) × PN x) Argument Clause Expression Parameter Target Clauses Entry (λ z. z.0) (λ z. z.0) (λ z. z.0) (λ z. z.0) (λ z. z.0) (λ z. z.0) (λ z. z.0) y
-
-openedParameter : (l : FormParameter) → of_parameter (roll-Parameter l) ≡ parameter_step (folds.map-Parameter Argument Clause Expression Parameter Target Clauses Entry (Argument × Bool) (Clause × Bool) (Expression × Bool) (Parameter × Bool) (Target × Bool) (Clauses × Bool) (Entry × Bool) (λ z. (z, of_argument z)) (λ z. (z, of_clause z)) (λ z. (z, in_order z)) (λ z. (z, of_parameter z)) (λ z. (z, of_target z)) (λ z. (z, of_clauses z)) (λ z. (z, of_entry z)) l)
-unfolding in_order of_argument of_clause of_parameter of_target of_clauses of_entry
-openedParameter l = para-roll-Parameter _ _ _ _ _ _ _ _ _ _ _ _ _ _ _
-
-abbrev FormTarget : Type 0
-FormTarget = tree.Target-F Argument Clause Expression Parameter Target Clauses Entry
 
 abbrev SuchTarget : Type 0
 SuchTarget = tree.Target-F ((x : Argument) × PA x) ((x : Clause) × PC x) ((x : Expression) × PE x) ((x : Parameter) × PP x) ((x : Target) × PT x) ((x : Clauses) × PS x) ((x : Entry) × PN x)
@@ -145,25 +91,11 @@ SuchTarget = tree.Target-F ((x : Argument) × PA x) ((x : Clause) × PC x) ((x :
 abbrev bareTarget : SuchTarget → FormTarget
 bareTarget y = folds.map-Target ((x : Argument) × PA x) ((x : Clause) × PC x) ((x : Expression) × PE x) ((x : Parameter) × PP x) ((x : Target) × PT x) ((x : Clauses) × PS x) ((x : Entry) × PN x) Argument Clause Expression Parameter Target Clauses Entry (λ z. z.0) (λ z. z.0) (λ z. z.0) (λ z. z.0) (λ z. z.0) (λ z. z.0) (λ z. z.0) y
 
-openedTarget : (l : FormTarget) → of_target (roll-Target l) ≡ target_step (folds.map-Target Argument Clause Expression Parameter Target Clauses Entry (Argument × Bool) (Clause × Bool) (Expression × Bool) (Parameter × Bool) (Target × Bool) (Clauses × Bool) (Entry × Bool) (λ z. (z, of_argument z)) (λ z. (z, of_clause z)) (λ z. (z, in_order z)) (λ z. (z, of_parameter z)) (λ z. (z, of_target z)) (λ z. (z, of_clauses z)) (λ z. (z, of_entry z)) l)
-unfolding in_order of_argument of_clause of_parameter of_target of_clauses of_entry
-openedTarget l = para-roll-Target _ _ _ _ _ _ _ _ _ _ _ _ _ _ _
-
-abbrev FormClauses : Type 0
-FormClauses = tree.Clauses-F Argument Clause Expression Parameter Target Clauses Entry
-
 abbrev SuchClauses : Type 0
 SuchClauses = tree.Clauses-F ((x : Argument) × PA x) ((x : Clause) × PC x) ((x : Expression) × PE x) ((x : Parameter) × PP x) ((x : Target) × PT x) ((x : Clauses) × PS x) ((x : Entry) × PN x)
 
 abbrev bareClauses : SuchClauses → FormClauses
 bareClauses y = folds.map-Clauses ((x : Argument) × PA x) ((x : Clause) × PC x) ((x : Expression) × PE x) ((x : Parameter) × PP x) ((x : Target) × PT x) ((x : Clauses) × PS x) ((x : Entry) × PN x) Argument Clause Expression Parameter Target Clauses Entry (λ z. z.0) (λ z. z.0) (λ z. z.0) (λ z. z.0) (λ z. z.0) (λ z. z.0) (λ z. z.0) y
-
-openedClauses : (l : FormClauses) → of_clauses (roll-Clauses l) ≡ clauses_step (folds.map-Clauses Argument Clause Expression Parameter Target Clauses Entry (Argument × Bool) (Clause × Bool) (Expression × Bool) (Parameter × Bool) (Target × Bool) (Clauses × Bool) (Entry × Bool) (λ z. (z, of_argument z)) (λ z. (z, of_clause z)) (λ z. (z, in_order z)) (λ z. (z, of_parameter z)) (λ z. (z, of_target z)) (λ z. (z, of_clauses z)) (λ z. (z, of_entry z)) l)
-unfolding in_order of_argument of_clause of_parameter of_target of_clauses of_entry
-openedClauses l = para-roll-Clauses _ _ _ _ _ _ _ _ _ _ _ _ _ _ _
-
-abbrev FormEntry : Type 0
-FormEntry = tree.Entry-F Argument Clause Expression Parameter Target Clauses Entry
 
 abbrev SuchEntry : Type 0
 SuchEntry = tree.Entry-F ((x : Argument) × PA x) ((x : Clause) × PC x) ((x : Expression) × PE x) ((x : Parameter) × PP x) ((x : Target) × PT x) ((x : Clauses) × PS x) ((x : Entry) × PN x)
@@ -171,15 +103,7 @@ SuchEntry = tree.Entry-F ((x : Argument) × PA x) ((x : Clause) × PC x) ((x : E
 abbrev bareEntry : SuchEntry → FormEntry
 bareEntry y = folds.map-Entry ((x : Argument) × PA x) ((x : Clause) × PC x) ((x : Expression) × PE x) ((x : Parameter) × PP x) ((x : Target) × PT x) ((x : Clauses) × PS x) ((x : Entry) × PN x) Argument Clause Expression Parameter Target Clauses Entry (λ z. z.0) (λ z. z.0) (λ z. z.0) (λ z. z.0) (λ z. z.0) (λ z. z.0) (λ z. z.0) y
 
-openedEntry : (l : FormEntry) → of_entry (roll-Entry l) ≡ entry_step (folds.map-Entry Argument Clause Expression Parameter Target Clauses Entry (Argument × Bool) (Clause × Bool) (Expression × Bool) (Parameter × Bool) (Target × Bool) (Clauses × Bool) (Entry × Bool) (λ z. (z, of_argument z)) (λ z. (z, of_clause z)) (λ z. (z, in_order z)) (λ z. (z, of_parameter z)) (λ z. (z, of_target z)) (λ z. (z, of_clauses z)) (λ z. (z, of_entry z)) l)
-unfolding in_order of_argument of_clause of_parameter of_target of_clauses of_entry
-openedEntry l = para-roll-Entry _ _ _ _ _ _ _ _ _ _ _ _ _ _ _
-
 -- ---- lists
-
-unpaired : {A : Type 0} (f : A → Bool) (xs : List A) → firsts (map (λ z. (z, f z)) xs) ≡ xs
-unpaired f [] = refl
-unpaired f (x ∷ xs) = ap (λ zs. x ∷ zs) (unpaired f xs)
 
 still-in-order : {A : Type 0} (test : List A → Bool) (f : A → Bool) (xs : List A) → test (firsts (map (λ z. (z, f z)) xs)) ≡ true → test xs ≡ true
 still-in-order test f xs e = ap test (sym (unpaired f xs)) ∙ e
@@ -188,7 +112,7 @@ abbrev EachWritable : List Expression → Type 0
 EachWritable [] = Unit {0}
 EachWritable (x ∷ xs) = Writable x × EachWritable xs
 
-each-writable : (ys : List ((x : Expression) × PE x)) → all_of (map (λ z. (z, in_order z)) (map (λ y. y.0) ys)) ≡ true → EachWritable (map (λ y. y.0) ys)
+each-writable : (ys : List ((x : Expression) × PE x)) → each_in_order (map (λ z. (z, in_order z)) (map (λ y. y.0) ys)) ≡ true → EachWritable (map (λ y. y.0) ys)
 each-writable [] k = tt
 each-writable (y ∷ ys) k = let q = both-true _ _ k in (y.1 q.0, each-writable ys q.1)
 
@@ -213,7 +137,7 @@ list-made (x ∷ xs) w us =
     let i = inside w.0 j.0 in
     (mark at s.LeftBracket ∷ i.0, a-list {p = at} {q = at} i.1 j.1)
 
-further-entries : (ys : List ((x : Entry) × PN x)) → all_of (map (λ z. (z, of_entry z)) (map (λ y. y.0) ys)) ≡ true → (us : List Leaf) → (ts : List Leaf) × FurtherEntries (map (λ y. y.0) ys) ts us
+further-entries : (ys : List ((x : Entry) × PN x)) → each_in_order (map (λ z. (z, entry_in_order z)) (map (λ y. y.0) ys)) ≡ true → (us : List Leaf) → (ts : List Leaf) × FurtherEntries (map (λ y. y.0) ys) ts us
 further-entries [] k us = (us, no-entry)
 further-entries (y ∷ ys) k us =
     let q = both-true _ _ k in
@@ -221,7 +145,7 @@ further-entries (y ∷ ys) k us =
     let i = y.1 q.0 j.0 in
     (mark at s.Comma ∷ i.0, next-entry {p = at} i.1 j.1)
 
-further-arguments : (ys : List ((x : Argument) × PA x)) → all_of (map (λ z. (z, of_argument z)) (map (λ y. y.0) ys)) ≡ true → (us : List Leaf) → (ts : List Leaf) × FurtherArguments (map (λ y. y.0) ys) ts us
+further-arguments : (ys : List ((x : Argument) × PA x)) → each_in_order (map (λ z. (z, argument_in_order z)) (map (λ y. y.0) ys)) ≡ true → (us : List Leaf) → (ts : List Leaf) × FurtherArguments (map (λ y. y.0) ys) ts us
 further-arguments [] k us = (us, no-argument)
 further-arguments (y ∷ ys) k us =
     let q = both-true _ _ k in
@@ -229,7 +153,7 @@ further-arguments (y ∷ ys) k us =
     let i = y.1 q.0 j.0 in
     (mark at s.Comma ∷ i.0, next-argument {p = at} i.1 j.1)
 
-further-parameters : (ys : List ((x : Parameter) × PP x)) → all_of (map (λ z. (z, of_parameter z)) (map (λ y. y.0) ys)) ≡ true → (us : List Leaf) → (ts : List Leaf) × FurtherParameters (map (λ y. y.0) ys) ts us
+further-parameters : (ys : List ((x : Parameter) × PP x)) → each_in_order (map (λ z. (z, parameter_in_order z)) (map (λ y. y.0) ys)) ≡ true → (us : List Leaf) → (ts : List Leaf) × FurtherParameters (map (λ y. y.0) ys) ts us
 further-parameters [] k us = (us, no-parameter)
 further-parameters (y ∷ ys) k us =
     let q = both-true _ _ k in
@@ -237,7 +161,7 @@ further-parameters (y ∷ ys) k us =
     let i = y.1 q.0 j.0 in
     (mark at s.Comma ∷ i.0, next-parameter {p = at} i.1 j.1)
 
-further-clauses : (ys : List ((x : Clause) × PC x)) → all_of (map (λ z. (z, of_clause z)) (map (λ y. y.0) ys)) ≡ true → (us : List Leaf) → (ts : List Leaf) × FurtherClauses (map (λ y. y.0) ys) ts us
+further-clauses : (ys : List ((x : Clause) × PC x)) → each_in_order (map (λ z. (z, clause_in_order z)) (map (λ y. y.0) ys)) ≡ true → (us : List Leaf) → (ts : List Leaf) × FurtherClauses (map (λ y. y.0) ys) ts us
 further-clauses [] k us = (us, no-clause)
 further-clauses (y ∷ ys) k us =
     let q = both-true _ _ k in
@@ -245,7 +169,7 @@ further-clauses (y ∷ ys) k us =
     let i = y.1 q.0 j.0 in
     (i.0, next-clause i.1 j.1)
 
-dict-made : (ys : List ((x : Entry) × PN x)) → all_of (map (λ z. (z, of_entry z)) (map (λ y. y.0) ys)) ≡ true → Writable (e.Dict (map (λ y. y.0) ys))
+dict-made : (ys : List ((x : Entry) × PN x)) → each_in_order (map (λ z. (z, entry_in_order z)) (map (λ y. y.0) ys)) ≡ true → Writable (e.Dict (map (λ y. y.0) ys))
 dict-made [] k us = (mark at s.LeftBrace ∷ mark at s.RightBrace ∷ us, an-empty-dict {p = at} {q = at})
 dict-made (y ∷ ys) k us =
     let q = both-true _ _ k in
@@ -253,7 +177,7 @@ dict-made (y ∷ ys) k us =
     let i = y.1 q.0 j.0 in
     (mark at s.LeftBrace ∷ i.0, a-dict {p = at} {q = at} i.1 j.1)
 
-given-made : (ys : List ((x : Argument) × PA x)) → all_of (map (λ z. (z, of_argument z)) (map (λ y. y.0) ys)) ≡ true → (us : List Leaf) → (ts : List Leaf) × Arguments (map (λ y. y.0) ys) ts us
+given-made : (ys : List ((x : Argument) × PA x)) → each_in_order (map (λ z. (z, argument_in_order z)) (map (λ y. y.0) ys)) ≡ true → (us : List Leaf) → (ts : List Leaf) × Arguments (map (λ y. y.0) ys) ts us
 given-made [] k us = (us, none-given)
 given-made (y ∷ ys) k us =
     let q = both-true _ _ k in
@@ -261,7 +185,7 @@ given-made (y ∷ ys) k us =
     let i = y.1 q.0 j.0 in
     (i.0, some-given i.1 j.1)
 
-taken-made : (ys : List ((x : Parameter) × PP x)) → all_of (map (λ z. (z, of_parameter z)) (map (λ y. y.0) ys)) ≡ true → (us : List Leaf) → (ts : List Leaf) × Parameters (map (λ y. y.0) ys) ts us
+taken-made : (ys : List ((x : Parameter) × PP x)) → each_in_order (map (λ z. (z, parameter_in_order z)) (map (λ y. y.0) ys)) ≡ true → (us : List Leaf) → (ts : List Leaf) × Parameters (map (λ y. y.0) ys) ts us
 taken-made [] k us = (us, none-taken)
 taken-made (y ∷ ys) k us =
     let q = both-true _ _ k in
@@ -350,7 +274,7 @@ WT x = (z : Expression) × (target_of z ≡ Some x) × Writable z
 index-made : (x y : Expression) → Writable x → Writable y → Writable (e.Index x y)
 index-made x y v w us = let j = inside w (mark at s.RightBracket ∷ us) in let i = inside v (mark at s.LeftBracket ∷ j.0) in (i.0, an-index {p = at} {q = at} i.1 j.1)
 
-several : (ys : List ((x : Target) × PT x)) → all_of (map (λ z. (z, of_target z)) (map (λ y. y.0) ys)) ≡ true → (zs : List Expression) × (targets_of zs ≡ Some (map (λ y. y.0) ys)) × EachWritable zs
+several : (ys : List ((x : Target) × PT x)) → each_in_order (map (λ z. (z, target_in_order z)) (map (λ y. y.0) ys)) ≡ true → (zs : List Expression) × (targets_of zs ≡ Some (map (λ y. y.0) ys)) × EachWritable zs
 unfolding targets_of
 several [] k = ([], refl, tt)
 several (y ∷ ys) k =
@@ -398,8 +322,8 @@ expression-made (tree.Compare op a b) k = let q = both-true _ _ (sym (openedExpr
 expression-made (tree.And a b) k = let q = both-true _ _ (sym (openedExpression (bareExpression (tree.And a b))) ∙ k) in subst Writable (sym (e.rolls-And a.0 b.0)) (λ us. let j = inside (b.1 q.1) us in let i = inside (a.1 q.0) (spelt at keyword.And ∷ j.0) in (i.0, an-and {p = at} i.1 j.1))
 expression-made (tree.Or a b) k = let q = both-true _ _ (sym (openedExpression (bareExpression (tree.Or a b))) ∙ k) in subst Writable (sym (e.rolls-Or a.0 b.0)) (λ us. let j = inside (b.1 q.1) us in let i = inside (a.1 q.0) (spelt at keyword.Or ∷ j.0) in (i.0, an-or {p = at} i.1 j.1))
 expression-made (tree.Conditional x a b) k = let q = both-true _ _ (sym (openedExpression (bareExpression (tree.Conditional x a b))) ∙ k) in let r = both-true _ _ q.1 in subst Writable (sym (e.rolls-Conditional x.0 a.0 b.0)) (λ us. let l = inside (b.1 r.1) us in let j = inside (x.1 q.0) (spelt at keyword.Else ∷ l.0) in let i = inside (a.1 r.0) (spelt at keyword.If ∷ j.0) in (i.0, a-conditional {p = at} {q = at} i.1 j.1 l.1))
-expression-made (tree.Lambda p ys x) k = let q = both-true _ _ (sym (openedExpression (bareExpression (tree.Lambda p ys x))) ∙ k) in let r = both-true _ _ q.1 in subst Writable (sym (e.rolls-Lambda p _ x.0)) (λ us. let i = inside (x.1 r.1) us in let j = taken-made ys r.0 (mark at s.Colon ∷ i.0) in (spelt p keyword.Lambda ∷ j.0, a-lambda {p = p} {q = at} j.1 (still-in-order parameters_in_order of_parameter (map (λ y. y.0) ys) q.0) i.1))
-expression-made (tree.Call x ys) k = let q = both-true _ _ (sym (openedExpression (bareExpression (tree.Call x ys))) ∙ k) in let r = both-true _ _ q.1 in subst Writable (sym (e.rolls-Call x.0 _)) (λ us. let j = given-made ys r.1 (mark at s.RightParen ∷ us) in let i = inside (x.1 r.0) (mark at s.LeftParen ∷ j.0) in (i.0, a-call {p = at} {q = at} i.1 j.1 (still-in-order arguments_in_order of_argument (map (λ y. y.0) ys) q.0)))
+expression-made (tree.Lambda p ys x) k = let q = both-true _ _ (sym (openedExpression (bareExpression (tree.Lambda p ys x))) ∙ k) in let r = both-true _ _ q.1 in subst Writable (sym (e.rolls-Lambda p _ x.0)) (λ us. let i = inside (x.1 r.1) us in let j = taken-made ys r.0 (mark at s.Colon ∷ i.0) in (spelt p keyword.Lambda ∷ j.0, a-lambda {p = p} {q = at} j.1 (still-in-order parameters_in_order parameter_in_order (map (λ y. y.0) ys) q.0) i.1))
+expression-made (tree.Call x ys) k = let q = both-true _ _ (sym (openedExpression (bareExpression (tree.Call x ys))) ∙ k) in let r = both-true _ _ q.1 in subst Writable (sym (e.rolls-Call x.0 _)) (λ us. let j = given-made ys r.1 (mark at s.RightParen ∷ us) in let i = inside (x.1 r.0) (mark at s.LeftParen ∷ j.0) in (i.0, a-call {p = at} {q = at} i.1 j.1 (still-in-order arguments_in_order argument_in_order (map (λ y. y.0) ys) q.0)))
 expression-made (tree.Attribute x n) k = subst Writable (sym (e.rolls-Attribute x.0 n)) (λ us. let i = inside (x.1 (sym (openedExpression (bareExpression (tree.Attribute x n))) ∙ k)) _ in (i.0, an-attribute {p = at} i.1))
 expression-made (tree.Expression-F.Expression::Index a b) k = let q = both-true _ _ (sym (openedExpression (bareExpression (tree.Expression-F.Expression::Index a b))) ∙ k) in subst Writable (sym (e.rolls-Index a.0 b.0)) (index-made a.0 b.0 (a.1 q.0) (b.1 q.1))
 expression-made (tree.Slice x None None None) k = let q = both-true (in_order x.0) (true && (true && true)) (sym (openedExpression (bareExpression (tree.Slice x None None None))) ∙ k) in let q1 = both-true true (true && true) q.1 in let q2 = both-true true true q1.1 in subst Writable (sym (e.rolls-Slice x.0 None None None)) (slice-made x.0 None None None (x.1 q.0) nothing-put nothing-put nothing-put)

@@ -258,19 +258,19 @@ abbrev pub clauses_of : (Target × Expression) × List Clause → Clauses
 clauses_of p = roll-Clauses (record { target = p.0.0; iterable = p.0.1; more = p.1 })
 
 -- where a slice stops, and its stride
-abbrev pub Cut : Type 0
-Cut = Option Expression × Option Expression
+abbrev pub StopAndStride : Type 0
+StopAndStride = Option Expression × Option Expression
 
-abbrev pub as_cut : {A : Type 0} → Cut → Option Cut × List A
-as_cut c = (Some c, [])
+abbrev pub as_slice : {A : Type 0} → StopAndStride → Option StopAndStride × List A
+as_slice c = (Some c, [])
 
-abbrev pub as_index : {A : Type 0} → List A → Option Cut × List A
+abbrev pub as_index : {A : Type 0} → List A → Option StopAndStride × List A
 as_index more = (None, more)
 
-abbrev pub cut_from_start : Cut → Suffix
-cut_from_start c = suffixes.Slice None c.0 c.1
+abbrev pub slice_from_nothing : StopAndStride → Suffix
+slice_from_nothing c = suffixes.Slice None c.0 c.1
 
-abbrev pub subscript_of : Expression × (Option Cut × List Expression) → Suffix
+abbrev pub subscript_of : Expression × (Option StopAndStride × List Expression) → Suffix
 subscript_of (x, (None, more)) = suffixes.Index (tuple_unless_one (x ∷ more))
 subscript_of (x, (Some c, more)) = suffixes.Slice (Some x) c.0 c.1
 
@@ -438,8 +438,8 @@ unfoldable pub default : G sorts.expression
 default = after (sign_ s.Assign) a_test
 
 -- name ['=' Test]
-unfoldable pub plain : G sorts.parameter
-plain = act parameter_of (seq name (opt default))
+unfoldable pub named_parameter : G sorts.parameter
+named_parameter = act parameter_of (seq name (opt default))
 
 -- '*' [name]
 unfoldable pub star : G sorts.parameter
@@ -451,7 +451,7 @@ star_star = act parameters.StarStar (after (sign_ s.StarStar) name)
 
 -- name ['=' Test] | '*' [name] | '**' name
 unfoldable pub parameter : G sorts.parameter
-parameter = alt plain (alt star star_star)
+parameter = alt named_parameter (alt star star_star)
 
 -- ',' parameter
 unfoldable pub next_parameter : G sorts.parameter
@@ -496,12 +496,12 @@ unfoldable pub stride : G (maybe sorts.expression)
 stride = alt (after (sign_ s.Colon) (opt a_test)) (act none_of empty)
 
 -- ':' [Test] [':' [Test]]
-unfoldable pub cut : G (both (maybe sorts.expression) (maybe sorts.expression))
-cut = after (sign_ s.Colon) (seq (opt a_test) stride)
+unfoldable pub stop_and_stride : G (both (maybe sorts.expression) (maybe sorts.expression))
+stop_and_stride = after (sign_ s.Colon) (seq (opt a_test) stride)
 
 -- ':' [Test] [':' [Test]] | {',' Test}
 unfoldable pub behind_start : G (both (maybe (both (maybe sorts.expression) (maybe sorts.expression))) (list sorts.expression))
-behind_start = alt (act as_cut cut) (act as_index further_tests)
+behind_start = alt (act as_slice stop_and_stride) (act as_index further_tests)
 
 -- Test (':' [Test] [':' [Test]] | {',' Test})
 unfoldable pub from_test : G sorts.suffix
@@ -509,7 +509,7 @@ from_test = act subscript_of (seq a_test behind_start)
 
 -- Tests | [Test] ':' [Test] [':' [Test]]
 unfoldable pub in_brackets : G sorts.suffix
-in_brackets = alt from_test (act cut_from_start cut)
+in_brackets = alt from_test (act slice_from_nothing stop_and_stride)
 
 -- '[' Tests ']' | '[' [Test] ':' [Test] [':' [Test]] ']'
 unfoldable pub subscript : G sorts.suffix

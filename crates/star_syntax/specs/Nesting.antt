@@ -93,22 +93,22 @@ raised (r ∷ rs) = (r + 1) ∷ rs
 abbrev pub semicolon : State → ℕ
 semicolon n = elim n.remembered [ [] ↦ n.indents | r ∷ rs ↦ n.weight ]
 
-abbrev pub behind : Effect → State → State
-behind e.Nothing n = n
-behind e.Adds n = record { weight = n.weight + 1; remembered = n.remembered; indents = n.indents }
+abbrev pub after_token : Effect → State → State
+after_token e.Nothing n = n
+after_token e.Adds n = record { weight = n.weight + 1; remembered = n.remembered; indents = n.indents }
 -- an opening bracket adds 1 and remembers the new weight
-behind e.Opens n = record { weight = n.weight + 1; remembered = (n.weight + 1) ∷ n.remembered; indents = n.indents }
+after_token e.Opens n = record { weight = n.weight + 1; remembered = (n.weight + 1) ∷ n.remembered; indents = n.indents }
 -- a closing bracket gives back what the innermost open one remembers, which is forgotten
-behind e.Closes n = record { weight = innermost n.weight n.remembered; remembered = outer n.remembered; indents = n.indents }
+after_token e.Closes n = record { weight = innermost n.weight n.remembered; remembered = outer n.remembered; indents = n.indents }
 -- so does a comma inside brackets, which forgets nothing
-behind e.Comma n = record { weight = innermost n.weight n.remembered; remembered = n.remembered; indents = n.indents }
+after_token e.Comma n = record { weight = innermost n.weight n.remembered; remembered = n.remembered; indents = n.indents }
 -- `lambda` adds 1, also to what the innermost open bracket remembers
-behind e.Lambda n = record { weight = n.weight + 1; remembered = raised n.remembered; indents = n.indents }
+after_token e.Lambda n = record { weight = n.weight + 1; remembered = raised n.remembered; indents = n.indents }
 -- where a statement begins the weight is the number of open indentations
-behind e.Semicolon n = record { weight = semicolon n; remembered = n.remembered; indents = n.indents }
-behind e.Newline n = record { weight = n.indents; remembered = n.remembered; indents = n.indents }
-behind e.Indent n = record { weight = n.indents + 1; remembered = n.remembered; indents = n.indents + 1 }
-behind e.Outdent n = record { weight = n.indents - 1; remembered = n.remembered; indents = n.indents - 1 }
+after_token e.Semicolon n = record { weight = semicolon n; remembered = n.remembered; indents = n.indents }
+after_token e.Newline n = record { weight = n.indents; remembered = n.remembered; indents = n.indents }
+after_token e.Indent n = record { weight = n.indents + 1; remembered = n.remembered; indents = n.indents + 1 }
+after_token e.Outdent n = record { weight = n.indents - 1; remembered = n.remembered; indents = n.indents - 1 }
 
 abbrev pub limit : ℕ
 limit = 100
@@ -116,7 +116,7 @@ limit = 100
 -- the line of the first token behind which the weight is above the limit
 abbrev pub passes : State → List Token → Option ℕ
 passes n [] = None
-passes n (t ∷ ts) = let m = behind (of_kind t.kind) n in if nat_lt limit m.weight then Some t.line else passes m ts
+passes n (t ∷ ts) = let m = after_token (of_kind t.kind) n in if nat_lt limit m.weight then Some t.line else passes m ts
 
 abbrev pub too_nested : List Token → Option ℕ
 too_nested ts = passes at_start ts

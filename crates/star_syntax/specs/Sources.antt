@@ -27,11 +27,11 @@ Weighed (Some line) leaves result = result ≡ Err (TooNested line)
 Weighed None leaves result = ReadAs leaves result
 
 -- the answer for a text with tokens, or with a fault of its own
-abbrev pub Cut : Text → Result (List Token) SyntaxFault → Result Tree SyntaxFault → Type 0
-Cut text (Err fault) result = result ≡ Err fault
-Cut text (Ok tokens) result = Weighed (too_nested tokens) (leaves_of text tokens) result
+abbrev pub WithTokens : Text → Result (List Token) SyntaxFault → Result Tree SyntaxFault → Type 0
+WithTokens text (Err fault) result = result ≡ Err fault
+WithTokens text (Ok tokens) result = Weighed (too_nested tokens) (leaves_of text tokens) result
 
 -- want of memory is answered for any text
 abbrev pub Parses : Text → Result Tree SyntaxFault → Type 0
 Parses text (Err Memory) = Unit {0}
-Parses text result = Cut text (lexed text) result
+Parses text result = WithTokens text (lexed text) result

@@ -186,12 +186,12 @@ unfoldable pub told : G sorts.form
 told = when told_of (seq tests (opt right_side))
 
 -- 'break' | 'continue' | 'pass'
-unfoldable pub plain : G sorts.form
-plain = alt (act break_of (keyword_ k.Break)) (alt (act continue_of (keyword_ k.Continue)) (act pass_of (keyword_ k.Pass)))
+unfoldable pub keyword_form : G sorts.form
+keyword_form = alt (act break_of (keyword_ k.Break)) (alt (act continue_of (keyword_ k.Continue)) (act pass_of (keyword_ k.Pass)))
 
 -- Small = 'return' [Tests] | 'break' | 'continue' | 'pass' | Load | Tests | Tests '=' Tests | Tests AugOp Tests
 unfoldable pub small_form : G sorts.form
-small_form = alt returned (alt plain (alt load told))
+small_form = alt returned (alt keyword_form (alt load told))
 
 unfoldable pub small : G sorts.statement
 small = act statement_of (placed small_form)

@@ -128,7 +128,7 @@ impl<F: Fn(Global, u128, Level, &[Leaf]) -> Read<'_, Expression>> Grammar<F> {
     }
 
     /// An expression behind a sign.
-    fn behind<'a>(&self, before: Sign, leaves: &'a [Leaf]) -> Read<'a, Expression>
+    fn after_sign<'a>(&self, before: Sign, leaves: &'a [Leaf]) -> Read<'a, Expression>
         requires { Nests self.now.depth (F.pre self.now.expression) (F.post self.now.expression) }
         ensures { Gives (reads self.now.depth (spec.after (spec.sign_ before) spec.a_test) leaves.now) result }
     {
@@ -146,10 +146,10 @@ impl<F: Fn(Global, u128, Level, &[Leaf]) -> Read<'_, Expression>> Grammar<F> {
         if let Some(found) = self.named(leaves)? {
             return Ok(Some(found));
         }
-        if let Some((value, rest)) = self.behind(Sign::Star, leaves)? {
+        if let Some((value, rest)) = self.after_sign(Sign::Star, leaves)? {
             return Ok(Some((Argument::Star(value), rest)));
         }
-        if let Some((value, rest)) = self.behind(Sign::StarStar, leaves)? {
+        if let Some((value, rest)) = self.after_sign(Sign::StarStar, leaves)? {
             return Ok(Some((Argument::StarStar(value), rest)));
         }
         match self.nested(Level::Test, leaves)? {
@@ -240,14 +240,14 @@ impl<F: Fn(Global, u128, Level, &[Leaf]) -> Read<'_, Expression>> Grammar<F> {
         requires { Nests self.now.depth (F.pre self.now.expression) (F.post self.now.expression) }
         ensures { Gives (reads self.now.depth spec.default leaves.now) result }
     {
-        self.behind(Sign::Assign, leaves)
+        self.after_sign(Sign::Assign, leaves)
     }
 
     /// A name, with or without a default.
-    #[tactic(auto, unfolding(crate::specs::Expressions::plain))]
-    fn plain<'a>(&self, leaves: &'a [Leaf]) -> Read<'a, Parameter>
+    #[tactic(auto, unfolding(crate::specs::Expressions::named_parameter))]
+    fn named_parameter<'a>(&self, leaves: &'a [Leaf]) -> Read<'a, Parameter>
         requires { Nests self.now.depth (F.pre self.now.expression) (F.post self.now.expression) }
-        ensures { Gives (reads self.now.depth spec.plain leaves.now) result }
+        ensures { Gives (reads self.now.depth spec.named_parameter leaves.now) result }
     {
         let Some((name, rest)) = name(self.alloc, leaves)? else {
             return Ok(None);
@@ -291,7 +291,7 @@ impl<F: Fn(Global, u128, Level, &[Leaf]) -> Read<'_, Expression>> Grammar<F> {
         requires { Nests self.now.depth (F.pre self.now.expression) (F.post self.now.expression) }
         ensures { Gives (reads self.now.depth spec.parameter leaves.now) result }
     {
-        if let Some(found) = self.plain(leaves)? {
+        if let Some(found) = self.named_parameter(leaves)? {
             return Ok(Some(found));
         }
         if let Some(found) = self.star(leaves)? {

@@ -1,6 +1,6 @@
 //! Laws of the grammar: what a reader knows to be true of every text.
 
-ghost use Rattle.star_syntax.specs.InOrder.{AllWritable};
+ghost use Rattle.star_syntax.specs.InOrder.{AllWritable, ReadInOrder, ReadIsWritten, TreeInOrder};
 ghost use Rattle.star_syntax.specs.Laws.{OneAnswer, OneReading};
 ghost use Rattle.star_syntax.specs.Written.{ReadsBack};
 
@@ -27,4 +27,21 @@ pub fn reads_back()
 /// any leaves. (`docs/LANGUAGE.md`, "Grammar".)
 pub fn all_writable()
     ensures { AllWritable }
+{}
+
+/// An expression that is read, at any level of the grammar, has its arguments and parameters in the order of the rules, at any
+/// depth. (`docs/LANGUAGE.md`, "Grammar".)
+pub fn read_in_order()
+    ensures { ReadInOrder }
+{}
+
+/// So have the statements of each reading of a file, with all that stands in them. (`docs/LANGUAGE.md`, "Grammar".)
+pub fn tree_in_order()
+    ensures { TreeInOrder }
+{}
+
+/// Each expression that is read has a writing with a parenthesis round each part, before whatever may stand behind a whole
+/// expression, and the writing reads back as that expression. (`docs/LANGUAGE.md`, "Grammar".)
+pub fn read_is_written()
+    ensures { ReadIsWritten }
 {}

@@ -80,7 +80,7 @@ fn of_kind(kind: Kind) -> Effect
 impl Nesting {
     /// A comma inside brackets gives back what has been added behind the innermost open one.
     fn comma(&mut self)
-        ensures { spec.state self.new ≡ spec.behind Effect.Comma (spec.state self.old) }
+        ensures { spec.state self.new ≡ spec.after_token Effect.Comma (spec.state self.old) }
     {
         if let Some(inner) = self.remembered.front() {
             self.weight = *inner;
@@ -88,7 +88,7 @@ impl Nesting {
     }
 
     fn semicolon(&mut self)
-        ensures { spec.state self.new ≡ spec.behind Effect.Semicolon (spec.state self.old) }
+        ensures { spec.state self.new ≡ spec.after_token Effect.Semicolon (spec.state self.old) }
     {
         if self.remembered.is_empty() {
             self.weight = self.indents;
@@ -96,7 +96,7 @@ impl Nesting {
     }
 
     fn closes(&mut self)
-        ensures { spec.state self.new ≡ spec.behind Effect.Closes (spec.state self.old) }
+        ensures { spec.state self.new ≡ spec.after_token Effect.Closes (spec.state self.old) }
     {
         if let Some(inner) = self.remembered.pop_front() {
             self.weight = inner;
@@ -105,7 +105,7 @@ impl Nesting {
 
     fn opens(&mut self) -> Result<(), AllocError>
         requires { spec.Within (2 ^ 63) (spec.state self.old) }
-        ensures { IfOk result (λ _. spec.state self.new ≡ spec.behind Effect.Opens (spec.state self.old)) }
+        ensures { IfOk result (λ _. spec.state self.new ≡ spec.after_token Effect.Opens (spec.state self.old)) }
     {
         self.weight += 1;
         self.remembered.push_front(self.weight)?;
@@ -114,7 +114,7 @@ impl Nesting {
 
     fn lambda(&mut self) -> Result<(), AllocError>
         requires { spec.Within (2 ^ 63) (spec.state self.old) }
-        ensures { IfOk result (λ _. spec.state self.new ≡ spec.behind Effect.Lambda (spec.state self.old)) }
+        ensures { IfOk result (λ _. spec.state self.new ≡ spec.after_token Effect.Lambda (spec.state self.old)) }
     {
         self.weight += 1;
         if let Some(inner) = self.remembered.pop_front() {
@@ -125,7 +125,7 @@ impl Nesting {
 
     fn take(&mut self, effect: Effect) -> Result<(), AllocError>
         requires { spec.Within (2 ^ 63) (spec.state self.old) }
-        ensures { IfOk result (λ _. spec.state self.new ≡ spec.behind effect (spec.state self.old)) }
+        ensures { IfOk result (λ _. spec.state self.new ≡ spec.after_token effect (spec.state self.old)) }
     {
         match effect {
             Effect::Nothing => {}

@@ -13,7 +13,7 @@ use star_lex::token::Sign;
 use std::alloc::{AllocError, Global};
 
 /// Where a slice stops, and its stride.
-type Cut = (Option<Boxed<Expression>>, Option<Boxed<Expression>>);
+type StopAndStride = (Option<Boxed<Expression>>, Option<Boxed<Expression>>);
 
 fn with_suffix(value: Boxed<Expression>, suffix: Suffix) -> Expression
     ensures { result ≡ spec.with_suffix value suffix }
@@ -111,10 +111,10 @@ impl<F: Fn(Global, u128, Level, &[Leaf]) -> Read<'_, Expression>> Grammar<F> {
         }
     }
 
-    #[tactic(auto, unfolding(crate::specs::Expressions::cut))]
-    fn cut<'a>(&self, leaves: &'a [Leaf]) -> Read<'a, Cut>
+    #[tactic(auto, unfolding(crate::specs::Expressions::stop_and_stride))]
+    fn stop_and_stride<'a>(&self, leaves: &'a [Leaf]) -> Read<'a, StopAndStride>
         requires { Nests self.now.depth (F.pre self.now.expression) (F.post self.now.expression) }
-        ensures { Gives (reads self.now.depth spec.cut leaves.now) result }
+        ensures { Gives (reads self.now.depth spec.stop_and_stride leaves.now) result }
     {
         let Some((_, rest)) = sign(Sign::Colon, leaves) else {
             return Ok(None);
@@ -129,12 +129,15 @@ impl<F: Fn(Global, u128, Level, &[Leaf]) -> Read<'_, Expression>> Grammar<F> {
     }
 
     #[tactic(auto, unfolding(crate::specs::Expressions::behind_start))]
-    fn behind_start<'a>(&self, leaves: &'a [Leaf]) -> Read<'a, (Option<Cut>, Items<Expression>)>
+    fn behind_start<'a>(
+        &self,
+        leaves: &'a [Leaf],
+    ) -> Read<'a, (Option<StopAndStride>, Items<Expression>)>
         requires { Nests self.now.depth (F.pre self.now.expression) (F.post self.now.expression) }
         ensures { Gives (reads self.now.depth spec.behind_start leaves.now) result }
     {
-        if let Some((cut, rest)) = self.cut(leaves)? {
-            return Ok(Some(((Some(cut), Items::new(self.alloc)), rest)));
+        if let Some((behind, rest)) = self.stop_and_stride(leaves)? {
+            return Ok(Some(((Some(behind), Items::new(self.alloc)), rest)));
         }
         let Some((more, rest)) = self.further_tests(leaves)? else {
             return Ok(None);
@@ -154,8 +157,8 @@ impl<F: Fn(Global, u128, Level, &[Leaf]) -> Read<'_, Expression>> Grammar<F> {
         let Some((behind, rest)) = self.behind_start(rest)? else {
             return Ok(None);
         };
-        let (cut, more) = behind;
-        match cut {
+        let (slice, more) = behind;
+        match slice {
             None => {
                 let found = tuple_unless_one(onto(self.alloc, first, more)?);
                 Ok(Some((Suffix::Index(Boxed::new(self.alloc, found)?), rest)))
@@ -183,7 +186,7 @@ impl<F: Fn(Global, u128, Level, &[Leaf]) -> Read<'_, Expression>> Grammar<F> {
         if let Some(found) = self.from_test(leaves)? {
             return Ok(Some(found));
         }
-        let Some(((stop, stride), rest)) = self.cut(leaves)? else {
+        let Some(((stop, stride), rest)) = self.stop_and_stride(leaves)? else {
             return Ok(None);
         };
         let start = None;

@@ -313,9 +313,9 @@ impl Simple {
         }
     }
 
-    #[tactic(auto, unfolding(crate::specs::Statements::plain))]
-    fn plain<'a>(&self, leaves: &'a [Leaf]) -> Option<(Form, &'a [Leaf])>
-        ensures { Finds (reads self.now.depth spec.plain leaves.now) result }
+    #[tactic(auto, unfolding(crate::specs::Statements::keyword_form))]
+    fn keyword_form<'a>(&self, leaves: &'a [Leaf]) -> Option<(Form, &'a [Leaf])>
+        ensures { Finds (reads self.now.depth spec.keyword_form leaves.now) result }
     {
         if let Some((_, rest)) = keyword(Keyword::Break, leaves) {
             return Some((Form::Break, rest));
@@ -336,7 +336,7 @@ impl Simple {
         if let Some(found) = self.returned(leaves)? {
             return Ok(Some(found));
         }
-        if let Some(found) = self.plain(leaves) {
+        if let Some(found) = self.keyword_form(leaves) {
             return Ok(Some(found));
         }
         if let Some(found) = self.load(leaves)? {

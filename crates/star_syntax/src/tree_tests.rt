@@ -221,6 +221,17 @@ fn settles(answer: Result<Tree, SyntaxFault>) -> bool {
     !matches!(answer, Err(SyntaxFault::Memory))
 }
 
+fn every_prefix_settles(alloc: Global, text: &str) -> bool {
+    for size in 0..text.len() {
+        if let Some(prefix) = text.get(..size) {
+            if !settles(parse(alloc, prefix)) {
+                return false;
+            }
+        }
+    }
+    true
+}
+
 #[test]
 fn every_prefix(rt: HostRuntime) {
     let texts = [
@@ -236,22 +247,21 @@ fn every_prefix(rt: HostRuntime) {
         "x = -1 not in (2, 3,), 'é'\n",
     ];
     for text in &texts {
-        for size in 0..text.len() {
-            if let Some(prefix) = text.get(..size) {
-                assert!(rt; settles(parse(rt.alloc(), prefix)), "{prefix}");
-            }
-        }
+        assert!(rt; every_prefix_settles(rt.alloc(), text), "{text}");
     }
+}
+
+fn push_times(text: &mut String, sign: &str, count: usize) -> Result<(), AllocError> {
+    for _ in 0..count {
+        text.push_str(sign)?;
+    }
+    Ok(())
 }
 
 fn brackets(alloc: Global, opening: usize, closing: usize) -> Result<String, AllocError> {
     let mut text = String::new(alloc);
-    for _ in 0..opening {
-        text.push_str("(")?;
-    }
-    for _ in 0..closing {
-        text.push_str(")")?;
-    }
+    push_times(&mut text, "(", opening)?;
+    push_times(&mut text, ")", closing)?;
     Ok(text)
 }
 
@@ -271,35 +281,47 @@ fn nesting(rt: HostRuntime) -> Result<(), AllocError> {
     Ok(())
 }
 
+/// What `too_nested` answers, or 0 for a text that has no tokens.
+fn weighed(alloc: Global, text: &str) -> Result<Option<usize>, AllocError> {
+    match lex(alloc, text) {
+        Ok(tokens) => too_nested(alloc, &tokens),
+        Err(_) => Ok(Some(0)),
+    }
+}
+
 #[test]
 fn weights(rt: HostRuntime) -> Result<(), AllocError> {
     let alloc = rt.alloc();
-    if let Ok(tokens) = lex(alloc, "x = 1\n") {
-        assert!(rt; too_nested(alloc, &tokens)? == None);
-    }
+    assert!(rt; weighed(alloc, "x = 1\n")? == None);
     let text = brackets(alloc, 101, 0)?;
-    if let Ok(tokens) = lex(alloc, text.as_str()) {
-        assert!(rt; too_nested(alloc, &tokens)? == Some(1));
-    }
+    assert!(rt; weighed(alloc, text.as_str())? == Some(1));
     Ok(())
+}
+
+/// Whether the third leaf of a text is a string with a value, at a position.
+fn third_is_text(
+    alloc: Global,
+    text: &str,
+    value: &str,
+    position: Position,
+) -> Result<bool, AllocError> {
+    let tokens = match lex(alloc, text) {
+        Ok(tokens) => tokens,
+        Err(_) => return Ok(false),
+    };
+    let leaves = leaves(alloc, text, &tokens)?;
+    Ok(match leaves.get(2) {
+        Some(leaf) => matches!(&leaf.word, Word::Text(found) if found.as_str() == value)
+            && leaf.position == position
+            && leaves.len() == 5,
+        None => false,
+    })
 }
 
 #[test]
 fn leaves_of_a_text(rt: HostRuntime) -> Result<(), AllocError> {
-    let alloc = rt.alloc();
-    let text = "x\n'\\u00e9'";
-    let Ok(tokens) = lex(alloc, text) else {
-        return Ok(());
-    };
-    let leaves = leaves(alloc, text, &tokens)?;
-    assert_eq!(rt; leaves.len(), 5);
     let position = Position { line: 2, token: 2 };
-    let found = match leaves.get(2) {
-        Some(leaf) => matches!(&leaf.word, Word::Text(value) if value.as_str() == "é")
-            && leaf.position == position,
-        None => false,
-    };
-    assert!(rt; found);
+    assert!(rt; third_is_text(rt.alloc(), "x\n'\\u00e9'", "é", position)?);
     Ok(())
 }
 
