@@ -1,7 +1,6 @@
 -- Names that are bound more than once where one binding has to be the only one.
 use Rattle.std.specs.Prelude.{ℕ, Bool, true, false, ◌&&◌, ◌||◌, List, [], ◌∷◌, ◌++◌, map, if◌then◌else◌}
 use Rattle.std.specs.List.{flat_map, list_any}
-use Rattle.std.specs.Str.{bytes_eq}
 use Rattle.star_syntax.specs.declared.tree.Name.{Name}
 use Rattle.star_syntax.specs.declared.tree.Position.{Position}
 use Rattle.star_syntax.specs.declared.tree.Parameter.{Parameter, out-Parameter}
@@ -22,10 +21,7 @@ use Rattle.star_syntax.specs.declared.tree.LoadedName.{LoadedName}
 use Rattle.star_scope.specs.declared.error.ScopeFault.TheVariants as fault
 use Rattle.star_scope.specs.declared.error.Refusal.{Refusal}
 use Rattle.star_scope.specs.Faults.{at}
-
--- whether two names are the same
-abbrev pub same_name : List ℕ → List ℕ → Bool
-same_name a b = bytes_eq a b
+use Rattle.star_scope.specs.Names.{same_name}
 
 -- a binding of a name; it is alone where the name may have no other: a parameter, or a loaded name
 pub record Binding : Type 0 where

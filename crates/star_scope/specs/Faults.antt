@@ -1,5 +1,5 @@
 -- The static faults of a file, each with the token at which it stands, and which of them is the first.
-use Rattle.std.specs.Prelude.{ℕ, Bool, nat_lt, nat_eq, ◌&&◌, ◌||◌, List, [], ◌∷◌, Option, Some, None, if◌then◌else◌}
+use Rattle.std.specs.Prelude.{◌≡◌, ◌⊎◌, ℕ, Bool, false, nat_lt, nat_eq, ◌&&◌, ◌||◌, List, [], ◌∷◌, Option, Some, None, if◌then◌else◌}
 use Rattle.star_scope.specs.declared.error.ScopeFault.{ScopeFault}
 use Rattle.star_scope.specs.declared.error.ScopeFault.TheVariants as fault
 use Rattle.star_scope.specs.declared.error.Refusal.{Refusal}
@@ -36,3 +36,23 @@ first_from found (f ∷ fs) = first_from (earlier found f) fs
 -- the first of all
 abbrev pub first : List Refusal → Option Refusal
 first fs = first_from None fs
+
+-- the first of what was found in two places
+abbrev pub first_of : Option Refusal → Option Refusal → Option Refusal
+first_of found None = found
+first_of found (Some more) = earlier found more
+
+-- a fault is one of these
+abbrev pub IsAmong : List Refusal → Refusal → Type 0
+IsAmong [] r = ⊥
+IsAmong (f ∷ fs) r = (r ≡ f) ⊎ IsAmong fs r
+
+-- it is the first of these: one of them, and none of them stands before it
+abbrev pub IsFirst : List Refusal → Refusal → Type 0
+IsFirst fs r = IsAmong fs r × ((f : Refusal) → IsAmong fs f → stands_before f r ≡ false)
+
+-- what `first` answers: the first fault, or none exactly where there is none
+pub record FirstIsFirst : Type 0 where
+  pub some : (fs : List Refusal) (r : Refusal) → first fs ≡ Some r → IsFirst fs r
+  pub none : (fs : List Refusal) → first fs ≡ None → fs ≡ []
+  pub empty : first [] ≡ None

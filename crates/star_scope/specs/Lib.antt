@@ -3,3 +3,14 @@ pub mod Placement
 pub mod Loads
 pub mod Conflicts
 pub mod Bound
+pub mod Names
+pub mod Syntax
+pub mod Outlines
+pub mod Uses
+pub mod Places
+pub mod Spots
+pub mod Chains
+pub mod Placed
+pub mod Index
+pub mod Definitions
+pub mod Resolve

@@ -1,5 +1,5 @@
 -- The loads of a file: what each module string leads to, and the faults of load statements.
-use Rattle.std.specs.Prelude.{◌≡◌, ◌<◌, ◌==◌, ℕ, Bool, false, List, [], ◌∷◌, ◌++◌, map, length, Option, None, if◌then◌else◌}
+use Rattle.std.specs.Prelude.{◌≡◌, ◌<◌, ◌==◌, ℕ, Bool, false, List, [], ◌∷◌, ◌++◌, map, length, Option, Some, None, if◌then◌else◌}
 use Rattle.std.specs.List.{flat_map}
 use Rattle.star_label.specs.Files.{File, label_at}
 use Rattle.star_label.specs.Label.{Reads, label_text, package_of}
@@ -71,7 +71,7 @@ faults_of r = module_fault r.0.module_string.position r.1 ++ flat_map private_fa
 
 -- the load of a statement whose module string leads to a file, with the place of the statement
 abbrev pub load_at : Position → Lead → List Load
-load_at p (lead.File n) = record { file = n; line = p.line; token = p.token } ∷ []
+load_at p (lead.File n) = record { file = n; line = p.line; token = Some p.token } ∷ []
 load_at p lead.NoFile = []
 load_at p lead.BadLabel = []
 
@@ -85,6 +85,11 @@ pub record Adds (files : List File) (here : List ℕ) (ws : List Written) (befor
   pub loads : after ≡ before ++ flat_map load_of reads
   pub faults : more ≡ first_from found (flat_map faults_of reads)
 
--- the loads of the statements of the file n, and the first fault of its load statements
-abbrev pub IsLoads : List File → ℕ → List Statement → List Load → Option Refusal → Type 0
-IsLoads files n ss loads found = Adds files (package_of (label_at files n)) (written ss) [] loads None found
+-- the load of the prelude stands at no token, in line 1
+abbrev pub prelude_loads : Option ℕ → List Load
+prelude_loads None = []
+prelude_loads (Some n) = record { file = n; line = 1; token = None } ∷ []
+
+-- the loads of the file n: the prelude's, then those of its statements; and the first fault of its load statements
+abbrev pub IsLoads : List File → ℕ → Option ℕ → List Statement → List Load → Option Refusal → Type 0
+IsLoads files n prelude ss loads found = Adds files (package_of (label_at files n)) (written ss) (prelude_loads prelude) loads None found

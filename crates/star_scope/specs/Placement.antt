@@ -23,6 +23,10 @@ each (s ∷ ss) here = s here ++ each ss here
 abbrev pub of_file : Standing
 of_file = record { in_file = true; in_function = false; in_loop = false }
 
+-- statements of the prelude's own file, which may load nothing
+abbrev pub of_prelude : Standing
+of_prelude = record { in_file = false; in_function = false; in_loop = false }
+
 -- inside an `if`, inside the body of a loop, and inside the body of a function, which is in no loop of its own
 abbrev pub of_if : Standing → Standing
 of_if here = record { in_file = false; in_function = here.in_function; in_loop = here.in_loop }

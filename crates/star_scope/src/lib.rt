@@ -1,9 +1,23 @@
 //! Names and their places, loads and their files, and the static faults of a file.
 #![tactic(auto)]
 
+pub mod blocks;
+mod chain;
 pub mod conflicts;
 pub mod error;
+mod index;
+pub mod law;
 pub mod loads;
+mod names;
+pub mod outline;
 pub mod placement;
+pub mod program;
+#[cfg(test)]
+mod program_tests;
+pub mod spot;
+pub mod spots;
 #[cfg(test)]
 mod tests;
+#[cfg(test)]
+mod use_tests;
+pub mod uses;

@@ -4,7 +4,7 @@ ghost use Rattle.std.specs.Prelude.{◌≡◌, ◌<◌, ◌++◌, length, true, 
 ghost use Rattle.star_label.specs.Label.{is_package};
 ghost use Rattle.star_scope.specs.declared.error.ScopeFault.TheVariants.{Memory};
 ghost use Rattle.star_scope.specs.Faults.{at, first_from};
-ghost use Rattle.star_scope.specs.Loads.{Adds, IsLoads, LeadsTo, load_at, is_private, module_fault, private_fault, written_in};
+ghost use Rattle.star_scope.specs.Loads.{Adds, IsLoads, LeadsTo, load_at, is_private, module_fault, prelude_loads, private_fault, written_in};
 ghost use Rattle.std.specs.List.{flat_map};
 
 use crate::error::{Refusal, ScopeFault, earlier};
@@ -25,15 +25,15 @@ pub enum Lead {
     BadLabel,
 }
 
-/// A load statement of the file itself.
+/// A load of a file: by a statement of the file itself, or of the prelude, which needs no statement.
 #[derive(Clone, Copy, Debug, PartialEq, Eq)]
 pub struct Load {
     /// The number of the file that it loads.
     pub file: usize,
-    /// The line of the statement.
+    /// The line of the statement; 1 for the prelude.
     pub line: usize,
-    /// The number of the statement's first token.
-    pub token: usize,
+    /// The number of the statement's first token; none for the prelude.
+    pub token: Option<usize>,
 }
 
 /// The loads of a file, and the first fault of its load statements.
@@ -63,7 +63,7 @@ fn lead_of(alloc: Global, files: &Files, package: &str, text: &str) -> Result<Le
 }
 
 /// A loaded name that begins with `_`.
-fn is_private(text: &str) -> bool
+pub(crate) fn is_private(text: &str) -> bool
     ensures { result ≡ is_private text.now }
 {
     match text.as_bytes() {
@@ -132,7 +132,7 @@ fn push_load(loads: &mut Vec<Load>, position: Position, lead: Lead) -> Result<()
         loads.push(Load {
             file,
             line: position.line,
-            token: position.token,
+            token: Some(position.token),
         })?;
     }
     Ok(())
@@ -165,22 +165,38 @@ fn add_statement(
     }
 }
 
-/// The loads of the file `n`, whose statements are these, and the first fault of its load statements: `BadLabel` and
-/// `NoFile` at the module string, `Private` at a loaded name that begins with `_` (`docs/LANGUAGE.md`, "Scopes and static
-/// faults"). `Memory` where a growth is refused, and no other error.
+/// The load of the prelude, where there is one.
+fn prelude_loads(alloc: Global, prelude: Option<usize>) -> Result<Vec<Load>, AllocError>
+    ensures { IfOk result (λ loads. loads.items ≡ prelude_loads prelude) }
+{
+    let mut loads = Vec::new(alloc);
+    if let Some(file) = prelude {
+        loads.push(Load {
+            file,
+            line: 1,
+            token: None,
+        })?;
+    }
+    Ok(loads)
+}
+
+/// The loads of the file `n`, whose statements are these: that of the prelude first, where there is one. And the first
+/// fault of its load statements: `BadLabel` and `NoFile` at the module string, `Private` at a loaded name that begins with
+/// `_` (`docs/LANGUAGE.md`, "Scopes and static faults"). `Memory` where a growth is refused, and no other error.
 pub fn find_loads(
     alloc: Global,
     files: &Files,
     n: usize,
+    prelude: Option<usize>,
     statements: &[Statement],
 ) -> Result<Loads, ScopeFault>
     requires { n < length files.now }
-    ensures loads { IfOk result (λ found. IsLoads files.now n statements.now found.loads.items found.first) }
+    ensures loads { IfOk result (λ found. IsLoads files.now n prelude statements.now found.loads.items found.first) }
     ensures memory { IfErr result (λ e. e ≡ Memory) }
 {
     let package = files.label(n).package();
     let mut loads = Loads {
-        loads: Vec::new(alloc),
+        loads: prelude_loads(alloc, prelude)?,
         first: None,
     };
     for statement in statements {

@@ -18,8 +18,16 @@ pub struct Standing {
     pub in_loop: bool,
 }
 
-const OF_FILE: Standing = Standing {
+/// A statement of a file itself.
+pub(crate) const OF_FILE: Standing = Standing {
     in_file: true,
+    in_function: false,
+    in_loop: false,
+};
+
+/// A statement of the prelude's own file, which may load nothing.
+pub(crate) const OF_PRELUDE: Standing = Standing {
+    in_file: false,
     in_function: false,
     in_loop: false,
 };
@@ -95,9 +103,10 @@ fn in_form(
     }
 }
 
+/// What was found first, with the misplaced statements among these, which stand here.
 #[cycle(placement)]
 #[tactic(auto, using(crate::proofs::Faults::first_joined, crate::proofs::Placements::statements_next, crate::proofs::Faults::first_none))]
-fn in_statements(
+pub(crate) fn in_statements(
     mut found: Option<Refusal>,
     here: Standing,
     statements: &[Statement],

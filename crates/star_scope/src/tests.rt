@@ -107,7 +107,7 @@ fn finds_loads_and_their_faults(rt: HostRuntime) -> Result<(), Fail> {
             continue;
         };
         let tree = parse(alloc, text)?;
-        let found = find_loads(alloc, &files, 1, tree.statements.as_slice())?;
+        let found = find_loads(alloc, &files, 1, None, tree.statements.as_slice())?;
         let mut loads = String::new(alloc);
         for load in &found.loads {
             loads.push_str(format!(in alloc; "{} {};", load.file, load.line)?.as_str())?;

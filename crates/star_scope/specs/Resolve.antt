@@ -1,0 +1,70 @@
+-- All static faults of a file, and what a file means to those that run it.
+use Rattle.std.specs.Prelude.{◌≡◌, ◌⊎◌, ℕ, nat_eq, List, [], ◌++◌, map, Option, Some, None, Result, Ok, Err, if◌then◌else◌}
+use Rattle.std.specs.List.{flat_map}
+use Rattle.std.specs.Option.{option_map}
+use Rattle.star_label.specs.Files.{File, label_at}
+use Rattle.star_label.specs.Label.{package_of}
+use Rattle.star_syntax.specs.declared.tree.Statement.{Statement}
+use Rattle.star_scope.specs.declared.error.Refusal.{Refusal}
+use Rattle.star_scope.specs.declared.error.ScopeFault.{ScopeFault}
+use Rattle.star_scope.specs.declared.error.ScopeFault.TheVariants as fault
+use Rattle.star_scope.specs.declared.placement.Standing.{Standing}
+use Rattle.star_scope.specs.declared.program.Prelude.{Prelude}
+use Rattle.star_scope.specs.declared.program.Program.{Program}
+use Rattle.star_scope.specs.Conflicts.{block_conflicts, repeated_parameters}
+use Rattle.star_scope.specs.Definitions.{AllDiffer}
+use Rattle.star_scope.specs.Faults.{first}
+use Rattle.star_scope.specs.Loads.{AreRead, Read, faults_of, load_of, prelude_loads, written}
+use Rattle.star_scope.specs.Names.{Names, once}
+use Rattle.star_scope.specs.Outlines.{Definition, file_names, outline}
+use Rattle.star_scope.specs.Placement.{in_statements, of_file, of_prelude}
+use Rattle.star_scope.specs.Places.{AllPlaced, undefined}
+use Rattle.star_scope.specs.Spots.{spot_at}
+use Rattle.star_scope.specs.Uses.{uses}
+
+-- the names of the prelude's block: those that its file's block binds, and none where its text does not parse
+abbrev pub prelude_names : Option (List Statement) → Names
+prelude_names None = []
+prelude_names (Some ss) = file_names ss
+
+-- the prelude that a file sees: every file but the prelude itself sees it
+abbrev pub seen_by : ℕ → Option Prelude → Option Prelude
+seen_by n None = None
+seen_by n (Some p) = if nat_eq p.file n then None else Some p
+
+-- how the statements of a file itself stand: in the prelude's own file a load stands where it must not
+abbrev pub standing_in : ℕ → Option Prelude → Standing
+standing_in n None = of_file
+standing_in n (Some p) = if nat_eq p.file n then of_prelude else of_file
+
+-- the parameters of definitions that have the name of an earlier one of theirs
+abbrev pub repeated : List Definition → List Refusal
+repeated ds = flat_map (λ d. repeated_parameters d.parameters) ds
+
+-- all static faults of a file, by how its statements stand, the names of the prelude that it sees, and its load statements, each beside what it leads to
+abbrev pub static_faults : Standing → Option Names → List Statement → List Read → List Refusal
+static_faults here outer ss reads =
+    in_statements ss here ++ (flat_map faults_of reads ++ (block_conflicts ss ++ (repeated (outline ss).definitions ++ undefined (outline ss).blocks outer (uses ss))))
+
+-- a program is that of a file: its loads are the prelude's and its statements', and it has the file's definitions, no two with one number, its blocks, the names that the file loads, and the spot of each name
+pub record IsProgram (n : ℕ) (prelude : Option Prelude) (ss : List Statement) (reads : List Read) (p : Program) : Type 0 where
+  pub loads : p.loads.items ≡ prelude_loads (option_map (λ q. q.file) (seen_by n prelude)) ++ flat_map load_of reads
+  pub statements : p.statements.now ≡ ss
+  pub numbers : AllDiffer (map (λ d. d.number) p.definitions)
+  pub definitions : p.definitions ≡ (outline ss).definitions
+  pub blocks : p.blocks ≡ (outline ss).blocks
+  pub loaded : p.loaded ≡ once (outline ss).loaded
+  pub spots : AllPlaced (spot_at p.spots) (outline ss).blocks (option_map (λ q. q.names) (seen_by n prelude)) (uses ss)
+
+-- the static faults of a file that sees a prelude or is it
+abbrev pub faults_in : ℕ → Option Prelude → List Statement → List Read → List Refusal
+faults_in n prelude ss reads = static_faults (standing_in n prelude) (option_map (λ q. q.names) (seen_by n prelude)) ss reads
+
+-- these are the load statements of the file n, each beside what it leads to
+abbrev pub AreReadIn : List File → ℕ → List Statement → List Read → Type 0
+AreReadIn files n ss reads = AreRead files (package_of (label_at files n)) (written ss) reads
+
+-- the answer on a file: its program where it has no static fault, else the first of them; or that memory was refused
+abbrev pub Resolves : List File → ℕ → Option Prelude → List Statement → Result Program ScopeFault → Type 0
+Resolves files n prelude ss (Ok p) = (reads : List Read) × AreReadIn files n ss reads × (first (faults_in n prelude ss reads) ≡ None) × IsProgram n prelude ss reads p
+Resolves files n prelude ss (Err e) = (e ≡ fault.Memory) ⊎ ((reads : List Read) × AreReadIn files n ss reads × ((r : Refusal) × (first (faults_in n prelude ss reads) ≡ Some r) × (e ≡ r.fault)))

@@ -1,0 +1,167 @@
+//! The blocks around a part of a file.
+
+ghost use Rattle.std.specs.Prelude.{◌≡◌, ◌≤◌, ◌∷◌, [], ◌+◌, length, map, IfOk};
+ghost use Rattle.star_scope.specs.Chains.{names_outside};
+ghost use Rattle.star_scope.specs.Names.{has_name};
+ghost use Rattle.star_scope.specs.Places.{chain_length, outermost_names, outside_spot, prelude_has, spot_of};
+
+use crate::blocks::{BlockNames, Blocks};
+use crate::loads::is_private;
+use crate::spot::Spot;
+use std::alloc::AllocError;
+use std::marker::Model;
+
+/// So many blocks stand in one another at most.
+const CHAIN_LENGTH: usize = 102;
+
+/// The file's own block, whose number is 0, or a block with its number and the blocks around it.
+#[derive(Clone, Copy)]
+enum Link<'c> {
+    File,
+    Inside { number: usize, outer: &'c Link<'c> },
+}
+
+/// The numbers of the blocks around a part, the innermost first: 102 at most.
+#[derive(Drop)]
+pub(crate) struct Chain<'c> {
+    link: Link<'c>,
+    length: usize,
+}
+
+impl<'c> Model for Chain<'c> {
+    ghost use Rattle.std.specs.Prelude.{List, ℕ, ◌≡◌, ◌≤◌, length as length_of};
+    ghost use Rattle.star_scope.specs.Chains.{numbers};
+    ghost use Rattle.star_scope.specs.Places.{chain_length};
+
+    ghost Value = { List ℕ };
+
+    ghost view = { λ c. numbers c.link };
+
+    ghost invariant = { λ c. (length_of (numbers c.link) ≡ c.length) × (c.length ≤ chain_length) };
+}
+
+/// What a name may be bound by: the blocks of the file, and the names of the prelude's block, where there is a prelude.
+#[derive(Clone, Copy)]
+pub(crate) struct Scope<'s, 't> {
+    pub(crate) blocks: &'s Blocks<'t>,
+    pub(crate) prelude: Option<&'s BlockNames<'t>>,
+}
+
+fn prelude_has(prelude: Option<&BlockNames<'_>>, name: &str) -> bool
+    ensures { result ≡ prelude_has (names_outside prelude.entry) name.now }
+{
+    match prelude {
+        Some(names) => !is_private(name) && names.slot(name).is_some(),
+        None => false,
+    }
+}
+
+/// The names of the outermost block.
+const OUTERMOST: [&str; 24] = [
+    "None",
+    "True",
+    "False",
+    "abs",
+    "all",
+    "any",
+    "bool",
+    "dict",
+    "enumerate",
+    "fail",
+    "int",
+    "len",
+    "list",
+    "max",
+    "min",
+    "print",
+    "range",
+    "repr",
+    "reversed",
+    "sorted",
+    "str",
+    "tuple",
+    "type",
+    "zip",
+];
+
+fn is_among(mut names: &[&str], name: &str) -> bool
+    ensures { result ≡ has_name (map (λ n. n.now) names.entry.now) name.now }
+{
+    while let [known, others @ ..] = names {
+        if name == *known {
+            return true;
+        }
+        names = others;
+    }
+    false
+}
+
+fn is_outermost(name: &str) -> bool
+    ensures { result ≡ has_name outermost_names name.now }
+{
+    is_among(&OUTERMOST, name)
+}
+
+/// The spot of a name outside of the file.
+fn outside_spot(prelude: Option<&BlockNames<'_>>, name: &str) -> Option<Spot>
+    ensures { result ≡ outside_spot (names_outside prelude.entry) name.now }
+{
+    if prelude_has(prelude, name) {
+        Some(Spot::Prelude)
+    } else if is_outermost(name) {
+        Some(Spot::Outermost)
+    } else {
+        None
+    }
+}
+
+impl<'c> Chain<'c> {
+    /// The chain of the statements of the file itself.
+    pub(crate) fn of_file() -> Chain<'c>
+        ensures { result ≡ 0 ∷ [] }
+    {
+        Chain {
+            link: Link::File,
+            length: 1,
+        }
+    }
+
+    /// The chain inside a block that begins at a token. Too long a chain is refused like a growth.
+    pub(crate) fn inside(&'c self, token: usize) -> Result<Chain<'c>, AllocError>
+        ensures { IfOk result (λ c. c ≡ (1 + token) ∷ self.now) }
+    {
+        if self.length >= CHAIN_LENGTH {
+            return Err(AllocError);
+        }
+        let Some(number) = token.checked_add(1) else {
+            return Err(AllocError);
+        };
+        Ok(Chain {
+            link: Link::Inside {
+                number,
+                outer: &self.link,
+            },
+            length: self.length + 1,
+        })
+    }
+
+    /// The spot of a name: in the first block that binds it, else outside of the file.
+    pub(crate) fn spot_of(&self, scope: &Scope<'_, '_>, name: &str) -> Option<Spot>
+        ensures spot { result ≡ spot_of scope.now.blocks.now (names_outside scope.now.prelude) name.now self.now }
+        ensures short { length self.now ≤ chain_length }
+    {
+        let mut link = &self.link;
+        let mut up = 0;
+        while let Link::Inside { number, outer } = link {
+            if let Some(slot) = scope.blocks.slot(*number, name) {
+                return Some(Spot::Frame { up, slot });
+            }
+            link = *outer;
+            up += 1;
+        }
+        match scope.blocks.slot(0, name) {
+            Some(slot) => Some(Spot::Frame { up, slot }),
+            None => outside_spot(scope.prelude, name),
+        }
+    }
+}
