@@ -19,7 +19,8 @@ use Rattle.star_eval.specs.declared.place.Place.{Place}
 use Rattle.star_eval.specs.declared.place.Flow.{Flow}
 use Rattle.star_eval.specs.declared.place.Flow.TheVariants as flow
 use Rattle.star_eval.specs.Run.{State, Outcome, Done, Failed, Action, and_then, ◌>>=◌, give, fail, pay, check, found, code_of, agreed, settled, visiting, seeing, storing, make, build, each, all_of, collect, until, add_line}
-use Rattle.star_eval.specs.Program.{Setting, Variables, Definition}
+use Rattle.star_scope.specs.Definitions.{Definition}
+use Rattle.star_eval.specs.Program.{Setting, Variables}
 use Rattle.star_eval.specs.Values.{written, change}
 use Rattle.star_eval.specs.Binding.{Share}
 use Rattle.star_eval.specs.Meaning.{Meaning, then_go, block, then_turn, turns, repeat}

@@ -7,8 +7,9 @@ use Rattle.star_syntax.specs.declared.tree.Expression.{Expression}
 use Rattle.star_syntax.specs.declared.tree.Name.{Name}
 use Rattle.star_syntax.specs.declared.tree.Argument.TheOpen as tree
 use Rattle.star_eval.specs.declared.place.Place.{Place}
-use Rattle.star_eval.specs.Syntax.{ArgumentForm}
-use Rattle.star_eval.specs.Program.{Setting, Variables, Definition, Body, Statements, Answer}
+use Rattle.star_scope.specs.Syntax.{ArgumentForm}
+use Rattle.star_scope.specs.Definitions.{Definition, Body, Statements, Answer}
+use Rattle.star_eval.specs.Program.{Setting, Variables}
 use Rattle.star_eval.specs.Values.{Content, BuiltInFunction, Held}
 use Rattle.star_eval.specs.Arguments.{Given}
 use Rattle.star_eval.specs.Binding.{Share}

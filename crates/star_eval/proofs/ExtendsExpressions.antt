@@ -5,7 +5,7 @@ use Rattle.star_syntax.specs.declared.tree.Entry.{Entry}
 use Rattle.star_syntax.specs.declared.tree.Parameter.{Parameter}
 use Rattle.star_syntax.specs.declared.tree.Argument.TheOpen as tree
 use Rattle.star_eval.specs.declared.place.Place.{Place}
-use Rattle.star_eval.specs.Syntax.{ExpressionForm, ParameterForm}
+use Rattle.star_scope.specs.Syntax.{ExpressionForm, ParameterForm}
 use Rattle.star_eval.specs.Program.{Setting, Variables}
 use Rattle.star_eval.specs.Meaning.{Meaning}
 use Rattle.std.proofs.Common.{ℕ, List, [], ◌∷◌, Option, Some, None}

@@ -14,7 +14,7 @@ use Rattle.star_syntax.specs.declared.tree.Argument.TheOpen as tree
 use Rattle.star_syntax.specs.declared.tree.Form.TheOpen as form
 use Rattle.star_eval.specs.declared.place.Place.{Place}
 use Rattle.star_eval.specs.declared.place.Flow.{Flow}
-use Rattle.star_eval.specs.Syntax.{StatementForm, TargetForm}
+use Rattle.star_scope.specs.Syntax.{StatementForm, TargetForm}
 use Rattle.star_eval.specs.Program.{Setting, Variables}
 use Rattle.star_eval.specs.Values.{Content, Held}
 use Rattle.star_eval.specs.Meaning.{Meaning}

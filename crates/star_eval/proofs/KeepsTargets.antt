@@ -4,7 +4,7 @@ use Rattle.star_syntax.specs.declared.tree.Target.{Target}
 use Rattle.star_syntax.specs.declared.tree.Expression.{Expression}
 use Rattle.star_syntax.specs.declared.tree.Argument.TheOpen as tree
 use Rattle.star_eval.specs.declared.place.Place.{Place}
-use Rattle.star_eval.specs.Syntax.{TargetForm}
+use Rattle.star_scope.specs.Syntax.{TargetForm}
 use Rattle.star_eval.specs.Program.{Setting, Variables}
 use Rattle.star_eval.specs.Meaning.{Meaning}
 use Rattle.std.proofs.Common.{ℕ, List, [], ◌∷◌}

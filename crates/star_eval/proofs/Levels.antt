@@ -8,9 +8,10 @@ use Rattle.star_syntax.specs.declared.tree.Target.{Target}
 use Rattle.star_syntax.specs.declared.tree.Name.{Name}
 use Rattle.star_eval.specs.declared.fault.Code.TheVariants.{Deep}
 use Rattle.star_eval.specs.declared.place.Place.{Place}
-use Rattle.star_eval.specs.Syntax.{expression, target, position_of, form_of}
+use Rattle.star_scope.specs.Syntax.{expression, target, position_of, form_of}
 use Rattle.star_eval.specs.Run.{State, and_then, fail, pay}
-use Rattle.star_eval.specs.Program.{Setting, Variables, Definition}
+use Rattle.star_scope.specs.Definitions.{Definition}
+use Rattle.star_eval.specs.Program.{Setting, Variables}
 use Rattle.star_eval.specs.Binding.{Share}
 use Rattle.star_eval.specs.Targets.{target_node, parts_node}
 use Rattle.star_eval.specs.Expressions.{node}

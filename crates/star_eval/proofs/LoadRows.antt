@@ -16,7 +16,10 @@ use Rattle.star_syntax.specs.declared.tree.Form.TheVariants as f
 use Rattle.star_syntax.specs.declared.tree.Name.{Name}
 use Rattle.star_syntax.specs.declared.tree.Position.{Position}
 use Rattle.star_store.specs.Store.{Shelf}
-use Rattle.star_eval.specs.Program.{Setting, Outline, Block, Definition}
+use Rattle.star_scope.specs.declared.blocks.Block.{Block}
+use Rattle.star_scope.specs.Definitions.{Definition}
+use Rattle.star_scope.specs.Outlines.{Outline}
+use Rattle.star_eval.specs.Program.{Setting}
 use Rattle.star_eval.specs.Module.{union, local, Local, Good, Stopped}
 use Rattle.star_eval.specs.declared.fault.Code.TheVariants as code
 

@@ -17,7 +17,9 @@ use Rattle.star_syntax.specs.declared.tree.Form.TheVariants as f
 use Rattle.star_syntax.specs.declared.tree.BinaryOperator.TheVariants as op
 use Rattle.star_syntax.specs.declared.tree.Name.{Name}
 use Rattle.star_syntax.specs.declared.tree.Position.{Position}
-use Rattle.star_eval.specs.Program.{Setting, Block, Definition, Statements}
+use Rattle.star_scope.specs.declared.blocks.Block.{Block}
+use Rattle.star_scope.specs.Definitions.{Definition, Statements}
+use Rattle.star_eval.specs.Program.{Setting}
 use Rattle.star_eval.specs.Module.{local, Local, Good, Stopped}
 use Rattle.star_eval.specs.declared.fault.Code.TheVariants as code
 

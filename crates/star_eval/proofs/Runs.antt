@@ -1,6 +1,6 @@
 -- Every run keeps what its parts keep, by induction on the levels that may still be opened.
 use Rattle.std.proofs.Common.{ℕ, zero, suc}
-use Rattle.star_eval.specs.Syntax.{expression, target, position_of, form_of}
+use Rattle.star_scope.specs.Syntax.{expression, target, position_of, form_of}
 use Rattle.star_eval.specs.Program.{Setting, Variables}
 use Rattle.star_eval.specs.Variables.{by_names}
 use Rattle.star_eval.specs.Meaning.{Meaning}

@@ -22,7 +22,8 @@ use Rattle.star_eval.specs.declared.place.Place.{Place}
 use Rattle.star_eval.specs.declared.place.Flow.{Flow}
 use Rattle.star_eval.specs.declared.place.Flow.TheVariants as flow
 use Rattle.star_eval.specs.Run.{State, Outcome, Done, Failed, Action, and_then, ◌>>=◌, give, fail, pay, check, found, code_of, agreed, settled, visiting, seeing, storing, make, build, each, all_of, collect, until, add_line}
-use Rattle.star_eval.specs.Program.{Setting, Variables, Definition}
+use Rattle.star_scope.specs.Definitions.{Definition}
+use Rattle.star_eval.specs.Program.{Setting, Variables}
 use Rattle.star_eval.specs.Values.{written, change, iterate, leave, count_of, count_in, content}
 use Rattle.std.proofs.lemmas.Bool.{eqb-true}
 use Rattle.star_store.specs.declared.fault.StoreFault.TheVariants as refused

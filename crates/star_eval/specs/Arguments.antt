@@ -6,7 +6,8 @@ use Rattle.star_store.specs.declared.values.Value.{Value}
 use Rattle.star_store.specs.declared.values.Cell.TheVariants as cell
 use Rattle.star_eval.specs.declared.fault.Code.TheVariants as code
 use Rattle.star_eval.specs.Run.{State, Action, ◌>>=◌, give, fail, pay, check, found, each, seeing}
-use Rattle.star_eval.specs.Program.{Setting, same_name}
+use Rattle.star_scope.specs.Names.{same_name}
+use Rattle.star_eval.specs.Program.{Setting}
 use Rattle.star_eval.specs.Values.{Content, Held, content, text_of, count_of, take_items, new_text}
 
 -- an argument with its value, as it stands in the call

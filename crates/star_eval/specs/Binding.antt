@@ -6,9 +6,9 @@ use Rattle.star_store.specs.declared.values.Value.{Value}
 use Rattle.star_syntax.specs.declared.tree.Name.{Name}
 use Rattle.star_syntax.specs.declared.tree.Parameter.{Parameter}
 use Rattle.star_syntax.specs.declared.tree.Argument.TheOpen as tree
-use Rattle.star_eval.specs.Syntax.{ParameterForm, parameter}
+use Rattle.star_scope.specs.Syntax.{ParameterForm, parameter}
 use Rattle.star_eval.specs.Run.{Action, ◌>>=◌, give, each}
-use Rattle.star_eval.specs.Program.{same_name}
+use Rattle.star_scope.specs.Names.{same_name}
 use Rattle.star_eval.specs.Values.{new_tuple, new_dict}
 use Rattle.star_eval.specs.Arguments.{Given, NamedValue, is_given, key_for}
 

@@ -15,9 +15,10 @@ use Rattle.star_eval.specs.declared.fault.Code.TheVariants as code
 use Rattle.star_eval.specs.declared.place.Place.{Place}
 use Rattle.star_eval.specs.declared.place.Flow.{Flow}
 use Rattle.star_eval.specs.declared.place.Flow.TheVariants as flow
-use Rattle.star_eval.specs.Syntax.{ArgumentForm, argument}
+use Rattle.star_scope.specs.Syntax.{ArgumentForm, argument}
 use Rattle.star_eval.specs.Run.{State, Action, Done, ◌>>=◌, give, fail, pay, check, found, each, all_of, seeing}
-use Rattle.star_eval.specs.Program.{Setting, Variables, Definition, Body, Statements, Answer, definition_of}
+use Rattle.star_scope.specs.Definitions.{Definition, Body, Statements, Answer}
+use Rattle.star_eval.specs.Program.{Setting, Variables, definition_of}
 use Rattle.star_eval.specs.Values.{Content, BuiltInFunction, Held, with_content}
 use Rattle.star_eval.specs.Arguments.{Passed, Plain, Named, Star, StarStar, Given, given}
 use Rattle.star_eval.specs.BuiltIns.{call_built_in}

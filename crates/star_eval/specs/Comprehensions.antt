@@ -10,7 +10,7 @@ use Rattle.star_syntax.specs.declared.tree.Clauses.{Clauses, out-Clauses}
 use Rattle.star_syntax.specs.declared.tree.Entry.{Entry, out-Entry}
 use Rattle.star_syntax.specs.declared.tree.Argument.TheOpen as tree
 use Rattle.star_eval.specs.declared.place.Place.{Place}
-use Rattle.star_eval.specs.Syntax.{ClauseForm, clause}
+use Rattle.star_scope.specs.Syntax.{ClauseForm, clause}
 use Rattle.star_eval.specs.Run.{Action, ◌>>=◌, give, pay, build}
 use Rattle.star_eval.specs.Program.{Setting, Variables}
 use Rattle.star_eval.specs.Values.{take_item, iterate, leave, is_true, check_key, change}

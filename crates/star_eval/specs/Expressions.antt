@@ -9,7 +9,7 @@ use Rattle.star_syntax.specs.declared.tree.Parameter.{Parameter}
 use Rattle.star_syntax.specs.declared.tree.Argument.TheOpen as tree
 use Rattle.star_eval.specs.declared.fault.Code.TheVariants as code
 use Rattle.star_eval.specs.declared.place.Place.{Place}
-use Rattle.star_eval.specs.Syntax.{ExpressionForm, ParameterForm, parameter}
+use Rattle.star_scope.specs.Syntax.{ExpressionForm, ParameterForm, parameter}
 use Rattle.star_eval.specs.Run.{Action, ◌>>=◌, give, check, each, build, seeing}
 use Rattle.star_eval.specs.Program.{Setting, Variables}
 use Rattle.star_eval.specs.Values.{is_true, check_key, new_text, new_tuple, new_list, new_dict, place_in}

@@ -5,7 +5,8 @@ use Rattle.std.specs.Option.{option_map}
 use Rattle.star_store.specs.declared.values.Value.{Value}
 use Rattle.star_eval.specs.declared.fault.Code.TheVariants as code
 use Rattle.star_eval.specs.Run.{Action, ◌>>=◌, give, fail, found}
-use Rattle.star_eval.specs.Program.{Setting, same_name}
+use Rattle.star_scope.specs.Names.{same_name}
+use Rattle.star_eval.specs.Program.{Setting}
 use Rattle.star_eval.specs.Values.{str}
 use Rattle.star_eval.specs.Arguments.{Given, NamedValue}
 use Rattle.star_eval.specs.BuiltIns.{is_digit, number_from}

@@ -3,8 +3,9 @@ use Rattle.std.specs.Prelude.{ℕ, List, [], map, Option, Some, None, slice_get}
 use Rattle.std.specs.Option.{option_map, option_flatten}
 use Rattle.star_store.specs.Store.{Shelf}
 use Rattle.star_syntax.specs.declared.tree.Statement.{Statement}
-use Rattle.star_eval.specs.Program.{Setting, Outline}
-use Rattle.star_eval.specs.Outlines.{outline}
+use Rattle.star_scope.specs.Outlines.{Outline}
+use Rattle.star_eval.specs.Program.{Setting}
+use Rattle.star_scope.specs.Outlines.{outline}
 use Rattle.star_eval.specs.Module.{Local, Good, Stopped, local, union}
 
 -- the statements of files, by their numbers

@@ -10,7 +10,7 @@ use Rattle.star_eval.specs.declared.place.Place.{Place}
 use Rattle.star_eval.specs.declared.place.Flow.{Flow}
 use Rattle.star_eval.specs.declared.place.Flow.TheVariants as flow
 use Rattle.star_eval.specs.Run.{Action, ◌>>=◌, give}
-use Rattle.star_eval.specs.Program.{Definition}
+use Rattle.star_scope.specs.Definitions.{Definition}
 use Rattle.star_eval.specs.Binding.{Share}
 
 -- the value of an index target, and what stands there: read before an augmented assignment

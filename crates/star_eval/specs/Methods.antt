@@ -8,7 +8,8 @@ use Rattle.star_store.specs.declared.names.Method.TheVariants as method
 use Rattle.star_store.specs.Names.{method_name, receiver_type}
 use Rattle.star_eval.specs.declared.fault.Code.TheVariants as code
 use Rattle.star_eval.specs.Run.{Action, ◌>>=◌, fail, found, build}
-use Rattle.star_eval.specs.Program.{Setting, same_name}
+use Rattle.star_scope.specs.Names.{same_name}
+use Rattle.star_eval.specs.Program.{Setting}
 use Rattle.star_eval.specs.Values.{with_content, type_name, want_text}
 use Rattle.star_eval.specs.Arguments.{Given}
 use Rattle.star_eval.specs.ListMethods.{call_append, call_clear, call_extend, call_index, call_insert, call_pop, call_remove}

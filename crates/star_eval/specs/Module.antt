@@ -10,9 +10,11 @@ use Rattle.star_syntax.specs.declared.tree.Statement.{Statement}
 use Rattle.star_eval.specs.declared.fault.Code.TheVariants as code
 use Rattle.star_eval.specs.declared.fault.Fault.{Fault}
 use Rattle.star_eval.specs.declared.place.Place.{Place}
-use Rattle.star_eval.specs.Syntax.{expression, target, position_of, form_of}
+use Rattle.star_scope.specs.Syntax.{expression, target, position_of, form_of}
 use Rattle.star_eval.specs.Run.{State, Action, Outcome, Done, Failed, ◌>>=◌, give, fail, pay, each, seeing}
-use Rattle.star_eval.specs.Program.{Setting, Variables, Outline, outline_of, same_name, names_of, seen}
+use Rattle.star_scope.specs.Outlines.{Outline}
+use Rattle.star_scope.specs.Names.{same_name}
+use Rattle.star_eval.specs.Program.{Setting, Variables, outline_of, names_of, seen}
 use Rattle.star_eval.specs.Variables.{frame_of, by_names}
 use Rattle.star_eval.specs.Values.{repr}
 use Rattle.star_eval.specs.Meaning.{Meaning, block}

@@ -1,33 +1,32 @@
 -- Variables by their places: how many frames up, and which slot. And when this means the same as their names.
-use Rattle.std.specs.Prelude.{◌≡◌, ◌≤◌, ℕ, zero, suc, ◌+◌, nat_eq, not, ◌&&◌, List, [], ◌∷◌, length, map, replicate, Option, Some, None, slice_get, if◌then◌else◌}
+use Rattle.std.specs.Prelude.{◌≡◌, ℕ, zero, suc, nat_eq, List, [], ◌∷◌, length, map, replicate, Option, Some, None, slice_get, if◌then◌else◌}
 use Rattle.std.specs.List.{Contains}
 use Rattle.std.specs.Option.{option_and_then}
 use Rattle.star_store.specs.declared.values.Value.{Value}
 use Rattle.star_store.specs.declared.values.Cell.TheVariants as cell
 use Rattle.star_store.specs.declared.values.Frame.{Frame}
 use Rattle.star_store.specs.declared.values.Function.{Function}
-use Rattle.star_store.specs.Store.{global_of}
+use Rattle.star_store.specs.Store.{Published, global_of}
 use Rattle.star_syntax.specs.declared.tree.Name.{Name}
 use Rattle.star_syntax.specs.declared.tree.Statement.{Statement}
 use Rattle.star_eval.specs.declared.fault.Code.TheVariants as code
 use Rattle.star_eval.specs.declared.place.Place.{Place}
-use Rattle.star_eval.specs.Run.{State, Action, found, seeing, make}
-use Rattle.star_eval.specs.Program.{Setting, Variables, names_of, published_of, seen}
-use Rattle.star_eval.specs.Variables.{chain_length, slot_of, frame_of, bind_at, outermost, prelude_has}
-use Rattle.star_eval.specs.Module.{local, local_of, run_file, most_levels, start}
-use Rattle.star_eval.specs.Outlines.{outline}
-use Rattle.star_eval.specs.Uses.{Use, Named, Defined, uses}
+use Rattle.star_eval.specs.Run.{State, Outcome, Done, Failed, Action, found, seeing, make}
+use Rattle.star_scope.specs.declared.spot.Spot.{Spot}
+use Rattle.star_scope.specs.declared.spot.Spot.TheVariants as spot
+use Rattle.star_scope.specs.Names.{Names}
+use Rattle.star_scope.specs.Definitions.{AllDiffer}
+use Rattle.star_scope.specs.Places.{Spots, AllPlaced, IsPlaced}
+use Rattle.star_eval.specs.Program.{Setting, Variables, names_of, blocks_of, published_of, seen}
+use Rattle.star_eval.specs.Variables.{frame_of, bind_at, bind_name, by_names, outermost, read_name}
+use Rattle.star_eval.specs.Module.{Ended, run_file, most_levels, start}
+use Rattle.star_scope.specs.Outlines.{outline}
+use Rattle.star_scope.specs.Uses.{Named, Defined, uses}
 use Rattle.star_eval.specs.Local.{Trees, outlines}
-
--- where a name is found: so many frames up, at a slot; among the prelude's globals; or in the outermost block
-pub data Spot : Type 0 where
-  Up : ℕ → ℕ → Spot
-  InPrelude : Spot
-  Outermost : Spot
 
 -- what is known of a program before it runs: the spot of the name at a token of a file, and the number of slots of a block of a file
 pub record Tables : Type 0 where
-  pub spot : ℕ → ℕ → Option Spot
+  pub spots : ℕ → Spots
   pub slots : ℕ → ℕ → ℕ
 
 -- the frame that is so many frames above a frame
@@ -45,21 +44,21 @@ joined (Some v) = v
 
 -- the value at a spot, or `unbound`
 abbrev pub at_spot : Setting → State → Place → List ℕ → Option Spot → Option Value
-at_spot w s p name (Some (Up up slot)) = joined (slot_in w s slot (frame_above w s up (Some p.frame)))
-at_spot w s p name (Some InPrelude) = option_and_then (λ q. global_of name q.globals) (option_and_then (published_of w) w.prelude)
-at_spot w s p name (Some Outermost) = global_of name outermost
+at_spot w s p name (Some (spot.Frame up slot)) = joined (slot_in w s slot (frame_above w s up (Some p.frame)))
+at_spot w s p name (Some spot.Prelude) = option_and_then (λ q. global_of name q.globals) (option_and_then (published_of w) w.prelude)
+at_spot w s p name (Some spot.Outermost) = global_of name outermost
 at_spot w s p name None = None
 
 unfoldable pub read_spot : Tables → Setting → Place → Name → Action Value
-read_spot tables w p n = seeing (λ s. found code.Unbound p.line (at_spot w s p n.text (tables.spot p.file n.position.token)))
+read_spot tables w p n = seeing (λ s. found code.Unbound p.line (at_spot w s p n.text (tables.spots p.file n.position.token)))
 
 -- a name is bound in the innermost frame, at its slot
 abbrev pub own_spot : Option Spot → Option ℕ
-own_spot (Some (Up zero slot)) = Some slot
+own_spot (Some (spot.Frame zero slot)) = Some slot
 own_spot _ = None
 
 unfoldable pub bind_spot : Tables → Place → Name → Value → Action (Unit {0})
-bind_spot tables p n v = bind_at p.frame v (own_spot (tables.spot p.file n.position.token))
+bind_spot tables p n v = bind_at p.frame v (own_spot (tables.spots p.file n.position.token))
 
 -- a new frame has the slots of its block, all of them unbound
 unfoldable pub new_slots : Tables → ℕ → ℕ → Option Value → Action Value
@@ -69,37 +68,15 @@ new_slots tables file number parent = make (cell.Frame (record { file = file; bl
 abbrev pub by_places : Tables → Setting → Variables
 by_places tables w = record { read = read_spot tables w; bind = bind_spot tables; frame = new_slots tables }
 
--- the spot of a name in a chain of blocks, the innermost first: in the first block that binds it, else in the prelude, else in the outermost block
-abbrev pub outside_spot : Setting → ℕ → List ℕ → Option ℕ → Spot
-outside_spot w file name None = Outermost
-outside_spot w file name (Some prelude) = if not (nat_eq prelude file) && prelude_has w name prelude then InPrelude else Outermost
-
-abbrev pub or_further : ℕ → Option ℕ → Spot → Spot
-or_further up (Some slot) further = Up up slot
-or_further up None further = further
-
-abbrev pub spot_in : Setting → ℕ → List ℕ → ℕ → List ℕ → Spot
-spot_in w file name up [] = outside_spot w file name w.prelude
-spot_in w file name up (b ∷ bs) = or_further up (slot_of name (names_of w file b)) (spot_in w file name (up + 1) bs)
-
--- a use of a name stands in no more blocks than a chain has frames, and has the right spot
-abbrev pub IsPlaced : Tables → Setting → ℕ → Use → Type 0
-IsPlaced tables w file (Named n chain) = (length chain ≤ chain_length) × (tables.spot file n.position.token ≡ Some (spot_in w file n.text 0 chain))
-IsPlaced tables w file (Defined number chain) = Unit {0}
-
-abbrev pub AllPlaced : Tables → Setting → ℕ → List Use → Type 0
-AllPlaced tables w file [] = Unit {0}
-AllPlaced tables w file (u ∷ us) = IsPlaced tables w file u × AllPlaced tables w file us
-
--- no number stands twice
-abbrev pub AllDiffer : List ℕ → Type 0
-AllDiffer [] = Unit {0}
-AllDiffer (n ∷ ns) = (Contains ns n → ⊥) × AllDiffer ns
+-- the names of the prelude's block, for a file that is not the prelude itself
+abbrev pub outer_names : Setting → ℕ → Option ℕ → Option Names
+outer_names w file None = None
+outer_names w file (Some prelude) = if nat_eq prelude file then None else Some (names_of w prelude 0)
 
 -- the tables are right for a file: no two of its definitions have one number, each name that its statements use has the right spot, and each block as many slots as names
 pub record IsResolved (tables : Tables) (w : Setting) (file : ℕ) (statements : List Statement) : Type 0 where
   pub numbers : AllDiffer (map (λ d. d.number) (outline statements).definitions)
-  pub names : AllPlaced tables w file (uses statements)
+  pub names : AllPlaced (tables.spots file) (blocks_of w file) (outer_names w file w.prelude) (uses statements)
   pub blocks : (number : ℕ) → tables.slots file number ≡ length (names_of w file number)
 
 -- a frame fits a block: it is that block's, and has a slot for each of its names
@@ -112,6 +89,13 @@ pub record FitsBlock (w : Setting) (file number : ℕ) (f : Frame) : Type 0 wher
 abbrev pub FitsChain : Setting → State → ℕ → List ℕ → Option Value → Type 0
 FitsChain w s file [] frame = frame ≡ None
 FitsChain w s file (b ∷ bs) frame = (v : Value) × (f : Frame) × (frame ≡ Some v) × (seen w s v ≡ Some (cell.Frame f)) × FitsBlock w file b f × FitsChain w s file bs f.parent
+
+-- The law: in every chain of frames that fits the blocks around a name, the name is read and bound by its place as it is by its name.
+abbrev pub SpotsMeanNames : Type 0
+SpotsMeanNames = (tables : Tables) (w : Setting) (p : Place) (n : Name) (chain : List ℕ) (s : State)
+    → IsPlaced (tables.spots p.file) (blocks_of w p.file) (outer_names w p.file w.prelude) (Named n chain)
+    → FitsChain w s p.file chain (Some p.frame)
+    → (read_spot tables w p n s ≡ read_name w p n s) × ((v : Value) → bind_spot tables p n v s ≡ bind_name w p n v s)
 
 -- these are the statements of a file
 abbrev pub Stands : Trees → ℕ → List Statement → Type 0
@@ -129,11 +113,32 @@ pub record FitsFunction (trees : Trees) (w : Setting) (s : State) (f : Function)
 abbrev pub AllFit : Trees → Setting → State → Type 0
 AllFit trees w s = (v : Value) (f : Function) → seen w s v ≡ Some (cell.Func f) → FitsFunction trees w s f
 
--- The law that the layer of the evaluator owes: where the tables are right for all files, and the functions of the published modules fit, the run of a file by places is its run by names.
+-- all functions fit behind a run that ends well
+abbrev pub FitBehind : Trees → Setting → Outcome Ended → Type 0
+FitBehind trees w (Done e t) = AllFit trees w t
+FitBehind trees w (Failed f lines) = Unit {0}
+
+-- The law: where the tables are right for all files, and the functions of the published modules fit, the run of a file by places is its run by names, and behind it all functions fit.
 abbrev pub PlacesMeanNames : Type 0
 PlacesMeanNames = (tables : Tables) (trees : Trees) (w : Setting) (statements : List Statement) (steps : ℕ)
     → w.outlines ≡ outlines trees
     → Stands trees w.home statements
     → ((file : ℕ) (ss : List Statement) → Stands trees file ss → IsResolved tables w file ss)
     → AllFit trees w (start w steps)
-    → local_of w (run_file (by_places tables w) w most_levels statements (start w steps)) ≡ local w steps statements
+    → (run_file (by_places tables w) w most_levels statements (start w steps) ≡ run_file (by_names w) w most_levels statements (start w steps))
+    × FitBehind trees w (run_file (by_names w) w most_levels statements (start w steps))
+
+-- a module whose run ended so, seen by another one before its run: its cells stand on the shelf under its file, and so do all modules that it saw; it is another module, and did not see that one
+pub record Loaded (u : Setting) (t : State) (w : Setting) : Type 0 where
+  pub outlines : u.outlines ≡ w.outlines
+  pub home : t.store.home ≡ u.home
+  pub own : (p : Published) × (published_of w u.home ≡ Some p) × (p.cells ≡ t.store.cells)
+  pub others : (file : ℕ) (p : Published) → published_of u file ≡ Some p → published_of w file ≡ Some p
+  pub apart : w.home ≡ u.home → ⊥
+  pub unseen : published_of u w.home ≡ None
+
+-- The law: where each function that a module sees before its run was seen by a module that it loaded, behind whose run all functions fit, there all functions fit before its run.
+abbrev pub LoadsFit : Type 0
+LoadsFit = (trees : Trees) (w : Setting) (steps : ℕ)
+    → ((v : Value) (f : Function) → seen w (start w steps) v ≡ Some (cell.Func f) → (u : Setting) × (t : State) × Loaded u t w × AllFit trees u t × (seen u t v ≡ Some (cell.Func f)))
+    → AllFit trees w (start w steps)

@@ -19,7 +19,7 @@ use Rattle.star_eval.specs.declared.fault.Code.TheVariants as code
 use Rattle.star_eval.specs.declared.place.Place.{Place}
 use Rattle.star_eval.specs.declared.place.Flow.{Flow}
 use Rattle.star_eval.specs.declared.place.Flow.TheVariants as flow
-use Rattle.star_eval.specs.Syntax.{StatementForm, TargetForm, target}
+use Rattle.star_scope.specs.Syntax.{StatementForm, TargetForm, target}
 use Rattle.star_eval.specs.Run.{Action, ◌>>=◌, give, fail, found, all_of}
 use Rattle.star_eval.specs.Program.{Setting, Variables, file_of, published_of}
 use Rattle.star_eval.specs.Values.{Content, Held, with_content, take_item, iterate, leave, is_true, guard}

@@ -6,7 +6,7 @@ use Rattle.star_syntax.specs.declared.tree.Expression.{Expression}
 use Rattle.star_syntax.specs.declared.tree.Argument.TheOpen as tree
 use Rattle.star_eval.specs.declared.fault.Code.TheVariants as code
 use Rattle.star_eval.specs.declared.place.Place.{Place}
-use Rattle.star_eval.specs.Syntax.{TargetForm, target}
+use Rattle.star_scope.specs.Syntax.{TargetForm, target}
 use Rattle.star_eval.specs.Run.{Action, ◌>>=◌, give, fail, check}
 use Rattle.star_eval.specs.Program.{Setting, Variables}
 use Rattle.star_eval.specs.Values.{take_all}

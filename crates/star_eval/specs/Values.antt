@@ -1,5 +1,5 @@
 -- Values in a run: what they hold, new ones with their payments, the items of iterables, and what visits them.
-use Rattle.std.specs.Prelude.{ℕ, zero, suc, ◌+◌, Bool, List, [], length, Option, Some, None, slice_get, ℤ, pos, ◌+ℤ◌, ◌*ℤ◌, codes, Result, Ok, Err}
+use Rattle.std.specs.Prelude.{ℕ, zero, suc, ◌+◌, nat_lt, if◌then◌else◌, Bool, List, [], length, Option, Some, None, slice_get, ℤ, pos, ◌+ℤ◌, ◌*ℤ◌, codes, Result, Ok, Err}
 use Rattle.std.specs.Option.{option_map}
 use Rattle.std.specs.declared.cmp.Ordering.{Ordering}
 use Rattle.star_store.specs.declared.values.Value.{Value}
@@ -12,6 +12,7 @@ use Rattle.star_store.specs.declared.fault.StoreFault.{StoreFault}
 use Rattle.star_store.specs.declared.fault.StoreFault.TheVariants as refused
 use Rattle.star_store.specs.Store.{Store, opened, closed}
 use Rattle.star_store.specs.Spend.{Spend, Lacks, answer, visited}
+use Rattle.star_store.specs.declared.range.Range.{Range}
 use Rattle.star_store.specs.Range.{range_length}
 use Rattle.star_store.specs.Arithmetic.{checked}
 use Rattle.star_store.specs.Truth.{truth}
@@ -112,12 +113,16 @@ count_in (Held (cell.Dict es)) = Some (length es)
 count_in (Held (cell.Range r)) = Some (range_length r)
 count_in _ = None
 
+-- an int of a range
+abbrev pub range_item : Range → ℕ → Option Value
+range_item r i = if nat_lt i (range_length r) then Some (value.Int (r.start +ℤ pos i *ℤ r.step)) else None
+
 -- its item at a place
 abbrev pub item_in : Content → ℕ → Option Value
 item_in (Held (cell.Tuple xs)) i = slice_get xs i
 item_in (Held (cell.List xs)) i = slice_get xs i
 item_in (Held (cell.Dict es)) i = option_map (λ e. e.0) (slice_get es i)
-item_in (Held (cell.Range r)) i = Some (value.Int (r.start +ℤ pos i *ℤ r.step))
+item_in (Held (cell.Range r)) i = range_item r i
 item_in _ i = None
 
 -- the number of items of an iterable: else `type`

@@ -1,6 +1,6 @@
 -- Variables by their names: a frame is a finite map from the names of its block to a value, or to nothing where the name is unbound.
 use Rattle.std.specs.Prelude.{ℕ, zero, suc, nat_eq, Bool, true, false, not, ◌&&◌, List, [], ◌∷◌, length, replicate, map, Option, Some, None, slice_get, if◌then◌else◌, codes}
-use Rattle.std.specs.List.{position, list_any}
+use Rattle.std.specs.List.{list_any}
 use Rattle.std.specs.Option.{option_and_then}
 use Rattle.star_store.specs.declared.values.Value.{Value}
 use Rattle.star_store.specs.declared.values.Value.TheVariants as value
@@ -15,16 +15,10 @@ use Rattle.star_syntax.specs.declared.tree.Name.{Name}
 use Rattle.star_eval.specs.declared.fault.Code.TheVariants as code
 use Rattle.star_eval.specs.declared.place.Place.{Place}
 use Rattle.star_eval.specs.Run.{State, Action, give, found, seeing, storing, make}
-use Rattle.star_eval.specs.Program.{Setting, Variables, same_name, names_of, published_of, seen}
-
--- the most frames of a chain: the file's own; one for each of the 100 that the nesting weight lets stand in one another; and
--- one for a `def` on one line, which the `;` behind it forgets
-abbrev pub chain_length : ℕ
-chain_length = 102
-
--- the place of a name among the names of a block
-abbrev pub slot_of : List ℕ → List (List ℕ) → Option ℕ
-slot_of name names = position (same_name name) names
+use Rattle.star_scope.specs.Loads.{is_private}
+use Rattle.star_scope.specs.Names.{same_name, slot_of}
+use Rattle.star_scope.specs.Places.{chain_length}
+use Rattle.star_eval.specs.Program.{Setting, Variables, names_of, published_of, seen}
 
 -- what a frame has under a name: nothing where its block does not bind the name, nothing inside where the name is unbound
 abbrev pub in_frame : Setting → List ℕ → Frame → Option (Option Value)
@@ -51,11 +45,6 @@ built_ins = built_in.Abs ∷ built_in.All ∷ built_in.Any ∷ built_in.Bool ∷
 -- the names of the outermost block, with their values
 abbrev pub outermost : List (List ℕ × Value)
 outermost = (codes "None", value.NoneValue) ∷ (codes "True", value.Bool true) ∷ (codes "False", value.Bool false) ∷ map (λ b. (built_in_name b, value.Builtin b)) built_ins
-
--- a name that begins with `_`
-abbrev pub is_private : List ℕ → Bool
-is_private [] = false
-is_private (b ∷ bs) = nat_eq b 95
 
 -- whether the prelude's block has a name: its file's own block binds it, and it is not private
 abbrev pub prelude_has : Setting → List ℕ → ℕ → Bool

@@ -1,6 +1,19 @@
-//! What a program means, as definitions, and laws of it.
+//! What a program means, as definitions, and laws of it; and what runs it.
 #![tactic(auto)]
 
+pub mod comparisons;
+pub mod content;
+mod cuts;
 pub mod fault;
 pub mod law;
+pub mod machine;
+pub mod operators;
+mod percent;
 pub mod place;
+mod search;
+pub mod setting;
+pub mod slices;
+pub mod subscript;
+#[cfg(test)]
+mod tests;
+mod texts;
