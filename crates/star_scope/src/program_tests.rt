@@ -4,7 +4,7 @@ use crate::error::ScopeFault;
 use crate::program::{Prelude, Program, resolve};
 use star_label::files::Files;
 use star_label::label::Label;
-use star_syntax::parse;
+use star_parser::parse;
 use star_syntax::tree::Tree;
 use std::alloc::{AllocError, Global};
 use std::collections::BTreeMap;

@@ -6,7 +6,7 @@ use crate::loads::find_loads;
 use crate::placement::misplaced;
 use star_label::files::Files;
 use star_label::label::Label;
-use star_syntax::parse;
+use star_parser::parse;
 use star_syntax::tree::Form;
 use std::alloc::{AllocError, Global};
 use std::collections::BTreeMap;

@@ -7,7 +7,7 @@ use crate::law::spots_lead;
 use crate::spot::Spot;
 use crate::spots::Spots;
 use crate::uses::place_names;
-use star_syntax::parse;
+use star_parser::parse;
 use std::alloc::{AllocError, Global};
 use std::process::Abort;
 use std::test::Fail;

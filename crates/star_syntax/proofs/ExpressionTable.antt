@@ -1,10 +1,10 @@
 -- Expressions come back to themselves only behind a leaf or at a lower rank, and their rounds take leaves.
-use Rattle.std.proofs.Common.{◌≡◌, ℕ, zero, suc, ◌+◌, ◌≤◌, true, refl, arith}
+use Rattle.std.proofs.Common.{◌≡◌, ℕ, zero, suc, ◌≤◌, true, refl, arith}
 use Rattle.star_syntax.specs.declared.level.Level.{Level}
 use Rattle.star_syntax.specs.declared.level.Level.TheVariants as levels
 use Rattle.star_syntax.specs.Grammar.{level}
 use Rattle.star_syntax.proofs.Soundness.{cost, safe}
-use Rattle.star_syntax.specs.Expressions.{next_test, list_of_tests, tests, next_primary, list_of_primaries, primaries, targets, for_clause, if_clause, next_clause, further_clauses, all_clauses, inside, parentheses, further_tests, behind_element, elements, list_display, entry, next_entry, further_entries, behind_entry, entries, dict_display, atom, operand, named, argument, next_argument, list_of_arguments, ordered_arguments, given, default, named_parameter, star, star_star, parameter, next_parameter, list_of_parameters, ordered_parameters, lambda_parameters, lambda, attribute, call, stride, stop_and_stride, behind_start, from_test, in_brackets, subscript, suffix, primary, signed, unary, climb, bit_or, comparator, compared, comparison, denied, negation, next_negation, conjunction, next_conjunction, disjunction, choice, conditional, test}
+use Rattle.star_syntax.specs.Expressions.{next_test, list_of_tests, next_primary, list_of_primaries, primaries, targets, for_clause, if_clause, next_clause, further_clauses, all_clauses, inside, parentheses, further_tests, behind_element, elements, list_display, entry, next_entry, further_entries, behind_entry, entries, dict_display, atom, operand, named, argument, next_argument, list_of_arguments, ordered_arguments, given, default, named_parameter, star, star_star, parameter, next_parameter, list_of_parameters, ordered_parameters, lambda_parameters, lambda, attribute, call, stride, stop_and_stride, behind_start, from_test, in_brackets, subscript, suffix, primary, signed, unary, climb, bit_or, comparator, compared, comparison, denied, negation, next_negation, conjunction, next_conjunction, disjunction, choice, conditional, any_test}
 use Rattle.star_syntax.specs.Language.{rule}
 use Rattle.star_syntax.proofs.Ranks.{rank}
 
@@ -130,12 +130,12 @@ lambda-cost : cost lambda ≡ 3
 unfolding lambda lambda_parameters ordered_parameters list_of_parameters parameter named_parameter star star_star default
 lambda-cost = refl
 
-test-cost : cost test ≡ 1
-unfolding test conditional choice
+test-cost : cost any_test ≡ 1
+unfolding any_test conditional choice
 test-cost = simp (lambda-cost, disjunction-cost)
 
-test-safe : (m : ℕ) → safe rank 2 m test ≡ true
-unfolding test conditional choice
+test-safe : (m : ℕ) → safe rank 2 m any_test ≡ true
+unfolding any_test conditional choice
 test-safe m = simp (lambda-safe, disjunction-safe, disjunction-cost)
 
 pub level-costs : (l : Level) → 1 ≤ cost (rule (level l))

@@ -18,7 +18,7 @@ use Rattle.star_syntax.specs.Sorts.{Val, both, maybe, list}
 use Rattle.star_syntax.specs.Sorts as sorts
 use Rattle.star_syntax.specs.Grammar.{level, the, Knot}
 use Rattle.star_syntax.specs.Keeps.{keep, arguments_in_order, parameters_in_order}
-use Rattle.star_syntax.specs.Expressions.{StopAndStride, atom_of, tuple_unless_one, parentheses_of, list_of, dict_of, comparison_of, conditional_of, subscript_of, with_suffix, parameter_of, star_of, next_test, list_of_tests, tests, next_primary, list_of_primaries, primaries, targets, for_clause, if_clause, next_clause, further_clauses, all_clauses, inside, parentheses, further_tests, behind_element, elements, list_display, entry, next_entry, further_entries, behind_entry, entries, dict_display, atom, operand, named, argument, next_argument, list_of_arguments, ordered_arguments, given, default, named_parameter, star, star_star, parameter, next_parameter, list_of_parameters, ordered_parameters, taken, parameters_in_parentheses, lambda_parameters, lambda, attribute, call, stride, stop_and_stride, behind_start, from_test, in_brackets, subscript, suffix, primary, signed, unary, climb, bit_or, compared, comparison, denied, negation, next_negation, conjunction, next_conjunction, disjunction, choice, conditional, test}
+use Rattle.star_syntax.specs.Expressions.{StopAndStride, atom_of, tuple_unless_one, parentheses_of, list_of, dict_of, comparison_of, conditional_of, subscript_of, with_suffix, parameter_of, star_of, next_test, list_of_tests, tests, next_primary, list_of_primaries, primaries, targets, for_clause, if_clause, next_clause, further_clauses, all_clauses, inside, parentheses, further_tests, behind_element, elements, list_display, entry, next_entry, further_entries, behind_entry, entries, dict_display, atom, operand, named, argument, next_argument, list_of_arguments, ordered_arguments, given, default, named_parameter, star, star_star, parameter, next_parameter, list_of_parameters, ordered_parameters, taken, parameters_in_parentheses, lambda_parameters, lambda, attribute, call, stride, stop_and_stride, behind_start, from_test, in_brackets, subscript, suffix, primary, signed, unary, climb, bit_or, compared, comparison, denied, negation, next_negation, conjunction, next_conjunction, disjunction, choice, conditional, any_test}
 use Rattle.star_syntax.proofs.Kept.{OfExpression, OfArgument, OfParameter, OfTarget, OfClause, OfClauses, OfEntry, Given, Taken, of-Name, of-Int, of-Text, of-Tuple, of-List, of-Dict, of-ListComprehension, of-DictComprehension, of-Unary, of-Binary, of-Compare, of-And, of-Or, of-Conditional, of-Lambda, of-Call, of-Attribute, of-Index, of-Slice, of-Positional, of-Named, of-StarArgument, of-StarStarArgument, of-Plain, of-Default, of-StarParameter, of-BareStar, of-StarStarParameter, of-For, of-If, of-clauses, of-entry}
 use Rattle.star_syntax.proofs.Makes.{Makes, Each, Maybe, nothing-found, same_some, makes-any, makes-one, makes-seq, makes-alt, makes-act, makes-when, makes-fold, makes-after, makes-before, makes-opt, makes-list, makes-rep}
 use Rattle.star_syntax.proofs.TargetsInOrder.{target-kept}
@@ -242,6 +242,6 @@ module _ (k : Knot) (m : (l : Level) → Makes k sorts.expression (the (level l)
   unfolding disjunction next_conjunction
   disjunction' = makes-fold k of-Or conjunction' (makes-after k conjunction')
 
-  pub test' : Makes k _ test OfExpression
-  unfolding test conditional choice
+  pub test' : Makes k _ any_test OfExpression
+  unfolding any_test conditional choice
   test' = makes-alt k lambda' (makes-act k a-conditional (makes-seq k disjunction' (makes-opt k (makes-after k (makes-seq k disjunction' (makes-after k (m levels.Test)))))))

@@ -13,7 +13,7 @@ use Rattle.star_syntax.specs.declared.tree.BinaryOperator.TheVariants as binarie
 use Rattle.star_syntax.specs.declared.tree.Expression.{Expression}
 use Rattle.star_syntax.specs.declared.tree.Expression.TheVariants as e
 use Rattle.star_syntax.specs.Grammar.{level, the, Reads, hit, miss, free, seq-some, seq-first, alt-second, fold-some, act-none, act-some, itself, stop, more}
-use Rattle.star_syntax.specs.Expressions.{same_sign, same_keyword, is_keyword, unary_word, binary_word, binary_operator, operand, lambda, suffix, primary, signed, unary, climb, bit_or, comparator, compared, comparison, denied, negation, next_negation, conjunction, next_conjunction, disjunction, choice, conditional, test}
+use Rattle.star_syntax.specs.Expressions.{same_sign, same_keyword, is_keyword, unary_word, binary_word, binary_operator, operand, lambda, suffix, primary, signed, unary, climb, bit_or, comparator, compared, comparison, denied, negation, next_negation, conjunction, next_conjunction, disjunction, choice, conditional, any_test}
 use Rattle.star_syntax.specs.Language.{rule}
 use Rattle.star_syntax.specs.Written.{IsBinary, times, divided, modulo, plus, minus, to-left, to-right, bits-and, bits-xor, bits-or}
 use Rattle.star_syntax.proofs.Quiet.{Quiet, unplaced}
@@ -99,7 +99,7 @@ module _ {ts us : List Leaf} {x : Expression} where
   conditional-of d i = act-some {x = (x, None)} (seq-some d (alt-second (act-none i) (act-some free)))
 
   pub test-of : Reads rule _ lambda ts None → Reads rule _ conditional ts (Some (x, us)) → Reads rule _ (the (level levels.Test)) ts (Some (x, us))
-  unfolding test
+  unfolding any_test
   test-of l d = itself {r = level levels.Test} (alt-second l d)
 
   -- from a level to the loosest

@@ -19,5 +19,4 @@ pub mod StatementTable
 pub mod StatementsInOrder
 pub mod Targets
 pub mod TargetsInOrder
-pub mod Weights
 pub mod Writing

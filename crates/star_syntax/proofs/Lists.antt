@@ -24,7 +24,7 @@ use Rattle.star_syntax.specs.Sorts.{Sort, Val}
 use Rattle.star_syntax.specs.Sorts as sorts
 use Rattle.star_syntax.specs.Grammar.{level, G, the, Reads, hit, miss, free, seq-some, seq-first, alt-first, alt-second, fold-none, fold-some, act-none, act-some, when-none, when-some, itself, Rounds, stop, more}
 use Rattle.star_syntax.specs.Keeps.{keep, arguments_in_order, parameters_in_order, target_of}
-use Rattle.star_syntax.specs.Expressions.{same_sign, same_keyword, snoc, opt, after, sign_, a_test, name, next_primary, list_of_primaries, primaries, targets, for_clause, if_clause, next_clause, further_clauses, all_clauses, parentheses, behind_element, elements, list_display, entry, next_entry, further_entries, behind_entry, entries, dict_display, atom, operand, named, argument, next_argument, list_of_arguments, ordered_arguments, given, default, named_parameter, star, star_star, parameter, next_parameter, list_of_parameters, ordered_parameters, lambda_parameters, lambda, attribute, call, stride, stop_and_stride, behind_start, from_test, in_brackets, subscript, suffix, primary, disjunction, test}
+use Rattle.star_syntax.specs.Expressions.{same_sign, same_keyword, snoc, opt, after, sign_, a_test, name, next_primary, list_of_primaries, primaries, targets, for_clause, if_clause, next_clause, further_clauses, all_clauses, parentheses, behind_element, elements, list_display, entry, next_entry, further_entries, behind_entry, entries, dict_display, atom, operand, named, argument, next_argument, list_of_arguments, ordered_arguments, given, default, named_parameter, star, star_star, parameter, next_parameter, list_of_parameters, ordered_parameters, lambda_parameters, lambda, attribute, call, stride, stop_and_stride, behind_start, from_test, in_brackets, subscript, suffix, primary, disjunction, any_test}
 use Rattle.star_syntax.specs.Language.{rule}
 use Rattle.star_syntax.specs.Written.{mark, spelt, called}
 use Rattle.star_syntax.proofs.Quiet.{BeginsNone, test-none}
@@ -253,5 +253,5 @@ taken-of {y = y} {ys = ys} is d f = alt-first (when-some {x = ys} (kept paramete
 
 pub lambda-of : {ts vs us : List Leaf} {x : Expression} {ys : List Parameter} (p q : Position) → Reads rule _ lambda_parameters ts (Some (ys, mark q s.Colon ∷ vs)) → Reads rule _ (the (level levels.Test)) vs (Some (x, us))
     → Reads rule _ (the (level levels.Test)) (spelt p k.Lambda ∷ ts) (Some (e.Lambda p ys x, us))
-unfolding test lambda same_sign same_keyword
+unfolding any_test lambda same_sign same_keyword
 lambda-of {x = x} {ys = ys} p q d f = itself {r = level levels.Test} (alt-first (act-some {x = (p, (ys, x))} (seq-some (hit refl) (seq-some d (act-some {x = (tt, x)} (seq-some (hit refl) f))))))

@@ -7,7 +7,7 @@ use Rattle.star_syntax.specs.declared.leaf.Leaf.{Leaf}
 use Rattle.star_syntax.specs.declared.level.Level.TheVariants as levels
 use Rattle.star_syntax.specs.declared.tree.Position.{Position}
 use Rattle.star_syntax.specs.Grammar.{level, the, Reads, miss, over, seq-first, alt-second, fold-none, act-none, itself}
-use Rattle.star_syntax.specs.Expressions.{same_sign, same_keyword, is_sign, is_keyword, unary_word, binary_word, comparator_word, atom_of, placed_at, binary_operator, parentheses, list_display, dict_display, atom, operand, lambda, attribute, call, subscript, suffix, primary, signed, unary, climb, bit_or, comparator, comparison, denied, negation, next_negation, conjunction, next_conjunction, disjunction, choice, conditional, test}
+use Rattle.star_syntax.specs.Expressions.{same_sign, same_keyword, is_sign, is_keyword, unary_word, binary_word, comparator_word, atom_of, placed_at, binary_operator, parentheses, list_display, dict_display, atom, operand, lambda, attribute, call, subscript, suffix, primary, signed, unary, climb, bit_or, comparator, comparison, denied, negation, next_negation, conjunction, next_conjunction, disjunction, choice, conditional, any_test}
 use Rattle.star_syntax.specs.Language.{rule}
 use Rattle.star_syntax.specs.Written.{EndsBefore, right-paren, right-bracket, right-brace, comma, colon, semicolon, assign, plus-assign, minus-assign, star-assign, slashes-assign, percent-assign, ampersand-assign, bar-assign, caret-assign, left-assign, right-assign, new-line, for', else', Stops, nothing-more, before}
 
@@ -153,5 +153,5 @@ module _ (p : Position) (w : Word) (ts : List Leaf) (n : BeginsNone w) where
   disjunction-none = fold-none (fold-none negation-none)
 
   pub test-none : Reads rule _ (the (level levels.Test)) (record { word = w; position = p } ∷ ts) None
-  unfolding test lambda conditional
+  unfolding any_test lambda conditional
   test-none = itself {r = level levels.Test} (alt-second (act-none (seq-first (miss (unplaced p (is_keyword k.Lambda w) n.lambda')))) (act-none (seq-first disjunction-none)))

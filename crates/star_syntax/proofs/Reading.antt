@@ -1,10 +1,9 @@
 -- What is read is spelled so; reading is computed; there is one reading.
-use Rattle.std.proofs.Common.{◌≡◌, ℕ, zero, suc, ◌+◌, ◌*◌, ◌-◌, ◌<◌, ◌≤◌, Bool, true, false, ◌&&◌, List, [], ◌∷◌, ◌++◌, length, Option, Some, None, refl, ap, sym, ◌∙◌, subst, arith, append_assoc, length-append, min}
-use Rattle.std.specs.Prelude.{nat_le, nat_lt, if◌then◌else◌}
+use Rattle.std.proofs.Common.{◌≡◌, ℕ, zero, suc, ◌+◌, ◌*◌, ◌<◌, ◌≤◌, Bool, true, false, ◌&&◌, List, [], ◌∷◌, ◌++◌, length, Option, Some, None, refl, ap, sym, ◌∙◌, subst, arith, append_assoc, length-append}
+use Rattle.std.specs.Prelude.{nat_le, nat_lt}
 use Rattle.std.proofs.Math.Nat.{mul-le-mul_right}
 use borrow.Author.Tests.{ltb-true, leb-true}
 use Rattle.star_syntax.specs.declared.leaf.Leaf.{Leaf}
-use Rattle.star_syntax.specs.declared.tree.Position.{Position}
 use Rattle.star_syntax.specs.Sorts.{Sort, both, Val}
 use Rattle.star_syntax.specs.Sorts as sorts
 use Rattle.star_syntax.specs.Grammar.{Rule, sort, G, one, empty, seq, alt, fold, act, when, placed, the, Answer, Spells, one', empty', seq', left', right', start', round', act', when', placed', the', Reads, hit, miss, over, free, seq-some, seq-first, seq-second, alt-first, alt-second, fold-none, fold-some, act-none, act-some, when-none, when-broken, when-some, placed-none, placed-some, itself, Rounds, stop, more, step, run, rounds, Knot, first, before_rest, located, and_then, or_else}

@@ -1,5 +1,5 @@
 -- The grammar of expressions: a line for each production, which stands above it.
-use Rattle.std.specs.Prelude.{ℕ, zero, suc, ◌==◌, Bool, true, false, if◌then◌else◌, List, [], ◌∷◌, ◌++◌, Option, Some, None}
+use Rattle.std.specs.Prelude.{ℕ, zero, suc, ◌==◌, Bool, if◌then◌else◌, List, [], ◌∷◌, ◌++◌, Option, Some, None}
 use denote.Enum.Bare.{sameb}
 use Rattle.star_lex.specs.contracts.token.Sign.{the_type as sign_type}
 use Rattle.star_lex.specs.contracts.token.Keyword.{the_type as keyword_type}
@@ -9,7 +9,6 @@ use Rattle.star_lex.specs.declared.token.Keyword.{Keyword}
 use Rattle.star_lex.specs.declared.token.Keyword.TheVariants as k
 use Rattle.star_syntax.specs.declared.leaf.Word.{Word}
 use Rattle.star_syntax.specs.declared.leaf.Word.TheVariants as word
-use Rattle.star_syntax.specs.declared.leaf.Leaf.{Leaf}
 use Rattle.star_syntax.specs.declared.level.Level.TheVariants as levels
 use Rattle.star_syntax.specs.declared.level.Suffix.{Suffix}
 use Rattle.star_syntax.specs.declared.level.Suffix.TheVariants as suffixes
@@ -597,5 +596,5 @@ unfoldable pub conditional : G sorts.expression
 conditional = act conditional_of (seq disjunction (opt choice))
 
 -- Test = Or ['if' Or 'else' Test] | 'lambda' [Params] ':' Test
-unfoldable pub test : G sorts.expression
-test = alt lambda conditional
+unfoldable pub any_test : G sorts.expression
+any_test = alt lambda conditional

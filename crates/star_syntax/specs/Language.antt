@@ -11,11 +11,11 @@ use Rattle.star_syntax.specs.declared.tree.Statement.{Statement}
 use Rattle.star_syntax.specs.Sorts.{Sort, Val, list}
 use Rattle.star_syntax.specs.Sorts as sorts
 use Rattle.star_syntax.specs.Grammar.{Rule, level, statement, sort, G, Answer, run, step, Reads, Spells}
-use Rattle.star_syntax.specs.Expressions.{test, disjunction, negation, unary, primary}
+use Rattle.star_syntax.specs.Expressions.{any_test, disjunction, negation, unary, primary}
 use Rattle.star_syntax.specs.Statements.{one_statement, file}
 
 abbrev pub rule_of_level : Level → G sorts.expression
-rule_of_level levels.Test = test
+rule_of_level levels.Test = any_test
 rule_of_level levels.Or = disjunction
 rule_of_level levels.Negation = negation
 rule_of_level levels.Unary = unary

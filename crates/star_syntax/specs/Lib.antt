@@ -6,8 +6,6 @@ pub mod Statements
 pub mod Language
 pub mod Leaves
 pub mod Names
-pub mod Nesting
-pub mod Sources
 pub mod Laws
 pub mod Written
 pub mod InOrder

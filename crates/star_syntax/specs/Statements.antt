@@ -1,11 +1,10 @@
 -- The grammar of statements: a line for each production, which stands above it.
-use Rattle.std.specs.Prelude.{if◌then◌else◌, List, [], ◌∷◌, ◌++◌, Option, Some, None}
+use Rattle.std.specs.Prelude.{if◌then◌else◌, List, [], ◌++◌, Option, Some, None}
 use Rattle.star_lex.specs.declared.token.Sign.{Sign}
 use Rattle.star_lex.specs.declared.token.Sign.TheVariants as s
 use Rattle.star_lex.specs.declared.token.Keyword.TheVariants as k
 use Rattle.star_syntax.specs.declared.leaf.Word.{Word}
 use Rattle.star_syntax.specs.declared.leaf.Word.TheVariants as word
-use Rattle.star_syntax.specs.declared.leaf.Leaf.{Leaf}
 use Rattle.star_syntax.specs.declared.tree.Position.{Position}
 use Rattle.star_syntax.specs.declared.tree.Name.{Name}
 use Rattle.star_syntax.specs.declared.tree.Literal.{Literal}
@@ -24,7 +23,7 @@ use Rattle.star_syntax.specs.Sorts.{Sort, Val, both, maybe, list}
 use Rattle.star_syntax.specs.Sorts as sorts
 use Rattle.star_syntax.specs.Grammar.{statement, G, one, empty, seq, alt, fold, act, when, placed, the}
 use Rattle.star_syntax.specs.Keeps.{target_of, augmented_of}
-use Rattle.star_syntax.specs.Expressions.{left_of, none_of, nil_of, single, snoc, opt, rep, after, before, sign_, keyword_, name, a_test, tests, targets, parameters_in_parentheses}
+use Rattle.star_syntax.specs.Expressions.{none_of, nil_of, single, snoc, opt, rep, after, before, sign_, keyword_, name, a_test, tests, targets, parameters_in_parentheses}
 
 -- ---- leaves
 

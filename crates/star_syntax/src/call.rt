@@ -109,7 +109,7 @@ fn parameters_in_order(parameters: &[Parameter]) -> bool
     true
 }
 
-impl<F: Fn(Global, u128, Level, &[Leaf]) -> Read<'_, Expression>> Grammar<F> {
+impl<F: Fn(Global, u128, Level, &[Leaf]) -> Read<'_, Boxed<Expression>>> Grammar<F> {
     #[tactic(auto, unfolding(crate::specs::Expressions::named))]
     fn named<'a>(&self, leaves: &'a [Leaf]) -> Read<'a, Argument>
         requires { Nests self.now.depth (F.pre self.now.expression) (F.post self.now.expression) }
@@ -124,11 +124,12 @@ impl<F: Fn(Global, u128, Level, &[Leaf]) -> Read<'_, Expression>> Grammar<F> {
         let Some((value, rest)) = self.nested(Level::Test, rest)? else {
             return Ok(None);
         };
+        let value = value.into_inner();
         Ok(Some((Argument::Named { name, value }, rest)))
     }
 
     /// An expression behind a sign.
-    fn after_sign<'a>(&self, before: Sign, leaves: &'a [Leaf]) -> Read<'a, Expression>
+    fn after_sign<'a>(&self, before: Sign, leaves: &'a [Leaf]) -> Read<'a, Boxed<Expression>>
         requires { Nests self.now.depth (F.pre self.now.expression) (F.post self.now.expression) }
         ensures { Gives (reads self.now.depth (spec.after (spec.sign_ before) spec.a_test) leaves.now) result }
     {
@@ -147,13 +148,13 @@ impl<F: Fn(Global, u128, Level, &[Leaf]) -> Read<'_, Expression>> Grammar<F> {
             return Ok(Some(found));
         }
         if let Some((value, rest)) = self.after_sign(Sign::Star, leaves)? {
-            return Ok(Some((Argument::Star(value), rest)));
+            return Ok(Some((Argument::Star(value.into_inner()), rest)));
         }
         if let Some((value, rest)) = self.after_sign(Sign::StarStar, leaves)? {
-            return Ok(Some((Argument::StarStar(value), rest)));
+            return Ok(Some((Argument::StarStar(value.into_inner()), rest)));
         }
         match self.nested(Level::Test, leaves)? {
-            Some((value, rest)) => Ok(Some((Argument::Positional(value), rest))),
+            Some((value, rest)) => Ok(Some((Argument::Positional(value.into_inner()), rest))),
             None => Ok(None),
         }
     }
@@ -236,7 +237,7 @@ impl<F: Fn(Global, u128, Level, &[Leaf]) -> Read<'_, Expression>> Grammar<F> {
     }
 
     #[tactic(auto, unfolding(crate::specs::Expressions::default))]
-    fn default<'a>(&self, leaves: &'a [Leaf]) -> Read<'a, Expression>
+    fn default<'a>(&self, leaves: &'a [Leaf]) -> Read<'a, Boxed<Expression>>
         requires { Nests self.now.depth (F.pre self.now.expression) (F.post self.now.expression) }
         ensures { Gives (reads self.now.depth spec.default leaves.now) result }
     {
@@ -253,7 +254,10 @@ impl<F: Fn(Global, u128, Level, &[Leaf]) -> Read<'_, Expression>> Grammar<F> {
             return Ok(None);
         };
         match self.default(rest)? {
-            Some((default, rest)) => Ok(Some((Parameter::Default { name, default }, rest))),
+            Some((default, rest)) => {
+                let default = default.into_inner();
+                Ok(Some((Parameter::Default { name, default }, rest)))
+            }
             None => Ok(Some((Parameter::Plain(name), rest))),
         }
     }
@@ -389,7 +393,7 @@ impl<F: Fn(Global, u128, Level, &[Leaf]) -> Read<'_, Expression>> Grammar<F> {
     }
 
     #[tactic(auto, unfolding(crate::specs::Expressions::lambda))]
-    pub fn lambda<'a>(&self, leaves: &'a [Leaf]) -> Read<'a, Expression>
+    pub fn lambda<'a>(&self, leaves: &'a [Leaf]) -> Read<'a, Boxed<Expression>>
         requires { Nests self.now.depth (F.pre self.now.expression) (F.post self.now.expression) }
         ensures { Gives (reads self.now.depth spec.lambda leaves.now) result }
     {
@@ -405,14 +409,11 @@ impl<F: Fn(Global, u128, Level, &[Leaf]) -> Read<'_, Expression>> Grammar<F> {
         let Some((body, rest)) = self.nested(Level::Test, rest)? else {
             return Ok(None);
         };
-        let body = Boxed::new(self.alloc, body)?;
-        Ok(Some((
-            Expression::Lambda {
-                position,
-                parameters,
-                body,
-            },
-            rest,
-        )))
+        let made = Expression::Lambda {
+            position,
+            parameters,
+            body,
+        };
+        Ok(Some((Boxed::new(self.alloc, made)?, rest)))
     }
 }

@@ -1,33 +1,23 @@
 //! The readers of parentheses, displays and comprehensions.
 
-ghost use Rattle.std.specs.Prelude.{◌≡◌, ◌∷◌, IfOk};
+ghost use Rattle.std.specs.Prelude.{◌≡◌, IfOk};
 ghost use Rattle.star_syntax.specs.Expressions as spec;
 ghost use Rattle.star_syntax.specs.Language.{Gives, Nests, reads};
 
 use crate::leaf::Leaf;
 use crate::level::Level;
 use crate::make::target_of;
-use crate::reader::{Grammar, Read, keyword, sign, sign_at, tuple_unless_one};
+use crate::reader::{Grammar, Read, keyword, onto, sign, sign_at, tuple_unless_one};
 use crate::tree::{Clause, Clauses, Entry, Expression, Position, Target};
 use sqlite_items::{Boxed, Items};
 use star_lex::token::{Keyword, Sign};
 use std::alloc::{AllocError, Global};
 
 /// What stands behind the first element or entry of a display: clauses, or further ones.
-type Behind<T> = (Option<Clauses>, Items<T>);
+type Behind<T> = (Option<Boxed<Clauses>>, Items<T>);
 
 /// What stands between parentheses, and whether a comma ends it.
 type Inside = Option<(Items<Expression>, Option<()>)>;
-
-/// The first, and behind it the others.
-fn onto<T: Drop>(alloc: Global, first: T, more: Items<T>) -> Result<Items<T>, AllocError>
-    ensures { IfOk result (λ all. all ≡ first ∷ more) }
-{
-    let mut all = Items::new(alloc);
-    all.push(first)?;
-    all.append(more)?;
-    Ok(all)
-}
 
 /// The expression that parentheses hold.
 fn parentheses_of(alloc: Global, found: Inside) -> Expression
@@ -44,23 +34,27 @@ fn parentheses_of(alloc: Global, found: Inside) -> Expression
 fn list_of(
     alloc: Global,
     position: Position,
-    found: Option<(Expression, Behind<Expression>)>,
-) -> Result<Expression, AllocError>
+    found: Option<(Boxed<Expression>, Behind<Expression>)>,
+) -> Result<Boxed<Expression>, AllocError>
     ensures { IfOk result (λ made. made ≡ spec.list_of (position, found)) }
 {
     match found {
-        None => Ok(Expression::List(Items::new(alloc))),
+        None => Boxed::new(alloc, Expression::List(Items::new(alloc))),
         Some((first, behind)) => {
             let (clauses, more) = behind;
             match clauses {
-                None => Ok(Expression::List(onto(alloc, first, more)?)),
+                None => Boxed::new(
+                    alloc,
+                    Expression::List(onto(alloc, first.into_inner(), more)?),
+                ),
                 Some(clauses) => {
-                    let element = Boxed::new(alloc, first)?;
-                    Ok(Expression::ListComprehension {
+                    let clauses = clauses.into_inner();
+                    let made = Expression::ListComprehension {
                         position,
-                        element,
+                        element: first,
                         clauses,
-                    })
+                    };
+                    Boxed::new(alloc, made)
                 }
             }
         }
@@ -72,22 +66,24 @@ fn dict_of(
     alloc: Global,
     position: Position,
     found: Option<(Entry, Behind<Entry>)>,
-) -> Result<Expression, AllocError>
+) -> Result<Boxed<Expression>, AllocError>
     ensures { IfOk result (λ made. made ≡ spec.dict_of (position, found)) }
 {
     match found {
-        None => Ok(Expression::Dict(Items::new(alloc))),
+        None => Boxed::new(alloc, Expression::Dict(Items::new(alloc))),
         Some((first, behind)) => {
             let (clauses, more) = behind;
             match clauses {
-                None => Ok(Expression::Dict(onto(alloc, first, more)?)),
+                None => Boxed::new(alloc, Expression::Dict(onto(alloc, first, more)?)),
                 Some(clauses) => {
                     let entry = Boxed::new(alloc, first)?;
-                    Ok(Expression::DictComprehension {
+                    let clauses = clauses.into_inner();
+                    let made = Expression::DictComprehension {
                         position,
                         entry,
                         clauses,
-                    })
+                    };
+                    Boxed::new(alloc, made)
                 }
             }
         }
@@ -102,25 +98,19 @@ fn entry_of(key: Boxed<Expression>, value: Boxed<Expression>) -> Entry
 }
 
 /// Clauses: the first, and what follows it.
-fn clauses_of(
-    alloc: Global,
-    target: Target,
-    iterable: Expression,
-    more: Items<Clause>,
-) -> Result<Clauses, AllocError>
-    ensures { IfOk result (λ made. made ≡ spec.clauses_of ((target, iterable), more)) }
+fn clauses_of(target: Boxed<Target>, iterable: Boxed<Expression>, more: Items<Clause>) -> Clauses
+    ensures { result ≡ spec.clauses_of ((target, iterable), more) }
 {
-    let iterable = Boxed::new(alloc, iterable)?;
-    Ok(Clauses {
-        target,
+    Clauses {
+        target: target.into_inner(),
         iterable,
         more,
-    })
+    }
 }
 
-impl<F: Fn(Global, u128, Level, &[Leaf]) -> Read<'_, Expression>> Grammar<F> {
+impl<F: Fn(Global, u128, Level, &[Leaf]) -> Read<'_, Boxed<Expression>>> Grammar<F> {
     #[tactic(auto, unfolding(crate::specs::Expressions::next_primary))]
-    fn next_primary<'a>(&self, leaves: &'a [Leaf]) -> Read<'a, Expression>
+    fn next_primary<'a>(&self, leaves: &'a [Leaf]) -> Read<'a, Boxed<Expression>>
         requires { Nests self.now.depth (F.pre self.now.expression) (F.post self.now.expression) }
         ensures { Gives (reads self.now.depth spec.next_primary leaves.now) result }
     {
@@ -139,44 +129,44 @@ impl<F: Fn(Global, u128, Level, &[Leaf]) -> Read<'_, Expression>> Grammar<F> {
             return Ok(None);
         };
         let mut found = Items::new(self.alloc);
-        found.push(first)?;
+        found.push(first.into_inner())?;
         for _turn in 0..rest.len() {
             let Some((next, after)) = self.next_primary(rest)? else {
                 return Ok(Some((found, rest)));
             };
-            found.push(next)?;
+            found.push(next.into_inner())?;
             rest = after;
         }
         Ok(Some((found, rest)))
     }
 
     #[tactic(auto, unfolding(crate::specs::Expressions::primaries))]
-    fn primaries<'a>(&self, leaves: &'a [Leaf]) -> Read<'a, Expression>
+    fn primaries<'a>(&self, leaves: &'a [Leaf]) -> Read<'a, Boxed<Expression>>
         requires { Nests self.now.depth (F.pre self.now.expression) (F.post self.now.expression) }
         ensures { Gives (reads self.now.depth spec.primaries leaves.now) result }
     {
         let Some((found, rest)) = self.list_of_primaries(leaves)? else {
             return Ok(None);
         };
-        Ok(Some((tuple_unless_one(found), rest)))
+        Ok(Some((Boxed::new(self.alloc, tuple_unless_one(found))?, rest)))
     }
 
     #[tactic(auto, unfolding(crate::specs::Expressions::targets))]
-    pub fn targets<'a>(&self, leaves: &'a [Leaf]) -> Read<'a, Target>
+    pub fn targets<'a>(&self, leaves: &'a [Leaf]) -> Read<'a, Boxed<Target>>
         requires { Nests self.now.depth (F.pre self.now.expression) (F.post self.now.expression) }
         ensures { Gives (reads self.now.depth spec.targets leaves.now) result }
     {
         let Some((found, rest)) = self.primaries(leaves)? else {
             return Ok(None);
         };
-        match target_of(self.alloc, found)? {
-            Some(target) => Ok(Some((target, rest))),
+        match target_of(self.alloc, found.into_inner())? {
+            Some(target) => Ok(Some((Boxed::new(self.alloc, target)?, rest))),
             None => Ok(None),
         }
     }
 
     #[tactic(auto, unfolding(crate::specs::Expressions::for_clause))]
-    fn for_clause<'a>(&self, leaves: &'a [Leaf]) -> Read<'a, (Target, Expression)>
+    fn for_clause<'a>(&self, leaves: &'a [Leaf]) -> Read<'a, (Boxed<Target>, Boxed<Expression>)>
         requires { Nests self.now.depth (F.pre self.now.expression) (F.post self.now.expression) }
         ensures { Gives (reads self.now.depth spec.for_clause leaves.now) result }
     {
@@ -206,7 +196,7 @@ impl<F: Fn(Global, u128, Level, &[Leaf]) -> Read<'_, Expression>> Grammar<F> {
         let Some((condition, rest)) = self.nested(Level::Or, rest)? else {
             return Ok(None);
         };
-        Ok(Some((Clause::If(condition), rest)))
+        Ok(Some((Clause::If(condition.into_inner()), rest)))
     }
 
     #[tactic(auto, unfolding(crate::specs::Expressions::next_clause))]
@@ -215,6 +205,8 @@ impl<F: Fn(Global, u128, Level, &[Leaf]) -> Read<'_, Expression>> Grammar<F> {
         ensures { Gives (reads self.now.depth spec.next_clause leaves.now) result }
     {
         if let Some(((target, iterable), rest)) = self.for_clause(leaves)? {
+            let target = target.into_inner();
+            let iterable = iterable.into_inner();
             return Ok(Some((Clause::For { target, iterable }, rest)));
         }
         self.if_clause(leaves)
@@ -238,7 +230,7 @@ impl<F: Fn(Global, u128, Level, &[Leaf]) -> Read<'_, Expression>> Grammar<F> {
     }
 
     #[tactic(auto, unfolding(crate::specs::Expressions::all_clauses))]
-    fn all_clauses<'a>(&self, leaves: &'a [Leaf]) -> Read<'a, Clauses>
+    fn all_clauses<'a>(&self, leaves: &'a [Leaf]) -> Read<'a, Boxed<Clauses>>
         requires { Nests self.now.depth (F.pre self.now.expression) (F.post self.now.expression) }
         ensures { Gives (reads self.now.depth spec.all_clauses leaves.now) result }
     {
@@ -248,7 +240,8 @@ impl<F: Fn(Global, u128, Level, &[Leaf]) -> Read<'_, Expression>> Grammar<F> {
         let Some((more, rest)) = self.further_clauses(rest)? else {
             return Ok(None);
         };
-        Ok(Some((clauses_of(self.alloc, target, iterable, more)?, rest)))
+        let clauses = clauses_of(target, iterable, more);
+        Ok(Some((Boxed::new(self.alloc, clauses)?, rest)))
     }
 
     #[tactic(auto, unfolding(crate::specs::Expressions::inside))]
@@ -266,7 +259,7 @@ impl<F: Fn(Global, u128, Level, &[Leaf]) -> Read<'_, Expression>> Grammar<F> {
     }
 
     #[tactic(auto, unfolding(crate::specs::Expressions::parentheses))]
-    pub fn parentheses<'a>(&self, leaves: &'a [Leaf]) -> Read<'a, Expression>
+    pub fn parentheses<'a>(&self, leaves: &'a [Leaf]) -> Read<'a, Boxed<Expression>>
         requires { Nests self.now.depth (F.pre self.now.expression) (F.post self.now.expression) }
         ensures { Gives (reads self.now.depth spec.parentheses leaves.now) result }
     {
@@ -279,7 +272,10 @@ impl<F: Fn(Global, u128, Level, &[Leaf]) -> Read<'_, Expression>> Grammar<F> {
         let Some((_, rest)) = sign(Sign::RightParen, rest) else {
             return Ok(None);
         };
-        Ok(Some((parentheses_of(self.alloc, found), rest)))
+        Ok(Some((
+            Boxed::new(self.alloc, parentheses_of(self.alloc, found))?,
+            rest,
+        )))
     }
 
     #[tactic(auto, unfolding(crate::specs::Expressions::behind_element))]
@@ -300,7 +296,10 @@ impl<F: Fn(Global, u128, Level, &[Leaf]) -> Read<'_, Expression>> Grammar<F> {
     }
 
     #[tactic(auto, unfolding(crate::specs::Expressions::elements))]
-    fn elements<'a>(&self, leaves: &'a [Leaf]) -> Read<'a, Option<(Expression, Behind<Expression>)>>
+    fn elements<'a>(
+        &self,
+        leaves: &'a [Leaf],
+    ) -> Read<'a, Option<(Boxed<Expression>, Behind<Expression>)>>
         requires { Nests self.now.depth (F.pre self.now.expression) (F.post self.now.expression) }
         ensures { Gives (reads self.now.depth spec.elements leaves.now) result }
     {
@@ -314,7 +313,7 @@ impl<F: Fn(Global, u128, Level, &[Leaf]) -> Read<'_, Expression>> Grammar<F> {
     }
 
     #[tactic(auto, unfolding(crate::specs::Expressions::list_display))]
-    pub fn list_display<'a>(&self, leaves: &'a [Leaf]) -> Read<'a, Expression>
+    pub fn list_display<'a>(&self, leaves: &'a [Leaf]) -> Read<'a, Boxed<Expression>>
         requires { Nests self.now.depth (F.pre self.now.expression) (F.post self.now.expression) }
         ensures { Gives (reads self.now.depth spec.list_display leaves.now) result }
     {
@@ -324,10 +323,11 @@ impl<F: Fn(Global, u128, Level, &[Leaf]) -> Read<'_, Expression>> Grammar<F> {
         let Some((found, rest)) = self.elements(rest)? else {
             return Ok(None);
         };
+        let made = list_of(self.alloc, position, found)?;
         let Some((_, rest)) = sign(Sign::RightBracket, rest) else {
             return Ok(None);
         };
-        Ok(Some((list_of(self.alloc, position, found)?, rest)))
+        Ok(Some((made, rest)))
     }
 
     #[tactic(auto, unfolding(crate::specs::Expressions::entry))]
@@ -338,14 +338,12 @@ impl<F: Fn(Global, u128, Level, &[Leaf]) -> Read<'_, Expression>> Grammar<F> {
         let Some((key, rest)) = self.nested(Level::Test, leaves)? else {
             return Ok(None);
         };
-        let key = Boxed::new(self.alloc, key)?;
         let Some((_, rest)) = sign(Sign::Colon, rest) else {
             return Ok(None);
         };
         let Some((value, rest)) = self.nested(Level::Test, rest)? else {
             return Ok(None);
         };
-        let value = Boxed::new(self.alloc, value)?;
         Ok(Some((entry_of(key, value), rest)))
     }
 
@@ -409,7 +407,7 @@ impl<F: Fn(Global, u128, Level, &[Leaf]) -> Read<'_, Expression>> Grammar<F> {
     }
 
     #[tactic(auto, unfolding(crate::specs::Expressions::dict_display))]
-    pub fn dict_display<'a>(&self, leaves: &'a [Leaf]) -> Read<'a, Expression>
+    pub fn dict_display<'a>(&self, leaves: &'a [Leaf]) -> Read<'a, Boxed<Expression>>
         requires { Nests self.now.depth (F.pre self.now.expression) (F.post self.now.expression) }
         ensures { Gives (reads self.now.depth spec.dict_display leaves.now) result }
     {
@@ -419,9 +417,10 @@ impl<F: Fn(Global, u128, Level, &[Leaf]) -> Read<'_, Expression>> Grammar<F> {
         let Some((found, rest)) = self.entries(rest)? else {
             return Ok(None);
         };
+        let made = dict_of(self.alloc, position, found)?;
         let Some((_, rest)) = sign(Sign::RightBrace, rest) else {
             return Ok(None);
         };
-        Ok(Some((dict_of(self.alloc, position, found)?, rest)))
+        Ok(Some((made, rest)))
     }
 }

@@ -9,11 +9,16 @@ use crate::leaf::Leaf;
 use crate::level::Level;
 use crate::reader::{Grammar, Read};
 use crate::tree::{Expression, Parameter, Target};
-use sqlite_items::Items;
+use sqlite_items::{Boxed, Items};
 use std::alloc::Global;
 
 /// An expression of a level, with others nested in it no deeper than `depth`.
-pub fn expression(alloc: Global, depth: u128, level: Level, leaves: &[Leaf]) -> Read<'_, Expression>
+pub fn expression(
+    alloc: Global,
+    depth: u128,
+    level: Level,
+    leaves: &[Leaf],
+) -> Read<'_, Boxed<Expression>>
     ensures { Gives (run rule depth (at_level level) leaves.now) result }
 {
     if depth == 0 {
@@ -25,7 +30,7 @@ pub fn expression(alloc: Global, depth: u128, level: Level, leaves: &[Leaf]) -> 
         expression,
     };
     match level {
-        Level::Test => grammar.test(leaves),
+        Level::Test => grammar.any_test(leaves),
         Level::Or => grammar.disjunction(leaves),
         Level::Negation => grammar.negation(leaves),
         Level::Unary => grammar.unary(leaves),
@@ -33,15 +38,8 @@ pub fn expression(alloc: Global, depth: u128, level: Level, leaves: &[Leaf]) -> 
     }
 }
 
-/// A test.
-pub fn test_at(alloc: Global, depth: u128, leaves: &[Leaf]) -> Read<'_, Expression>
-    ensures { Gives (reads depth spec.a_test leaves.now) result }
-{
-    expression(alloc, depth, Level::Test, leaves)
-}
-
 /// Tests: one, or several as a tuple.
-pub fn tests_at(alloc: Global, depth: u128, leaves: &[Leaf]) -> Read<'_, Expression>
+pub fn tests_at(alloc: Global, depth: u128, leaves: &[Leaf]) -> Read<'_, Boxed<Expression>>
     ensures { Gives (reads depth spec.tests leaves.now) result }
 {
     let grammar = Grammar {
@@ -65,7 +63,7 @@ pub fn parameters_at(alloc: Global, depth: u128, leaves: &[Leaf]) -> Read<'_, It
 }
 
 /// Targets, as those of a loop.
-pub fn targets_at(alloc: Global, depth: u128, leaves: &[Leaf]) -> Read<'_, Target>
+pub fn targets_at(alloc: Global, depth: u128, leaves: &[Leaf]) -> Read<'_, Boxed<Target>>
     ensures { Gives (reads depth spec.targets leaves.now) result }
 {
     let grammar = Grammar {

@@ -1,18 +1,12 @@
 //! Laws of the grammar: what a reader knows to be true of every text.
 
 ghost use Rattle.star_syntax.specs.InOrder.{AllWritable, ReadInOrder, ReadIsWritten, TreeInOrder};
-ghost use Rattle.star_syntax.specs.Laws.{OneAnswer, OneReading};
+ghost use Rattle.star_syntax.specs.Laws.{OneReading};
 ghost use Rattle.star_syntax.specs.Written.{ReadsBack};
 
 /// Leaves have one reading at most. (`docs/LANGUAGE.md`, "Grammar".)
 pub fn one_reading()
     ensures { OneReading }
-{}
-
-/// Whatever `parse` may answer for a text, it is one answer: the same tree or the same fault, want of memory aside.
-/// (`docs/LANGUAGE.md`, "Grammar".)
-pub fn one_answer()
-    ensures { OneAnswer }
 {}
 
 /// The leaves of an expression, written with a parenthesis round each part, read back as that expression, whatever may stand

@@ -35,7 +35,10 @@ pub fn target_of(alloc: Global, expression: Expression) -> Result<Option<Target>
             Some(targets) => Ok(Some(Target::List(targets))),
             None => Ok(None),
         },
-        _ => Ok(None),
+        other => {
+            drop(other);
+            Ok(None)
+        }
     }
 }
 
@@ -65,6 +68,9 @@ pub fn augmented_of(expression: Expression) -> Option<Target>
     match expression {
         Expression::Name(name) => Some(Target::Name(name)),
         Expression::Index { value, index } => Some(Target::Index { value, index }),
-        _ => None,
+        other => {
+            drop(other);
+            None
+        }
     }
 }

@@ -139,64 +139,70 @@ fn one_comparator(leaves: &[Leaf]) -> Option<(Comparator, &[Leaf])>
 fn unary_of(
     alloc: Global,
     operator: UnaryOperator,
-    operand: Expression,
-) -> Result<Expression, AllocError>
+    operand: Boxed<Expression>,
+) -> Result<Boxed<Expression>, AllocError>
     ensures { IfOk result (λ made. made ≡ Expression.Unary operator operand) }
 {
-    let operand = Boxed::new(alloc, operand)?;
-    Ok(Expression::Unary { operator, operand })
+    Boxed::new(alloc, Expression::Unary { operator, operand })
 }
 
 fn binary_of(
     alloc: Global,
     operator: BinaryOperator,
-    left: Expression,
-    right: Expression,
-) -> Result<Expression, AllocError>
+    left: Boxed<Expression>,
+    right: Boxed<Expression>,
+) -> Result<Boxed<Expression>, AllocError>
     ensures { IfOk result (λ made. made ≡ Expression.Binary operator left right) }
 {
-    let left = Boxed::new(alloc, left)?;
-    let right = Boxed::new(alloc, right)?;
-    Ok(Expression::Binary {
-        operator,
-        left,
-        right,
-    })
+    Boxed::new(
+        alloc,
+        Expression::Binary {
+            operator,
+            left,
+            right,
+        },
+    )
 }
 
-fn and_of(alloc: Global, left: Expression, right: Expression) -> Result<Expression, AllocError>
+fn and_of(
+    alloc: Global,
+    left: Boxed<Expression>,
+    right: Boxed<Expression>,
+) -> Result<Boxed<Expression>, AllocError>
     ensures { IfOk result (λ made. made ≡ Expression.And left right) }
 {
-    let left = Boxed::new(alloc, left)?;
-    let right = Boxed::new(alloc, right)?;
-    Ok(Expression::And { left, right })
+    Boxed::new(alloc, Expression::And { left, right })
 }
 
-fn or_of(alloc: Global, left: Expression, right: Expression) -> Result<Expression, AllocError>
+fn or_of(
+    alloc: Global,
+    left: Boxed<Expression>,
+    right: Boxed<Expression>,
+) -> Result<Boxed<Expression>, AllocError>
     ensures { IfOk result (λ made. made ≡ Expression.Or left right) }
 {
-    let left = Boxed::new(alloc, left)?;
-    let right = Boxed::new(alloc, right)?;
-    Ok(Expression::Or { left, right })
+    Boxed::new(alloc, Expression::Or { left, right })
 }
 
 fn conditional_of(
     alloc: Global,
     condition: Boxed<Expression>,
-    chosen: Expression,
+    chosen: Boxed<Expression>,
     otherwise: Boxed<Expression>,
-) -> Result<Expression, AllocError>
+) -> Result<Boxed<Expression>, AllocError>
     ensures { IfOk result (λ made. made ≡ Expression.Conditional condition chosen otherwise) }
 {
-    let chosen = Boxed::new(alloc, chosen)?;
-    Ok(Expression::Conditional {
-        condition,
-        chosen,
-        otherwise,
-    })
+    Boxed::new(
+        alloc,
+        Expression::Conditional {
+            condition,
+            chosen,
+            otherwise,
+        },
+    )
 }
 
-impl<F: Fn(Global, u128, Level, &[Leaf]) -> Read<'_, Expression>> Grammar<F> {
+impl<F: Fn(Global, u128, Level, &[Leaf]) -> Read<'_, Boxed<Expression>>> Grammar<F> {
     #[tactic(auto, unfolding(crate::specs::Expressions::comparator))]
     fn comparator<'a>(&self, leaves: &'a [Leaf]) -> Option<(Comparator, &'a [Leaf])>
         ensures { Finds (reads self.now.depth spec.comparator leaves.now) result }
@@ -214,7 +220,7 @@ impl<F: Fn(Global, u128, Level, &[Leaf]) -> Read<'_, Expression>> Grammar<F> {
     }
 
     #[tactic(auto, unfolding(crate::specs::Expressions::signed))]
-    fn signed<'a>(&self, leaves: &'a [Leaf]) -> Read<'a, Expression>
+    fn signed<'a>(&self, leaves: &'a [Leaf]) -> Read<'a, Boxed<Expression>>
         requires { Nests self.now.depth (F.pre self.now.expression) (F.post self.now.expression) }
         ensures { Gives (reads self.now.depth spec.signed leaves.now) result }
     {
@@ -228,7 +234,7 @@ impl<F: Fn(Global, u128, Level, &[Leaf]) -> Read<'_, Expression>> Grammar<F> {
     }
 
     #[tactic(auto, unfolding(crate::specs::Expressions::unary))]
-    pub fn unary<'a>(&self, leaves: &'a [Leaf]) -> Read<'a, Expression>
+    pub fn unary<'a>(&self, leaves: &'a [Leaf]) -> Read<'a, Boxed<Expression>>
         requires { Nests self.now.depth (F.pre self.now.expression) (F.post self.now.expression) }
         ensures { Gives (reads self.now.depth spec.unary leaves.now) result }
     {
@@ -239,7 +245,7 @@ impl<F: Fn(Global, u128, Level, &[Leaf]) -> Read<'_, Expression>> Grammar<F> {
     }
 
     #[tactic(auto, unfolding(crate::specs::Expressions::climb))]
-    fn climb<'a>(&self, level: usize, leaves: &'a [Leaf]) -> Read<'a, Expression>
+    fn climb<'a>(&self, level: usize, leaves: &'a [Leaf]) -> Read<'a, Boxed<Expression>>
         requires { Nests self.now.depth (F.pre self.now.expression) (F.post self.now.expression) }
         ensures { Gives (reads self.now.depth (spec.climb level) leaves.now) result }
     {
@@ -263,7 +269,7 @@ impl<F: Fn(Global, u128, Level, &[Leaf]) -> Read<'_, Expression>> Grammar<F> {
     }
 
     #[tactic(auto, unfolding(crate::specs::Expressions::bit_or))]
-    fn bit_or<'a>(&self, leaves: &'a [Leaf]) -> Read<'a, Expression>
+    fn bit_or<'a>(&self, leaves: &'a [Leaf]) -> Read<'a, Boxed<Expression>>
         requires { Nests self.now.depth (F.pre self.now.expression) (F.post self.now.expression) }
         ensures { Gives (reads self.now.depth spec.bit_or leaves.now) result }
     {
@@ -271,7 +277,7 @@ impl<F: Fn(Global, u128, Level, &[Leaf]) -> Read<'_, Expression>> Grammar<F> {
     }
 
     #[tactic(auto, unfolding(crate::specs::Expressions::compared))]
-    fn compared<'a>(&self, leaves: &'a [Leaf]) -> Read<'a, (Comparator, Expression)>
+    fn compared<'a>(&self, leaves: &'a [Leaf]) -> Read<'a, (Comparator, Boxed<Expression>)>
         requires { Nests self.now.depth (F.pre self.now.expression) (F.post self.now.expression) }
         ensures { Gives (reads self.now.depth spec.compared leaves.now) result }
     {
@@ -285,7 +291,7 @@ impl<F: Fn(Global, u128, Level, &[Leaf]) -> Read<'_, Expression>> Grammar<F> {
     }
 
     #[tactic(auto, unfolding(crate::specs::Expressions::comparison))]
-    fn comparison<'a>(&self, leaves: &'a [Leaf]) -> Read<'a, Expression>
+    fn comparison<'a>(&self, leaves: &'a [Leaf]) -> Read<'a, Boxed<Expression>>
         requires { Nests self.now.depth (F.pre self.now.expression) (F.post self.now.expression) }
         ensures { Gives (reads self.now.depth spec.comparison leaves.now) result }
     {
@@ -295,20 +301,16 @@ impl<F: Fn(Global, u128, Level, &[Leaf]) -> Read<'_, Expression>> Grammar<F> {
         let Some(((comparator, right), after)) = self.compared(rest)? else {
             return Ok(Some((left, rest)));
         };
-        let left = Boxed::new(self.alloc, left)?;
-        let right = Boxed::new(self.alloc, right)?;
-        Ok(Some((
-            Expression::Compare {
-                comparator,
-                left,
-                right,
-            },
-            after,
-        )))
+        let made = Expression::Compare {
+            comparator,
+            left,
+            right,
+        };
+        Ok(Some((Boxed::new(self.alloc, made)?, after)))
     }
 
     #[tactic(auto, unfolding(crate::specs::Expressions::denied))]
-    fn denied<'a>(&self, leaves: &'a [Leaf]) -> Read<'a, Expression>
+    fn denied<'a>(&self, leaves: &'a [Leaf]) -> Read<'a, Boxed<Expression>>
         requires { Nests self.now.depth (F.pre self.now.expression) (F.post self.now.expression) }
         ensures { Gives (reads self.now.depth spec.denied leaves.now) result }
     {
@@ -322,7 +324,7 @@ impl<F: Fn(Global, u128, Level, &[Leaf]) -> Read<'_, Expression>> Grammar<F> {
     }
 
     #[tactic(auto, unfolding(crate::specs::Expressions::negation))]
-    pub fn negation<'a>(&self, leaves: &'a [Leaf]) -> Read<'a, Expression>
+    pub fn negation<'a>(&self, leaves: &'a [Leaf]) -> Read<'a, Boxed<Expression>>
         requires { Nests self.now.depth (F.pre self.now.expression) (F.post self.now.expression) }
         ensures { Gives (reads self.now.depth spec.negation leaves.now) result }
     {
@@ -333,7 +335,7 @@ impl<F: Fn(Global, u128, Level, &[Leaf]) -> Read<'_, Expression>> Grammar<F> {
     }
 
     #[tactic(auto, unfolding(crate::specs::Expressions::next_negation))]
-    fn next_negation<'a>(&self, leaves: &'a [Leaf]) -> Read<'a, Expression>
+    fn next_negation<'a>(&self, leaves: &'a [Leaf]) -> Read<'a, Boxed<Expression>>
         requires { Nests self.now.depth (F.pre self.now.expression) (F.post self.now.expression) }
         ensures { Gives (reads self.now.depth spec.next_negation leaves.now) result }
     {
@@ -344,7 +346,7 @@ impl<F: Fn(Global, u128, Level, &[Leaf]) -> Read<'_, Expression>> Grammar<F> {
     }
 
     #[tactic(auto, unfolding(crate::specs::Expressions::conjunction))]
-    fn conjunction<'a>(&self, leaves: &'a [Leaf]) -> Read<'a, Expression>
+    fn conjunction<'a>(&self, leaves: &'a [Leaf]) -> Read<'a, Boxed<Expression>>
         requires { Nests self.now.depth (F.pre self.now.expression) (F.post self.now.expression) }
         ensures { Gives (reads self.now.depth spec.conjunction leaves.now) result }
     {
@@ -362,7 +364,7 @@ impl<F: Fn(Global, u128, Level, &[Leaf]) -> Read<'_, Expression>> Grammar<F> {
     }
 
     #[tactic(auto, unfolding(crate::specs::Expressions::next_conjunction))]
-    fn next_conjunction<'a>(&self, leaves: &'a [Leaf]) -> Read<'a, Expression>
+    fn next_conjunction<'a>(&self, leaves: &'a [Leaf]) -> Read<'a, Boxed<Expression>>
         requires { Nests self.now.depth (F.pre self.now.expression) (F.post self.now.expression) }
         ensures { Gives (reads self.now.depth spec.next_conjunction leaves.now) result }
     {
@@ -373,7 +375,7 @@ impl<F: Fn(Global, u128, Level, &[Leaf]) -> Read<'_, Expression>> Grammar<F> {
     }
 
     #[tactic(auto, unfolding(crate::specs::Expressions::disjunction))]
-    pub fn disjunction<'a>(&self, leaves: &'a [Leaf]) -> Read<'a, Expression>
+    pub fn disjunction<'a>(&self, leaves: &'a [Leaf]) -> Read<'a, Boxed<Expression>>
         requires { Nests self.now.depth (F.pre self.now.expression) (F.post self.now.expression) }
         ensures { Gives (reads self.now.depth spec.disjunction leaves.now) result }
     {
@@ -401,19 +403,17 @@ impl<F: Fn(Global, u128, Level, &[Leaf]) -> Read<'_, Expression>> Grammar<F> {
         let Some((condition, rest)) = self.disjunction(rest)? else {
             return Ok(None);
         };
-        let condition = Boxed::new(self.alloc, condition)?;
         let Some((_, rest)) = keyword(Keyword::Else, rest) else {
             return Ok(None);
         };
         let Some((otherwise, rest)) = self.nested(Level::Test, rest)? else {
             return Ok(None);
         };
-        let otherwise = Boxed::new(self.alloc, otherwise)?;
         Ok(Some(((condition, otherwise), rest)))
     }
 
     #[tactic(auto, unfolding(crate::specs::Expressions::conditional))]
-    pub fn conditional<'a>(&self, leaves: &'a [Leaf]) -> Read<'a, Expression>
+    pub fn conditional<'a>(&self, leaves: &'a [Leaf]) -> Read<'a, Boxed<Expression>>
         requires { Nests self.now.depth (F.pre self.now.expression) (F.post self.now.expression) }
         ensures { Gives (reads self.now.depth spec.conditional leaves.now) result }
     {
@@ -427,10 +427,10 @@ impl<F: Fn(Global, u128, Level, &[Leaf]) -> Read<'_, Expression>> Grammar<F> {
         Ok(Some((made, after)))
     }
 
-    #[tactic(auto, unfolding(crate::specs::Expressions::test))]
-    pub fn test<'a>(&self, leaves: &'a [Leaf]) -> Read<'a, Expression>
+    #[tactic(auto, unfolding(crate::specs::Expressions::any_test))]
+    pub fn any_test<'a>(&self, leaves: &'a [Leaf]) -> Read<'a, Boxed<Expression>>
         requires { Nests self.now.depth (F.pre self.now.expression) (F.post self.now.expression) }
-        ensures { Gives (reads self.now.depth spec.test leaves.now) result }
+        ensures { Gives (reads self.now.depth spec.any_test leaves.now) result }
     {
         if let Some(found) = self.lambda(leaves)? {
             return Ok(Some(found));

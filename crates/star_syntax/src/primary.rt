@@ -1,16 +1,16 @@
 //! Readers of operands and of what stands behind them.
 
-ghost use Rattle.std.specs.Prelude.{◌≡◌, ◌∷◌, IfOk};
+ghost use Rattle.std.specs.Prelude.{◌≡◌};
 ghost use Rattle.star_syntax.specs.Expressions as spec;
 ghost use Rattle.star_syntax.specs.Language.{Gives, Nests, reads};
 
 use crate::leaf::Leaf;
 use crate::level::{Level, Suffix};
-use crate::reader::{Grammar, Read, atom, name, sign, tuple_unless_one};
+use crate::reader::{Grammar, Read, atom, name, onto, sign, tuple_unless_one};
 use crate::tree::Expression;
 use sqlite_items::{Boxed, Items};
 use star_lex::token::Sign;
-use std::alloc::{AllocError, Global};
+use std::alloc::Global;
 
 /// Where a slice stops, and its stride.
 type StopAndStride = (Option<Boxed<Expression>>, Option<Boxed<Expression>>);
@@ -38,29 +38,16 @@ fn with_suffix(value: Boxed<Expression>, suffix: Suffix) -> Expression
     }
 }
 
-fn onto(
-    alloc: Global,
-    first: Expression,
-    more: Items<Expression>,
-) -> Result<Items<Expression>, AllocError>
-    ensures { IfOk result (λ made. made ≡ first ∷ more) }
-{
-    let mut made = Items::new(alloc);
-    made.push(first)?;
-    made.append(more)?;
-    Ok(made)
-}
-
-impl<F: Fn(Global, u128, Level, &[Leaf]) -> Read<'_, Expression>> Grammar<F> {
+impl<F: Fn(Global, u128, Level, &[Leaf]) -> Read<'_, Boxed<Expression>>> Grammar<F> {
     #[tactic(auto, unfolding(crate::specs::Expressions::atom))]
-    fn atom<'a>(&self, leaves: &'a [Leaf]) -> Read<'a, Expression>
+    fn atom<'a>(&self, leaves: &'a [Leaf]) -> Read<'a, Boxed<Expression>>
         ensures { Gives (reads self.now.depth spec.atom leaves.now) result }
     {
         atom(self.alloc, leaves)
     }
 
     #[tactic(auto, unfolding(crate::specs::Expressions::operand))]
-    fn operand<'a>(&self, leaves: &'a [Leaf]) -> Read<'a, Expression>
+    fn operand<'a>(&self, leaves: &'a [Leaf]) -> Read<'a, Boxed<Expression>>
         requires { Nests self.now.depth (F.pre self.now.expression) (F.post self.now.expression) }
         ensures { Gives (reads self.now.depth spec.operand leaves.now) result }
     {
@@ -95,7 +82,7 @@ impl<F: Fn(Global, u128, Level, &[Leaf]) -> Read<'_, Expression>> Grammar<F> {
         ensures { Gives (reads self.now.depth (spec.opt spec.a_test) leaves.now) result }
     {
         match self.nested(Level::Test, leaves)? {
-            Some((found, rest)) => Ok(Some((Some(Boxed::new(self.alloc, found)?), rest))),
+            Some((found, rest)) => Ok(Some((Some(found), rest))),
             None => Ok(Some((None, leaves))),
         }
     }
@@ -160,11 +147,11 @@ impl<F: Fn(Global, u128, Level, &[Leaf]) -> Read<'_, Expression>> Grammar<F> {
         let (slice, more) = behind;
         match slice {
             None => {
-                let found = tuple_unless_one(onto(self.alloc, first, more)?);
+                let found = tuple_unless_one(onto(self.alloc, first.into_inner(), more)?);
                 Ok(Some((Suffix::Index(Boxed::new(self.alloc, found)?), rest)))
             }
             Some((stop, stride)) => {
-                let start = Some(Boxed::new(self.alloc, first)?);
+                let start = Some(first);
                 Ok(Some((
                     Suffix::Slice {
                         start,
@@ -232,7 +219,7 @@ impl<F: Fn(Global, u128, Level, &[Leaf]) -> Read<'_, Expression>> Grammar<F> {
     }
 
     #[tactic(auto, unfolding(crate::specs::Expressions::primary))]
-    pub fn primary<'a>(&self, leaves: &'a [Leaf]) -> Read<'a, Expression>
+    pub fn primary<'a>(&self, leaves: &'a [Leaf]) -> Read<'a, Boxed<Expression>>
         requires { Nests self.now.depth (F.pre self.now.expression) (F.post self.now.expression) }
         ensures { Gives (reads self.now.depth spec.primary leaves.now) result }
     {
@@ -243,7 +230,7 @@ impl<F: Fn(Global, u128, Level, &[Leaf]) -> Read<'_, Expression>> Grammar<F> {
             let Some((next, after)) = self.suffix(rest)? else {
                 return Ok(Some((left, rest)));
             };
-            left = with_suffix(Boxed::new(self.alloc, left)?, next);
+            left = Boxed::new(self.alloc, with_suffix(left, next))?;
             rest = after;
         }
         Ok(Some((left, rest)))

@@ -1,6 +1,6 @@
 //! What every reader uses: the answers, the leaves that stand for themselves, and the grammar of expressions to a depth.
 
-ghost use Rattle.std.specs.Prelude.{◌≡◌, IfOk};
+ghost use Rattle.std.specs.Prelude.{◌≡◌, ◌∷◌, IfOk};
 ghost use Rattle.star_syntax.specs.Grammar.{first, level as at_level, run};
 ghost use Rattle.star_syntax.specs.Expressions as spec;
 ghost use Rattle.star_syntax.specs.Language.{Finds, Gives, Nests, reads, rule};
@@ -8,7 +8,7 @@ ghost use Rattle.star_syntax.specs.Language.{Finds, Gives, Nests, reads, rule};
 use crate::leaf::{Leaf, Word};
 use crate::level::Level;
 use crate::tree::{Expression, Name, Position};
-use sqlite_items::Items;
+use sqlite_items::{Boxed, Items};
 use star_lex::token::{Keyword, Sign};
 use star_text::Text;
 use std::alloc::{AllocError, Global};
@@ -116,7 +116,7 @@ pub fn name(alloc: Global, leaves: &[Leaf]) -> Read<'_, Name>
 }
 
 /// The name, int or string at the front of the leaves.
-pub fn atom(alloc: Global, leaves: &[Leaf]) -> Read<'_, Expression>
+pub fn atom(alloc: Global, leaves: &[Leaf]) -> Read<'_, Boxed<Expression>>
     ensures { Gives (first (λ t. spec.atom_of t.position t.word) leaves.now) result }
 {
     match leaves {
@@ -124,17 +124,28 @@ pub fn atom(alloc: Global, leaves: &[Leaf]) -> Read<'_, Expression>
             Word::Name(text) => {
                 let text = Text::new(alloc, text.as_str())?;
                 let position = leaf.position;
-                Ok(Some((Expression::Name(Name { text, position }), rest)))
+                let found = Expression::Name(Name { text, position });
+                Ok(Some((Boxed::new(alloc, found)?, rest)))
             }
-            Word::Int(value) => Ok(Some((Expression::Int(*value), rest))),
+            Word::Int(value) => Ok(Some((Boxed::new(alloc, Expression::Int(*value))?, rest))),
             Word::Text(text) => {
                 let text = Text::new(alloc, text.as_str())?;
-                Ok(Some((Expression::Text(text), rest)))
+                Ok(Some((Boxed::new(alloc, Expression::Text(text))?, rest)))
             }
             _ => Ok(None),
         },
         [] => Ok(None),
     }
+}
+
+/// The first, and behind it the others.
+pub fn onto<T: Drop>(alloc: Global, first: T, more: Items<T>) -> Result<Items<T>, AllocError>
+    ensures { IfOk result (λ all. all ≡ first ∷ more) }
+{
+    let mut all = Items::new(alloc);
+    all.push(first)?;
+    all.append(more)?;
+    Ok(all)
 }
 
 /// One test stands for itself, none or several for a tuple of them.
@@ -148,9 +159,9 @@ pub fn tuple_unless_one(mut found: Items<Expression>) -> Expression
     }
 }
 
-impl<F: Fn(Global, u128, Level, &[Leaf]) -> Read<'_, Expression>> Grammar<F> {
+impl<F: Fn(Global, u128, Level, &[Leaf]) -> Read<'_, Boxed<Expression>>> Grammar<F> {
     /// An expression of a level, nested in another.
-    pub fn nested<'a>(&self, level: Level, leaves: &'a [Leaf]) -> Read<'a, Expression>
+    pub fn nested<'a>(&self, level: Level, leaves: &'a [Leaf]) -> Read<'a, Boxed<Expression>>
         requires { Nests self.now.depth (F.pre self.now.expression) (F.post self.now.expression) }
         ensures { Gives (run rule self.now.depth (at_level level) leaves.now) result }
     {
@@ -158,7 +169,7 @@ impl<F: Fn(Global, u128, Level, &[Leaf]) -> Read<'_, Expression>> Grammar<F> {
     }
 
     #[tactic(auto, unfolding(crate::specs::Expressions::next_test))]
-    pub fn next_test<'a>(&self, leaves: &'a [Leaf]) -> Read<'a, Expression>
+    pub fn next_test<'a>(&self, leaves: &'a [Leaf]) -> Read<'a, Boxed<Expression>>
         requires { Nests self.now.depth (F.pre self.now.expression) (F.post self.now.expression) }
         ensures { Gives (reads self.now.depth spec.next_test leaves.now) result }
     {
@@ -177,12 +188,12 @@ impl<F: Fn(Global, u128, Level, &[Leaf]) -> Read<'_, Expression>> Grammar<F> {
             return Ok(None);
         };
         let mut found = Items::new(self.alloc);
-        found.push(first)?;
+        found.push(first.into_inner())?;
         for _turn in 0..rest.len() {
             let Some((next, after)) = self.next_test(rest)? else {
                 return Ok(Some((found, rest)));
             };
-            found.push(next)?;
+            found.push(next.into_inner())?;
             rest = after;
         }
         Ok(Some((found, rest)))
@@ -199,20 +210,20 @@ impl<F: Fn(Global, u128, Level, &[Leaf]) -> Read<'_, Expression>> Grammar<F> {
             let Some((next, after)) = self.next_test(rest)? else {
                 return Ok(Some((found, rest)));
             };
-            found.push(next)?;
+            found.push(next.into_inner())?;
             rest = after;
         }
         Ok(Some((found, rest)))
     }
 
     #[tactic(auto, unfolding(crate::specs::Expressions::tests))]
-    pub fn tests<'a>(&self, leaves: &'a [Leaf]) -> Read<'a, Expression>
+    pub fn tests<'a>(&self, leaves: &'a [Leaf]) -> Read<'a, Boxed<Expression>>
         requires { Nests self.now.depth (F.pre self.now.expression) (F.post self.now.expression) }
         ensures { Gives (reads self.now.depth spec.tests leaves.now) result }
     {
         let Some((found, rest)) = self.list_of_tests(leaves)? else {
             return Ok(None);
         };
-        Ok(Some((tuple_unless_one(found), rest)))
+        Ok(Some((Boxed::new(self.alloc, tuple_unless_one(found))?, rest)))
     }
 }

@@ -3,7 +3,7 @@ use Rattle.std.proofs.Common.{◌≡◌, ℕ, List, Result, Ok, Err, refl, ap, s
 use Rattle.star_lex.specs.declared.token.SyntaxFault.{SyntaxFault}
 use Rattle.star_lex.specs.declared.token.SyntaxFault.TheVariants.{BadToken, BadIndent, TooNested, BadSyntax, Memory}
 use Rattle.star_syntax.specs.declared.tree.Tree.{Tree}
-use Rattle.star_syntax.proofs.Once.{one_answer}
+use Rattle.star_parser.proofs.Once.{one_answer}
 use Rattle.starload.specs.Meaning.{Ends, EndsAs, OneOutcome}
 use Rattle.starload.specs.Run.{Outcome}
 

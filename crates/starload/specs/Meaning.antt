@@ -3,7 +3,7 @@ use Rattle.std.specs.Prelude.{◌≡◌, ℕ, List, Bool, true, false, Option, S
 use Rattle.star_lex.specs.declared.token.SyntaxFault.{SyntaxFault}
 use Rattle.star_lex.specs.declared.token.SyntaxFault.TheVariants.{BadToken, BadIndent, TooNested, BadSyntax, Memory}
 use Rattle.star_syntax.specs.declared.tree.Tree.{Tree}
-use Rattle.star_syntax.specs.Sources.{Parses}
+use Rattle.star_parser.specs.Sources.{Parses}
 use Rattle.starload.specs.Small.{fits_tree}
 use Rattle.starload.specs.Names.{undefined_line}
 use Rattle.starload.specs.Run.{Outcome, refused, bad_token, bad_indent, nested, syntax, undefined, run}

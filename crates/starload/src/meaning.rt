@@ -11,7 +11,7 @@ use crate::run::run;
 use crate::small::fits_tree;
 use crate::value::{Outcome, Refusal};
 use star_lex::token::SyntaxFault;
-use star_syntax::parse;
+use star_parser::parse;
 use star_syntax::tree::Tree;
 use std::alloc::Global;
 

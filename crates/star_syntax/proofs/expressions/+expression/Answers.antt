@@ -1,4 +1,4 @@
-use Rattle.std.proofs.Common.{rules, ◌≡◌, ℕ, suc, ◌+◌, ◌-◌, ◌<◌, ap, arith}
+use Rattle.std.proofs.Common.{◌≡◌, ℕ, suc, ◌-◌, ◌<◌, ap, arith}
 use Rattle.star_syntax.specs.Grammar.{level, run}
 use Rattle.star_syntax.specs.Language.{rule}
 use Rattle.star_syntax.proofs.expressions.+expression.Goals as goal
@@ -14,7 +14,7 @@ deeper f n some = let e : n ≡ suc (n - 1) = omega arith in ap f e
 
 pub returns-in-Test : goal.returns-in-Test
 unfolding run
-returns-in-Test t c = rw (deeper (λ n. run rule n (level c.args.level) c.args.leaves.now) c.args.depth (omega arith), c.in-Test.is) c.test.ensures
+returns-in-Test t c = rw (deeper (λ n. run rule n (level c.args.level) c.args.leaves.now) c.args.depth (omega arith), c.in-Test.is) c.any_test.ensures
 
 pub returns-in-Or : goal.returns-in-Or
 unfolding run

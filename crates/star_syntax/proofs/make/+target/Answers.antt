@@ -1,4 +1,4 @@
-use Rattle.std.proofs.Common.{rules, ◌≡◌, List, [], ◌∷◌, ◌++◌, Some, None, ap, sym, ◌∙◌}
+use Rattle.std.proofs.Common.{rules, ◌≡◌, [], ◌∷◌, ◌++◌, Some, None, ap, sym, ◌∙◌}
 use Rattle.star_syntax.specs.Keeps.{target_of, targets_of, tuple_target, list_target}
 use Rattle.star_syntax.proofs.Targets.{joined, last_some_of, no_deeper, target-Name, target-Index, target-Tuple, target-List}
 use Rattle.star_syntax.proofs.make.+target.Goals as goal
@@ -14,8 +14,8 @@ target_of-returns-in-Some t c =
     let e : targets_of c.in-Tuple.parts ≡ Some c.in-Some.targets = search rules in
     sym (ap target_of c.in-Tuple.is ∙ target-Tuple _ ∙ ap tuple_target e)
 
-pub target_of-returns-in-Tuple : goal.target_of-returns-in-Tuple
-target_of-returns-in-Tuple t c =
+pub target_of-returns-in-None : goal.target_of-returns-in-None
+target_of-returns-in-None t c =
     let e : targets_of c.in-Tuple.parts ≡ None = search rules in
     sym (ap target_of c.in-Tuple.is ∙ target-Tuple _ ∙ ap tuple_target e)
 
@@ -24,8 +24,8 @@ target_of-returns-in-Some-2 t c =
     let e : targets_of c.in-List.parts ≡ Some c.in-Some-2.targets = search rules in
     sym (ap target_of c.in-List.is ∙ target-List _ ∙ ap list_target e)
 
-pub target_of-returns-in-List : goal.target_of-returns-in-List
-target_of-returns-in-List t c =
+pub target_of-returns-in-None-2 : goal.target_of-returns-in-None-2
+target_of-returns-in-None-2 t c =
     let e : targets_of c.in-List.parts ≡ None = search rules in
     sym (ap target_of c.in-List.is ∙ target-List _ ∙ ap list_target e)
 

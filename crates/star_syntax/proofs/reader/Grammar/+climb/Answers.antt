@@ -1,7 +1,6 @@
-use Rattle.std.proofs.Common.{rules, ◌≡◌, ◌-◌, ◌<◌, ℕ, suc, Some, None, ap, ◌∙◌, refl, arith}
-use Rattle.star_syntax.specs.Grammar.{rounds}
+use Rattle.std.proofs.Common.{rules, ◌≡◌, ◌-◌, Some, None}
 use Rattle.star_syntax.specs.Language.{reads}
-use Rattle.star_syntax.specs.Expressions.{climb, binary_of, round_at}
+use Rattle.star_syntax.specs.Expressions.{binary_of, round_at}
 use Rattle.star_syntax.proofs.Rounds.{more_rounds, last_round, no_turns}
 use Rattle.star_syntax.proofs.reader.Grammar.+climb.Goals as goal
 

@@ -1,0 +1,3 @@
+pub mod Nesting
+pub mod Sources
+pub mod Laws

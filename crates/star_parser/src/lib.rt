@@ -1,0 +1,42 @@
+//! The parser: the tree of a text, or why there is none.
+#![tactic(auto)]
+
+mod block;
+pub mod law;
+pub mod nest;
+mod simple;
+
+ghost use Rattle.star_parser.specs.Sources.{Parses};
+
+use block::file_of;
+use nest::too_nested;
+use star_lex::lex;
+use star_lex::token::SyntaxFault;
+use star_syntax::leaf::leaves;
+use star_syntax::tree::Tree;
+use std::alloc::Global;
+
+/// The tree of a text, by the grammar of `docs/LANGUAGE.md`, "Grammar" (this profile).
+///
+/// `BadToken` and `BadIndent` are for the first fault of the text's tokens, with its line; `TooNested` is for the line on
+/// which the nesting weight passes 100; `BadSyntax` is for a text that the grammar does not give; `Memory` is for want of
+/// memory.
+pub fn parse(alloc: Global, text: &str) -> Result<Tree, SyntaxFault>
+    ensures { Parses text.now result }
+{
+    let tokens = match lex(alloc, text) {
+        Ok(tokens) => tokens,
+        Err(fault) => return Err(fault),
+    };
+    if let Some(line) = too_nested(alloc, &tokens)? {
+        return Err(SyntaxFault::TooNested { line });
+    }
+    let leaves = leaves(alloc, text, &tokens)?;
+    match file_of(alloc, leaves.as_slice())? {
+        Some(statements) => Ok(Tree { statements }),
+        None => Err(SyntaxFault::BadSyntax),
+    }
+}
+
+#[cfg(test)]
+mod tree_tests;

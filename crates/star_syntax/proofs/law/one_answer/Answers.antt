@@ -1,5 +1,0 @@
-use Rattle.star_syntax.proofs.Once.{one_answer}
-use Rattle.star_syntax.proofs.law.one_answer.Goals as goal
-
-pub returns : goal.returns
-returns c = one_answer
