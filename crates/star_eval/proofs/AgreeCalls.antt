@@ -22,7 +22,9 @@ use Rattle.star_eval.specs.Run.{State, Outcome, Done, Failed, Action, and_then, 
 use Rattle.star_eval.specs.Program.{Setting, definition_of, seen}
 use Rattle.star_eval.specs.Variables.{bind_name, by_names}
 use Rattle.star_eval.specs.Values.{Content, Held, BuiltInFunction, content, held}
-use Rattle.star_eval.specs.Arguments.{Passed, Given, NamedValue, Plain, Named as NamedArgument, Star, StarStar, given, is_given}
+use Rattle.star_eval.specs.declared.given.Given.{Given}
+use Rattle.star_eval.specs.declared.given.NamedValue.{NamedValue}
+use Rattle.star_eval.specs.Arguments.{Passed, Plain, Named as NamedArgument, Star, StarStar, given, is_given}
 use Rattle.star_eval.specs.Meaning.{Meaning}
 use Rattle.star_eval.specs.Binding.{Progress, Share, One, Step, also, bound_to, else_default, first_of_row, made_of, make_shares, rest_of_row, share_of, shared, shares, step, unclaimed, value_named}
 use Rattle.star_eval.specs.Calls.{AFunction, ABuiltIn, AMethod, Callee, activate, answer_of, deactivate, call_node, called, callee, callee_of, function_callee, is_active, pass, pass_form, run, run_body}

@@ -1,5 +1,5 @@
 -- Strings, place by place.
-use Rattle.std.proofs.Common.{◌≡◌, ℕ, zero, suc, ◌+◌, ◌-◌, ◌<◌, List, Option, Some, if◌then◌else◌, length, drop, get_or, add-one, refl, ap, arith}
+use Rattle.std.proofs.Common.{◌≡◌, ℕ, zero, suc, ◌+◌, ◌-◌, ◌<◌, List, Some, if◌then◌else◌, length, drop, get_or, add-one, refl, ap, arith}
 use Rattle.std.proofs.Math.Seq.{drop-cons}
 use Rattle.star_store.specs.declared.values.Value.{Value}
 use Rattle.star_eval.specs.Run.{State}

@@ -1,12 +1,12 @@
 -- How many cells a store has behind a change of one of them.
-use Rattle.std.proofs.Common.{◌≡◌, ℕ, zero, suc, ◌+◌, nat_eq, Bool, true, false, List, [], ◌∷◌, length, Option, Some, None, Result, Ok, Err, refl, ap, sym, ◌∙◌, if◌then◌else◌}
+use Rattle.std.proofs.Common.{◌≡◌, ℕ, zero, suc, nat_eq, Bool, true, false, List, [], ◌∷◌, length, Option, Result, Ok, Err, refl, ap, sym, ◌∙◌, if◌then◌else◌}
 use Rattle.star_store.specs.declared.values.Value.{Value}
 use Rattle.star_store.specs.declared.values.Value.TheVariants as value
 use Rattle.star_store.specs.declared.values.Cell.{Cell}
 use Rattle.star_store.specs.declared.values.Counted.{Counted}
 use Rattle.star_store.specs.declared.arena.write.Change.{Change}
 use Rattle.star_store.specs.declared.fault.StoreFault.{StoreFault}
-use Rattle.star_store.specs.Store.{Store, Shelf, changed_at, changed, closed, closed_in, opened, opened_in, look}
+use Rattle.star_store.specs.Store.{Store, Shelf, bound, bound_cell, changed_at, changed, closed, closed_in, opened, opened_in, look}
 use Rattle.star_store.specs.Write.{write, made_if, in_store, allowed, change_cell, place_in, key_of}
 
 length_changed_at : (f : Counted → Counted) (cells : List Counted) (at : ℕ) → length (changed_at f cells at) ≡ length cells
@@ -50,3 +50,6 @@ length_written s shelf v c x t h = made_if_keeps v s t (allowed s shelf v c) (ch
 
 pub length_opened : (v : Value) (s : Store) → length (opened v s).cells ≡ length s.cells
 length_opened v s = length_changed opened_in v s
+
+pub length_bound : (frame : Value) (slot : ℕ) (v : Value) (s : Store) → length (bound frame slot v s).cells ≡ length s.cells
+length_bound frame slot v s = length_changed (λ (e : Counted). record e { cell = bound_cell slot v e.cell }) frame s

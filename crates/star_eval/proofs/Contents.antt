@@ -1,15 +1,9 @@
 -- What values hold, by what they lead to.
-use Rattle.std.proofs.Common.{◌≡◌, ℕ, List, [], ◌∷◌, Option, Some, None, ℤ, ◌*ℤ◌, refl}
-use Rattle.star_store.specs.declared.values.Value.{Value}
-use Rattle.star_store.specs.declared.values.Value.TheVariants as value
-use Rattle.star_store.specs.declared.values.Cell.{Cell}
-use Rattle.star_store.specs.declared.values.Cell.TheVariants as cell
-use Rattle.star_syntax.specs.declared.tree.BinaryOperator.{BinaryOperator}
+use Rattle.std.proofs.Common.{◌≡◌, ℕ, Some, None, ℤ, ◌*ℤ◌, refl}
 use Rattle.star_eval.specs.declared.fault.Code.TheVariants.{BadType}
-use Rattle.star_eval.specs.Run.{State, fail}
-use Rattle.star_eval.specs.Program.{Setting, seen}
-use Rattle.star_eval.specs.Values.{Content, Nothing, Truth, Number, BuiltInFunction, Held, Nowhere, content, held, int_of, new_int}
-use Rattle.star_eval.specs.Operators.{multiply, repeated, count_from, on_contents, on_ints, on_others}
+use Rattle.star_eval.specs.Run.{fail}
+use Rattle.star_eval.specs.Values.{Content, Nothing, Truth, Number, BuiltInFunction, Held, Nowhere, int_of, new_int}
+use Rattle.star_eval.specs.Operators.{multiply, repeated, count_from}
 
 -- the product of contents that are ints or not
 pub product : (line : ℕ) (c d : Content) (x y : ℤ) → int_of c ≡ Some x → int_of d ≡ Some y → multiply line c d ≡ new_int line (x *ℤ y)

@@ -2,7 +2,9 @@
 use Rattle.star_store.specs.declared.values.Value.{Value}
 use Rattle.star_eval.specs.Program.{Setting}
 use Rattle.std.proofs.Common.{ℕ, List, [], ◌∷◌, Option, Some, None}
-use Rattle.star_eval.specs.Arguments.{star_count, take_star, star_star_names, take_names, given, name_key, key_for, by_place, with_name, only_one, none_or_one, one_or_two, two, no_value, Passed, NamedValue, Given}
+use Rattle.star_eval.specs.declared.given.NamedValue.{NamedValue}
+use Rattle.star_eval.specs.declared.given.Given.{Given}
+use Rattle.star_eval.specs.Arguments.{star_count, take_star, star_star_names, take_names, given, name_key, key_for, by_place, with_name, only_one, none_or_one, one_or_two, two, no_value, Passed}
 use Rattle.star_eval.proofs.Extends.{extends, Extends}
 use Rattle.star_eval.proofs.ExtendsValues.{extends-new_text, extends-count_of, extends-take_items}
 

@@ -1,6 +1,6 @@
 -- Binding: what does not fail for want of steps does the same with more.
 use Rattle.star_syntax.specs.declared.tree.Name.{Name}
-use Rattle.star_eval.specs.Arguments.{NamedValue}
+use Rattle.star_eval.specs.declared.given.NamedValue.{NamedValue}
 use Rattle.std.proofs.Common.{ℕ, List}
 use Rattle.star_eval.specs.Binding.{key_and_value, made_of, make_shares, Share, One, Rest, Names}
 use Rattle.star_eval.proofs.Extends.{extends, Extends}

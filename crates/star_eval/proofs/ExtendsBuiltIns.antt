@@ -7,7 +7,7 @@ use Rattle.star_store.specs.declared.names.BuiltIn.{BuiltIn}
 use Rattle.star_store.specs.declared.names.BuiltIn.TheVariants as built_in
 use Rattle.star_eval.specs.Program.{Setting}
 use Rattle.star_eval.specs.Values.{Content, Truth, Number, Held}
-use Rattle.star_eval.specs.Arguments.{Given}
+use Rattle.star_eval.specs.declared.given.Given.{Given}
 use Rattle.std.proofs.Common.{ℕ, List, [], ◌∷◌, Option, Some, None, Bool, ℤ}
 use Rattle.star_eval.specs.BuiltIns.{absolute, call_abs, is_decided, some_item, call_all, call_any, truth_of, call_bool, call_dict, want_start, numbered, call_enumerate, want_separator, say_line, call_print, call_fail, to_int, call_int, call_len, taken_from, call_list, call_tuple, call_reversed, best_of, best_in, candidates, call_best, new_range, range_of, call_range, call_repr, call_str, call_type, want_reverse, sort, call_sorted, row_at, call_zip, call_built_in}
 use Rattle.star_eval.proofs.Extends.{extends, Extends}

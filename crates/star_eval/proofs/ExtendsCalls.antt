@@ -11,7 +11,7 @@ use Rattle.star_scope.specs.Syntax.{ArgumentForm}
 use Rattle.star_scope.specs.Definitions.{Definition, Body, Statements, Answer}
 use Rattle.star_eval.specs.Program.{Setting, Variables}
 use Rattle.star_eval.specs.Values.{Content, BuiltInFunction, Held}
-use Rattle.star_eval.specs.Arguments.{Given}
+use Rattle.star_eval.specs.declared.given.Given.{Given}
 use Rattle.star_eval.specs.Binding.{Share}
 use Rattle.star_eval.specs.Meaning.{Meaning}
 use Rattle.std.proofs.Common.{ℕ, List}

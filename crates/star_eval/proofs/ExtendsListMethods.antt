@@ -1,7 +1,7 @@
 -- ListMethods: what does not fail for want of steps does the same with more.
 use Rattle.star_store.specs.declared.values.Value.{Value}
 use Rattle.star_eval.specs.Program.{Setting}
-use Rattle.star_eval.specs.Arguments.{Given}
+use Rattle.star_eval.specs.declared.given.Given.{Given}
 use Rattle.std.proofs.Common.{ℕ, List, [], ◌∷◌, Option, Some, None}
 use Rattle.star_eval.specs.Run.{Action}
 use Rattle.star_eval.specs.ListMethods.{with_items, add_item, call_append, call_clear, extend, call_extend, equal_place, place_with, call_index, call_insert, want_last, call_pop, call_remove}

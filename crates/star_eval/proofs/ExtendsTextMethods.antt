@@ -1,7 +1,7 @@
 -- TextMethods: what does not fail for want of steps does the same with more.
 use Rattle.star_store.specs.declared.values.Value.{Value}
 use Rattle.star_eval.specs.Program.{Setting}
-use Rattle.star_eval.specs.Arguments.{Given}
+use Rattle.star_eval.specs.declared.given.Given.{Given}
 use Rattle.std.proofs.Common.{ℕ, List, [], ◌∷◌, Option, Some, None, Bool}
 use Rattle.star_eval.specs.TextMethods.{pay_for_bytes, want_choices, call_edge, one_to_three, call_find, call_join, want_cuts, one_and_maybe, call_split, want_set, call_strip, call_case, two_or_three, call_replace, call_format}
 use Rattle.star_eval.proofs.Extends.{extends, Extends}

@@ -1,9 +1,9 @@
 -- The first equal item, by the actions of the definitions.
-use Rattle.std.proofs.Common.{◌≡◌, ℕ, ◌+◌, List, [], ◌∷◌, Bool, true, false, Option, Some, None, is_some, if◌then◌else◌, refl, ap, sym, ◌∙◌}
+use Rattle.std.proofs.Common.{◌≡◌, ℕ, ◌+◌, List, [], ◌∷◌, Bool, true, false, Option, Some, is_some, if◌then◌else◌, refl, ap, ◌∙◌}
 use Rattle.star_store.specs.declared.values.Value.{Value}
 use Rattle.star_store.specs.Equal.{same}
 use Rattle.star_store.specs.Spend.{Spent, Enough, Lacks, Spend, answer, spend_then}
-use Rattle.star_eval.specs.Run.{State, Outcome, Done, Failed, and_then, give, settled}
+use Rattle.star_eval.specs.Run.{State, Outcome, and_then, give, settled}
 use Rattle.star_eval.specs.Program.{Setting, seen}
 use Rattle.star_eval.specs.Values.{equal}
 use Rattle.star_eval.specs.Operators.{has_item}

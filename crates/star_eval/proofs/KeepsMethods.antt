@@ -3,7 +3,7 @@ use Rattle.star_store.specs.declared.values.Value.{Value}
 use Rattle.star_store.specs.declared.names.Method.{Method}
 use Rattle.star_store.specs.declared.names.Method.TheVariants as method
 use Rattle.star_eval.specs.Program.{Setting}
-use Rattle.star_eval.specs.Arguments.{Given}
+use Rattle.star_eval.specs.declared.given.Given.{Given}
 use Rattle.std.proofs.Common.{ℕ, List}
 use Rattle.star_eval.specs.Methods.{attribute, on_text, call_method}
 use Rattle.star_eval.proofs.Keeps.{keeps, Keeps}

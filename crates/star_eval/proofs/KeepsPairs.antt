@@ -3,7 +3,7 @@ use Rattle.star_store.specs.declared.values.Value.{Value}
 use Rattle.star_store.specs.declared.values.Cell.TheVariants as cell
 use Rattle.star_eval.specs.Program.{Setting}
 use Rattle.star_eval.specs.Values.{Content, Held}
-use Rattle.star_eval.specs.Arguments.{NamedValue}
+use Rattle.star_eval.specs.declared.given.NamedValue.{NamedValue}
 use Rattle.std.proofs.Common.{ℕ, List, [], ◌∷◌, Option, Some, None, Bool}
 use Rattle.star_eval.specs.Run.{Action}
 use Rattle.star_eval.specs.Pairs.{two_items, pair_of, taken_entries, pairs_in, pairs_of, pairs_count, check_pair, put_pair, put_named, put_pairs, with_pair, with_pairs, with_named, dict_of, update_with, Pairs}

@@ -1,12 +1,11 @@
 -- What actions on contents do, by the kinds of values.
-use Rattle.std.proofs.Common.{◌≡◌, ◌≢◌, ℕ, List, [], ◌∷◌, Option, Some, None, ℤ, refl, sym, ap, ◌∙◌}
+use Rattle.std.proofs.Common.{◌≡◌, ◌≢◌, ℕ, Option, Some, None, refl, ap, ◌∙◌}
 use Rattle.star_store.specs.declared.values.Value.{Value}
 use Rattle.star_store.specs.declared.values.Value.TheVariants as value
 use Rattle.star_store.specs.declared.values.Cell.{Cell}
 use Rattle.star_store.specs.declared.values.Cell.TheVariants as cell
 use Rattle.star_store.specs.declared.range.Range.{Range}
 use Rattle.star_syntax.specs.declared.tree.BinaryOperator.TheVariants as binary
-use Rattle.star_eval.specs.declared.content.Kind.{Kind}
 use Rattle.star_eval.specs.declared.content.Kind.TheVariants as kind
 use Rattle.star_eval.specs.declared.fault.Code.TheVariants.{BadType}
 use Rattle.star_eval.specs.Run.{State, fail, give}

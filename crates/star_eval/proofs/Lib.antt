@@ -60,6 +60,7 @@ pub mod LoadedFit
 pub mod Lowers
 pub mod MoreSteps
 pub mod Parts
+pub mod ProgramRows
 pub mod Quiet
 pub mod QuietArguments
 pub mod QuietBinding
@@ -80,6 +81,7 @@ pub mod QuietValues
 pub mod QuietVariables
 pub mod Ranges
 pub mod Reaches
+pub mod Resolved
 pub mod ReadPlaces
 pub mod Rows
 pub mod Runs

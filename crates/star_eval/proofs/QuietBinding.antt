@@ -1,6 +1,6 @@
 -- Binding: no part makes a function, and each keeps the frames.
 use Rattle.star_syntax.specs.declared.tree.Name.{Name}
-use Rattle.star_eval.specs.Arguments.{NamedValue}
+use Rattle.star_eval.specs.declared.given.NamedValue.{NamedValue}
 use Rattle.std.proofs.Common.{ℕ, List}
 use Rattle.star_eval.specs.Binding.{key_and_value, made_of, make_shares, Share, One, Rest, Names}
 use Rattle.star_eval.proofs.Quiet.{keeps, Keeps}

@@ -1,7 +1,8 @@
 -- Format: no part makes a function, and each keeps the frames.
 use Rattle.star_store.specs.declared.values.Value.{Value}
 use Rattle.star_eval.specs.Program.{Setting}
-use Rattle.star_eval.specs.Arguments.{Given, NamedValue}
+use Rattle.star_eval.specs.declared.given.Given.{Given}
+use Rattle.star_eval.specs.declared.given.NamedValue.{NamedValue}
 use Rattle.std.proofs.Common.{ℕ, List, [], ◌∷◌}
 use Rattle.star_eval.specs.Format.{next_place, numbered_place, placed_value, named_value, field_value, formatted, Numbering, Reading, Unused, Automatic, ByNumber, Outside, Field, Closing}
 use Rattle.star_eval.proofs.Quiet.{keeps, Keeps}

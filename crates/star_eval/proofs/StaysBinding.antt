@@ -1,6 +1,6 @@
 -- Binding: what each part keeps of the cells and of the active definitions.
 use Rattle.star_syntax.specs.declared.tree.Name.{Name}
-use Rattle.star_eval.specs.Arguments.{NamedValue}
+use Rattle.star_eval.specs.declared.given.NamedValue.{NamedValue}
 use Rattle.std.proofs.Common.{ℕ, List}
 use Rattle.star_eval.specs.Binding.{key_and_value, made_of, make_shares, Share, One, Rest, Names}
 use Rattle.star_eval.proofs.Stays.{keeps, Keeps}

@@ -1,7 +1,7 @@
 -- DictMethods: what each part keeps of the cells and of the active definitions.
 use Rattle.star_store.specs.declared.values.Value.{Value}
 use Rattle.star_eval.specs.Program.{Setting}
-use Rattle.star_eval.specs.Arguments.{Given}
+use Rattle.star_eval.specs.declared.given.Given.{Given}
 use Rattle.std.proofs.Common.{ℕ, List, Option, Some, None}
 use Rattle.star_eval.specs.Run.{Action}
 use Rattle.star_eval.specs.DictMethods.{with_entries_of, value_under, call_get, pair_up, call_items, call_keys, call_values, take_out, call_dict_pop, call_popitem, put_default, call_setdefault, call_update}

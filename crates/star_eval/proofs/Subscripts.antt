@@ -1,5 +1,5 @@
 -- What subscripts do, by the kinds of values.
-use Rattle.std.proofs.Common.{◌≡◌, ◌≢◌, ℕ, List, Some, refl, ap, ◌∙◌}
+use Rattle.std.proofs.Common.{◌≡◌, ◌≢◌, ℕ, refl, ap}
 use Rattle.star_store.specs.declared.values.Value.{Value}
 use Rattle.star_store.specs.declared.values.Cell.TheVariants as cell
 use Rattle.star_store.specs.declared.range.Range.{Range}
@@ -9,7 +9,7 @@ use Rattle.star_eval.specs.Run.{fail}
 use Rattle.star_eval.specs.Program.{Setting}
 use Rattle.star_eval.specs.Values.{Content, Nothing, Truth, Number, BuiltInFunction, Held, Nowhere}
 use Rattle.star_eval.specs.Subscript.{item_of, row_item, byte_at, entry_value, entries_in, set_in, set_item, set_entry}
-use Rattle.star_eval.specs.Kinds.{kind_of, bytes_of, row_of, size_of}
+use Rattle.star_eval.specs.Kinds.{kind_of, bytes_of, size_of}
 use Rattle.star_eval.proofs.KindCases.{is_text, is_list, is_tuple, is_dict, is_range}
 
 abbrev RowItem : Setting → ℕ → ℕ → Value → Content → Type 0

@@ -1,6 +1,6 @@
 -- Loops go on turn by turn.
-use Rattle.std.proofs.Common.{◌≡◌, ℕ, zero, suc, ◌+◌, ◌-◌, ◌<◌, List, [], ◌∷◌, ◌++◌, Bool, true, false, if◌then◌else◌, refl, ap, sym, ◌∙◌, append_assoc, arith}
-use Rattle.star_eval.specs.Run.{State, Outcome, Done, Failed, Action, and_then, give, collect, until, each, all_of}
+use Rattle.std.proofs.Common.{◌≡◌, ℕ, zero, suc, ◌+◌, ◌-◌, ◌<◌, List, [], ◌∷◌, ◌++◌, Bool, true, if◌then◌else◌, refl, ap, sym, ◌∙◌, append_assoc, arith}
+use Rattle.star_eval.specs.Run.{State, Outcome, Done, Failed, Action, and_then, give, collect, until}
 use Rattle.star_eval.specs.Gives.{with_front}
 
 -- so many turns more are one and those behind it

@@ -5,6 +5,8 @@ use Rattle.std.specs.Option.{option_map}
 use Rattle.star_store.specs.declared.values.Value.{Value}
 use Rattle.star_store.specs.declared.values.Cell.TheVariants as cell
 use Rattle.star_eval.specs.declared.fault.Code.TheVariants as code
+use Rattle.star_eval.specs.declared.given.Given.{Given}
+use Rattle.star_eval.specs.declared.given.NamedValue.{NamedValue}
 use Rattle.star_eval.specs.Run.{State, Action, ◌>>=◌, give, fail, pay, check, found, each, seeing}
 use Rattle.star_scope.specs.Names.{same_name}
 use Rattle.star_eval.specs.Program.{Setting}
@@ -16,17 +18,6 @@ pub data Passed : Type 0 where
   Named : List ℕ → Value → Passed
   Star : Value → Passed
   StarStar : Value → Passed
-
--- a value given by name; its key is there already where it came by `**`
-pub record NamedValue : Type 0 where
-  pub name : List ℕ
-  pub key : Option Value
-  pub value : Value
-
--- what the callee gets: values by place, and values by name
-pub record Given : Type 0 where
-  pub plain : List Value
-  pub named : List NamedValue
 
 -- the values that stand by place, and those that stand by name
 abbrev pub plain_of : List Passed → List Value

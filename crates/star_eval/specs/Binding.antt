@@ -10,7 +10,9 @@ use Rattle.star_scope.specs.Syntax.{ParameterForm, parameter}
 use Rattle.star_eval.specs.Run.{Action, ◌>>=◌, give, each}
 use Rattle.star_scope.specs.Names.{same_name}
 use Rattle.star_eval.specs.Values.{new_tuple, new_dict}
-use Rattle.star_eval.specs.Arguments.{Given, NamedValue, is_given, key_for}
+use Rattle.star_eval.specs.declared.given.Given.{Given}
+use Rattle.star_eval.specs.declared.given.NamedValue.{NamedValue}
+use Rattle.star_eval.specs.Arguments.{is_given, key_for}
 
 -- what a parameter gets: a value, the values by place that are left, or the values by name that are left
 pub data Share : Type 0 where

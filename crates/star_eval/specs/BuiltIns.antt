@@ -15,7 +15,8 @@ use Rattle.star_eval.specs.declared.fault.Code.TheVariants as code
 use Rattle.star_eval.specs.Run.{Action, ◌>>=◌, give, fail, pay, check, found, each, collect, until, seeing, build, add_line}
 use Rattle.star_eval.specs.Program.{Setting}
 use Rattle.star_eval.specs.Values.{Content, Truth, Number, Held, content, with_content, type_name, want_int, want_bool, want_text, new_int, new_text, new_tuple, new_list, count_in, count_of, take_item, take_items, take_all, is_true, compare, repr, str}
-use Rattle.star_eval.specs.Arguments.{Given, by_place, with_name, only_one, none_or_one, one_or_two}
+use Rattle.star_eval.specs.declared.given.Given.{Given}
+use Rattle.star_eval.specs.Arguments.{by_place, with_name, only_one, none_or_one, one_or_two}
 use Rattle.star_eval.specs.Pairs.{pairs_count, pairs_of, dict_of}
 
 -- abs(x)

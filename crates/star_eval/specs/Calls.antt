@@ -20,7 +20,8 @@ use Rattle.star_eval.specs.Run.{State, Action, Done, ◌>>=◌, give, fail, pay,
 use Rattle.star_scope.specs.Definitions.{Definition, Body, Statements, Answer}
 use Rattle.star_eval.specs.Program.{Setting, Variables, definition_of}
 use Rattle.star_eval.specs.Values.{Content, BuiltInFunction, Held, with_content}
-use Rattle.star_eval.specs.Arguments.{Passed, Plain, Named, Star, StarStar, Given, given}
+use Rattle.star_eval.specs.declared.given.Given.{Given}
+use Rattle.star_eval.specs.Arguments.{Passed, Plain, Named, Star, StarStar, given}
 use Rattle.star_eval.specs.BuiltIns.{call_built_in}
 use Rattle.star_eval.specs.Methods.{call_method}
 use Rattle.star_eval.specs.Binding.{Share, bound_to, make_shares}

@@ -8,7 +8,8 @@ use Rattle.star_eval.specs.Run.{Action, ◌>>=◌, give, found, each, seeing}
 use Rattle.star_eval.specs.Program.{Setting}
 use Rattle.star_eval.specs.Values.{content, with_content, check_key, value_in, guard, change, new_tuple, new_list}
 use Rattle.star_eval.specs.Subscript.{put_entry, entries_in}
-use Rattle.star_eval.specs.Arguments.{Given, by_place, none_or_one, one_or_two, no_value}
+use Rattle.star_eval.specs.declared.given.Given.{Given}
+use Rattle.star_eval.specs.Arguments.{by_place, none_or_one, one_or_two, no_value}
 use Rattle.star_eval.specs.Pairs.{update_with}
 
 -- the entries of a dictionary now

@@ -8,7 +8,8 @@ use Rattle.star_eval.specs.Run.{Action, ◌>>=◌, give, fail, found}
 use Rattle.star_scope.specs.Names.{same_name}
 use Rattle.star_eval.specs.Program.{Setting}
 use Rattle.star_eval.specs.Values.{str}
-use Rattle.star_eval.specs.Arguments.{Given, NamedValue}
+use Rattle.star_eval.specs.declared.given.Given.{Given}
+use Rattle.star_eval.specs.declared.given.NamedValue.{NamedValue}
 use Rattle.star_eval.specs.BuiltIns.{is_digit, number_from}
 
 -- how fields have found their values so far: not yet by place, by the next place, or by number

@@ -1,5 +1,5 @@
 -- The kinds of values, and what values of a kind hold.
-use Rattle.std.specs.Prelude.{ℕ, List, [], Option, Some, None}
+use Rattle.std.specs.Prelude.{ℕ, List, [], Option, Some}
 use Rattle.std.specs.Option.{unwrap_or}
 use Rattle.star_store.specs.declared.values.Value.{Value}
 use Rattle.star_store.specs.declared.values.Cell.{Cell}

@@ -21,6 +21,7 @@ pub mod Pairs
 pub mod Percent
 pub mod Places
 pub mod Program
+pub mod Programs
 pub mod Run
 pub mod Search
 pub mod Shown

@@ -9,7 +9,8 @@ use Rattle.star_eval.specs.Run.{Action, ◌>>=◌, give, pay, found, all_of}
 use Rattle.star_eval.specs.Program.{Setting}
 use Rattle.star_eval.specs.Values.{Content, Held, with_content, want_int, count_of, take_items, equal, guard, change, new_int}
 use Rattle.star_eval.specs.Subscript.{place_from, bound_of}
-use Rattle.star_eval.specs.Arguments.{Given, by_place, only_one, none_or_one, two, no_value}
+use Rattle.star_eval.specs.declared.given.Given.{Given}
+use Rattle.star_eval.specs.Arguments.{by_place, only_one, none_or_one, two, no_value}
 
 -- the items of a list now
 abbrev pub items_of : Content → List Value

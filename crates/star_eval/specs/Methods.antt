@@ -11,7 +11,7 @@ use Rattle.star_eval.specs.Run.{Action, ◌>>=◌, fail, found, build}
 use Rattle.star_scope.specs.Names.{same_name}
 use Rattle.star_eval.specs.Program.{Setting}
 use Rattle.star_eval.specs.Values.{with_content, type_name, want_text}
-use Rattle.star_eval.specs.Arguments.{Given}
+use Rattle.star_eval.specs.declared.given.Given.{Given}
 use Rattle.star_eval.specs.ListMethods.{call_append, call_clear, call_extend, call_index, call_insert, call_pop, call_remove}
 use Rattle.star_eval.specs.DictMethods.{call_get, call_items, call_keys, call_values, call_dict_pop, call_popitem, call_setdefault, call_update}
 use Rattle.star_eval.specs.TextMethods.{call_edge, call_find, call_join, call_split, call_strip, call_case, call_replace, call_format}

@@ -8,7 +8,8 @@ use Rattle.star_eval.specs.Program.{Setting}
 use Rattle.star_eval.specs.Values.{Content, Held, with_content, count_of, take_items, take_all, check_key, new_dict}
 use Rattle.star_eval.specs.Subscript.{put_entry}
 use Rattle.star_eval.specs.Operators.{with_entry}
-use Rattle.star_eval.specs.Arguments.{NamedValue, key_for}
+use Rattle.star_eval.specs.declared.given.NamedValue.{NamedValue}
+use Rattle.star_eval.specs.Arguments.{key_for}
 
 -- entries to put in, and whether their keys are keys already
 pub record Pairs : Type 0 where

@@ -10,7 +10,8 @@ use Rattle.star_eval.specs.Program.{Setting}
 use Rattle.star_eval.specs.Values.{Content, Held, content, want_int, want_text, text_of, new_text, new_list, count_of, take_items}
 use Rattle.star_eval.specs.Subscript.{want_part, bound_of}
 use Rattle.star_eval.specs.Operators.{place_between}
-use Rattle.star_eval.specs.Arguments.{Given, by_place, only_one, none_or_one, no_value, before_all}
+use Rattle.star_eval.specs.declared.given.Given.{Given}
+use Rattle.star_eval.specs.Arguments.{by_place, only_one, none_or_one, no_value, before_all}
 use Rattle.star_eval.specs.BuiltIns.{joined}
 use Rattle.star_eval.specs.Texts.{characters, without_front, without_end, is_blank, is_in, parts}
 use Rattle.star_eval.specs.Format.{formatted, Outside, Unused}

@@ -2,6 +2,7 @@
 
 ghost use Rattle.star_eval.specs.Laws.{MoreStepsMeanTheSame, RunsGrow, RunsKeep};
 ghost use Rattle.star_eval.specs.Places.{LoadsFit, PlacesMeanNames, SpotsMeanNames};
+ghost use Rattle.star_eval.specs.Programs.{ProgramsPlaceNames};
 
 /// Whatever an expression or a statement does, at any levels and in any state: the lines printed and the cells only grow
 /// in number, the steps only fall, and the module stays the same. A fault too keeps the lines that were printed before.
@@ -41,4 +42,11 @@ pub fn places_mean_names()
 /// for them, load by load. (`docs/LANGUAGE.md`, "Blocks and variables".)
 pub fn loads_fit()
     ensures { LoadsFit }
+{}
+
+/// Where each file with a tree has its program (the answer of `resolve` for the file of this number, with the prelude that it
+/// sees), the spots of the programs and the numbers of the names of their blocks are right for all these files: what
+/// `places_mean_names` asks of its tables. (`docs/LANGUAGE.md`, "Scopes and static faults" and "Blocks and variables".)
+pub fn programs_place_names()
+    ensures { ProgramsPlaceNames }
 {}

@@ -3,17 +3,19 @@
 
 pub mod comparisons;
 pub mod content;
-mod cuts;
+pub mod cuts;
 pub mod fault;
+pub mod given;
 pub mod law;
 pub mod machine;
 pub mod operators;
 mod percent;
 pub mod place;
+pub mod programs;
 mod search;
 pub mod setting;
 pub mod slices;
 pub mod subscript;
 #[cfg(test)]
 mod tests;
-mod texts;
+pub mod texts;

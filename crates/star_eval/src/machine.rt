@@ -1,8 +1,11 @@
 //! The machine: what a run changes.
 
-ghost use Rattle.std.specs.Prelude.{◌≡◌, ◌<◌, ◌≤◌, ◌+◌, ◌^◌, [], length, slice_get, IfErr, IfOk, OnOk};
+ghost use Rattle.std.specs.Prelude.{◌≡◌, ◌<◌, ◌≤◌, ◌+◌, ◌^◌, ◌∷◌, ◌&&◌, [], length, nat_eq, pos, slice_get, IfErr, IfOk, OnOk};
+ghost use Rattle.std.specs.List.{list_any};
 ghost use Rattle.std.specs.Option.{option_copied};
-ghost use Rattle.star_eval.specs.Run.{Done, add_line, agreed, and_then, build, give, make, pay, visiting};
+ghost use Rattle.star_store.specs.Store.{bound};
+ghost use Rattle.star_eval.specs.Calls.{deactivate, is_active};
+ghost use Rattle.star_eval.specs.Run.{Done, add_line, agreed, and_then, build, give, make, pay, storing, visiting};
 ghost use Rattle.star_eval.specs.Program.{seen};
 ghost use Rattle.star_eval.specs.Gives.{Gives, GivesBy};
 ghost use Rattle.star_eval.specs.Shown.{shown};
@@ -24,7 +27,7 @@ use star_store::key::{check_key, place_of, value_of};
 use star_store::order::order;
 use star_store::text::repr;
 use star_store::truth::is_true;
-use star_store::values::{Cell, Entries, Value, Values};
+use star_store::values::{Cell, Entries, Function, Value, Values};
 use star_text::Text;
 use std::alloc::{AllocError, Global};
 use std::cmp::Ordering;
@@ -128,6 +131,52 @@ impl Machine {
         match self.arena.make(cell) {
             Ok(value) => Ok(value),
             Err(_memory) => Err(Stop::Memory),
+        }
+    }
+
+    /// A new cell that is not paid for, as the frame of a file is.
+    #[tactic(auto, unfolding(crate::specs::Run::make))]
+    pub fn make(&mut self, cell: Cell) -> Result<Value, Stop>
+        requires { length self.old.store.cells + self.old.steps + 1 < 2 ^ 32 }
+        ensures { Gives (make cell self.old) result self.new }
+    {
+        match self.arena.make(cell) {
+            Ok(value) => Ok(value),
+            Err(_memory) => Err(Stop::Memory),
+        }
+    }
+
+    /// Gives a slot of a frame of this module a value. Where there is no such slot, nothing changes.
+    #[tactic(auto, using(crate::proofs::Cells::length_bound))]
+    pub fn bind(&mut self, frame: Value, slot: usize, value: Value)
+        ensures { storing (bound frame slot value) self.old ≡ Done tt self.new }
+    {
+        self.arena.bind(frame, slot, value);
+    }
+
+    /// Whether the definition of a function is active.
+    pub fn is_active(&self, function: &Function) -> bool
+        ensures { result ≡ is_active self.now function.now }
+    {
+        is_among(&self.active, function.file, function.definition)
+    }
+
+    /// The definition with this number in a file becomes active, as the innermost.
+    pub fn activate(&mut self, file: u32, definition: u32) -> Result<(), Stop>
+        ensures active { OnOk result (self.new ≡ record self.old { active = (file, definition) ∷ self.old.active }) }
+        ensures memory { IfErr result (λ e. e ≡ Stop.Memory) }
+    {
+        self.active.insert(0, (file, definition))?;
+        Ok(())
+    }
+
+    /// The innermost active definition ceases to be active.
+    #[tactic(auto, unfolding(crate::specs::Calls::deactivate))]
+    pub fn deactivate(&mut self)
+        ensures { deactivate self.old ≡ Done tt self.new }
+    {
+        if !self.active.is_empty() {
+            let _definition = self.active.remove(0);
         }
     }
 
@@ -354,6 +403,16 @@ impl Machine {
         }
     }
 
+    /// A count as a value. `Overflow` where it is outside 64 bits.
+    pub fn new_count(&self, line: usize, count: usize) -> Result<Value, Stop>
+        ensures { Gives (new_int line (pos count) self.now) result self.now }
+    {
+        if count > i64::MAX as usize {
+            return Err(faulted(Code::Overflow, line));
+        }
+        Ok(Value::Int(count as i64))
+    }
+
     /// An int is wanted: else `BadType`.
     pub fn want_int(&self, setting: &Setting, line: usize, value: Value) -> Result<i64, Stop>
         ensures { Gives (want_int setting.now line value self.now) result self.now }
@@ -574,4 +633,16 @@ impl Machine {
             _ => None,
         }
     }
+}
+
+/// Whether a definition is among the active ones.
+fn is_among(active: &[(u32, u32)], file: u32, definition: u32) -> bool
+    ensures { result ≡ list_any (λ a. nat_eq a.0 file && nat_eq a.1 definition) active.now }
+{
+    for one in active {
+        if one.0 == file && one.1 == definition {
+            return true;
+        }
+    }
+    false
 }

@@ -271,7 +271,7 @@ fn multiply(
 }
 
 /// Puts an entry in: a key that is there keeps its place.
-fn with_entry(
+pub fn with_entry(
     machine: &Machine,
     setting: &Setting,
     entries: &mut Entries,

@@ -24,8 +24,8 @@ struct Span {
     step: i64,
 }
 
-/// A bound of a slice: a place below 0 gets the length added, and is then held within two places.
-fn bound_of(len: usize, low: i128, high: i128, absent: i128, place: Option<i64>) -> i128
+/// A bound of a slice: a place below 0 gets the length added, and is then held within two places. An absent one stands at its end.
+pub fn bound_of(len: usize, low: i128, high: i128, absent: i128, place: Option<i64>) -> i128
     requires low { low ≤ℤ absent }
     requires high { absent ≤ℤ high }
     ensures value { result ≡ spec.bound_of len low high absent place }
@@ -287,7 +287,7 @@ fn sliced(
 }
 
 /// A part of a slice: absent, or an int or None. `BadType` for another value.
-fn want_part(
+pub fn want_part(
     machine: &Machine,
     setting: &Setting,
     line: usize,

@@ -2,14 +2,18 @@
 
 use crate::comparisons::compared;
 use crate::fault::{Code, Stop, faulted};
+use crate::given::{Given, NamedValue};
 use crate::machine::Machine;
 use crate::operators::{operate, prefix};
+use crate::programs::Programs;
 use crate::setting::Setting;
 use crate::slices::slice;
 use crate::subscript::{index, set_index};
-use star_store::arena::Homes;
+use sqlite_items::Items;
+use star_scope::loads::Load;
+use star_store::arena::{Arena, Homes, freeze};
 use star_store::range::Range;
-use star_store::values::{Cell, Value, Values};
+use star_store::values::{Cell, Function, Value, Values};
 use star_syntax::tree::{BinaryOperator, Comparator, UnaryOperator};
 use star_text::Text;
 use std::alloc::Global;
@@ -553,4 +557,136 @@ fn a_slice_takes_the_items_at_its_places_over(
 fn a_slice_takes_the_items_at_its_places(rt: HostRuntime) -> Result<(), Fail> {
     let homes = Homes::new(rt.alloc());
     a_slice_takes_the_items_at_its_places_over(&rt, rt.alloc(), &homes)
+}
+
+fn arguments_fit_or_are_refused_in(
+    rt: &impl Abort,
+    alloc: Global,
+    machine: &mut Machine,
+    setting: &Setting,
+) -> Result<(), Fail> {
+    let plain = Values::new(Vec::from_slice(alloc, &[Value::Int(5), Value::Int(6)])?);
+    let mut named = Items::new(alloc);
+    named.push(NamedValue {
+        name: Text::new(alloc, "sep")?,
+        key: None,
+        value: Value::Int(7),
+    })?;
+    let given = Given { plain, named };
+    let refused = Err(faulted(Code::Args, 7));
+    assert!(rt; machine.by_place(7, &given).is_err());
+    assert!(rt; machine.with_name(7, "end", &given).is_err());
+    let (values, sep) = machine.with_name(7, "sep", &given)?;
+    assert_eq!(rt; sep, Some(Value::Int(7)));
+    assert_eq!(rt; machine.two(7, values), Ok((Value::Int(5), Value::Int(6))));
+    assert_eq!(rt; machine.only_one(7, values), refused);
+    assert_eq!(rt; machine.only_one(7, &values[1..]), Ok(Value::Int(6)));
+    assert_eq!(rt; machine.none_or_one(7, &values[2..]), Ok(None));
+    assert!(rt; machine.no_value(7, values).is_err());
+    assert_eq!(rt;
+        machine.one_or_two(7, &values[..1]),
+        Ok((Value::Int(5), None))
+    );
+    if let Some(value) = given.named.get(0) {
+        let key = machine.key_for(7, value)?;
+        let text = machine.repr(setting, 400, 7, key)?;
+        assert_eq!(rt; text.as_str(), "\"sep\"");
+    }
+    Ok(())
+}
+
+fn arguments_fit_or_are_refused_over(
+    rt: &impl Abort,
+    alloc: Global,
+    homes: &Homes,
+) -> Result<(), Fail> {
+    let setting = Setting::new(0, homes);
+    let mut machine = Machine::new(alloc, 0, 1_000);
+    arguments_fit_or_are_refused_in(rt, alloc, &mut machine, &setting)
+}
+
+#[test]
+fn arguments_fit_or_are_refused(rt: HostRuntime) -> Result<(), Fail> {
+    let homes = Homes::new(rt.alloc());
+    arguments_fit_or_are_refused_over(&rt, rt.alloc(), &homes)
+}
+
+#[test]
+fn definitions_are_active_until_they_end(rt: HostRuntime) -> Result<(), Fail> {
+    let alloc = rt.alloc();
+    let mut machine = Machine::new(alloc, 0, 1_000);
+    let function = Function {
+        file: 0,
+        definition: 4,
+        name: Text::new(alloc, "f")?,
+        defaults: Values::new(Vec::new(alloc)),
+        frame: Value::NoneValue,
+    };
+    machine.activate(0, 4)?;
+    machine.activate(1, 4)?;
+    assert!(rt; machine.is_active(&function));
+    machine.deactivate();
+    assert!(rt; machine.is_active(&function));
+    machine.deactivate();
+    assert!(rt; !machine.is_active(&function));
+    Ok(())
+}
+
+#[test]
+fn a_file_without_a_program_has_no_places(rt: HostRuntime) -> Result<(), Fail> {
+    let alloc = rt.alloc();
+    let mut programs = Programs::new(alloc);
+    programs.push(None)?;
+    assert!(rt; programs.spot(0, 3).is_none());
+    assert_eq!(rt; programs.slots(0, 0), 0);
+    Ok(())
+}
+
+#[test]
+fn what_is_made_by_itself_pays_nothing(rt: HostRuntime) -> Result<(), Fail> {
+    let alloc = rt.alloc();
+    let mut machine = Machine::new(alloc, 0, 10);
+    let made = machine.make(Cell::List(Values::new(Vec::new(alloc))))?;
+    machine.bind(made, 0, Value::Int(5));
+    assert!(rt; machine.afford(1, 10).is_ok());
+    Ok(())
+}
+
+fn a_setting_knows_what_is_loaded_over(rt: &impl Abort, homes: &Homes) {
+    let loads = [
+        Load {
+            file: 2,
+            line: 1,
+            token: None,
+        },
+        Load {
+            file: 3,
+            line: 1,
+            token: Some(0),
+        },
+        Load {
+            file: 4,
+            line: 2,
+            token: Some(6),
+        },
+    ];
+    let setting = Setting::over(1, homes, &[None, None], &loads, Some(2));
+    assert_eq!(rt; setting.home(), 1);
+    assert_eq!(rt; setting.prelude(), Some(2));
+    assert_eq!(rt; setting.loaded(0), Some(3));
+    assert_eq!(rt; setting.loaded(6), Some(4));
+    assert_eq!(rt; setting.loaded(1), None);
+    assert!(rt; setting.published(2).is_some());
+    assert!(rt; setting.published(1).is_none());
+    assert!(rt; setting.published(9).is_none());
+}
+
+#[test]
+fn a_setting_knows_what_is_loaded(rt: HostRuntime) -> Result<(), Fail> {
+    let alloc = rt.alloc();
+    let store = freeze(Arena::new(alloc, 2), Vec::new(alloc));
+    let mut homes = Homes::new(alloc);
+    homes.add(2, &store)?;
+    a_setting_knows_what_is_loaded_over(&rt, &homes);
+    Ok(())
 }

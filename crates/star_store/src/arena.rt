@@ -1,7 +1,7 @@
 // The store of a module while it runs, and the published stores that it reaches.
 
 ghost use Rattle.std.specs.Prelude.{◌≡◌, List, ℕ, [], ◌∷◌, ◌++◌, ◌+◌, ◌<◌, ◌^◌, length, OnOk, OnErr, IfOk, IfErr, slice_get, map, replicate, string_bytes, ◌-◌};
-ghost use Rattle.std.specs.Option.{option_copied};
+ghost use Rattle.std.specs.Option.{option_copied, option_flatten};
 ghost use Rattle.star_store.specs.Store.{bound, bound_cell, changed_at, closed, closed_in, counted_at, global_of, is_container, is_taken, iterations_in, iterations_of, look, made, next_value, opened, opened_in, published_cells, put_up};
 ghost use Rattle.star_store.specs.declared.fault.StoreFault.TheVariants.{Memory};
 
@@ -75,6 +75,17 @@ impl<'a> Homes<'a> {
         ensures refused { OnErr result (self.new ≡ self.old) }
     {
         add_store(&mut self.stores, home, store)
+    }
+
+    /// The store of a published module, or none.
+    #[tactic(auto, using(crate::proofs::Store::copied_at))]
+    pub fn published(&self, home: usize) -> Option<&Frozen>
+        ensures { option_copied result ≡ option_flatten (slice_get self.now home) }
+    {
+        match self.stores.get(home) {
+            Some(Some(store)) => Some(store),
+            _ => None,
+        }
     }
 
     /// The cells of a published module, or none.

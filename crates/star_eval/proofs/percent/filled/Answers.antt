@@ -1,6 +1,5 @@
-use Rattle.std.proofs.Common.{false, string_bytes, ◌≡◌, ◌<◌, ◌≤◌, length, drop, sym, ap, ◌∙◌, length-drop, rules, arith}
-use Rattle.star_store.specs.declared.values.Value.{Value}
-use Rattle.star_eval.specs.Run.{Outcome, and_then}
+use Rattle.std.proofs.Common.{false, string_bytes, ◌<◌, ◌≤◌, length, drop, sym, ap, ◌∙◌, length-drop, rules, arith}
+use Rattle.star_eval.specs.Run.{and_then}
 use Rattle.star_eval.specs.Percent.{filled}
 use Rattle.star_eval.proofs.Filling.{filled_turn, filled_bad_turn, filled_well, filled_too_few}
 use Rattle.star_eval.proofs.percent.filled.Goals as goal
