@@ -1,0 +1,2 @@
+mod Braces
+mod Places

@@ -1,0 +1,43 @@
+-- The fields of the method `format`, by the next place and by number, and how reading goes on behind a brace.
+use Rattle.std.specs.Prelude.{◌≡◌, ℕ, List, Result, Ok, Err}
+use Rattle.star_store.specs.declared.values.Value.{Value}
+use Rattle.star_eval.specs.declared.fault.Stop.{Stop}
+use Rattle.star_eval.specs.declared.given.Given.{Given}
+use Rattle.star_eval.specs.Run.{State, Outcome, Action, ◌>>=◌, give}
+use Rattle.star_eval.specs.Program.{Setting}
+use Rattle.star_eval.specs.Values.{str}
+use Rattle.star_eval.specs.Format.{Numbering, Unused, Automatic, ByNumber, next_place, numbered_place, placed_value, field_value}
+use Rattle.star_eval.specs.BuiltIns.{number_from}
+use Rattle.star_eval.specs.Gives.{Ends}
+use Rattle.star_attribute.specs.declared.fields.Numbering.{Numbering as Counting}
+use Rattle.star_attribute.specs.declared.fields.Numbering.TheVariants as counting
+
+-- the definition's numbering
+abbrev pub as_numbering : Counting → Numbering
+as_numbering counting.Unused = Unused
+as_numbering (counting.Automatic n) = Automatic n
+as_numbering counting.ByNumber = ByNumber
+
+-- a value, or a text, and the numbering that follows
+abbrev pub as_found : Value × Counting → Value × Numbering
+as_found r = (r.0, as_numbering r.1)
+
+abbrev pub text_and_numbering : List ℕ × Counting → List ℕ × Numbering
+text_and_numbering r = (r.0, as_numbering r.1)
+
+-- the value at the next place
+abbrev pub next_value : ℕ → List Value → Numbering → Action (Value × Numbering)
+next_value line xs k = next_place line k >>= placed_value line xs
+
+-- the value at the place that digits write
+abbrev pub numbered_value : ℕ → List Value → List ℕ → Numbering → Action (Value × Numbering)
+numbered_value line xs f k = numbered_place line (number_from 0 f) k >>= placed_value line xs
+
+-- what `str` makes of the value of a field
+abbrev pub field_text : Setting → ℕ → ℕ → Given → List ℕ → Numbering → Action (List ℕ × Numbering)
+field_text w levels line g f k = field_value line g f k >>= λ r. str w levels line r.0 >>= λ t. give (t, r.1)
+
+-- What was to be made is what reading on makes; or the fault is that of what was to be made.
+abbrev pub ReadsOn : {A : Type 0} → Outcome (List ℕ) → (A → Outcome (List ℕ)) → Result A Stop → State → Type 0
+ReadsOn o rest (Ok r) new = o ≡ rest r
+ReadsOn o rest (Err e) new = Ends o e new

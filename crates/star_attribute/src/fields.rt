@@ -1,0 +1,206 @@
+//! The fields of the method `format`, and the values that they find.
+
+ghost use Rattle.std.specs.Prelude.{◌≡◌, slice_get};
+ghost use Rattle.std.specs.List.{find, list_all};
+ghost use Rattle.std.specs.Option.{option_map};
+ghost use Rattle.star_attribute.specs.Fields.{as_found, as_numbering, field_text, next_value, numbered_value, text_and_numbering};
+ghost use Rattle.star_eval.specs.BuiltIns.{is_digit, number_from};
+ghost use Rattle.star_eval.specs.Format as spec;
+ghost use Rattle.star_eval.specs.Gives.{Gives, GivesBy};
+ghost use Rattle.star_scope.specs.Names.{same_name};
+
+use star_eval::fault::{Code, Stop, faulted};
+use star_eval::given::{Given, NamedValue};
+use star_eval::machine::Machine;
+use star_eval::setting::Setting;
+use star_store::values::Value;
+use star_text::Text;
+
+/// How fields have found their values so far.
+#[derive(Clone, Copy, Debug, PartialEq, Eq)]
+pub enum Numbering {
+    /// None by place.
+    Unused,
+    /// Some by the next place: this one is next.
+    Automatic(usize),
+    /// Some by number.
+    ByNumber,
+}
+
+/// Whether a byte is a decimal digit.
+fn is_digit(byte: u8) -> bool
+    ensures { result ≡ is_digit byte }
+{
+    byte >= b'0' && byte <= b'9'
+}
+
+/// Whether a byte is an ASCII letter or `_`.
+fn is_letter(byte: u8) -> bool
+    ensures { result ≡ spec.is_letter byte }
+{
+    byte == b'_' || (byte >= b'A' && byte <= b'Z') || (byte >= b'a' && byte <= b'z')
+}
+
+/// Whether all bytes are decimal digits.
+fn are_digits(bytes: &[u8]) -> bool
+    ensures { result ≡ list_all is_digit bytes.now }
+{
+    for byte in bytes {
+        if !is_digit(*byte) {
+            return false;
+        }
+    }
+    true
+}
+
+/// Whether all bytes are ASCII letters, `_` or decimal digits.
+fn are_word_bytes(bytes: &[u8]) -> bool
+    ensures { result ≡ list_all spec.is_word_byte bytes.now }
+{
+    for byte in bytes {
+        if !is_letter(*byte) && !is_digit(*byte) {
+            return false;
+        }
+    }
+    true
+}
+
+/// Whether bytes write a name: an ASCII letter or `_`, and then ASCII letters, `_` and digits.
+fn is_field_name(bytes: &[u8]) -> bool
+    ensures { result ≡ spec.is_field_name bytes.now }
+{
+    match bytes {
+        [first, rest @ ..] => is_letter(*first) && are_word_bytes(rest),
+        [] => false,
+    }
+}
+
+/// The value at a place: none beyond all values.
+fn value_in(values: &[Value], place: usize) -> Option<Value>
+    ensures { result ≡ slice_get values.now place }
+{
+    values.get(place).copied()
+}
+
+/// The value at the place that digits write: none where it is beyond all values, however large it is.
+fn value_at(values: &[Value], digits: &[u8]) -> Option<Value>
+    ensures { result ≡ slice_get values.now (number_from 0 digits.now) }
+{
+    let mut place: u128 = 0;
+    for digit in digits {
+        place = place * 10 + digit.saturating_sub(b'0') as u128;
+        if place >= values.len() as u128 {
+            return None;
+        }
+    }
+    value_in(values, place as usize)
+}
+
+/// The first of the values with a name.
+fn value_named(values: &[NamedValue], name: &str) -> Option<Value>
+    ensures { result ≡ option_map (λ n. n.value) (find (λ n. same_name n.name name.now) values.now) }
+{
+    for named in values {
+        if named.name.as_str() == name {
+            return Some(named.value);
+        }
+    }
+    None
+}
+
+/// The value at the next place. `BadValue` beside fields with numbers, `Index` where no value is left.
+fn next_value(
+    machine: &Machine,
+    line: usize,
+    values: &[Value],
+    numbering: Numbering,
+) -> Result<(Value, Numbering), Stop>
+    ensures { GivesBy as_found (next_value line values.now (as_numbering numbering) machine.now) result machine.now }
+{
+    let place = match numbering {
+        Numbering::Unused => 0,
+        Numbering::Automatic(place) => place,
+        Numbering::ByNumber => return Err(faulted(Code::BadValue, line)),
+    };
+    let Some(value) = value_in(values, place) else {
+        return Err(faulted(Code::Index, line));
+    };
+    Ok((value, Numbering::Automatic(place + 1)))
+}
+
+/// The value at the place that digits write. `BadValue` beside fields with none, `Index` where it is beyond all values.
+fn numbered_value(
+    machine: &Machine,
+    line: usize,
+    values: &[Value],
+    digits: &[u8],
+    numbering: Numbering,
+) -> Result<(Value, Numbering), Stop>
+    ensures { GivesBy as_found (numbered_value line values.now digits.now (as_numbering numbering) machine.now) result machine.now }
+{
+    if let Numbering::Automatic(_) = numbering {
+        return Err(faulted(Code::BadValue, line));
+    }
+    let Some(value) = value_at(values, digits) else {
+        return Err(faulted(Code::Index, line));
+    };
+    Ok((value, Numbering::ByNumber))
+}
+
+/// The value with a name. `Key` where it is not given.
+fn named_value(
+    machine: &Machine,
+    line: usize,
+    values: &[NamedValue],
+    name: &str,
+    numbering: Numbering,
+) -> Result<(Value, Numbering), Stop>
+    ensures { GivesBy as_found (spec.named_value line values.now name.now (as_numbering numbering) machine.now) result machine.now }
+{
+    match value_named(values, name) {
+        Some(value) => Ok((value, numbering)),
+        None => Err(faulted(Code::Key, line)),
+    }
+}
+
+/// The value of a field: `{}` is the next one, `{0}` one by its number, `{name}` one by its name. `BadValue` for another field and
+/// for numbers beside `{}`, `Index` for a place beyond all values, `Key` for a name that is not given.
+fn field_value(
+    machine: &Machine,
+    line: usize,
+    given: &Given,
+    field: &str,
+    numbering: Numbering,
+) -> Result<(Value, Numbering), Stop>
+    ensures { GivesBy as_found (spec.field_value line given.now field.now (as_numbering numbering) machine.now) result machine.now }
+{
+    if field.is_empty() {
+        return next_value(machine, line, given.plain.as_slice(), numbering);
+    }
+    if are_digits(field.as_bytes()) {
+        let digits = field.as_bytes();
+        return numbered_value(machine, line, given.plain.as_slice(), digits, numbering);
+    }
+    if is_field_name(field.as_bytes()) {
+        return named_value(machine, line, given.named.as_slice(), field, numbering);
+    }
+    Err(faulted(Code::BadValue, line))
+}
+
+/// What `str` makes of the value of a field, and how fields find theirs from then on. The faults are those of the field and of the
+/// text.
+pub fn field_text(
+    machine: &mut Machine,
+    setting: &Setting,
+    levels: u32,
+    line: usize,
+    given: &Given,
+    field: &str,
+    numbering: Numbering,
+) -> Result<(Text, Numbering), Stop>
+    ensures { GivesBy text_and_numbering (field_text setting.now levels line given.now field.now (as_numbering numbering) machine.old) result machine.new }
+{
+    let (value, numbering) = field_value(machine, line, given, field, numbering)?;
+    let text = machine.str(setting, levels, line, value)?;
+    Ok((text, numbering))
+}

@@ -1,0 +1,125 @@
+//! The method `format` of strings.
+
+ghost use Rattle.std.specs.Prelude.{◌≡◌, ◌≤◌, ◌∷◌, [], IfOk, false, length, string_bytes};
+ghost use Rattle.star_attribute.specs.Fields.{ReadsOn, as_numbering};
+ghost use Rattle.star_eval.specs.Cuts.{is_neither};
+ghost use Rattle.star_eval.specs.Format as spec;
+ghost use Rattle.star_eval.specs.Gives.{Gives};
+ghost use Rattle.star_eval.specs.Kinds.{bytes_of};
+ghost use Rattle.star_eval.specs.TextMethods as methods;
+ghost use Rattle.star_eval.specs.Values.{content};
+
+use crate::fields::{Numbering, field_text};
+use star_eval::cuts::{cut_at, first_ascii};
+use star_eval::fault::{Code, Stop, faulted};
+use star_eval::given::Given;
+use star_eval::machine::Machine;
+use star_eval::setting::Setting;
+use star_method::texts::pay_for_bytes;
+use star_store::values::Value;
+use star_text::Text;
+
+/// Puts what stands for the braces behind a `{`: the text of a field's value, or a `{` for another `{`. And what stands behind them,
+/// and how fields find their values from then on. `BadValue` where no brace follows, and for a `{` inside of a field.
+fn read_field<'a>(
+    machine: &mut Machine,
+    setting: &Setting,
+    levels: u32,
+    line: usize,
+    given: &Given,
+    out: &mut String,
+    after: &'a str,
+    numbering: Numbering,
+) -> Result<(&'a str, Numbering), Stop>
+    ensures reads { ReadsOn (spec.formatted setting.now levels line given.now after.now (spec.Field []) (as_numbering numbering) (string_bytes out.old) machine.old) (λ r. spec.formatted setting.now levels line given.now r.0.now spec.Outside (as_numbering r.1) (string_bytes out.new) machine.new) result machine.new }
+    ensures shorter { IfOk result (λ r. length r.0.now ≤ length after.now) }
+{
+    let Some((field, brace, more)) = cut_at(after, b'{', b'}') else {
+        return Err(faulted(Code::BadValue, line));
+    };
+    if brace == b'}' {
+        let (text, next) = field_text(machine, setting, levels, line, given, field, numbering)?;
+        out.push_str(text.as_str())?;
+        return Ok((more, next));
+    }
+    if !field.is_empty() {
+        return Err(faulted(Code::BadValue, line));
+    }
+    out.push('{')?;
+    Ok((more, numbering))
+}
+
+/// Puts what stands for a brace and for what belongs to it. And what stands behind that, and how fields find their values from then
+/// on. `BadValue` for a `{` that is not closed and for a `}` that closes nothing.
+fn read_brace<'a>(
+    machine: &mut Machine,
+    setting: &Setting,
+    levels: u32,
+    line: usize,
+    given: &Given,
+    out: &mut String,
+    brace: u8,
+    after: &'a str,
+    numbering: Numbering,
+) -> Result<(&'a str, Numbering), Stop>
+    requires { is_neither 123 125 brace ≡ false }
+    ensures reads { ReadsOn (spec.formatted setting.now levels line given.now (brace ∷ after.now) spec.Outside (as_numbering numbering) (string_bytes out.old) machine.old) (λ r. spec.formatted setting.now levels line given.now r.0.now spec.Outside (as_numbering r.1) (string_bytes out.new) machine.new) result machine.new }
+    ensures shorter { IfOk result (λ r. length r.0.now ≤ length after.now) }
+{
+    if brace == b'{' {
+        return read_field(machine, setting, levels, line, given, out, after, numbering);
+    }
+    match first_ascii(after) {
+        Some((b'}', more)) => {
+            out.push('}')?;
+            Ok((more, numbering))
+        }
+        _ => Err(faulted(Code::BadValue, line)),
+    }
+}
+
+/// The format from left to right, with the texts of the values in the places of its fields. `BadValue` for braces that are not
+/// paired, and the faults of the fields.
+fn formatted(
+    machine: &mut Machine,
+    setting: &Setting,
+    levels: u32,
+    line: usize,
+    given: &Given,
+    format: &str,
+) -> Result<Text, Stop>
+    ensures { Gives (spec.formatted setting.now levels line given.now format.now spec.Outside spec.Unused [] machine.old) result machine.new }
+{
+    let mut out = String::new(machine.alloc());
+    let mut rest = format;
+    let mut numbering = Numbering::Unused;
+    while let Some((before, brace, after)) = cut_at(rest, b'{', b'}') {
+        out.push_str(before)?;
+        let (more, next) = read_brace(
+            machine, setting, levels, line, given, &mut out, brace, after, numbering,
+        )?;
+        rest = more;
+        numbering = next;
+    }
+    out.push_str(rest)?;
+    Ok(Text::from(out))
+}
+
+/// `format(*x, **kw)`: the bytes are paid, then a new string, with the `str` of a value in the place of each `{}` (the next value),
+/// `{0}` (a value by its number) and `{name}`, and a brace for two. `BadValue` for another use of braces and for `{}` beside a
+/// number, `Index` for a place beyond all values, `Key` for a name that is not given.
+pub fn call_format(
+    machine: &mut Machine,
+    setting: &Setting,
+    levels: u32,
+    line: usize,
+    text: Value,
+    given: &Given,
+) -> Result<Value, Stop>
+    ensures { Gives (methods.call_format setting.now levels line (bytes_of (content setting.now machine.old text)) given.now machine.old) result machine.new }
+{
+    let format = machine.copied_text(setting, text)?;
+    pay_for_bytes(machine, setting, line, text)?;
+    let made = formatted(machine, setting, levels, line, given, format.as_str())?;
+    machine.new_text(line, made)
+}

@@ -1,0 +1,177 @@
+//! The methods that values have, and a call of each.
+
+ghost use Rattle.std.specs.Prelude.{◌≡◌};
+ghost use Rattle.std.specs.List.{find};
+ghost use Rattle.star_eval.specs.Gives.{Gives};
+ghost use Rattle.star_eval.specs.Methods as spec;
+ghost use Rattle.star_eval.specs.Run.{and_then};
+ghost use Rattle.star_eval.specs.Shown.{shown};
+ghost use Rattle.star_eval.specs.Values.{type_name, want_text};
+ghost use Rattle.star_scope.specs.Names.{same_name};
+ghost use Rattle.star_store.specs.Names.{method_name};
+
+use crate::formats::call_format;
+use star_eval::content::Content;
+use star_eval::fault::{Code, Stop, faulted};
+use star_eval::given::Given;
+use star_eval::machine::Machine;
+use star_eval::setting::Setting;
+use star_method::dicts::{
+    call_dict_pop, call_get, call_items, call_keys, call_popitem, call_setdefault, call_update,
+    call_values,
+};
+use star_method::lists::{
+    call_append, call_clear, call_extend, call_index, call_insert, call_pop, call_remove,
+};
+use star_method::parts::{call_replace, call_split};
+use star_method::texts::{
+    call_endswith, call_find, call_join, call_lower, call_startswith, call_strip, call_upper,
+};
+use star_store::names::Method;
+use star_store::values::{Cell, Value};
+
+/// The methods of lists.
+const LIST_METHODS: [Method; 7] = [
+    Method::ListAppend,
+    Method::ListClear,
+    Method::ListExtend,
+    Method::ListIndex,
+    Method::ListInsert,
+    Method::ListPop,
+    Method::ListRemove,
+];
+
+/// The methods of dictionaries.
+const DICT_METHODS: [Method; 9] = [
+    Method::DictClear,
+    Method::DictGet,
+    Method::DictItems,
+    Method::DictKeys,
+    Method::DictPop,
+    Method::DictPopitem,
+    Method::DictSetdefault,
+    Method::DictUpdate,
+    Method::DictValues,
+];
+
+/// The methods of strings.
+const TEXT_METHODS: [Method; 12] = [
+    Method::StringEndswith,
+    Method::StringFind,
+    Method::StringFormat,
+    Method::StringJoin,
+    Method::StringLower,
+    Method::StringLstrip,
+    Method::StringReplace,
+    Method::StringRstrip,
+    Method::StringSplit,
+    Method::StringStartswith,
+    Method::StringStrip,
+    Method::StringUpper,
+];
+
+/// The first of some methods with a name.
+fn named(methods: &[Method], name: &str) -> Option<Method>
+    ensures { result ≡ find (λ m. same_name (method_name m) name.now) methods.now }
+{
+    for method in methods {
+        if method.name() == name {
+            return Some(*method);
+        }
+    }
+    None
+}
+
+/// The method with a name that a list, a dictionary or a string has.
+fn method_of(content: Content, name: &str) -> Option<Method>
+    ensures { result ≡ spec.method_of (type_name (shown content.entry)) name.now }
+{
+    match content {
+        Content::Held(Cell::List(_)) => named(&LIST_METHODS, name),
+        Content::Held(Cell::Dict(_)) => named(&DICT_METHODS, name),
+        Content::Held(Cell::Text(_)) => named(&TEXT_METHODS, name),
+        _ => None,
+    }
+}
+
+/// `x.m`: 1 is paid, then a new bound method. `BadType` where the value has no method with this name.
+#[tactic(auto, unfolding(star_eval::specs::Methods::attribute))]
+pub fn attribute(
+    machine: &mut Machine,
+    setting: &Setting,
+    line: usize,
+    value: Value,
+    name: &str,
+) -> Result<Value, Stop>
+    ensures { Gives (spec.attribute setting.now line value name.now machine.old) result machine.new }
+{
+    let Some(method) = method_of(machine.content(setting, value), name) else {
+        return Err(faulted(Code::BadType, line));
+    };
+    machine.build(line, 1, Cell::Bound(method, value))
+}
+
+/// A call of a method of a string. `BadType` for a receiver that is no string, and for a method that is none of a string.
+fn call_on_text(
+    machine: &mut Machine,
+    setting: &Setting,
+    levels: u32,
+    line: usize,
+    method: Method,
+    text: Value,
+    given: &Given,
+) -> Result<Value, Stop>
+    ensures { Gives (and_then (want_text setting.now line text machine.old) (λ t. spec.on_text setting.now levels line method t given.now)) result machine.new }
+{
+    machine.check_text(setting, line, text)?;
+    match method {
+        Method::StringEndswith => call_endswith(machine, setting, line, text, given),
+        Method::StringFind => call_find(machine, setting, line, text, given),
+        Method::StringFormat => call_format(machine, setting, levels, line, text, given),
+        Method::StringJoin => call_join(machine, setting, line, text, given),
+        Method::StringLower => call_lower(machine, setting, line, text, given),
+        Method::StringLstrip => call_strip(machine, setting, line, true, false, text, given),
+        Method::StringReplace => call_replace(machine, setting, line, text, given),
+        Method::StringRstrip => call_strip(machine, setting, line, false, true, text, given),
+        Method::StringSplit => call_split(machine, setting, line, text, given),
+        Method::StringStartswith => call_startswith(machine, setting, line, text, given),
+        Method::StringStrip => call_strip(machine, setting, line, true, true, text, given),
+        Method::StringUpper => call_upper(machine, setting, line, text, given),
+        _ => Err(faulted(Code::BadType, line)),
+    }
+}
+
+/// A call of a bound method on its receiver and what the call gives, where so many levels may be opened by its visits. The faults are
+/// those of the method; `BadType` too where the receiver is not of the method's type.
+#[tactic(auto, unfolding(star_eval::specs::Methods::call_method))]
+pub fn call_method(
+    machine: &mut Machine,
+    setting: &Setting,
+    levels: u32,
+    line: usize,
+    method: Method,
+    receiver: Value,
+    given: &Given,
+) -> Result<Value, Stop>
+    ensures { Gives (spec.call_method setting.now levels line method receiver given.now machine.old) result machine.new }
+{
+    match method {
+        Method::ListAppend => call_append(machine, setting, line, receiver, given),
+        Method::ListClear => call_clear(machine, setting, line, receiver, given),
+        Method::ListExtend => call_extend(machine, setting, line, receiver, given),
+        Method::ListIndex => call_index(machine, setting, levels, line, receiver, given),
+        Method::ListInsert => call_insert(machine, setting, line, receiver, given),
+        Method::ListPop => call_pop(machine, setting, line, receiver, given),
+        Method::ListRemove => call_remove(machine, setting, levels, line, receiver, given),
+        Method::DictClear => call_clear(machine, setting, line, receiver, given),
+        Method::DictGet => call_get(machine, setting, levels, line, receiver, given),
+        Method::DictItems => call_items(machine, setting, line, receiver, given),
+        Method::DictKeys => call_keys(machine, setting, line, receiver, given),
+        Method::DictPop => call_dict_pop(machine, setting, levels, line, receiver, given),
+        Method::DictPopitem => call_popitem(machine, setting, line, receiver, given),
+        Method::DictSetdefault => call_setdefault(machine, setting, levels, line, receiver, given),
+        Method::DictUpdate => call_update(machine, setting, levels, line, receiver, given),
+        Method::DictValues => call_values(machine, setting, line, receiver, given),
+        _ => call_on_text(machine, setting, levels, line, method, receiver, given),
+    }
+}

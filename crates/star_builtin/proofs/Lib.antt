@@ -1,0 +1,4 @@
+pub mod Digits
+pub mod Loops
+pub mod Orders
+pub mod Sorting

@@ -1,0 +1,6 @@
+use Rattle.std.proofs.Common.{◌≡◌, drop}
+use Rattle.star_eval.specs.Pairs.{with_named}
+use Rattle.star_builtin.proofs.dicts.with_named.Given as goal
+
+abbrev pub invariant-loop-value : goal.invariant-loop-value
+invariant-loop-value l = with_named l.setting l.line l.entries (drop l.value-index l.named) l.machine ≡ with_named l.setting l.line l.initial.entries l.named l.fn.machine

@@ -1,0 +1,6 @@
+use Rattle.std.proofs.Common.{◌≡◌, [], drop}
+use Rattle.star_eval.specs.Pairs.{with_pairs}
+use Rattle.star_builtin.proofs.dicts.with_pairs.Given as goal
+
+abbrev pub invariant-loop-pair : goal.invariant-loop-pair
+invariant-loop-pair l = let f = with_pairs l.setting l.levels l.line l.pairs.are_keys in f l.entries (drop l.pair-index l.pairs.pairs.items) l.machine ≡ f [] l.pairs.pairs.items l.fn.machine

@@ -1,0 +1,7 @@
+use Rattle.std.proofs.Common.{◌≡◌, ◌-◌}
+use Rattle.star_eval.specs.Run.{until}
+use Rattle.star_eval.specs.BuiltIns.{is_decided}
+use Rattle.star_builtin.proofs.truths.some_of.Given as goal
+
+abbrev pub invariant-loop-i : goal.invariant-loop-i
+invariant-loop-i l = let f = is_decided l.setting l.line l.wanted l.value in until f (l.count - l.i) l.i l.machine ≡ until f l.count 0 l.fn.machine

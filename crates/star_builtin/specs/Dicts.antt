@@ -1,0 +1,16 @@
+-- Pairs, as the code holds them.
+use Rattle.std.specs.Prelude.{◌≡◌, List, Result, Ok, Err}
+use Rattle.star_store.specs.declared.values.Value.{Value}
+use Rattle.star_builtin.specs.declared.dicts.Pairs.{Pairs as HeldPairs}
+use Rattle.star_eval.specs.declared.fault.Stop.{Stop}
+use Rattle.star_eval.specs.Run.{State, Outcome, Done}
+use Rattle.star_eval.specs.Gives.{Ends}
+use Rattle.star_eval.specs.Pairs.{Pairs}
+
+abbrev pub as_pairs : HeldPairs → Pairs
+as_pairs p = record { are_keys = p.are_keys; pairs = p.pairs.items }
+
+-- A function that puts something into entries left what was to be there.
+abbrev pub Puts : Outcome (List (Value × Value)) → Result (Unit {0}) Stop → List (Value × Value) → State → Type 0
+Puts o (Ok x) entries new = o ≡ Done entries new
+Puts o (Err e) entries new = Ends o e new

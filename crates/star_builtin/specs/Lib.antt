@@ -1,0 +1,4 @@
+pub mod Best
+pub mod Dicts
+pub mod Orders
+pub mod Parts

@@ -1,0 +1,38 @@
+-- Parts of the built-in functions, behind their arguments.
+use Rattle.std.specs.Prelude.{ℕ, ◌+◌, ◌^◌, min, List, [], ◌∷◌, length, ℤ, pos}
+use Rattle.star_store.specs.declared.values.Value.{Value}
+use Rattle.star_eval.specs.declared.fault.Code.TheVariants as code
+use Rattle.star_eval.specs.Run.{Action, ◌>>=◌, pay, check, found, each, collect, add_line}
+use Rattle.star_eval.specs.Program.{Setting}
+use Rattle.star_eval.specs.Values.{with_content, want_int, new_int, new_tuple, new_list, count_of, str}
+use Rattle.star_eval.specs.BuiltIns.{length_in, range_of, is_range_count, joined, least, row_at}
+
+-- the length of a value
+abbrev pub length_of : Setting → ℕ → Value → Action Value
+length_of w line v = with_content w v (λ c. found code.BadType line (length_in c)) >>= λ n. new_int line (pos n)
+
+-- the range of some values
+abbrev pub range_from : Setting → ℕ → List Value → Action Value
+range_from w line xs = check code.Args line (is_range_count (length xs)) >>= λ _. each (want_int w line) xs >>= range_of line
+
+-- the tuple of a number and an item
+abbrev pub numbered_item : ℕ → ℤ → Value → Action Value
+numbered_item line z x = new_int line z >>= λ n. new_tuple line (n ∷ x ∷ [])
+
+-- the rows of some values, in a list
+abbrev pub zipped : Setting → ℕ → List Value → Action Value
+zipped w line vs = do
+  ns ← each (count_of w line) vs
+  rows ← collect (row_at w line vs) (least ns) 0
+  new_list line rows
+
+-- the line of some values
+abbrev pub said : Setting → ℕ → ℕ → List ℕ → List Value → Action (Unit {0})
+said w levels line by xs = do
+  ts ← each (str w levels line) xs
+  _ ← pay line (1 + length (joined by ts))
+  add_line (joined by ts)
+
+-- a number, or 2^64 where it is not below: what is no int of 64 bits either way
+abbrev pub capped : ℕ → ℕ
+capped n = min n (2 ^ 64)

@@ -1,0 +1,109 @@
+//! The work of `max` and `min`.
+
+ghost use Rattle.std.specs.Prelude.{◌≡◌};
+ghost use Rattle.star_eval.specs.BuiltIns as spec;
+ghost use Rattle.star_eval.specs.Gives.{Gives};
+ghost use Rattle.star_builtin.specs.Best.{better, best_among};
+
+use star_eval::fault::{Code, Stop, faulted};
+use star_eval::given::Given;
+use star_eval::machine::Machine;
+use star_eval::setting::Setting;
+use star_store::values::Value;
+use std::cmp::Ordering;
+
+/// Which of some values is the best.
+#[derive(Clone, Copy, Debug, PartialEq, Eq)]
+pub enum Best {
+    Greatest,
+    Least,
+}
+
+impl Best {
+    /// Whether a value is better than the best so far, from their order.
+    fn prefers(self, order: Ordering) -> bool
+        ensures { result ≡ better self order }
+    {
+        match self {
+            Best::Greatest => order.is_gt(),
+            Best::Least => order.is_lt(),
+        }
+    }
+}
+
+/// The best of a value and those behind it: the first of equals. `BadType` where two have no order.
+fn best_of(
+    machine: &mut Machine,
+    setting: &Setting,
+    levels: u32,
+    line: usize,
+    wanted: Best,
+    first: Value,
+    rest: &[Value],
+) -> Result<Value, Stop>
+    ensures { Gives (spec.best_of setting.now levels line (better wanted) first rest.now machine.old) result machine.new }
+{
+    let mut best = first;
+    for item in rest {
+        let order = machine.compare(setting, levels, line, *item, best)?;
+        if wanted.prefers(order) {
+            best = *item;
+        }
+    }
+    Ok(best)
+}
+
+/// The best of some values: the first of equals. `BadValue` for none, `BadType` where two have no order.
+fn best_in(
+    machine: &mut Machine,
+    setting: &Setting,
+    levels: u32,
+    line: usize,
+    wanted: Best,
+    values: &[Value],
+) -> Result<Value, Stop>
+    ensures { Gives (spec.best_in setting.now levels line (better wanted) values.now machine.old) result machine.new }
+{
+    match values {
+        [first, rest @ ..] => best_of(machine, setting, levels, line, wanted, *first, rest),
+        [] => Err(faulted(Code::BadValue, line)),
+    }
+}
+
+/// The best of one value's items, or of several values: the first of equals. `Args` for no value, `BadType` for what is no iterable
+/// and where two have no order, `BadValue` for no item.
+fn best_among(
+    machine: &mut Machine,
+    setting: &Setting,
+    levels: u32,
+    line: usize,
+    wanted: Best,
+    values: &[Value],
+) -> Result<Value, Stop>
+    ensures { Gives (best_among setting.now levels line (better wanted) values.now machine.old) result machine.new }
+{
+    match values {
+        [] => Err(faulted(Code::Args, line)),
+        [value] => {
+            let items = machine.take_all(setting, line, *value)?;
+            best_in(machine, setting, levels, line, wanted, items.as_slice())
+        }
+        _ => best_in(machine, setting, levels, line, wanted, values),
+    }
+}
+
+/// `max(x, ..)` or `min(x, ..)`: the best of the items of one value, or of several values, and the first of equals. `Args` for no
+/// value and for a name, `BadType` for what is no iterable and where two have no order, `BadValue` for no item.
+pub fn call_best(
+    machine: &mut Machine,
+    setting: &Setting,
+    levels: u32,
+    line: usize,
+    wanted: Best,
+    given: &Given,
+) -> Result<Value, Stop>
+    ensures { Gives (spec.call_best setting.now levels line (better wanted) given.now machine.old) result machine.new }
+{
+    let values = machine.by_place(line, given)?;
+    best_among(machine, setting, levels, line, wanted, values)
+}

@@ -1,0 +1,286 @@
+//! The work of `dict`.
+
+ghost use Rattle.std.specs.Prelude.{◌≡◌, [], IfOk, OnOk};
+ghost use Rattle.star_eval.specs.BuiltIns.{call_dict};
+ghost use Rattle.star_eval.specs.Gives.{Gives, GivesBy};
+ghost use Rattle.star_eval.specs.Operators.{with_entry};
+ghost use Rattle.star_eval.specs.Pairs as spec;
+ghost use Rattle.star_eval.specs.Run.{each};
+ghost use Rattle.star_eval.specs.Subscript.{entries_in};
+ghost use Rattle.star_eval.specs.Values.{content};
+ghost use Rattle.star_builtin.specs.Dicts.{Puts, as_pairs};
+
+use star_eval::content::{Content, Kind};
+use star_eval::fault::{Code, Stop, faulted};
+use star_eval::given::{Given, NamedValue};
+use star_eval::machine::Machine;
+use star_eval::setting::Setting;
+use star_store::values::{Cell, Entries, Value};
+use std::alloc::AllocError;
+
+/// Entries to put into a dictionary, and whether their keys are keys already.
+#[derive(Drop)]
+struct Pairs {
+    are_keys: bool,
+    pairs: Vec<(Value, Value)>,
+}
+
+/// The number of items of the argument, and 0 without one. `BadType` for what is no iterable.
+fn pairs_count(
+    machine: &Machine,
+    setting: &Setting,
+    line: usize,
+    value: Option<Value>,
+) -> Result<usize, Stop>
+    ensures { Gives (spec.pairs_count setting.now line value machine.now) result machine.now }
+{
+    match value {
+        Some(value) => machine.count_of(setting, line, value),
+        None => Ok(0),
+    }
+}
+
+/// The two items of an iterable. `BadType` for what is none, `BadValue` for another number of items.
+fn pair_of(
+    machine: &mut Machine,
+    setting: &Setting,
+    line: usize,
+    value: Value,
+) -> Result<(Value, Value), Stop>
+    ensures { Gives (spec.pair_of setting.now line value machine.old) result machine.new }
+{
+    let items = machine.take_all(setting, line, value)?;
+    match items.as_slice() {
+        [key, value] => Ok((*key, *value)),
+        _ => Err(faulted(Code::BadValue, line)),
+    }
+}
+
+/// The pairs that some values are.
+fn pairs_among(
+    machine: &mut Machine,
+    setting: &Setting,
+    line: usize,
+    values: &[Value],
+) -> Result<Vec<(Value, Value)>, Stop>
+    ensures { GivesBy (λ v. v.items) (each (spec.pair_of setting.now line) values.now machine.old) result machine.new }
+{
+    let mut pairs = Vec::new(machine.alloc());
+    for value in values {
+        pairs.push(pair_of(machine, setting, line, *value)?)?;
+    }
+    Ok(pairs)
+}
+
+/// A copy of the entries of a dictionary: none of another value.
+fn copied_entries(
+    machine: &Machine,
+    setting: &Setting,
+    dict: Value,
+) -> Result<Vec<(Value, Value)>, AllocError>
+    ensures { IfOk result (λ v. v.items ≡ entries_in (content setting.now machine.now dict)) }
+{
+    match machine.content(setting, dict) {
+        Content::Held(Cell::Dict(entries)) => Vec::from_slice(machine.alloc(), entries.as_slice()),
+        _ => Ok(Vec::new(machine.alloc())),
+    }
+}
+
+/// Takes entries: 1 is paid before each.
+#[tactic(auto, using(crate::proofs::Loops::entries_end))]
+fn taken_entries(
+    machine: &mut Machine,
+    line: usize,
+    entries: Vec<(Value, Value)>,
+) -> Result<Vec<(Value, Value)>, Stop>
+    ensures { GivesBy (λ v. v.items) (spec.taken_entries line entries.items machine.old) result machine.new }
+{
+    for _entry in &entries {
+        machine.pay(line, 1)?;
+    }
+    Ok(entries)
+}
+
+/// The pairs of a dictionary are its entries; those of another iterable are its items, which are iterables of two items.
+fn pairs_in(
+    machine: &mut Machine,
+    setting: &Setting,
+    line: usize,
+    value: Value,
+    count: usize,
+) -> Result<Pairs, Stop>
+    ensures { GivesBy as_pairs (spec.pairs_in setting.now line value count (content setting.now machine.old value) machine.old) result machine.new }
+{
+    if let Kind::Dict = machine.kind(setting, value) {
+        let entries = copied_entries(machine, setting, value)?;
+        let pairs = taken_entries(machine, line, entries)?;
+        return Ok(Pairs {
+            are_keys: true,
+            pairs,
+        });
+    }
+    let items = machine.take_items(setting, line, value, count)?;
+    let pairs = pairs_among(machine, setting, line, items.as_slice())?;
+    Ok(Pairs {
+        are_keys: false,
+        pairs,
+    })
+}
+
+/// The pairs of a value, and without one none. `BadType` for an item that is no iterable, `BadValue` for one without two items.
+#[tactic(auto, unfolding(star_eval::specs::Pairs::pairs_of))]
+fn pairs_of(
+    machine: &mut Machine,
+    setting: &Setting,
+    line: usize,
+    value: Option<Value>,
+    count: usize,
+) -> Result<Pairs, Stop>
+    ensures { GivesBy as_pairs (spec.pairs_of setting.now line value count machine.old) result machine.new }
+{
+    match value {
+        Some(value) => pairs_in(machine, setting, line, value, count),
+        None => Ok(Pairs {
+            are_keys: true,
+            pairs: Vec::new(machine.alloc()),
+        }),
+    }
+}
+
+/// Puts an entry in: a key that is there keeps its place.
+fn put_entry(
+    machine: &Machine,
+    setting: &Setting,
+    entries: &mut Entries,
+    key: Value,
+    value: Value,
+) -> Result<(), AllocError>
+    ensures { OnOk result (entries.new ≡ with_entry setting.now machine.now entries.old (key, value)) }
+{
+    let Some(at) = machine.place_of(setting, key, entries) else {
+        return entries.push(key, value);
+    };
+    if let Some((there, _old)) = entries.get(at) {
+        entries.set(at, there, value);
+    }
+    Ok(())
+}
+
+/// Checks a key, unless it is one already. `BadType` for what is no key.
+fn check_pair(
+    machine: &mut Machine,
+    setting: &Setting,
+    levels: u32,
+    line: usize,
+    are_keys: bool,
+    key: Value,
+) -> Result<(), Stop>
+    ensures { Gives (spec.check_pair setting.now levels line are_keys key machine.old) result machine.new }
+{
+    if are_keys {
+        return Ok(());
+    }
+    machine.check_key(setting, levels, line, key)
+}
+
+/// Puts a pair in, whose key is checked unless it is a key already. `BadType` for what is no key.
+fn put_pair(
+    machine: &mut Machine,
+    setting: &Setting,
+    levels: u32,
+    line: usize,
+    are_keys: bool,
+    entries: &mut Entries,
+    pair: (Value, Value),
+) -> Result<(), Stop>
+    ensures { Puts (spec.with_pair setting.now levels line are_keys entries.old pair machine.old) result entries.new machine.new }
+{
+    let (key, value) = pair;
+    check_pair(machine, setting, levels, line, are_keys, key)?;
+    put_entry(machine, setting, entries, key, value)?;
+    Ok(())
+}
+
+/// The entries of a new dictionary of pairs. `BadType` for what is no key.
+fn with_pairs(
+    machine: &mut Machine,
+    setting: &Setting,
+    levels: u32,
+    line: usize,
+    pairs: &Pairs,
+) -> Result<Entries, Stop>
+    ensures { Gives (spec.with_pairs setting.now levels line pairs.now.are_keys [] pairs.now.pairs.items machine.old) result machine.new }
+{
+    let mut entries = Entries::new(machine.alloc());
+    for pair in &pairs.pairs {
+        put_pair(
+            machine,
+            setting,
+            levels,
+            line,
+            pairs.are_keys,
+            &mut entries,
+            *pair,
+        )?;
+    }
+    Ok(entries)
+}
+
+/// Puts named values in, each under its name as a key.
+fn with_named(
+    machine: &mut Machine,
+    setting: &Setting,
+    line: usize,
+    entries: Entries,
+    named: &[NamedValue],
+) -> Result<Entries, Stop>
+    ensures { Gives (spec.with_named setting.now line entries named.now machine.old) result machine.new }
+{
+    let mut entries = entries;
+    for value in named {
+        let key = machine.key_for(line, value)?;
+        put_entry(machine, setting, &mut entries, key, value.value)?;
+    }
+    Ok(entries)
+}
+
+/// A new dictionary of pairs and named values. `BadType` for what is no key.
+#[tactic(auto, unfolding(star_eval::specs::Pairs::dict_of))]
+fn dict_of(
+    machine: &mut Machine,
+    setting: &Setting,
+    levels: u32,
+    line: usize,
+    pairs: &Pairs,
+    named: &[NamedValue],
+) -> Result<Value, Stop>
+    ensures { Gives (spec.dict_of setting.now levels line (as_pairs pairs.now) named.now machine.old) result machine.new }
+{
+    let entries = with_pairs(machine, setting, levels, line, pairs)?;
+    let entries = with_named(machine, setting, line, entries, named)?;
+    machine.new_dict(line, entries)
+}
+
+/// `dict([x], **kw)`: a new dictionary of the pairs of a value and of named values. `Args` for more values, `BadType` for what is no
+/// iterable and for what is no key, `BadValue` for an item without two items.
+pub fn call_dict(
+    machine: &mut Machine,
+    setting: &Setting,
+    levels: u32,
+    line: usize,
+    given: &Given,
+) -> Result<Value, Stop>
+    ensures { Gives (call_dict setting.now levels line given.now machine.old) result machine.new }
+{
+    let value = machine.none_or_one(line, given.plain.as_slice())?;
+    let count = pairs_count(machine, setting, line, value)?;
+    let pairs = pairs_of(machine, setting, line, value, count)?;
+    dict_of(
+        machine,
+        setting,
+        levels,
+        line,
+        &pairs,
+        given.named.as_slice(),
+    )
+}

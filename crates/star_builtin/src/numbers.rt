@@ -1,0 +1,102 @@
+//! The work of `abs`, `int` and `len`.
+
+ghost use Rattle.std.specs.Prelude.{◌≡◌, pos, unsigned_abs};
+ghost use Rattle.star_eval.specs.BuiltIns as spec;
+ghost use Rattle.star_eval.specs.Gives.{Gives};
+ghost use Rattle.star_eval.specs.Shown.{shown};
+ghost use Rattle.star_builtin.specs.Parts as part;
+
+use crate::ints::narrow;
+use crate::spelling::spelled;
+use star_eval::content::Content;
+use star_eval::fault::{Code, Stop, faulted};
+use star_eval::given::Given;
+use star_eval::machine::Machine;
+use star_eval::setting::Setting;
+use star_store::values::{Cell, Value};
+
+/// How far an int lies from 0. `Overflow` for the least one.
+fn absolute(machine: &Machine, line: usize, int: i64) -> Result<Value, Stop>
+    ensures { Gives (spec.absolute line int machine.now) result machine.now }
+{
+    machine.new_int(line, narrow(int.unsigned_abs() as i128))
+}
+
+/// The int that a content makes: an int itself, a bool as 1 or 0, and what a string spells. `BadValue` for a string that spells
+/// none, `Overflow` for one outside 64 bits, `BadType` for another content.
+fn to_int(machine: &Machine, line: usize, content: Content) -> Result<Value, Stop>
+    ensures { Gives (spec.to_int line (shown content.entry) machine.now) result machine.now }
+{
+    match content {
+        Content::Number(int) => Ok(Value::Int(int)),
+        Content::Truth(truth) => Ok(Value::Int(if truth { 1 } else { 0 })),
+        Content::Held(Cell::Text(text)) => match spelled(text.as_str().as_bytes()) {
+            Some(int) => machine.new_int(line, int),
+            None => Err(faulted(Code::BadValue, line)),
+        },
+        _ => Err(faulted(Code::BadType, line)),
+    }
+}
+
+/// How many bytes a string has, or items an iterable: none for another content.
+fn length_in(content: Content) -> Option<usize>
+    ensures { result ≡ spec.length_in (shown content.entry) }
+{
+    match content {
+        Content::Held(Cell::Text(text)) => Some(text.as_str().len()),
+        _ => content.count(),
+    }
+}
+
+/// How many bytes a string has, or items an iterable. `BadType` for another value, `Overflow` for more than 2^63 - 1.
+fn length_of(machine: &Machine, setting: &Setting, line: usize, value: Value) -> Result<Value, Stop>
+    ensures { Gives (part.length_of setting.now line value machine.now) result machine.now }
+{
+    match length_in(machine.content(setting, value)) {
+        Some(length) => machine.new_int(line, narrow(length as i128)),
+        None => Err(faulted(Code::BadType, line)),
+    }
+}
+
+/// `abs(x)`: how far an int lies from 0. `Args` for another number of values and for a name, `BadType` for what is no int, `Overflow`
+/// for the least int.
+pub fn call_abs(
+    machine: &Machine,
+    setting: &Setting,
+    line: usize,
+    given: &Given,
+) -> Result<Value, Stop>
+    ensures { Gives (spec.call_abs setting.now line given.now machine.now) result machine.now }
+{
+    let value = machine.only_one(line, machine.by_place(line, given)?)?;
+    let int = machine.want_int(setting, line, value)?;
+    absolute(machine, line, int)
+}
+
+/// `int(x)`: an int, a bool as 1 or 0, or what a string of an optional sign and decimal digits spells. `Args` for another number of
+/// values and for a name, `BadType` for another value, `BadValue` for another string, `Overflow` outside 64 bits.
+pub fn call_int(
+    machine: &Machine,
+    setting: &Setting,
+    line: usize,
+    given: &Given,
+) -> Result<Value, Stop>
+    ensures { Gives (spec.call_int setting.now line given.now machine.now) result machine.now }
+{
+    let value = machine.only_one(line, machine.by_place(line, given)?)?;
+    to_int(machine, line, machine.content(setting, value))
+}
+
+/// `len(x)`: the bytes of a string, or the items of an iterable. `Args` for another number of values and for a name, `BadType` for
+/// another value.
+pub fn call_len(
+    machine: &Machine,
+    setting: &Setting,
+    line: usize,
+    given: &Given,
+) -> Result<Value, Stop>
+    ensures { Gives (spec.call_len setting.now line given.now machine.now) result machine.now }
+{
+    let value = machine.only_one(line, machine.by_place(line, given)?)?;
+    length_of(machine, setting, line, value)
+}

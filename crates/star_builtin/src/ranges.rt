@@ -1,0 +1,80 @@
+//! The work of `range`.
+
+ghost use Rattle.std.specs.Prelude.{◌≡◌};
+ghost use Rattle.star_eval.specs.BuiltIns as spec;
+ghost use Rattle.star_eval.specs.Gives.{Gives};
+ghost use Rattle.star_builtin.specs.Parts as part;
+
+use star_eval::fault::{Code, Stop, faulted};
+use star_eval::given::Given;
+use star_eval::machine::Machine;
+use star_eval::setting::Setting;
+use star_store::range::Range;
+use star_store::values::{Cell, Value};
+
+/// A new range. `BadValue` for a step of 0, `Overflow` for more than 2^63 - 1 ints.
+fn new_range(machine: &mut Machine, line: usize, range: Range) -> Result<Value, Stop>
+    ensures { Gives (spec.new_range line range machine.old) result machine.new }
+{
+    if range.step == 0 {
+        return Err(faulted(Code::BadValue, line));
+    }
+    if range.len() > i64::MAX as u64 {
+        return Err(faulted(Code::Overflow, line));
+    }
+    machine.build(line, 1, Cell::Range(range))
+}
+
+/// The range of a stop, of a start and a stop, or of these and a step. `Args` for another number of values, `BadType` for one that
+/// is no int, `BadValue` for a step of 0, `Overflow` for more than 2^63 - 1 ints.
+fn range_of(
+    machine: &mut Machine,
+    setting: &Setting,
+    line: usize,
+    values: &[Value],
+) -> Result<Value, Stop>
+    ensures { Gives (part.range_from setting.now line values.now machine.old) result machine.new }
+{
+    match values {
+        [stop] => {
+            let stop = machine.want_int(setting, line, *stop)?;
+            let range = Range {
+                start: 0,
+                stop,
+                step: 1,
+            };
+            new_range(machine, line, range)
+        }
+        [start, stop] => {
+            let start = machine.want_int(setting, line, *start)?;
+            let stop = machine.want_int(setting, line, *stop)?;
+            let range = Range {
+                start,
+                stop,
+                step: 1,
+            };
+            new_range(machine, line, range)
+        }
+        [start, stop, step] => {
+            let start = machine.want_int(setting, line, *start)?;
+            let stop = machine.want_int(setting, line, *stop)?;
+            let step = machine.want_int(setting, line, *step)?;
+            new_range(machine, line, Range { start, stop, step })
+        }
+        _ => Err(faulted(Code::Args, line)),
+    }
+}
+
+/// `range([start], stop, [step])`. `Args` for another number of values and for a name, `BadType` for what is no int, `BadValue` for a
+/// step of 0, `Overflow` for more than 2^63 - 1 ints.
+pub fn call_range(
+    machine: &mut Machine,
+    setting: &Setting,
+    line: usize,
+    given: &Given,
+) -> Result<Value, Stop>
+    ensures { Gives (spec.call_range setting.now line given.now machine.old) result machine.new }
+{
+    let values = machine.by_place(line, given)?;
+    range_of(machine, setting, line, values)
+}

@@ -1,0 +1,260 @@
+//! The work of `list`, `tuple`, `reversed`, `enumerate` and `zip`.
+
+ghost use Rattle.std.specs.Prelude.{◌≡◌, [], ◌∷◌, IfOk, ◌+ℤ◌, pos, reverse};
+ghost use Rattle.star_eval.specs.BuiltIns as spec;
+ghost use Rattle.star_eval.specs.Gives.{Gives, GivesBy};
+ghost use Rattle.star_eval.specs.Run.{collect, each};
+ghost use Rattle.star_eval.specs.Values.{count_of, take_item};
+ghost use Rattle.star_builtin.specs.Parts as part;
+
+use crate::ints::narrow;
+use star_eval::fault::Stop;
+use star_eval::given::Given;
+use star_eval::machine::Machine;
+use star_eval::setting::Setting;
+use star_store::values::{Value, Values};
+use std::alloc::{AllocError, Global};
+
+/// All items of an iterable, and of none nothing. `BadType` for what is no iterable.
+fn taken_from(
+    machine: &mut Machine,
+    setting: &Setting,
+    line: usize,
+    value: Option<Value>,
+) -> Result<Values, Stop>
+    ensures { Gives (spec.taken_from setting.now line value machine.old) result machine.new }
+{
+    match value {
+        Some(value) => machine.take_all(setting, line, value),
+        None => Ok(Values::new(Vec::new(machine.alloc()))),
+    }
+}
+
+/// The values of a row in the other order.
+fn turned_round(alloc: Global, items: &[Value]) -> Result<Values, AllocError>
+    ensures { IfOk result (λ r. r ≡ reverse items.now) }
+{
+    let mut turned = Vec::from_slice(alloc, items)?;
+    turned.reverse();
+    Ok(Values::new(turned))
+}
+
+/// A number and an item, as a new tuple. `Overflow` for a number outside 64 bits.
+fn numbered_item(
+    machine: &mut Machine,
+    line: usize,
+    number: i128,
+    item: Value,
+) -> Result<Value, Stop>
+    ensures { Gives (part.numbered_item line number item machine.old) result machine.new }
+{
+    let number = machine.new_int(line, narrow(number))?;
+    let pair = Vec::from_slice(machine.alloc(), &[number, item])?;
+    machine.new_tuple(line, Values::new(pair))
+}
+
+/// Each item with its number, from one on, as a new tuple. `Overflow` for a number outside 64 bits.
+fn numbered(machine: &mut Machine, line: usize, start: i64, items: &[Value]) -> Result<Values, Stop>
+    ensures { Gives (spec.numbered line start items.now machine.old) result machine.new }
+{
+    let mut pairs = Vec::new(machine.alloc());
+    let mut number = start as i128;
+    for item in items {
+        pairs.push(numbered_item(machine, line, number, *item)?)?;
+        number += 1;
+    }
+    Ok(Values::new(pairs))
+}
+
+/// How many items each of some values has. `BadType` for what is no iterable.
+fn counts(
+    machine: &Machine,
+    setting: &Setting,
+    line: usize,
+    values: &[Value],
+) -> Result<Vec<usize>, Stop>
+    ensures { GivesBy (λ v. v.items) (each (count_of setting.now line) values.now machine.now) result machine.now }
+{
+    let mut counts = Vec::new(machine.alloc());
+    for value in values {
+        counts.push(machine.count_of(setting, line, *value)?)?;
+    }
+    Ok(counts)
+}
+
+/// The least of a number and others.
+#[tactic(auto, using(crate::proofs::Loops::least_next))]
+fn least_of(first: usize, rest: &[usize]) -> usize
+    ensures { result ≡ spec.least (first ∷ rest.now) }
+{
+    let mut least = first;
+    for number in rest {
+        least = least.min(*number);
+    }
+    least
+}
+
+/// The least of some numbers, and 0 of none.
+fn least(numbers: &[usize]) -> usize
+    ensures { result ≡ spec.least numbers.now }
+{
+    match numbers {
+        [first, rest @ ..] => least_of(*first, rest),
+        [] => 0,
+    }
+}
+
+/// Takes the item at a place of each value.
+fn items_at(
+    machine: &mut Machine,
+    setting: &Setting,
+    line: usize,
+    values: &[Value],
+    at: usize,
+) -> Result<Values, Stop>
+    ensures { Gives (each (λ v. take_item setting.now line v at) values.now machine.old) result machine.new }
+{
+    let mut items = Vec::new(machine.alloc());
+    for value in values {
+        items.push(machine.take_item(setting, line, *value, at)?)?;
+    }
+    Ok(Values::new(items))
+}
+
+/// Takes the item at a place of each value, as a new tuple.
+fn row_at(
+    machine: &mut Machine,
+    setting: &Setting,
+    line: usize,
+    values: &[Value],
+    at: usize,
+) -> Result<Value, Stop>
+    ensures { Gives (spec.row_at setting.now line values.now at machine.old) result machine.new }
+{
+    let items = items_at(machine, setting, line, values, at)?;
+    machine.new_tuple(line, items)
+}
+
+/// So many rows, from the first place on.
+#[tactic(auto, using(star_eval::proofs::Turns::collect_next))]
+fn rows(
+    machine: &mut Machine,
+    setting: &Setting,
+    line: usize,
+    values: &[Value],
+    count: usize,
+) -> Result<Values, Stop>
+    ensures { Gives (collect (spec.row_at setting.now line values.now) count 0 machine.old) result machine.new }
+{
+    let mut rows = Vec::new(machine.alloc());
+    for i in 0..count {
+        rows.push(row_at(machine, setting, line, values, i)?)?;
+    }
+    Ok(Values::new(rows))
+}
+
+/// As many rows as the shortest value has items, each a new tuple of one item of each, in a new list. `BadType` for what is no
+/// iterable.
+fn zipped(
+    machine: &mut Machine,
+    setting: &Setting,
+    line: usize,
+    values: &[Value],
+) -> Result<Value, Stop>
+    ensures { Gives (part.zipped setting.now line values.now machine.old) result machine.new }
+{
+    let counts = counts(machine, setting, line, values)?;
+    let rows = rows(machine, setting, line, values, least(&counts))?;
+    machine.new_list(line, rows)
+}
+
+/// `list([it])`: all items in a new list. `Args` for more values and for a name, `BadType` for what is no iterable.
+pub fn call_list(
+    machine: &mut Machine,
+    setting: &Setting,
+    line: usize,
+    given: &Given,
+) -> Result<Value, Stop>
+    ensures { Gives (spec.call_list setting.now line given.now machine.old) result machine.new }
+{
+    let value = machine.none_or_one(line, machine.by_place(line, given)?)?;
+    let items = taken_from(machine, setting, line, value)?;
+    machine.new_list(line, items)
+}
+
+/// `tuple([it])`: all items in a new tuple. `Args` for more values and for a name, `BadType` for what is no iterable.
+pub fn call_tuple(
+    machine: &mut Machine,
+    setting: &Setting,
+    line: usize,
+    given: &Given,
+) -> Result<Value, Stop>
+    ensures { Gives (spec.call_tuple setting.now line given.now machine.old) result machine.new }
+{
+    let value = machine.none_or_one(line, machine.by_place(line, given)?)?;
+    let items = taken_from(machine, setting, line, value)?;
+    machine.new_tuple(line, items)
+}
+
+/// `reversed(it)`: all items in the other order, in a new list. `Args` for another number of values and for a name, `BadType` for
+/// what is no iterable.
+pub fn call_reversed(
+    machine: &mut Machine,
+    setting: &Setting,
+    line: usize,
+    given: &Given,
+) -> Result<Value, Stop>
+    ensures { Gives (spec.call_reversed setting.now line given.now machine.old) result machine.new }
+{
+    let value = machine.only_one(line, machine.by_place(line, given)?)?;
+    let items = machine.take_all(setting, line, value)?;
+    let turned = turned_round(machine.alloc(), items.as_slice())?;
+    machine.new_list(line, turned)
+}
+
+/// The number of the first item: 0 where none is given. `BadType` for what is no int.
+fn want_start(
+    machine: &Machine,
+    setting: &Setting,
+    line: usize,
+    start: Option<Value>,
+) -> Result<i64, Stop>
+    ensures { Gives (spec.want_start setting.now line start machine.now) result machine.now }
+{
+    match start {
+        Some(value) => machine.want_int(setting, line, value),
+        None => Ok(0),
+    }
+}
+
+/// `enumerate(it, [start])`: for each item a new tuple of its number and itself, in a new list. `Args` for another number of values
+/// and for a name, `BadType` for what is no iterable or no int, `Overflow` for a number outside 64 bits.
+pub fn call_enumerate(
+    machine: &mut Machine,
+    setting: &Setting,
+    line: usize,
+    given: &Given,
+) -> Result<Value, Stop>
+    ensures { Gives (spec.call_enumerate setting.now line given.now machine.old) result machine.new }
+{
+    let (value, start) = machine.one_or_two(line, machine.by_place(line, given)?)?;
+    let count = machine.count_of(setting, line, value)?;
+    let start = want_start(machine, setting, line, start)?;
+    let items = machine.take_items(setting, line, value, count)?;
+    let pairs = numbered(machine, line, start, items.as_slice())?;
+    machine.new_list(line, pairs)
+}
+
+/// `zip(*it)`: as many new tuples as the shortest value has items, each of one item of each, in a new list. `Args` for a name,
+/// `BadType` for what is no iterable.
+pub fn call_zip(
+    machine: &mut Machine,
+    setting: &Setting,
+    line: usize,
+    given: &Given,
+) -> Result<Value, Stop>
+    ensures { Gives (spec.call_zip setting.now line given.now machine.old) result machine.new }
+{
+    let values = machine.by_place(line, given)?;
+    zipped(machine, setting, line, values)
+}

@@ -1,0 +1,156 @@
+//! The work of `sorted`.
+
+ghost use Rattle.std.specs.Prelude.{◌≡◌, IfOk, map, true};
+ghost use Rattle.std.specs.List.{list_all};
+ghost use Rattle.star_eval.specs.BuiltIns as spec;
+ghost use Rattle.star_eval.specs.Gives.{Gives};
+ghost use Rattle.star_eval.specs.Values.{content};
+ghost use Rattle.star_builtin.specs.Orders.{by_contents, int_in};
+
+use star_eval::content::Content;
+use star_eval::fault::{Code, Stop, faulted};
+use star_eval::given::Given;
+use star_eval::machine::Machine;
+use star_eval::setting::Setting;
+use star_store::values::{Cell, Value, Values};
+use std::alloc::AllocError;
+use std::cmp::Ordering;
+
+fn is_int(machine: &Machine, setting: &Setting, value: Value) -> bool
+    ensures { result ≡ spec.is_int (content setting.now machine.now value) }
+{
+    match machine.content(setting, value) {
+        Content::Number(_) => true,
+        _ => false,
+    }
+}
+
+fn is_text(machine: &Machine, setting: &Setting, value: Value) -> bool
+    ensures { result ≡ spec.is_text (content setting.now machine.now value) }
+{
+    match machine.content(setting, value) {
+        Content::Held(Cell::Text(_)) => true,
+        _ => false,
+    }
+}
+
+fn are_ints(machine: &Machine, setting: &Setting, values: &[Value]) -> bool
+    ensures { result ≡ list_all spec.is_int (map (content setting.now machine.now) values.now) }
+{
+    for value in values {
+        if !is_int(machine, setting, *value) {
+            return false;
+        }
+    }
+    true
+}
+
+fn are_texts(machine: &Machine, setting: &Setting, values: &[Value]) -> bool
+    ensures { result ≡ list_all spec.is_text (map (content setting.now machine.now) values.now) }
+{
+    for value in values {
+        if !is_text(machine, setting, *value) {
+            return false;
+        }
+    }
+    true
+}
+
+/// Whether all values are ints, or all are strings.
+fn can_sort(machine: &Machine, setting: &Setting, values: &[Value]) -> bool
+    ensures { result ≡ spec.can_sort (map (content setting.now machine.now) values.now) }
+{
+    are_ints(machine, setting, values) || are_texts(machine, setting, values)
+}
+
+/// The int that a value is, and 0 of another value.
+fn int_in(machine: &Machine, setting: &Setting, value: Value) -> i64
+    ensures { result ≡ int_in (content setting.now machine.now value) }
+{
+    machine.int_of(setting, value).unwrap_or(0)
+}
+
+/// The order of two ints, or of two strings by their bytes.
+fn order(machine: &Machine, setting: &Setting, x: Value, y: Value) -> Ordering
+    ensures { result ≡ by_contents (content setting.now machine.now x) (content setting.now machine.now y) }
+{
+    match int_in(machine, setting, x).cmp(&int_in(machine, setting, y)) {
+        Ordering::Equal => machine.bytes(setting, x).cmp(machine.bytes(setting, y)),
+        order => order,
+    }
+}
+
+/// Ints or strings in order. What is equal keeps its order.
+fn in_order(
+    machine: &Machine,
+    setting: &Setting,
+    values: &[Value],
+) -> Result<Vec<Value>, AllocError>
+    requires { spec.can_sort (map (content setting.now machine.now) values.now) ≡ true }
+    ensures { IfOk result (λ r. r.items ≡ spec.in_order (λ x y. spec.is_before (content setting.now machine.now x) (content setting.now machine.now y)) values.now) }
+{
+    let mut items = Vec::from_slice(machine.alloc(), values)?;
+    items.sort_by(|x, y| order(machine, setting, *x, *y))?;
+    Ok(items)
+}
+
+/// A row, or the row in the other order.
+fn turned(backwards: bool, items: Vec<Value>) -> Values
+    ensures { result ≡ spec.turned backwards items.items }
+{
+    let mut items = items;
+    if backwards {
+        items.reverse();
+    }
+    Values::new(items)
+}
+
+/// Ints or strings in order, in a new list. `BadType` unless all are ints, or all are strings.
+fn sort(
+    machine: &mut Machine,
+    setting: &Setting,
+    line: usize,
+    backwards: bool,
+    values: &[Value],
+) -> Result<Value, Stop>
+    ensures { Gives (spec.sort setting.now line backwards values.now machine.old) result machine.new }
+{
+    if !can_sort(machine, setting, values) {
+        return Err(faulted(Code::BadType, line));
+    }
+    let items = in_order(machine, setting, values)?;
+    machine.new_list(line, turned(backwards, items))
+}
+
+/// Whether the order is turned: it is not where nothing is said. `BadType` for what is no bool.
+fn want_reverse(
+    machine: &Machine,
+    setting: &Setting,
+    line: usize,
+    reverse: Option<Value>,
+) -> Result<bool, Stop>
+    ensures { Gives (spec.want_reverse setting.now line reverse machine.now) result machine.now }
+{
+    match reverse {
+        Some(value) => machine.want_bool(setting, line, value),
+        None => Ok(false),
+    }
+}
+
+/// `sorted(it, reverse=False)`: all items in order, in a new list. `Args` for another number of values and for a name but `reverse`,
+/// `BadType` for what is no iterable, for a `reverse` that is no bool, and unless all items are ints, or all are strings.
+pub fn call_sorted(
+    machine: &mut Machine,
+    setting: &Setting,
+    line: usize,
+    given: &Given,
+) -> Result<Value, Stop>
+    ensures { Gives (spec.call_sorted setting.now line given.now machine.old) result machine.new }
+{
+    let (values, reverse) = machine.with_name(line, "reverse", given)?;
+    let value = machine.only_one(line, values)?;
+    let count = machine.count_of(setting, line, value)?;
+    let backwards = want_reverse(machine, setting, line, reverse)?;
+    let items = machine.take_items(setting, line, value, count)?;
+    sort(machine, setting, line, backwards, items.as_slice())
+}

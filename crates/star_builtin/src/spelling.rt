@@ -1,0 +1,83 @@
+//! Ints that strings spell.
+
+ghost use Rattle.std.specs.Prelude.{◌≡◌, ◌∷◌, ◌^◌, min, neg_ℤ, pos};
+ghost use Rattle.std.specs.List.{list_all};
+ghost use Rattle.std.specs.Option.{option_map};
+ghost use Rattle.star_store.specs.Arithmetic.{checked};
+ghost use Rattle.star_eval.specs.BuiltIns as spec;
+ghost use Rattle.star_builtin.specs.Parts.{capped};
+
+use crate::ints::narrow;
+use star_store::fault::StoreFault;
+
+/// What is above every int of 64 bits.
+const LIMIT: u128 = 1 << 64;
+
+/// Whether all bytes are decimal digits.
+fn are_digits(bytes: &[u8]) -> bool
+    ensures { result ≡ list_all spec.is_digit bytes.now }
+{
+    for byte in bytes {
+        if *byte < b'0' || *byte > b'9' {
+            return false;
+        }
+    }
+    true
+}
+
+/// The number that digits write, or 2^64 where it is not below.
+#[tactic(auto, using(crate::proofs::Digits::number_small))]
+fn number_from(digits: &[u8]) -> u128
+    ensures { result ≡ capped (spec.number_from 0 digits.now) }
+{
+    let mut number = 0;
+    for digit in digits {
+        number = number * 10 + digit.saturating_sub(b'0') as u128;
+        if number >= LIMIT {
+            return LIMIT;
+        }
+    }
+    number
+}
+
+/// The number that decimal digits write, or 2^64 where it is not below: none for no digit, and for other bytes.
+fn decimal_of(bytes: &[u8]) -> Option<u128>
+    ensures { result ≡ option_map capped (spec.decimal_of bytes.now) }
+{
+    if bytes.is_empty() || !are_digits(bytes) {
+        return None;
+    }
+    Some(number_from(bytes))
+}
+
+/// The int above 0 that digits write. `Overflow` outside 64 bits; none for other bytes.
+fn above(bytes: &[u8]) -> Option<Result<i64, StoreFault>>
+    ensures { result ≡ option_map checked (spec.signed_by pos (spec.decimal_of bytes.now)) }
+{
+    match decimal_of(bytes) {
+        Some(number) => Some(narrow(number as i128)),
+        None => None,
+    }
+}
+
+/// The int below 0 that digits write behind its sign. `Overflow` outside 64 bits; none for other bytes.
+fn below(bytes: &[u8]) -> Option<Result<i64, StoreFault>>
+    ensures { result ≡ option_map checked (spec.signed_by (λ n. neg_ℤ (pos n)) (spec.decimal_of bytes.now)) }
+{
+    match decimal_of(bytes) {
+        Some(number) => Some(narrow(-(number as i128))),
+        None => None,
+    }
+}
+
+/// The int that a string spells: a sign or none, and decimal digits. `Overflow` outside 64 bits; none for another string.
+pub fn spelled(text: &[u8]) -> Option<Result<i64, StoreFault>>
+    ensures { result ≡ option_map checked (spec.spelled text.now) }
+{
+    match text {
+        [] => None,
+        [b'-', digits @ ..] => below(digits),
+        [b'+', digits @ ..] => above(digits),
+        digits => above(digits),
+    }
+}

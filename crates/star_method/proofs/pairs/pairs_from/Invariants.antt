@@ -1,0 +1,10 @@
+use Rattle.std.proofs.Common.{◌≡◌, drop}
+use Rattle.star_eval.specs.Gives.{with_front}
+use Rattle.star_eval.specs.Pairs.{pair_of}
+use Rattle.star_eval.specs.Run.{each}
+use Rattle.star_method.proofs.pairs.pairs_from.Given as goal
+
+abbrev pub invariant-loop-item : goal.invariant-loop-item
+invariant-loop-item l =
+    let f = pair_of l.setting l.line in
+    with_front l.pairs (each f (drop l.item-index l.items) l.machine) ≡ each f l.items l.fn.machine

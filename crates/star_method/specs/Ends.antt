@@ -1,0 +1,30 @@
+-- Strings, by what stands at their ends and in them.
+use Rattle.std.specs.Prelude.{ℕ, nat_eq, Bool, List, [], ◌∷◌, ◌++◌, length, map, Option, ℤ, pos}
+use Rattle.std.specs.List.{ends_with, starts_with}
+use Rattle.star_store.specs.declared.values.Value.{Value}
+use Rattle.star_eval.specs.Run.{State}
+use Rattle.star_eval.specs.Program.{Setting}
+use Rattle.star_eval.specs.Kinds.{bytes_of}
+use Rattle.star_eval.specs.Operators.{place_between}
+use Rattle.star_eval.specs.TextMethods.{end_of, place_or_none}
+use Rattle.star_eval.specs.Values.{content}
+use Rattle.star_method.specs.declared.texts.Edge.{Edge}
+use Rattle.star_method.specs.declared.texts.Edge.TheVariants as edge
+
+-- whether a part stands at an edge of a string
+abbrev pub at_edge : Edge → List ℕ → List ℕ → Bool
+at_edge edge.Front = starts_with nat_eq
+at_edge edge.End = ends_with nat_eq
+
+-- what `find` answers: the least place between two ends, else -1
+abbrev pub found_between : List ℕ → List ℕ → Option ℤ → Option ℤ → ℤ
+found_between t u a b = place_or_none (place_between t u (end_of (length t) (pos 0) a) (end_of (length t) (pos (length t)) b))
+
+-- the bytes of each of some strings
+abbrev pub bytes_each : Setting → State → List Value → List (List ℕ)
+bytes_each w s xs = map (λ x. bytes_of (content w s x)) xs
+
+-- strings, each behind another one
+abbrev pub each_behind : List ℕ → List (List ℕ) → List ℕ
+each_behind by [] = []
+each_behind by (u ∷ us) = by ++ u ++ each_behind by us

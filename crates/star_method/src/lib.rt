@@ -1,0 +1,11 @@
+//! The methods of lists, dictionaries and strings.
+#![tactic(auto)]
+
+mod characters;
+pub mod dicts;
+pub mod lists;
+pub mod pairs;
+pub mod parts;
+#[cfg(test)]
+mod tests;
+pub mod texts;

@@ -1,0 +1,203 @@
+//! `split` and `replace`.
+
+ghost use Rattle.std.specs.Prelude.{◌≡◌, ◌∷◌, ◌<◌, [], IfOk, MatchOption, length};
+ghost use Rattle.star_eval.specs.BuiltIns.{joined};
+ghost use Rattle.star_eval.specs.Gives.{Gives, GivesBy};
+ghost use Rattle.star_eval.specs.Kinds.{bytes_of};
+ghost use Rattle.star_eval.specs.Run.{each};
+ghost use Rattle.star_eval.specs.TextMethods as spec;
+ghost use Rattle.star_eval.specs.Texts as texts;
+ghost use Rattle.star_eval.specs.Values.{content, new_text};
+
+use crate::texts::pay_for_bytes;
+use star_eval::fault::{Code, Stop, faulted};
+use star_eval::given::Given;
+use star_eval::machine::Machine;
+use star_eval::setting::Setting;
+use star_store::values::{Value, Values};
+use star_text::Text;
+use std::alloc::{AllocError, Global};
+
+/// Whether a cut may still be made: none says that all may.
+fn may_cut(left: Option<u64>) -> bool
+    ensures { result ≡ texts.may_cut left }
+{
+    match left {
+        None => true,
+        Some(count) => count != 0,
+    }
+}
+
+/// The cuts that are left behind one.
+fn one_less(left: Option<u64>) -> Option<u64>
+    ensures { result ≡ texts.one_less left }
+{
+    match left {
+        None => None,
+        Some(count) => Some(count.saturating_sub(1)),
+    }
+}
+
+/// The first cut of a string: what stands before the separator, and what stands behind it.
+#[tactic(auto, using(crate::proofs::Cutting::no_more))]
+fn next_cut<'a>(text: &'a str, by: &str, left: Option<u64>) -> Option<(&'a str, &'a str)>
+    requires { 0 < length by.now }
+    ensures { MatchOption result (texts.parts text.now by.now left ≡ text.now ∷ []) (λ x. (texts.parts text.now by.now left ≡ x.0.now ∷ texts.parts x.1.now by.now (texts.one_less left)) × (length x.1.now < length text.now)) }
+{
+    if !may_cut(left) {
+        return None;
+    }
+    text.split_once(by)
+}
+
+/// A new string for each part between cuts: so many at most, from the left.
+fn new_parts(
+    machine: &mut Machine,
+    line: usize,
+    text: &str,
+    by: &str,
+    cuts: Option<u64>,
+) -> Result<Values, Stop>
+    requires { 0 < length by.now }
+    ensures { Gives (each (new_text line) (texts.parts text.now by.now cuts) machine.old) result machine.new }
+{
+    let mut parts = Vec::new(machine.alloc());
+    let mut rest = text;
+    let mut left = cuts;
+    while let Some((before, after)) = next_cut(rest, by, left) {
+        let part = Text::new(machine.alloc(), before)?;
+        parts.push(machine.new_text(line, part)?)?;
+        rest = after;
+        left = one_less(left);
+    }
+    let part = Text::new(machine.alloc(), rest)?;
+    parts.push(machine.new_text(line, part)?)?;
+    Ok(Values::new(parts))
+}
+
+/// A number of cuts: all where none is given or it is below 0. `BadType` for what is no int.
+fn want_cuts(
+    machine: &Machine,
+    setting: &Setting,
+    line: usize,
+    cuts: Option<Value>,
+) -> Result<Option<u64>, Stop>
+    ensures { Gives (spec.want_cuts setting.now line cuts machine.now) result machine.now }
+{
+    let Some(cuts) = cuts else {
+        return Ok(None);
+    };
+    let cuts = machine.want_int(setting, line, cuts)?;
+    Ok(if cuts < 0 { None } else { Some(cuts as u64) })
+}
+
+/// One value, and the second, if there is one. `Args` for none or more.
+fn one_and_maybe(
+    machine: &Machine,
+    line: usize,
+    values: &[Value],
+) -> Result<(Value, Option<Value>), Stop>
+    ensures { Gives (spec.one_and_maybe line values.now machine.now) result machine.now }
+{
+    match values {
+        [first] => Ok((*first, None)),
+        [first, second] => Ok((*first, Some(*second))),
+        _ => Err(faulted(Code::Args, line)),
+    }
+}
+
+/// `split(sep, [n])`: the bytes are paid; then new strings of the parts between cuts at `sep`, at most `n` of them, in a new list.
+/// `BadType` for arguments of other types, `BadValue` for an empty `sep`.
+pub fn call_split(
+    machine: &mut Machine,
+    setting: &Setting,
+    line: usize,
+    text: Value,
+    given: &Given,
+) -> Result<Value, Stop>
+    ensures { Gives (spec.call_split setting.now line (bytes_of (content setting.now machine.old text)) given.now machine.old) result machine.new }
+{
+    let (by, cuts) = one_and_maybe(machine, line, machine.by_place(line, given)?)?;
+    machine.check_text(setting, line, by)?;
+    let cuts = want_cuts(machine, setting, line, cuts)?;
+    let whole = machine.copied_text(setting, text)?;
+    let by = machine.copied_text(setting, by)?;
+    pay_for_bytes(machine, setting, line, text)?;
+    if by.as_str().is_empty() {
+        return Err(faulted(Code::BadValue, line));
+    }
+    let parts = new_parts(machine, line, whole.as_str(), by.as_str(), cuts)?;
+    machine.new_list(line, parts)
+}
+
+/// A string with another one in the place of each separator: so many at most, from the left.
+#[tactic(auto, using(crate::proofs::Cutting::joined_next))]
+fn replaced(
+    alloc: Global,
+    text: &str,
+    old: &str,
+    new: &str,
+    cuts: Option<u64>,
+) -> Result<Text, AllocError>
+    requires { 0 < length old.now }
+    ensures { IfOk result (λ t. t ≡ joined new.now (texts.parts text.now old.now cuts)) }
+{
+    let mut made = String::new(alloc);
+    let mut rest = text;
+    let mut left = cuts;
+    while let Some((before, after)) = next_cut(rest, old, left) {
+        made.push_str(before)?;
+        made.push_str(new)?;
+        rest = after;
+        left = one_less(left);
+    }
+    made.push_str(rest)?;
+    Ok(Text::from(made))
+}
+
+/// Two or three values. `Args` for fewer or more.
+fn two_or_three(
+    machine: &Machine,
+    line: usize,
+    values: &[Value],
+) -> Result<(Value, Value, Option<Value>), Stop>
+    ensures { GivesBy (λ r. record { old = r.0; new = r.1; cuts = r.2 }) (spec.two_or_three line values.now machine.now) result machine.now }
+{
+    match values {
+        [old, new] => Ok((*old, *new, None)),
+        [old, new, cuts] => Ok((*old, *new, Some(*cuts))),
+        _ => Err(faulted(Code::Args, line)),
+    }
+}
+
+/// `replace(old, new, [n])`: the bytes are paid, then a new string with `new` in the place of each `old`, of `n` at most. `BadType`
+/// for arguments of other types, `BadValue` for an empty `old`.
+pub fn call_replace(
+    machine: &mut Machine,
+    setting: &Setting,
+    line: usize,
+    text: Value,
+    given: &Given,
+) -> Result<Value, Stop>
+    ensures { Gives (spec.call_replace setting.now line (bytes_of (content setting.now machine.old text)) given.now machine.old) result machine.new }
+{
+    let (old, new, cuts) = two_or_three(machine, line, machine.by_place(line, given)?)?;
+    machine.check_text(setting, line, old)?;
+    machine.check_text(setting, line, new)?;
+    let cuts = want_cuts(machine, setting, line, cuts)?;
+    let whole = machine.copied_text(setting, text)?;
+    let old = machine.copied_text(setting, old)?;
+    let new = machine.copied_text(setting, new)?;
+    pay_for_bytes(machine, setting, line, text)?;
+    if old.as_str().is_empty() {
+        return Err(faulted(Code::BadValue, line));
+    }
+    let made = replaced(
+        machine.alloc(),
+        whole.as_str(),
+        old.as_str(),
+        new.as_str(),
+        cuts,
+    )?;
+    machine.new_text(line, made)
+}

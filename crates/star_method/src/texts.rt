@@ -1,0 +1,476 @@
+//! The methods of strings.
+
+ghost use Rattle.std.specs.Prelude.{◌≡◌, ◌≤◌, ◌++◌, ◌∷◌, [], if◌then◌else◌, IfOk, MatchOption, OnOk, is_some, length, map, nat_eq, pos, string_bytes};
+ghost use Rattle.std.specs.List.{ends_with, list_any, starts_with};
+ghost use Rattle.star_eval.specs.BuiltIns.{joined};
+ghost use Rattle.star_eval.specs.Gives.{Gives, GivesBy};
+ghost use Rattle.star_eval.specs.Kinds.{bytes_of};
+ghost use Rattle.star_eval.specs.Operators as operators;
+ghost use Rattle.star_eval.specs.Run.{and_then, found, give};
+ghost use Rattle.star_eval.specs.declared.fault.Code.TheVariants.{BadType};
+ghost use Rattle.star_eval.specs.TextMethods as spec;
+ghost use Rattle.star_eval.specs.Texts.{characters, lower, upper, without_end, without_front};
+ghost use Rattle.star_eval.specs.Values.{content, text_of};
+ghost use Rattle.star_method.specs.Ends.{at_edge, bytes_each, each_behind, found_between};
+ghost use Rattle.star_method.specs.Sets.{test_of};
+
+use crate::characters::{Set, without_end, without_front};
+use star_eval::content::Content;
+use star_eval::fault::{Code, Stop, faulted};
+use star_eval::given::Given;
+use star_eval::machine::Machine;
+use star_eval::setting::Setting;
+use star_eval::slices::{bound_of, want_part};
+use star_eval::texts::place_between;
+use star_store::values::{Cell, Value};
+use star_text::Text;
+use std::alloc::AllocError;
+
+/// Pays the bytes of a string.
+pub fn pay_for_bytes(
+    machine: &mut Machine,
+    setting: &Setting,
+    line: usize,
+    text: Value,
+) -> Result<(), Stop>
+    ensures answer { Gives (spec.pay_for_bytes line (bytes_of (content setting.now machine.old text)) machine.old) result machine.new }
+    ensures kept { machine.new.store ≡ machine.old.store }
+{
+    machine.pay(line, machine.text_size(setting, text) as u128)
+}
+
+/// A copy of a string in small ASCII letters.
+#[tactic(auto, using(crate::proofs::Letters::lower_is))]
+fn lowered(machine: &Machine, setting: &Setting, text: Value) -> Result<Text, AllocError>
+    ensures { IfOk result (λ t. t ≡ map lower (bytes_of (content setting.now machine.now text))) }
+{
+    let text = machine.copied_text(setting, text)?;
+    let mut made = String::from_str(machine.alloc(), text.as_str())?;
+    made.make_ascii_lowercase();
+    Ok(Text::from(made))
+}
+
+/// A copy of a string in large ASCII letters.
+#[tactic(auto, using(crate::proofs::Letters::upper_is))]
+fn raised(machine: &Machine, setting: &Setting, text: Value) -> Result<Text, AllocError>
+    ensures { IfOk result (λ t. t ≡ map upper (bytes_of (content setting.now machine.now text))) }
+{
+    let text = machine.copied_text(setting, text)?;
+    let mut made = String::from_str(machine.alloc(), text.as_str())?;
+    made.make_ascii_uppercase();
+    Ok(Text::from(made))
+}
+
+/// `lower()`: the bytes are paid, then a new string, whose ASCII letters are small.
+pub fn call_lower(
+    machine: &mut Machine,
+    setting: &Setting,
+    line: usize,
+    text: Value,
+    given: &Given,
+) -> Result<Value, Stop>
+    ensures { Gives (spec.call_case line lower (bytes_of (content setting.now machine.old text)) given.now machine.old) result machine.new }
+{
+    machine.no_value(line, machine.by_place(line, given)?)?;
+    let made = lowered(machine, setting, text)?;
+    pay_for_bytes(machine, setting, line, text)?;
+    machine.new_text(line, made)
+}
+
+/// `upper()`: the bytes are paid, then a new string, whose ASCII letters are large.
+pub fn call_upper(
+    machine: &mut Machine,
+    setting: &Setting,
+    line: usize,
+    text: Value,
+    given: &Given,
+) -> Result<Value, Stop>
+    ensures { Gives (spec.call_case line upper (bytes_of (content setting.now machine.old text)) given.now machine.old) result machine.new }
+{
+    machine.no_value(line, machine.by_place(line, given)?)?;
+    let made = raised(machine, setting, text)?;
+    pay_for_bytes(machine, setting, line, text)?;
+    machine.new_text(line, made)
+}
+
+/// One to three values. `Args` for none or more.
+fn one_to_three(
+    machine: &Machine,
+    line: usize,
+    values: &[Value],
+) -> Result<(Value, Option<Value>, Option<Value>), Stop>
+    ensures { GivesBy (λ r. record { what = r.0; from = r.1; to = r.2 }) (spec.one_to_three line values.now machine.now) result machine.now }
+{
+    match values {
+        [what] => Ok((*what, None, None)),
+        [what, from] => Ok((*what, Some(*from), None)),
+        [what, from, to] => Ok((*what, Some(*from), Some(*to))),
+        _ => Err(faulted(Code::Args, line)),
+    }
+}
+
+/// An end of a search among so many bytes: that of a slice, an absent one elsewhere.
+fn end_of(len: usize, absent: usize, place: Option<i64>) -> usize
+    requires { absent ≤ len }
+    ensures value { result ≡ spec.end_of len (pos absent) place }
+    ensures within { result ≤ len }
+{
+    bound_of(len, 0, len as i128, absent as i128, place).unsigned_abs() as usize
+}
+
+/// The least place at which a string stands in another one, from one end to another, else -1.
+#[tactic(auto, using(crate::proofs::Finds::place_within))]
+fn place_or_none(text: &[u8], part: &[u8], from: usize, to: usize) -> i64
+    requires { to ≤ length text.now }
+    ensures { result ≡ spec.place_or_none (operators.place_between text.now part.now from to) }
+{
+    match place_between(text, part, from, to) {
+        Some(at) => at as i64,
+        None => -1,
+    }
+}
+
+/// The least place at which a string stands in another one, between two ends as in a slice, else -1.
+fn place_in(
+    machine: &Machine,
+    setting: &Setting,
+    text: Value,
+    part: Value,
+    from: Option<i64>,
+    to: Option<i64>,
+) -> i64
+    ensures { result ≡ found_between (bytes_of (content setting.now machine.now text)) (bytes_of (content setting.now machine.now part)) from to }
+{
+    let text = machine.bytes(setting, text);
+    let len = text.len();
+    let part = machine.bytes(setting, part);
+    place_or_none(text, part, end_of(len, 0, from), end_of(len, len, to))
+}
+
+/// `find(t, [a, [b]])`: the least place at which `t` stands between `a` and `b`, which are ends as in a slice, else -1. `BadType` for
+/// arguments of other types.
+pub fn call_find(
+    machine: &mut Machine,
+    setting: &Setting,
+    line: usize,
+    text: Value,
+    given: &Given,
+) -> Result<Value, Stop>
+    ensures { Gives (spec.call_find setting.now line (bytes_of (content setting.now machine.old text)) given.now machine.old) result machine.new }
+{
+    let (part, from, to) = one_to_three(machine, line, machine.by_place(line, given)?)?;
+    machine.check_text(setting, line, part)?;
+    let from = want_part(machine, setting, line, from)?;
+    let to = want_part(machine, setting, line, to)?;
+    pay_for_bytes(machine, setting, line, text)?;
+    Ok(Value::Int(place_in(machine, setting, text, part, from, to)))
+}
+
+/// The front or the end of a string.
+#[derive(Clone, Copy, Debug, PartialEq, Eq)]
+enum Edge {
+    Front,
+    End,
+}
+
+/// Whether a part stands at an edge of a string.
+fn stands_at_edge(edge: Edge, text: &[u8], part: &[u8]) -> bool
+    ensures { result ≡ at_edge edge text.now part.now }
+{
+    match edge {
+        Edge::Front => text.starts_with(part),
+        Edge::End => text.ends_with(part),
+    }
+}
+
+/// Whether a string stands at an edge of another one.
+fn part_at_edge(machine: &Machine, setting: &Setting, edge: Edge, text: Value, part: Value) -> bool
+    ensures { result ≡ at_edge edge (bytes_of (content setting.now machine.now text)) (bytes_of (content setting.now machine.now part)) }
+{
+    let text = machine.bytes(setting, text);
+    stands_at_edge(edge, text, machine.bytes(setting, part))
+}
+
+/// Whether a value is a string.
+fn is_text(machine: &Machine, setting: &Setting, value: Value) -> bool
+    ensures { result ≡ is_some (text_of (content setting.now machine.now value)) }
+{
+    match machine.content(setting, value) {
+        Content::Held(Cell::Text(_)) => true,
+        _ => false,
+    }
+}
+
+/// Whether all values are strings.
+#[tactic(auto, using(crate::proofs::Choices::some_more, crate::proofs::Choices::none_more))]
+fn are_texts(machine: &Machine, setting: &Setting, values: &[Value]) -> bool
+    ensures { result ≡ is_some (spec.texts_of setting.now machine.now values.now) }
+{
+    for value in values {
+        if !is_text(machine, setting, *value) {
+            return false;
+        }
+    }
+    true
+}
+
+/// Whether one of some strings stands at an edge of another one.
+fn one_at_edge(
+    machine: &Machine,
+    setting: &Setting,
+    edge: Edge,
+    text: Value,
+    parts: &[Value],
+) -> bool
+    ensures { result ≡ list_any (at_edge edge (bytes_of (content setting.now machine.now text))) (bytes_each setting.now machine.now parts.now) }
+{
+    for part in parts {
+        if part_at_edge(machine, setting, edge, text, *part) {
+            return true;
+        }
+    }
+    false
+}
+
+/// Whether one of some values stands at an edge of a string. `BadType` where one of them is no string.
+#[tactic(auto, using(crate::proofs::Choices::texts_each, crate::proofs::Choices::no_texts))]
+fn some_at_edge(
+    machine: &Machine,
+    setting: &Setting,
+    line: usize,
+    edge: Edge,
+    text: Value,
+    parts: &[Value],
+) -> Result<bool, Stop>
+    ensures { Gives (and_then (found BadType line (spec.texts_of setting.now machine.now parts.now) machine.now) (λ us. give (list_any (at_edge edge (bytes_of (content setting.now machine.now text))) us))) result machine.now }
+{
+    if !are_texts(machine, setting, parts) {
+        return Err(faulted(Code::BadType, line));
+    }
+    Ok(one_at_edge(machine, setting, edge, text, parts))
+}
+
+/// Whether a string, or one of a tuple of strings, stands at an edge of a string. `BadType` for other values.
+fn choice_at_edge(
+    machine: &Machine,
+    setting: &Setting,
+    line: usize,
+    edge: Edge,
+    text: Value,
+    choices: Value,
+) -> Result<bool, Stop>
+    ensures { Gives (and_then (found BadType line (spec.choices_in setting.now machine.now (content setting.now machine.now choices)) machine.now) (λ us. give (list_any (at_edge edge (bytes_of (content setting.now machine.now text))) us))) result machine.now }
+{
+    match machine.content(setting, choices) {
+        Content::Held(Cell::Text(part)) => {
+            let text = machine.bytes(setting, text);
+            Ok(stands_at_edge(edge, text, part.as_str().as_bytes()))
+        }
+        Content::Held(Cell::Tuple(parts)) => {
+            some_at_edge(machine, setting, line, edge, text, parts.as_slice())
+        }
+        _ => Err(faulted(Code::BadType, line)),
+    }
+}
+
+/// `startswith(p)` and `endswith(p)`.
+fn call_edge(
+    machine: &mut Machine,
+    setting: &Setting,
+    line: usize,
+    edge: Edge,
+    text: Value,
+    given: &Given,
+) -> Result<Value, Stop>
+    ensures { Gives (spec.call_edge setting.now line (at_edge edge) (bytes_of (content setting.now machine.old text)) given.now machine.old) result machine.new }
+{
+    let choices = machine.only_one(line, machine.by_place(line, given)?)?;
+    let stands = choice_at_edge(machine, setting, line, edge, text, choices)?;
+    pay_for_bytes(machine, setting, line, text)?;
+    Ok(Value::Bool(stands))
+}
+
+/// `startswith(p)`: whether the string begins with `p`, or with one of a tuple of strings. `BadType` for another `p`.
+pub fn call_startswith(
+    machine: &mut Machine,
+    setting: &Setting,
+    line: usize,
+    text: Value,
+    given: &Given,
+) -> Result<Value, Stop>
+    ensures { Gives (spec.call_edge setting.now line (starts_with nat_eq) (bytes_of (content setting.now machine.old text)) given.now machine.old) result machine.new }
+{
+    call_edge(machine, setting, line, Edge::Front, text, given)
+}
+
+/// `endswith(p)`: whether the string ends with `p`, or with one of a tuple of strings. `BadType` for another `p`.
+pub fn call_endswith(
+    machine: &mut Machine,
+    setting: &Setting,
+    line: usize,
+    text: Value,
+    given: &Given,
+) -> Result<Value, Stop>
+    ensures { Gives (spec.call_edge setting.now line (ends_with nat_eq) (bytes_of (content setting.now machine.old text)) given.now machine.old) result machine.new }
+{
+    call_edge(machine, setting, line, Edge::End, text, given)
+}
+
+/// The characters that `strip` takes off: blanks where none are given. `BadType` for what is no string.
+fn want_set(
+    machine: &Machine,
+    setting: &Setting,
+    line: usize,
+    characters: Option<Value>,
+) -> Result<Set, Stop>
+    ensures { GivesBy test_of (spec.want_set setting.now line characters machine.now) result machine.now }
+{
+    let Some(characters) = characters else {
+        return Ok(Set::Blanks);
+    };
+    let text = machine.want_text(setting, line, characters)?;
+    let text = Text::new(machine.alloc(), text.as_str())?;
+    Ok(Set::Of(text))
+}
+
+/// What `lstrip` and `strip` leave at the front.
+fn front_stripped<'a>(text: &'a str, front: bool, set: &Set) -> &'a str
+    ensures { characters result.now ≡ (if front then without_front (test_of set.now) else (λ cs. cs)) (characters text.now) }
+{
+    if front {
+        return without_front(text, set);
+    }
+    text
+}
+
+/// What `rstrip` and `strip` leave at the end.
+fn end_stripped<'a>(text: &'a str, end: bool, set: &Set) -> &'a str
+    ensures { characters result.now ≡ (if end then without_end (test_of set.now) else (λ cs. cs)) (characters text.now) }
+{
+    if end {
+        return without_end(text, set);
+    }
+    text
+}
+
+/// A copy of a string without the characters of a set at its front, at its end or at both.
+#[tactic(auto, using(crate::proofs::OneByOne::joined_whole))]
+fn stripped(
+    machine: &Machine,
+    setting: &Setting,
+    text: Value,
+    front: bool,
+    end: bool,
+    set: &Set,
+) -> Result<Text, AllocError>
+    ensures { IfOk result (λ t. t ≡ spec.stripped front end (test_of set.now) (bytes_of (content setting.now machine.now text))) }
+{
+    let text = machine.copied_text(setting, text)?;
+    let kept = end_stripped(text.as_str(), end, set);
+    let kept = front_stripped(kept, front, set);
+    Text::new(machine.alloc(), kept)
+}
+
+/// `strip([c])`, `lstrip([c])` and `rstrip([c])`: takes the characters of `c`, or blanks, off the front, the end or both. `BadType`
+/// for a `c` that is no string.
+pub fn call_strip(
+    machine: &mut Machine,
+    setting: &Setting,
+    line: usize,
+    front: bool,
+    end: bool,
+    text: Value,
+    given: &Given,
+) -> Result<Value, Stop>
+    ensures { Gives (spec.call_strip setting.now line front end (bytes_of (content setting.now machine.old text)) given.now machine.old) result machine.new }
+{
+    let set = machine.none_or_one(line, machine.by_place(line, given)?)?;
+    let set = want_set(machine, setting, line, set)?;
+    let made = stripped(machine, setting, text, front, end, &set)?;
+    pay_for_bytes(machine, setting, line, text)?;
+    machine.new_text(line, made)
+}
+
+/// Puts strings behind a text, each behind another string.
+fn push_each(
+    machine: &Machine,
+    setting: &Setting,
+    made: &mut String,
+    by: &str,
+    texts: &[Value],
+) -> Result<(), AllocError>
+    ensures { OnOk result (string_bytes made.new ≡ string_bytes made.old ++ each_behind by.now (bytes_each setting.now machine.now texts.now)) }
+{
+    for text in texts {
+        let text = machine.copied_text(setting, *text)?;
+        made.push_str(by)?;
+        made.push_str(text.as_str())?;
+    }
+    Ok(())
+}
+
+/// The first of some values, and the others.
+fn first_and_rest(values: &[Value]) -> Option<(Value, &[Value])>
+    ensures { MatchOption result (values.now ≡ []) (λ x. values.now ≡ x.0 ∷ x.1.now) }
+{
+    match values {
+        [first, rest @ ..] => Some((*first, rest)),
+        [] => None,
+    }
+}
+
+/// Strings with another one between them.
+#[tactic(auto, using(crate::proofs::Joining::joined_is))]
+fn joined_texts(
+    machine: &Machine,
+    setting: &Setting,
+    by: &str,
+    texts: &[Value],
+) -> Result<Text, AllocError>
+    ensures { IfOk result (λ t. t ≡ joined by.now (bytes_each setting.now machine.now texts.now)) }
+{
+    let Some((first, rest)) = first_and_rest(texts) else {
+        return Text::new(machine.alloc(), "");
+    };
+    let text = machine.copied_text(setting, first)?;
+    let mut made = String::from_str(machine.alloc(), text.as_str())?;
+    push_each(machine, setting, &mut made, by, rest)?;
+    Ok(Text::from(made))
+}
+
+/// The strings that values are, with another one between them. `BadType` where one of them is no string.
+#[tactic(auto, using(crate::proofs::Choices::texts_each, crate::proofs::Choices::no_texts))]
+fn join_all(
+    machine: &Machine,
+    setting: &Setting,
+    line: usize,
+    by: &str,
+    texts: &[Value],
+) -> Result<Text, Stop>
+    ensures { Gives (and_then (found BadType line (spec.texts_of setting.now machine.now texts.now) machine.now) (λ us. give (joined by.now us))) result machine.now }
+{
+    if !are_texts(machine, setting, texts) {
+        return Err(faulted(Code::BadType, line));
+    }
+    Ok(joined_texts(machine, setting, by, texts)?)
+}
+
+/// `join(it)`: the bytes are paid, then all items are taken, then a new string of them, with this one between them. `BadType` for what
+/// is no iterable, and where an item is no string.
+pub fn call_join(
+    machine: &mut Machine,
+    setting: &Setting,
+    line: usize,
+    text: Value,
+    given: &Given,
+) -> Result<Value, Stop>
+    ensures { Gives (spec.call_join setting.now line (bytes_of (content setting.now machine.old text)) given.now machine.old) result machine.new }
+{
+    let items = machine.only_one(line, machine.by_place(line, given)?)?;
+    let count = machine.count_of(setting, line, items)?;
+    let by = machine.copied_text(setting, text)?;
+    pay_for_bytes(machine, setting, line, text)?;
+    let taken = machine.take_items(setting, line, items, count)?;
+    let made = join_all(machine, setting, line, by.as_str(), taken.as_slice())?;
+    machine.new_text(line, made)
+}
