@@ -1,0 +1,25 @@
+use Rattle.std.proofs.Common.{◌≡◌, ap, sym, ◌∙◌}
+use Rattle.star_store.specs.declared.values.Cell.TheVariants as cell
+use Rattle.star_scope.specs.Definitions.{definition_of}
+use Rattle.star_eval.specs.Calls.{callee}
+use Rattle.star_eval.specs.Program.{definition_of as in_setting}
+use Rattle.star_eval.specs.Values.{Held, content}
+use Rattle.star_call.specs.Callees.{definition_for}
+use Rattle.std.specs.Option.{option_map}
+use Rattle.star_call.proofs.callee.Callee.of.Goals as goal
+
+pub returns-in-Held-Func-clause-answer : goal.returns-in-Held-Func-clause-answer
+returns-in-Held-Func-clause-answer c =
+    let read = content c.args.setting.now c.args.machine.now in
+    let e : read c.args.value ≡ Held (cell.Func c.in-Held-Func.function) = sym c.in-Held-Func.ensures ∙ ap Held c.in-Held-Func.field-0-is in
+    rw e (c.function_callee.ensures read e)
+
+pub returns-in-Held-Func-clause-found : goal.returns-in-Held-Func-clause-found
+unfolding callee
+returns-in-Held-Func-clause-found c = λ h.
+    let w = c.args.setting.now in
+    let f = c.in-Held-Func.function in
+    let read = content w c.args.machine.now in
+    let e : read c.args.value ≡ Held (cell.Func f) = sym c.in-Held-Func.ensures ∙ ap Held c.in-Held-Func.field-0-is in
+    let d : option_map definition_of c.args.definition ≡ in_setting w f.file f.definition = h ∙ ap (definition_for w) e in
+    rw e (rw d at (c.function_callee.ensures read e))

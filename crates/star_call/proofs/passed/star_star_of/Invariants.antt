@@ -1,0 +1,7 @@
+use Rattle.std.proofs.Common.{◌≡◌, drop}
+use Rattle.star_eval.specs.Arguments.{star_star_of}
+use Rattle.star_call.specs.Passed.{all_shown}
+use Rattle.star_call.proofs.passed.star_star_of.Given as goal
+
+abbrev pub invariant-loop-argument : goal.invariant-loop-argument
+invariant-loop-argument l = star_star_of (all_shown (drop l.argument-index l.passed)) ≡ star_star_of (all_shown l.passed)

@@ -1,0 +1,63 @@
+-- What a callee of the code shows.
+use Rattle.std.specs.Prelude.{◌≡◌, ℕ, not, Result, List, [], Option, Some, None}
+use Rattle.std.specs.Option.{option_and_then}
+use Rattle.star_store.specs.declared.values.Value.{Value}
+use Rattle.star_store.specs.declared.values.Cell.TheVariants as cell
+use Rattle.star_store.specs.declared.values.Function.{Function}
+use Rattle.star_scope.specs.Definitions.{Definition, definition_of}
+use Rattle.star_eval.specs.declared.fault.Code.TheVariants as code
+use Rattle.star_eval.specs.declared.fault.Stop.{Stop}
+use Rattle.star_eval.specs.Gives.{GivesBy}
+use Rattle.star_eval.specs.Run.{State, Outcome, Action, ◌>>=◌, give, fail, check, found, seeing}
+use Rattle.star_eval.specs.Program.{Setting, definition_of as in_setting}
+use Rattle.star_eval.specs.Values.{Content, BuiltInFunction, Held}
+use Rattle.star_eval.specs.Calls.{Callee, AFunction, ABuiltIn, AMethod, is_active}
+use Rattle.star_call.specs.declared.callee.Called.{Called}
+use Rattle.star_call.specs.declared.callee.Callee.{Callee as HeldCallee}
+use Rattle.star_call.specs.declared.callee.Callee.TheVariants as held
+
+-- the name and the defaults of a function
+abbrev pub name_in : Content → List ℕ
+name_in (Held (cell.Func f)) = f.name
+name_in _ = []
+
+abbrev pub defaults_in : Content → List Value
+defaults_in (Held (cell.Func f)) = f.defaults
+defaults_in _ = []
+
+-- a function that is called: its name and its defaults are what the value leads to
+abbrev pub function_of : Content → Called → Function
+function_of c f = record { file = f.file; definition = f.number; name = name_in c; defaults = defaults_in c; frame = f.frame }
+
+-- a callee, from what the value of a function leads to
+abbrev pub shown : (Value → Content) → HeldCallee → Callee
+shown read (held.AFunction f) = AFunction (function_of (read f.value) f) (definition_of f.definition)
+shown read (held.ABuiltIn b) = ABuiltIn b
+shown read (held.AMethod m v) = AMethod m v
+
+-- a function that is called, with its definition, if it has one
+abbrev pub with_definition : ℕ → Function → Option Definition → Action Callee
+with_definition line f d = do
+  _ ← seeing (λ s. check code.Recursion line (not (is_active s f)))
+  e ← found code.BadType line d
+  give (AFunction f e)
+
+-- What a function gave shows this wherever its value leads to it.
+abbrev pub GivesCallee : Value → Function → Outcome Callee → Result HeldCallee Stop → State → Type 0
+GivesCallee v f o result new = (read : Value → Content) → read v ≡ Held (cell.Func f) → GivesBy (shown read) o result new
+
+-- the file and the number of the definition of a function
+abbrev pub number_in : Content → Option (ℕ × ℕ)
+number_in (Held (cell.Func f)) = Some (f.file, f.definition)
+number_in _ = None
+
+-- the definition of a function, if it has one
+abbrev pub definition_for : Setting → Content → Option Definition
+definition_for w c = option_and_then (λ n. in_setting w n.0 n.1) (number_in c)
+
+-- what may be called, where this is the definition of a function, if it has one
+abbrev pub callee_in : ℕ → Option Definition → Content → Action Callee
+callee_in line d (Held (cell.Func f)) = with_definition line f d
+callee_in line d (BuiltInFunction b) = give (ABuiltIn b)
+callee_in line d (Held (cell.Bound m x)) = give (AMethod m x)
+callee_in line d _ = fail code.BadType line

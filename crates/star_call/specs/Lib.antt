@@ -1,0 +1,4 @@
+pub mod Callees
+pub mod Passed
+pub mod Shares
+pub mod Steps

@@ -1,0 +1,14 @@
+-- What an argument of the code shows.
+use Rattle.std.specs.Prelude.{List, map}
+use Rattle.star_call.specs.declared.passed.Passed.{Passed as HeldPassed}
+use Rattle.star_call.specs.declared.passed.Passed.TheVariants as held
+use Rattle.star_eval.specs.Arguments.{Passed, Plain, Named, Star, StarStar}
+
+abbrev pub shown : HeldPassed → Passed
+shown (held.Plain v) = Plain v
+shown (held.Named n v) = Named n.now v
+shown (held.Star v) = Star v
+shown (held.StarStar v) = StarStar v
+
+abbrev pub all_shown : List HeldPassed → List Passed
+all_shown ps = map shown ps

@@ -1,0 +1,133 @@
+//! What may be called.
+
+ghost use Rattle.std.specs.Prelude.{◌≡◌};
+ghost use Rattle.std.specs.Option.{option_map};
+ghost use Rattle.star_scope.specs.Definitions.{definition_of};
+ghost use Rattle.star_eval.specs.Binding.{bound_to};
+ghost use Rattle.star_eval.specs.Calls as spec;
+ghost use Rattle.star_eval.specs.Gives.{Gives, GivesBy};
+ghost use Rattle.star_eval.specs.Run.{found};
+ghost use Rattle.star_eval.specs.Values.{content};
+ghost use Rattle.star_call.specs.Callees.{GivesCallee, callee_in, defaults_in, definition_for, number_in, shown, with_definition};
+
+use crate::binding::bound_to;
+use crate::shares::Shares;
+use star_eval::content::Content;
+use star_eval::fault::{Code, Stop, faulted};
+use star_eval::given::Given;
+use star_eval::machine::Machine;
+use star_eval::setting::Setting;
+use star_scope::outline::Definition;
+use star_store::names::{BuiltIn, Method};
+use star_store::values::{Cell, Function, Value};
+
+/// A function that is called: the value that leads to it, the file and the number of its definition, the frame in which it was
+/// defined, and the definition.
+#[derive(Clone, Copy)]
+pub struct Called<'t> {
+    pub value: Value,
+    pub file: u32,
+    pub number: u32,
+    pub frame: Value,
+    pub definition: Definition<'t>,
+}
+
+/// What may be called.
+#[derive(Clone, Copy)]
+pub enum Callee<'t> {
+    AFunction(Called<'t>),
+    ABuiltIn(BuiltIn),
+    /// A method of a value.
+    AMethod(Method, Value),
+}
+
+/// The defaults of a function: none of another value.
+fn defaults_of<'a>(machine: &'a Machine, setting: &'a Setting<'a>, value: Value) -> &'a [Value]
+    ensures { result.now ≡ defaults_in (content setting.now machine.now value) }
+{
+    match machine.content(setting, value) {
+        Content::Held(Cell::Func(function)) => function.defaults.as_slice(),
+        _ => &[],
+    }
+}
+
+impl<'t> Called<'t> {
+    /// What each parameter of the function gets. `Args` where a value is missing, left over, unknown or given twice.
+    pub fn bind<'g>(
+        &self,
+        machine: &Machine,
+        setting: &Setting,
+        line: usize,
+        given: &'g Given,
+    ) -> Result<Shares<'t, 'g>, Stop>
+        ensures { Gives (found Code.Args line (bound_to self.now.definition.parameters.now (defaults_in (content setting.now machine.now self.now.value)) given.now) machine.now) result machine.now }
+    {
+        let defaults = defaults_of(machine, setting, self.value);
+        let parameters = self.definition.parameters;
+        match bound_to(machine.alloc(), parameters, defaults, given)? {
+            Some(shares) => Ok(shares),
+            None => Err(faulted(Code::Args, line)),
+        }
+    }
+}
+
+/// A function that is called, with its definition, if it has one. `Recursion` where the definition is active, `BadType` where there
+/// is none.
+fn function_callee<'t>(
+    machine: &Machine,
+    line: usize,
+    value: Value,
+    function: &Function,
+    definition: Option<Definition<'t>>,
+) -> Result<Callee<'t>, Stop>
+    ensures { GivesCallee value function.now (with_definition line function.now (option_map definition_of definition.entry) machine.now) result machine.now }
+{
+    if machine.is_active(function) {
+        return Err(faulted(Code::Recursion, line));
+    }
+    match definition {
+        Some(definition) => Ok(Callee::AFunction(Called {
+            value,
+            file: function.file,
+            number: function.definition,
+            frame: function.frame,
+            definition,
+        })),
+        None => Err(faulted(Code::BadType, line)),
+    }
+}
+
+/// The file and the number of the definition of a function: none of another value.
+pub fn definition_number(machine: &Machine, setting: &Setting, value: Value) -> Option<(u32, u32)>
+    ensures { result ≡ number_in (content setting.now machine.now value) }
+{
+    match machine.content(setting, value) {
+        Content::Held(Cell::Func(function)) => Some((function.file, function.definition)),
+        _ => None,
+    }
+}
+
+impl<'t> Callee<'t> {
+    /// What is called by a value, where `definition` is what the setting has at its `definition_number`. `BadType` where it may not
+    /// be called or has no definition, `Recursion` where its definition is active.
+    #[tactic(auto, unfolding(star_eval::specs::Calls::callee))]
+    pub fn of(
+        machine: &Machine,
+        setting: &Setting,
+        line: usize,
+        value: Value,
+        definition: Option<Definition<'t>>,
+    ) -> Result<Callee<'t>, Stop>
+        ensures answer { GivesBy (shown (content setting.now machine.now)) (callee_in line (option_map definition_of definition.entry) (content setting.now machine.now value) machine.now) result machine.now }
+        ensures found { option_map definition_of definition.entry ≡ definition_for setting.now (content setting.now machine.now value) → GivesBy (shown (content setting.now machine.now)) (spec.callee setting.now line value machine.now) result machine.now }
+    {
+        match machine.content(setting, value) {
+            Content::BuiltInFunction(function) => Ok(Callee::ABuiltIn(function)),
+            Content::Held(Cell::Func(function)) => function_callee(
+                machine, line, value, function, definition,
+            ),
+            Content::Held(Cell::Bound(method, receiver)) => Ok(Callee::AMethod(*method, *receiver)),
+            _ => Err(faulted(Code::BadType, line)),
+        }
+    }
+}

@@ -1,0 +1,251 @@
+//! What a call gives.
+
+ghost use Rattle.std.specs.Prelude.{◌≡◌, ◌++◌, IfOk, OnOk};
+ghost use Rattle.std.specs.Option.{option_map};
+ghost use Rattle.star_eval.specs.Arguments as spec;
+ghost use Rattle.star_eval.specs.Gives.{Gives, GivesBy};
+ghost use Rattle.star_eval.specs.Values.{content, text_of};
+ghost use Rattle.star_call.specs.Passed.{all_shown};
+
+use crate::names::comes_twice;
+use sqlite_items::Items;
+use star_eval::content::Content;
+use star_eval::fault::{Code, Stop, faulted};
+use star_eval::given::{Given, NamedValue};
+use star_eval::machine::Machine;
+use star_eval::setting::Setting;
+use star_store::values::{Cell, Value, Values};
+use star_text::Text;
+use std::alloc::{AllocError, Global};
+
+/// An argument with its value, as it stands in the call.
+#[derive(Clone, Copy)]
+pub enum Passed<'a> {
+    Plain(Value),
+    Named(&'a str, Value),
+    /// `*value`.
+    Star(Value),
+    /// `**value`.
+    StarStar(Value),
+}
+
+/// The values that stand by place.
+fn plain_of(alloc: Global, passed: &[Passed]) -> Result<Vec<Value>, AllocError>
+    ensures { IfOk result (λ v. v.items ≡ spec.plain_of (all_shown passed.now)) }
+{
+    let mut plain = Vec::new(alloc);
+    for argument in passed {
+        if let Passed::Plain(value) = argument {
+            plain.push(*value)?;
+        }
+    }
+    Ok(plain)
+}
+
+/// The values that stand by name.
+fn named_of(alloc: Global, passed: &[Passed]) -> Result<Vec<NamedValue>, AllocError>
+    ensures { IfOk result (λ v. v.items ≡ spec.named_of (all_shown passed.now)) }
+{
+    let mut named = Vec::new(alloc);
+    for argument in passed {
+        if let Passed::Named(name, value) = argument {
+            let name = Text::new(alloc, *name)?;
+            named.push(NamedValue {
+                name,
+                key: None,
+                value: *value,
+            })?;
+        }
+    }
+    Ok(named)
+}
+
+/// What stands behind `*`.
+fn star_of(passed: &[Passed]) -> Option<Value>
+    ensures { result ≡ spec.star_of (all_shown passed.now) }
+{
+    for argument in passed {
+        if let Passed::Star(value) = argument {
+            return Some(*value);
+        }
+    }
+    None
+}
+
+/// What stands behind `**`.
+fn star_star_of(passed: &[Passed]) -> Option<Value>
+    ensures { result ≡ spec.star_star_of (all_shown passed.now) }
+{
+    for argument in passed {
+        if let Passed::StarStar(value) = argument {
+            return Some(*value);
+        }
+    }
+    None
+}
+
+/// The number of items behind `*`. `BadType` where it is not iterable.
+fn star_count(
+    machine: &Machine,
+    setting: &Setting,
+    line: usize,
+    star: Option<Value>,
+) -> Result<usize, Stop>
+    ensures { Gives (spec.star_count setting.now line star machine.now) result machine.now }
+{
+    match star {
+        Some(star) => machine.count_of(setting, line, star),
+        None => Ok(0),
+    }
+}
+
+/// Takes the items behind `*`: 1 is paid before each.
+fn take_star(
+    machine: &mut Machine,
+    setting: &Setting,
+    line: usize,
+    star: Option<Value>,
+    count: usize,
+) -> Result<Values, Stop>
+    ensures { Gives (spec.take_star setting.now line star count machine.old) result machine.new }
+{
+    match star {
+        Some(star) => machine.take_items(setting, line, star, count),
+        None => Ok(Values::new(Vec::new(machine.alloc()))),
+    }
+}
+
+/// An entry of a dictionary by name: none where its key is no string.
+fn named_entry(
+    machine: &Machine,
+    setting: &Setting,
+    entry: (Value, Value),
+) -> Result<Option<NamedValue>, AllocError>
+    ensures { IfOk result (λ n. n ≡ spec.named_entry setting.now machine.now entry (text_of (content setting.now machine.now entry.0))) }
+{
+    let (key, value) = entry;
+    match machine.content(setting, key) {
+        Content::Held(Cell::Text(name)) => {
+            let name = Text::new(machine.alloc(), name.as_str())?;
+            Ok(Some(NamedValue {
+                name,
+                key: Some(key),
+                value,
+            }))
+        }
+        _ => Ok(None),
+    }
+}
+
+/// The entries of a dictionary by name: none where a key is no string.
+fn named_entries(
+    machine: &Machine,
+    setting: &Setting,
+    entries: &[(Value, Value)],
+) -> Result<Option<Vec<NamedValue>>, AllocError>
+    ensures { IfOk result (λ r. option_map (λ v. v.items) r ≡ spec.named_entries setting.now machine.now entries.now) }
+{
+    let mut names = Vec::new(machine.alloc());
+    for entry in entries {
+        match named_entry(machine, setting, *entry)? {
+            Some(name) => names.push(name)?,
+            None => return Ok(None),
+        }
+    }
+    Ok(Some(names))
+}
+
+/// The entries of a dictionary by name: none for another value, and where a key is no string.
+fn names_in(
+    machine: &Machine,
+    setting: &Setting,
+    value: Value,
+) -> Result<Option<Vec<NamedValue>>, AllocError>
+    ensures { IfOk result (λ r. option_map (λ v. v.items) r ≡ spec.names_in setting.now machine.now (content setting.now machine.now value)) }
+{
+    match machine.content(setting, value) {
+        Content::Held(Cell::Dict(entries)) => named_entries(machine, setting, entries.as_slice()),
+        _ => Ok(None),
+    }
+}
+
+/// What stands behind `**`, by name. `BadType` unless it is a dictionary whose keys are all strings.
+fn star_star_names(
+    machine: &Machine,
+    setting: &Setting,
+    line: usize,
+    value: Option<Value>,
+) -> Result<Vec<NamedValue>, Stop>
+    ensures { GivesBy (λ v. v.items) (spec.star_star_names setting.now line value machine.now) result machine.now }
+{
+    let Some(value) = value else {
+        return Ok(Vec::new(machine.alloc()));
+    };
+    match names_in(machine, setting, value)? {
+        Some(names) => Ok(names),
+        None => Err(faulted(Code::BadType, line)),
+    }
+}
+
+/// Takes named values: 1 is paid before each.
+fn take_names(
+    machine: &mut Machine,
+    line: usize,
+    names: Vec<NamedValue>,
+) -> Result<Vec<NamedValue>, Stop>
+    ensures { GivesBy (λ v. v.items) (spec.take_names line names.items machine.old) result machine.new }
+{
+    for _name in &names {
+        machine.pay(line, 1)?;
+    }
+    Ok(names)
+}
+
+/// The values that stand by place, and behind them these.
+fn with_plain(alloc: Global, passed: &[Passed], items: &Values) -> Result<Values, AllocError>
+    ensures { IfOk result (λ v. v ≡ spec.plain_of (all_shown passed.now) ++ items.now) }
+{
+    let mut plain = plain_of(alloc, passed)?;
+    plain.extend_from_slice(items.as_slice())?;
+    Ok(Values::new(plain))
+}
+
+/// The values that stand by name, and behind them these.
+fn with_named(
+    alloc: Global,
+    passed: &[Passed],
+    names: Vec<NamedValue>,
+) -> Result<Items<NamedValue>, AllocError>
+    ensures { IfOk result (λ v. v ≡ spec.named_of (all_shown passed.now) ++ names.items) }
+{
+    let mut names = names;
+    let mut named = named_of(alloc, passed)?;
+    named.append(&mut names)?;
+    Ok(Items::from_vec(named))
+}
+
+/// What a call gives: first what stands behind `*` and `**` is checked, then their items and entries are taken, 1 before each, and
+/// then no name may come twice. `BadType` where `*` has no iterable, or `**` no dictionary whose keys are all strings; `Steps`
+/// where a payment is too large; `Args` where a name comes twice.
+#[tactic(auto, unfolding(star_eval::specs::Arguments::given))]
+pub fn given(
+    machine: &mut Machine,
+    setting: &Setting,
+    line: usize,
+    passed: &[Passed],
+) -> Result<Given, Stop>
+    ensures answer { Gives (spec.given setting.now line (all_shown passed.now) machine.old) result machine.new }
+    ensures kept { OnOk result (machine.new.store ≡ machine.old.store) }
+{
+    let star = star_of(passed);
+    let count = star_count(machine, setting, line, star)?;
+    let names = star_star_names(machine, setting, line, star_star_of(passed))?;
+    let items = take_star(machine, setting, line, star, count)?;
+    let names = take_names(machine, line, names)?;
+    let plain = with_plain(machine.alloc(), passed, &items)?;
+    let named = with_named(machine.alloc(), passed, names)?;
+    if comes_twice(named.as_slice()) {
+        return Err(faulted(Code::Args, line));
+    }
+    Ok(Given { plain, named })
+}

@@ -1,0 +1,122 @@
+//! What parameters get.
+
+ghost use Rattle.std.specs.Prelude.{◌≡◌, map};
+ghost use Rattle.star_eval.specs.Binding as spec;
+ghost use Rattle.star_eval.specs.Gives.{Gives, GivesBy};
+ghost use Rattle.star_eval.specs.Run.{each};
+ghost use Rattle.star_call.specs.Shares.{all_named, all_shown, bound_value, share_of, shown};
+
+use star_eval::fault::Stop;
+use star_eval::given::NamedValue;
+use star_eval::machine::Machine;
+use star_store::values::{Entries, Value, Values};
+use star_syntax::tree::Name;
+use std::marker::Model;
+
+/// What a parameter gets.
+#[derive(Clone, Copy)]
+pub enum Share<'g> {
+    /// A value.
+    One(Value),
+    /// The values by place that are left.
+    Rest(&'g [Value]),
+    /// The values by name that are no parameter's.
+    Names,
+}
+
+/// What each parameter gets, in their order, under its name.
+#[derive(Drop)]
+pub struct Shares<'t, 'g> {
+    shares: Vec<(&'t Name, Share<'g>)>,
+    left: Vec<&'g NamedValue>,
+}
+
+impl<'t, 'g> Model for Shares<'t, 'g> {
+    ghost use Rattle.std.specs.Prelude.{List};
+    ghost use Rattle.star_syntax.specs.declared.tree.Name.{Name as AnyName};
+    ghost use Rattle.star_eval.specs.Binding.{Share as AnyShare};
+    ghost use Rattle.star_call.specs.Shares.{all_named, all_shown};
+
+    ghost Value = { List (AnyName × AnyShare) };
+
+    ghost view = { λ s. all_shown (all_named s.left.items) s.shares.items };
+}
+
+impl<'t, 'g> Shares<'t, 'g> {
+    /// These shares, where these values by name are no parameter's.
+    pub(crate) fn new(
+        shares: Vec<(&'t Name, Share<'g>)>,
+        left: Vec<&'g NamedValue>,
+    ) -> Shares<'t, 'g>
+        ensures { result ≡ all_shown (all_named left.entry.items) shares.entry.items }
+    {
+        Shares { shares, left }
+    }
+}
+
+/// The entries of `**name`: first the strings of the names, in order. No key is checked.
+fn keys_and_values(
+    machine: &mut Machine,
+    line: usize,
+    named: &[&NamedValue],
+) -> Result<Entries, Stop>
+    ensures { Gives (each (spec.key_and_value line) (all_named named.now) machine.old) result machine.new }
+{
+    let mut entries = Entries::new(machine.alloc());
+    for value in named {
+        let key = machine.key_for(line, *value)?;
+        entries.push(key, value.value)?;
+    }
+    Ok(entries)
+}
+
+/// A share as a value: `*name` is a new tuple, `**name` a new dictionary.
+fn made_of(
+    machine: &mut Machine,
+    line: usize,
+    share: Share<'_>,
+    left: &[&NamedValue],
+) -> Result<Value, Stop>
+    ensures { Gives (spec.made_of line (share_of (all_named left.now) share.entry) machine.old) result machine.new }
+{
+    match share {
+        Share::One(value) => Ok(value),
+        Share::Rest(items) => {
+            let items = Vec::from_slice(machine.alloc(), items)?;
+            machine.new_tuple(line, Values::new(items))
+        }
+        Share::Names => {
+            let entries = keys_and_values(machine, line, left)?;
+            machine.new_dict(line, entries)
+        }
+    }
+}
+
+/// Each of these shares as a value, in order.
+#[tactic(auto, unfolding(star_eval::specs::Binding::make_shares))]
+fn all_made<'t>(
+    machine: &mut Machine,
+    line: usize,
+    shares: &[(&'t Name, Share<'_>)],
+    left: &[&NamedValue],
+) -> Result<Vec<(&'t Name, Value)>, Stop>
+    ensures { GivesBy (λ v. map bound_value v.items) (spec.make_shares line (all_shown (all_named left.now) shares.now) machine.old) result machine.new }
+{
+    let mut values = Vec::new(machine.alloc());
+    for (name, share) in shares {
+        let value = made_of(machine, line, *share, left)?;
+        values.push((*name, value))?;
+    }
+    Ok(values)
+}
+
+/// Each share as a value, in order: `*name` is a new tuple, `**name` a new dictionary, whose keys are made first, in order.
+pub fn make_shares<'t>(
+    machine: &mut Machine,
+    line: usize,
+    shares: &Shares<'t, '_>,
+) -> Result<Vec<(&'t Name, Value)>, Stop>
+    ensures { GivesBy (λ v. map bound_value v.items) (spec.make_shares line shares.now machine.old) result machine.new }
+{
+    all_made(machine, line, &shares.shares, &shares.left)
+}
