@@ -3,13 +3,13 @@ use Rattle.std.proofs.Common.{◌≡◌, ℕ, nat_eq, Bool, true, false, not, �
 use Rattle.std.proofs.lemmas.Bool.Decides.{nat_tests}
 use Rattle.std.specs.List.{list_all}
 use Rattle.star_store.specs.declared.values.Value.{Value}
-use Rattle.star_eval.specs.declared.fault.Code.TheVariants.{BadValue}
-use Rattle.star_eval.specs.declared.given.Given.{Given}
-use Rattle.star_eval.specs.Run.{State, Outcome, Done, Failed, ◌>>=◌, and_then, give, fail}
-use Rattle.star_eval.specs.Program.{Setting}
-use Rattle.star_eval.specs.Values.{str}
-use Rattle.star_eval.specs.Cuts.{is_neither, begins_plainly}
-use Rattle.star_eval.specs.Format.{Numbering, Outside, Field, Closing, formatted, field_value}
+use Rattle.star_meaning.specs.declared.fault.Code.TheVariants.{BadValue}
+use Rattle.star_meaning.specs.declared.given.Given.{Given}
+use Rattle.star_meaning.specs.Run.{State, Outcome, Done, Failed, ◌>>=◌, and_then, give, fail}
+use Rattle.star_meaning.specs.Program.{Setting}
+use Rattle.star_meaning.specs.Values.{str}
+use Rattle.star_machine.specs.Cuts.{is_neither, begins_plainly}
+use Rattle.star_meaning.specs.Format.{Numbering, Outside, Field, Closing, formatted, field_value}
 use Rattle.star_attribute.specs.Fields.{field_text}
 
 and_left : (p q : Bool) → (p && q) ≡ true → p ≡ true

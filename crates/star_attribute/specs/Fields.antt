@@ -1,14 +1,14 @@
 -- The fields of the method `format`, by the next place and by number, and how reading goes on behind a brace.
 use Rattle.std.specs.Prelude.{◌≡◌, ℕ, List, Result, Ok, Err}
 use Rattle.star_store.specs.declared.values.Value.{Value}
-use Rattle.star_eval.specs.declared.fault.Stop.{Stop}
-use Rattle.star_eval.specs.declared.given.Given.{Given}
-use Rattle.star_eval.specs.Run.{State, Outcome, Action, ◌>>=◌, give}
-use Rattle.star_eval.specs.Program.{Setting}
-use Rattle.star_eval.specs.Values.{str}
-use Rattle.star_eval.specs.Format.{Numbering, Unused, Automatic, ByNumber, next_place, numbered_place, placed_value, field_value}
-use Rattle.star_eval.specs.BuiltIns.{number_from}
-use Rattle.star_eval.specs.Gives.{Ends}
+use Rattle.star_machine.specs.declared.fault.Stop.{Stop}
+use Rattle.star_meaning.specs.declared.given.Given.{Given}
+use Rattle.star_meaning.specs.Run.{State, Outcome, Action, ◌>>=◌, give}
+use Rattle.star_meaning.specs.Program.{Setting}
+use Rattle.star_meaning.specs.Values.{str}
+use Rattle.star_meaning.specs.Format.{Numbering, Unused, Automatic, ByNumber, next_place, numbered_place, placed_value, field_value}
+use Rattle.star_meaning.specs.BuiltIns.{number_from}
+use Rattle.star_machine.specs.Gives.{Ends}
 use Rattle.star_attribute.specs.declared.fields.Numbering.{Numbering as Counting}
 use Rattle.star_attribute.specs.declared.fields.Numbering.TheVariants as counting
 

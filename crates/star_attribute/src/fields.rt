@@ -4,15 +4,16 @@ ghost use Rattle.std.specs.Prelude.{◌≡◌, slice_get};
 ghost use Rattle.std.specs.List.{find, list_all};
 ghost use Rattle.std.specs.Option.{option_map};
 ghost use Rattle.star_attribute.specs.Fields.{as_found, as_numbering, field_text, next_value, numbered_value, text_and_numbering};
-ghost use Rattle.star_eval.specs.BuiltIns.{is_digit, number_from};
-ghost use Rattle.star_eval.specs.Format as spec;
-ghost use Rattle.star_eval.specs.Gives.{Gives, GivesBy};
+ghost use Rattle.star_meaning.specs.BuiltIns.{is_digit, number_from};
+ghost use Rattle.star_meaning.specs.Format as spec;
+ghost use Rattle.star_machine.specs.Gives.{Gives, GivesBy};
 ghost use Rattle.star_scope.specs.Names.{same_name};
 
-use star_eval::fault::{Code, Stop, faulted};
-use star_eval::given::{Given, NamedValue};
-use star_eval::machine::Machine;
-use star_eval::setting::Setting;
+use star_machine::fault::{Stop, faulted};
+use star_machine::machine::Machine;
+use star_machine::setting::Setting;
+use star_meaning::fault::Code;
+use star_meaning::given::{Given, NamedValue};
 use star_store::values::Value;
 use star_text::Text;
 

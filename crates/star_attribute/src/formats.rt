@@ -2,19 +2,20 @@
 
 ghost use Rattle.std.specs.Prelude.{◌≡◌, ◌≤◌, ◌∷◌, [], IfOk, false, length, string_bytes};
 ghost use Rattle.star_attribute.specs.Fields.{ReadsOn, as_numbering};
-ghost use Rattle.star_eval.specs.Cuts.{is_neither};
-ghost use Rattle.star_eval.specs.Format as spec;
-ghost use Rattle.star_eval.specs.Gives.{Gives};
-ghost use Rattle.star_eval.specs.Kinds.{bytes_of};
-ghost use Rattle.star_eval.specs.TextMethods as methods;
-ghost use Rattle.star_eval.specs.Values.{content};
+ghost use Rattle.star_machine.specs.Cuts.{is_neither};
+ghost use Rattle.star_meaning.specs.Format as spec;
+ghost use Rattle.star_machine.specs.Gives.{Gives};
+ghost use Rattle.star_machine.specs.Kinds.{bytes_of};
+ghost use Rattle.star_meaning.specs.TextMethods as methods;
+ghost use Rattle.star_meaning.specs.Values.{content};
 
 use crate::fields::{Numbering, field_text};
-use star_eval::cuts::{cut_at, first_ascii};
-use star_eval::fault::{Code, Stop, faulted};
-use star_eval::given::Given;
-use star_eval::machine::Machine;
-use star_eval::setting::Setting;
+use star_machine::cuts::{cut_at, first_ascii};
+use star_machine::fault::{Stop, faulted};
+use star_machine::machine::Machine;
+use star_machine::setting::Setting;
+use star_meaning::fault::Code;
+use star_meaning::given::Given;
 use star_method::texts::pay_for_bytes;
 use star_store::values::Value;
 use star_text::Text;

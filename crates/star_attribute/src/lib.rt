@@ -4,5 +4,3 @@
 mod fields;
 pub mod formats;
 pub mod methods;
-#[cfg(test)]
-mod tests;

@@ -2,20 +2,21 @@
 
 ghost use Rattle.std.specs.Prelude.{◌≡◌};
 ghost use Rattle.std.specs.List.{find};
-ghost use Rattle.star_eval.specs.Gives.{Gives};
-ghost use Rattle.star_eval.specs.Methods as spec;
-ghost use Rattle.star_eval.specs.Run.{and_then};
-ghost use Rattle.star_eval.specs.Shown.{shown};
-ghost use Rattle.star_eval.specs.Values.{type_name, want_text};
+ghost use Rattle.star_machine.specs.Gives.{Gives};
+ghost use Rattle.star_meaning.specs.Methods as spec;
+ghost use Rattle.star_meaning.specs.Run.{and_then};
+ghost use Rattle.star_machine.specs.Shown.{shown};
+ghost use Rattle.star_meaning.specs.Values.{type_name, want_text};
 ghost use Rattle.star_scope.specs.Names.{same_name};
 ghost use Rattle.star_store.specs.Names.{method_name};
 
 use crate::formats::call_format;
-use star_eval::content::Content;
-use star_eval::fault::{Code, Stop, faulted};
-use star_eval::given::Given;
-use star_eval::machine::Machine;
-use star_eval::setting::Setting;
+use star_machine::content::Content;
+use star_machine::fault::{Stop, faulted};
+use star_machine::machine::Machine;
+use star_machine::setting::Setting;
+use star_meaning::fault::Code;
+use star_meaning::given::Given;
 use star_method::dicts::{
     call_dict_pop, call_get, call_items, call_keys, call_popitem, call_setdefault, call_update,
     call_values,
@@ -95,7 +96,7 @@ fn method_of(content: Content, name: &str) -> Option<Method>
 }
 
 /// `x.m`: 1 is paid, then a new bound method. `BadType` where the value has no method with this name.
-#[tactic(auto, unfolding(star_eval::specs::Methods::attribute))]
+#[tactic(auto, unfolding(star_meaning::specs::Methods::attribute))]
 pub fn attribute(
     machine: &mut Machine,
     setting: &Setting,
@@ -143,7 +144,7 @@ fn call_on_text(
 
 /// A call of a bound method on its receiver and what the call gives, where so many levels may be opened by its visits. The faults are
 /// those of the method; `BadType` too where the receiver is not of the method's type.
-#[tactic(auto, unfolding(star_eval::specs::Methods::call_method))]
+#[tactic(auto, unfolding(star_meaning::specs::Methods::call_method))]
 pub fn call_method(
     machine: &mut Machine,
     setting: &Setting,

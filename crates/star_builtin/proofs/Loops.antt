@@ -2,13 +2,13 @@
 use Rattle.std.proofs.Common.{◌≡◌, ℕ, ◌+◌, ◌<◌, List, [], ◌∷◌, ◌++◌, length, take, drop, get_or, min, add-one, refl, ap, sym, ◌∙◌, append_assoc, arith}
 use Rattle.std.proofs.Math.Seq.{drop-cons}
 use Rattle.star_store.specs.declared.values.Value.{Value}
-use Rattle.star_eval.specs.declared.fault.Fault.{Fault}
-use Rattle.star_eval.specs.Run.{State, Outcome, Done, Failed, Action, and_then, give, pay, each}
+use Rattle.star_meaning.specs.declared.fault.Fault.{Fault}
+use Rattle.star_meaning.specs.Run.{State, Outcome, Done, Failed, Action, and_then, give, pay, each}
 use Rattle.std.proofs.lemmas.List.{take_more}
 use Rattle.star_store.specs.declared.values.Value.TheVariants as value
-use Rattle.star_eval.specs.Gives.{with_front}
-use Rattle.star_eval.specs.BuiltIns.{joined, least}
-use Rattle.star_eval.specs.Pairs.{taken_entries}
+use Rattle.star_machine.specs.Gives.{with_front}
+use Rattle.star_meaning.specs.BuiltIns.{joined, least}
+use Rattle.star_meaning.specs.Pairs.{taken_entries}
 
 front_more : {B : Type 0} (o : Outcome (List B)) (front : List B) (y : B) → with_front (front ++ y ∷ []) o ≡ with_front front (and_then o (λ ys. give (y ∷ ys)))
 front_more (Done ys u) front y = ap (λ xs. Done xs u) (append_assoc front (y ∷ []) ys)

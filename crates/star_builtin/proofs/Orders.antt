@@ -9,11 +9,11 @@ use Rattle.std.proofs.lemmas.Cmp.{int_cmp_total, nat_list_cmp_total, on_total, t
 use Rattle.std.proofs.lemmas.List.Sorted.{ranks_by}
 use Rattle.star_store.specs.declared.values.Value.{Value}
 use Rattle.star_store.specs.declared.values.Cell.TheVariants as cell
-use Rattle.star_eval.specs.Run.{State}
-use Rattle.star_eval.specs.Program.{Setting}
-use Rattle.star_eval.specs.Values.{Content, Nothing, Truth, Number, BuiltInFunction, Held, Nowhere, content}
-use Rattle.star_eval.specs.Kinds.{bytes_of}
-use Rattle.star_eval.specs.BuiltIns.{is_int, is_text, can_sort, is_before, placed, in_order}
+use Rattle.star_meaning.specs.Run.{State}
+use Rattle.star_meaning.specs.Program.{Setting}
+use Rattle.star_meaning.specs.Values.{Content, Nothing, Truth, Number, BuiltInFunction, Held, Nowhere, content}
+use Rattle.star_machine.specs.Kinds.{bytes_of}
+use Rattle.star_meaning.specs.BuiltIns.{is_int, is_text, can_sort, is_before, placed, in_order}
 use Rattle.star_builtin.specs.Orders.{int_in, by_contents}
 
 both : (a b : Bool) → (a && b) ≡ true → (a ≡ true) × (b ≡ true)

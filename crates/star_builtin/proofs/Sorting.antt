@@ -10,7 +10,7 @@ use Rattle.std.proofs.lemmas.Fn.{always_returns_same}
 use denote.Ref.{Bor}
 use denote.Param.Members.{Mut}
 use Rattle.star_store.specs.declared.values.Value.{Value}
-use Rattle.star_eval.specs.BuiltIns.{placed, in_order}
+use Rattle.star_meaning.specs.BuiltIns.{placed, in_order}
 
 -- no element of a list comes before x
 abbrev None_below : (Value → Value → Bool) → Value → List Value → Type 0

@@ -5,9 +5,9 @@ use Rattle.std.specs.declared.cmp.Ordering.{Ordering}
 use Rattle.star_store.specs.declared.values.Value.{Value}
 use Rattle.star_builtin.specs.declared.best.Best.{Best}
 use Rattle.star_builtin.specs.declared.best.Best.TheVariants as best
-use Rattle.star_eval.specs.Run.{Action, ◌>>=◌}
-use Rattle.star_eval.specs.Program.{Setting}
-use Rattle.star_eval.specs.BuiltIns.{candidates, best_in}
+use Rattle.star_meaning.specs.Run.{Action, ◌>>=◌}
+use Rattle.star_meaning.specs.Program.{Setting}
+use Rattle.star_meaning.specs.BuiltIns.{candidates, best_in}
 
 -- whether a value is better than the best so far, from their order
 abbrev pub better : Best → Ordering → Bool

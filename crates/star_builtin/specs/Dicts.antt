@@ -2,10 +2,10 @@
 use Rattle.std.specs.Prelude.{◌≡◌, List, Result, Ok, Err}
 use Rattle.star_store.specs.declared.values.Value.{Value}
 use Rattle.star_builtin.specs.declared.dicts.Pairs.{Pairs as HeldPairs}
-use Rattle.star_eval.specs.declared.fault.Stop.{Stop}
-use Rattle.star_eval.specs.Run.{State, Outcome, Done}
-use Rattle.star_eval.specs.Gives.{Ends}
-use Rattle.star_eval.specs.Pairs.{Pairs}
+use Rattle.star_machine.specs.declared.fault.Stop.{Stop}
+use Rattle.star_meaning.specs.Run.{State, Outcome, Done}
+use Rattle.star_machine.specs.Gives.{Ends}
+use Rattle.star_meaning.specs.Pairs.{Pairs}
 
 abbrev pub as_pairs : HeldPairs → Pairs
 as_pairs p = record { are_keys = p.are_keys; pairs = p.pairs.items }

@@ -4,8 +4,8 @@ use Rattle.std.specs.Option.{unwrap_or}
 use Rattle.std.specs.Ordering.{int_cmp, nat_cmp, ordering_then}
 use Rattle.std.specs.Cmp.Lexicographic.{slice_cmp}
 use Rattle.std.specs.declared.cmp.Ordering.{Ordering}
-use Rattle.star_eval.specs.Values.{Content, int_of}
-use Rattle.star_eval.specs.Kinds.{bytes_of}
+use Rattle.star_meaning.specs.Values.{Content, int_of}
+use Rattle.star_machine.specs.Kinds.{bytes_of}
 
 -- the int that a content is, and 0 of another one
 abbrev pub int_in : Content → ℤ

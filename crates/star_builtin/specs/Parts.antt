@@ -1,11 +1,11 @@
 -- Parts of the built-in functions, behind their arguments.
 use Rattle.std.specs.Prelude.{ℕ, ◌+◌, ◌^◌, min, List, [], ◌∷◌, length, ℤ, pos}
 use Rattle.star_store.specs.declared.values.Value.{Value}
-use Rattle.star_eval.specs.declared.fault.Code.TheVariants as code
-use Rattle.star_eval.specs.Run.{Action, ◌>>=◌, pay, check, found, each, collect, add_line}
-use Rattle.star_eval.specs.Program.{Setting}
-use Rattle.star_eval.specs.Values.{with_content, want_int, new_int, new_tuple, new_list, count_of, str}
-use Rattle.star_eval.specs.BuiltIns.{length_in, range_of, is_range_count, joined, least, row_at}
+use Rattle.star_meaning.specs.declared.fault.Code.TheVariants as code
+use Rattle.star_meaning.specs.Run.{Action, ◌>>=◌, pay, check, found, each, collect, add_line}
+use Rattle.star_meaning.specs.Program.{Setting}
+use Rattle.star_meaning.specs.Values.{with_content, want_int, new_int, new_tuple, new_list, count_of, str}
+use Rattle.star_meaning.specs.BuiltIns.{length_in, range_of, is_range_count, joined, least, row_at}
 
 -- the length of a value
 abbrev pub length_of : Setting → ℕ → Value → Action Value

@@ -1,8 +1,8 @@
 //! Calls of built-in functions.
 
 ghost use Rattle.std.specs.Prelude.{◌≡◌};
-ghost use Rattle.star_eval.specs.BuiltIns.{call_built_in};
-ghost use Rattle.star_eval.specs.Gives.{Gives};
+ghost use Rattle.star_meaning.specs.BuiltIns.{call_built_in};
+ghost use Rattle.star_machine.specs.Gives.{Gives};
 
 use crate::best::{Best, call_best};
 use crate::dicts::call_dict;
@@ -12,16 +12,16 @@ use crate::rows::{call_enumerate, call_list, call_reversed, call_tuple, call_zip
 use crate::say::{call_fail, call_print, call_repr, call_str, call_type};
 use crate::sorted::call_sorted;
 use crate::truths::{call_all, call_any, call_bool};
-use star_eval::fault::Stop;
-use star_eval::given::Given;
-use star_eval::machine::Machine;
-use star_eval::setting::Setting;
+use star_machine::fault::Stop;
+use star_machine::machine::Machine;
+use star_machine::setting::Setting;
+use star_meaning::given::Given;
 use star_store::names::BuiltIn;
 use star_store::values::Value;
 
 /// What a built-in function answers to what a call gives, where so many levels may be opened by its visits. The faults are those of
 /// the function with that name.
-#[tactic(auto, unfolding(star_eval::specs::BuiltIns::call_built_in))]
+#[tactic(auto, unfolding(star_meaning::specs::BuiltIns::call_built_in))]
 pub fn call_built_in(
     machine: &mut Machine,
     setting: &Setting,

@@ -1,20 +1,21 @@
 //! The work of `dict`.
 
 ghost use Rattle.std.specs.Prelude.{◌≡◌, [], IfOk, OnOk};
-ghost use Rattle.star_eval.specs.BuiltIns.{call_dict};
-ghost use Rattle.star_eval.specs.Gives.{Gives, GivesBy};
-ghost use Rattle.star_eval.specs.Operators.{with_entry};
-ghost use Rattle.star_eval.specs.Pairs as spec;
-ghost use Rattle.star_eval.specs.Run.{each};
-ghost use Rattle.star_eval.specs.Subscript.{entries_in};
-ghost use Rattle.star_eval.specs.Values.{content};
+ghost use Rattle.star_meaning.specs.BuiltIns.{call_dict};
+ghost use Rattle.star_machine.specs.Gives.{Gives, GivesBy};
+ghost use Rattle.star_meaning.specs.Operators.{with_entry};
+ghost use Rattle.star_meaning.specs.Pairs as spec;
+ghost use Rattle.star_meaning.specs.Run.{each};
+ghost use Rattle.star_meaning.specs.Subscript.{entries_in};
+ghost use Rattle.star_meaning.specs.Values.{content};
 ghost use Rattle.star_builtin.specs.Dicts.{Puts, as_pairs};
 
-use star_eval::content::{Content, Kind};
-use star_eval::fault::{Code, Stop, faulted};
-use star_eval::given::{Given, NamedValue};
-use star_eval::machine::Machine;
-use star_eval::setting::Setting;
+use star_machine::content::{Content, Kind};
+use star_machine::fault::{Stop, faulted};
+use star_machine::machine::Machine;
+use star_machine::setting::Setting;
+use star_meaning::fault::Code;
+use star_meaning::given::{Given, NamedValue};
 use star_store::values::{Cell, Entries, Value};
 use std::alloc::AllocError;
 
@@ -128,7 +129,7 @@ fn pairs_in(
 }
 
 /// The pairs of a value, and without one none. `BadType` for an item that is no iterable, `BadValue` for one without two items.
-#[tactic(auto, unfolding(star_eval::specs::Pairs::pairs_of))]
+#[tactic(auto, unfolding(star_meaning::specs::Pairs::pairs_of))]
 fn pairs_of(
     machine: &mut Machine,
     setting: &Setting,
@@ -245,7 +246,7 @@ fn with_named(
 }
 
 /// A new dictionary of pairs and named values. `BadType` for what is no key.
-#[tactic(auto, unfolding(star_eval::specs::Pairs::dict_of))]
+#[tactic(auto, unfolding(star_meaning::specs::Pairs::dict_of))]
 fn dict_of(
     machine: &mut Machine,
     setting: &Setting,

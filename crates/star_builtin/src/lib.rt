@@ -11,6 +11,4 @@ pub mod rows;
 pub mod say;
 pub mod sorted;
 mod spelling;
-#[cfg(test)]
-mod tests;
 pub mod truths;

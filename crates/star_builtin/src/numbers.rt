@@ -1,18 +1,19 @@
 //! The work of `abs`, `int` and `len`.
 
 ghost use Rattle.std.specs.Prelude.{◌≡◌, pos, unsigned_abs};
-ghost use Rattle.star_eval.specs.BuiltIns as spec;
-ghost use Rattle.star_eval.specs.Gives.{Gives};
-ghost use Rattle.star_eval.specs.Shown.{shown};
+ghost use Rattle.star_meaning.specs.BuiltIns as spec;
+ghost use Rattle.star_machine.specs.Gives.{Gives};
+ghost use Rattle.star_machine.specs.Shown.{shown};
 ghost use Rattle.star_builtin.specs.Parts as part;
 
 use crate::ints::narrow;
 use crate::spelling::spelled;
-use star_eval::content::Content;
-use star_eval::fault::{Code, Stop, faulted};
-use star_eval::given::Given;
-use star_eval::machine::Machine;
-use star_eval::setting::Setting;
+use star_machine::content::Content;
+use star_machine::fault::{Stop, faulted};
+use star_machine::machine::Machine;
+use star_machine::setting::Setting;
+use star_meaning::fault::Code;
+use star_meaning::given::Given;
 use star_store::values::{Cell, Value};
 
 /// How far an int lies from 0. `Overflow` for the least one.

@@ -1,17 +1,17 @@
 //! The work of `list`, `tuple`, `reversed`, `enumerate` and `zip`.
 
 ghost use Rattle.std.specs.Prelude.{◌≡◌, [], ◌∷◌, IfOk, ◌+ℤ◌, pos, reverse};
-ghost use Rattle.star_eval.specs.BuiltIns as spec;
-ghost use Rattle.star_eval.specs.Gives.{Gives, GivesBy};
-ghost use Rattle.star_eval.specs.Run.{collect, each};
-ghost use Rattle.star_eval.specs.Values.{count_of, take_item};
+ghost use Rattle.star_meaning.specs.BuiltIns as spec;
+ghost use Rattle.star_machine.specs.Gives.{Gives, GivesBy};
+ghost use Rattle.star_meaning.specs.Run.{collect, each};
+ghost use Rattle.star_meaning.specs.Values.{count_of, take_item};
 ghost use Rattle.star_builtin.specs.Parts as part;
 
 use crate::ints::narrow;
-use star_eval::fault::Stop;
-use star_eval::given::Given;
-use star_eval::machine::Machine;
-use star_eval::setting::Setting;
+use star_machine::fault::Stop;
+use star_machine::machine::Machine;
+use star_machine::setting::Setting;
+use star_meaning::given::Given;
 use star_store::values::{Value, Values};
 use std::alloc::{AllocError, Global};
 
@@ -136,7 +136,7 @@ fn row_at(
 }
 
 /// So many rows, from the first place on.
-#[tactic(auto, using(star_eval::proofs::Turns::collect_next))]
+#[tactic(auto, using(star_machine::proofs::Turns::collect_next))]
 fn rows(
     machine: &mut Machine,
     setting: &Setting,

@@ -1,18 +1,19 @@
 //! The work of `print`, `fail` and `type`.
 
 ghost use Rattle.std.specs.Prelude.{◌≡◌, ◌∷◌, IfOk, OnOk, string_bytes};
-ghost use Rattle.star_eval.specs.BuiltIns as spec;
-ghost use Rattle.star_eval.specs.Gives.{Gives, GivesBy};
-ghost use Rattle.star_eval.specs.Run.{each};
-ghost use Rattle.star_eval.specs.Shown.{shown};
-ghost use Rattle.star_eval.specs.Values.{str, type_name};
+ghost use Rattle.star_meaning.specs.BuiltIns as spec;
+ghost use Rattle.star_machine.specs.Gives.{Gives, GivesBy};
+ghost use Rattle.star_meaning.specs.Run.{each};
+ghost use Rattle.star_machine.specs.Shown.{shown};
+ghost use Rattle.star_meaning.specs.Values.{str, type_name};
 ghost use Rattle.star_builtin.specs.Parts as part;
 
-use star_eval::content::Content;
-use star_eval::fault::{Code, Stop, faulted};
-use star_eval::given::Given;
-use star_eval::machine::Machine;
-use star_eval::setting::Setting;
+use star_machine::content::Content;
+use star_machine::fault::{Stop, faulted};
+use star_machine::machine::Machine;
+use star_machine::setting::Setting;
+use star_meaning::fault::Code;
+use star_meaning::given::Given;
 use star_store::values::{Cell, Value};
 use star_text::Text;
 use std::alloc::{AllocError, Global};

@@ -4,7 +4,7 @@ ghost use Rattle.std.specs.Prelude.{◌≡◌, ◌∷◌, ◌^◌, min, neg_ℤ,
 ghost use Rattle.std.specs.List.{list_all};
 ghost use Rattle.std.specs.Option.{option_map};
 ghost use Rattle.star_store.specs.Arithmetic.{checked};
-ghost use Rattle.star_eval.specs.BuiltIns as spec;
+ghost use Rattle.star_meaning.specs.BuiltIns as spec;
 ghost use Rattle.star_builtin.specs.Parts.{capped};
 
 use crate::ints::narrow;

@@ -1,14 +1,14 @@
 //! The work of `all`, `any` and `bool`.
 
 ghost use Rattle.std.specs.Prelude.{◌≡◌};
-ghost use Rattle.star_eval.specs.BuiltIns as spec;
-ghost use Rattle.star_eval.specs.Gives.{Gives};
-ghost use Rattle.star_eval.specs.Run.{Done, until};
+ghost use Rattle.star_meaning.specs.BuiltIns as spec;
+ghost use Rattle.star_machine.specs.Gives.{Gives};
+ghost use Rattle.star_meaning.specs.Run.{Done, until};
 
-use star_eval::fault::Stop;
-use star_eval::given::Given;
-use star_eval::machine::Machine;
-use star_eval::setting::Setting;
+use star_machine::fault::Stop;
+use star_machine::machine::Machine;
+use star_machine::setting::Setting;
+use star_meaning::given::Given;
 use star_store::values::Value;
 
 /// Takes an item: whether its truth is the one looked for.
@@ -28,7 +28,7 @@ fn is_decided(
 }
 
 /// Takes items up to the first whose truth is the one looked for: whether there is one among so many.
-#[tactic(auto, using(star_eval::proofs::Turns::until_next))]
+#[tactic(auto, using(star_machine::proofs::Turns::until_next))]
 fn some_of(
     machine: &mut Machine,
     setting: &Setting,

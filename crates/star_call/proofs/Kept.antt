@@ -1,13 +1,13 @@
 -- Items and names that are taken leave the store as it is.
 use Rattle.std.proofs.Common.{◌≡◌, ℕ, zero, suc, ◌+◌, ◌-◌, List, [], ◌∷◌, Option, Some, None, Bool, true, false, if◌then◌else◌, refl, ◌∙◌, nat_lt, subst}
 use Rattle.star_store.specs.declared.values.Value.{Value}
-use Rattle.star_eval.specs.declared.fault.Code.{Code}
-use Rattle.star_eval.specs.declared.fault.Code.TheVariants as code
-use Rattle.star_eval.specs.declared.given.NamedValue.{NamedValue}
-use Rattle.star_eval.specs.Run.{State, Outcome, Done, Failed, Action, and_then, ◌>>=◌, give, fail, pay, found, each, collect, seeing}
-use Rattle.star_eval.specs.Program.{Setting}
-use Rattle.star_eval.specs.Values.{content, item_in, take_item}
-use Rattle.star_eval.specs.Arguments.{take_names, take_star}
+use Rattle.star_meaning.specs.declared.fault.Code.{Code}
+use Rattle.star_meaning.specs.declared.fault.Code.TheVariants as code
+use Rattle.star_meaning.specs.declared.given.NamedValue.{NamedValue}
+use Rattle.star_meaning.specs.Run.{State, Outcome, Done, Failed, Action, and_then, ◌>>=◌, give, fail, pay, found, each, collect, seeing}
+use Rattle.star_meaning.specs.Program.{Setting}
+use Rattle.star_meaning.specs.Values.{content, item_in, take_item}
+use Rattle.star_meaning.specs.Arguments.{take_names, take_star}
 
 abbrev Preserved : {A : Type 0} → State → Outcome A → Type 0
 Preserved s (Done x t) = t.store ≡ s.store

@@ -7,8 +7,8 @@ use Rattle.std.specs.Option.{option_and_then}
 use Rattle.star_syntax.specs.declared.tree.Name.{Name}
 use Rattle.star_syntax.specs.declared.tree.Parameter.{Parameter}
 use Rattle.star_scope.specs.Syntax.{parameter}
-use Rattle.star_eval.specs.declared.given.NamedValue.{NamedValue}
-use Rattle.star_eval.specs.Binding.{Share, Progress, also, shares, step}
+use Rattle.star_meaning.specs.declared.given.NamedValue.{NamedValue}
+use Rattle.star_meaning.specs.Binding.{Share, Progress, also, shares, step}
 use Rattle.star_call.specs.declared.shares.Share.{Share as HeldShare}
 use Rattle.star_call.specs.declared.binding.Turn.{Turn}
 use Rattle.star_call.specs.Shares.{all_shown, shown}

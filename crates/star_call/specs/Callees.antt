@@ -5,13 +5,13 @@ use Rattle.star_store.specs.declared.values.Value.{Value}
 use Rattle.star_store.specs.declared.values.Cell.TheVariants as cell
 use Rattle.star_store.specs.declared.values.Function.{Function}
 use Rattle.star_scope.specs.Definitions.{Definition, definition_of}
-use Rattle.star_eval.specs.declared.fault.Code.TheVariants as code
-use Rattle.star_eval.specs.declared.fault.Stop.{Stop}
-use Rattle.star_eval.specs.Gives.{GivesBy}
-use Rattle.star_eval.specs.Run.{State, Outcome, Action, ◌>>=◌, give, fail, check, found, seeing}
-use Rattle.star_eval.specs.Program.{Setting, definition_of as in_setting}
-use Rattle.star_eval.specs.Values.{Content, BuiltInFunction, Held}
-use Rattle.star_eval.specs.Calls.{Callee, AFunction, ABuiltIn, AMethod, is_active}
+use Rattle.star_meaning.specs.declared.fault.Code.TheVariants as code
+use Rattle.star_machine.specs.declared.fault.Stop.{Stop}
+use Rattle.star_machine.specs.Gives.{GivesBy}
+use Rattle.star_meaning.specs.Run.{State, Outcome, Action, ◌>>=◌, give, fail, check, found, seeing}
+use Rattle.star_meaning.specs.Program.{Setting, definition_of as in_setting}
+use Rattle.star_meaning.specs.Values.{Content, BuiltInFunction, Held}
+use Rattle.star_meaning.specs.Calls.{Callee, AFunction, ABuiltIn, AMethod, is_active}
 use Rattle.star_call.specs.declared.callee.Called.{Called}
 use Rattle.star_call.specs.declared.callee.Callee.{Callee as HeldCallee}
 use Rattle.star_call.specs.declared.callee.Callee.TheVariants as held

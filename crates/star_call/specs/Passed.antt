@@ -2,7 +2,7 @@
 use Rattle.std.specs.Prelude.{List, map}
 use Rattle.star_call.specs.declared.passed.Passed.{Passed as HeldPassed}
 use Rattle.star_call.specs.declared.passed.Passed.TheVariants as held
-use Rattle.star_eval.specs.Arguments.{Passed, Plain, Named, Star, StarStar}
+use Rattle.star_meaning.specs.Arguments.{Passed, Plain, Named, Star, StarStar}
 
 abbrev pub shown : HeldPassed → Passed
 shown (held.Plain v) = Plain v

@@ -2,8 +2,8 @@
 use denote.Ref.{Bor}
 use Rattle.std.specs.Prelude.{List, [], ◌∷◌, Option, Some, None}
 use Rattle.star_syntax.specs.declared.tree.Name.{Name}
-use Rattle.star_eval.specs.declared.given.NamedValue.{NamedValue}
-use Rattle.star_eval.specs.Binding.{Share, Progress}
+use Rattle.star_meaning.specs.declared.given.NamedValue.{NamedValue}
+use Rattle.star_meaning.specs.Binding.{Share, Progress}
 use Rattle.star_call.specs.declared.shares.Share.{Share as HeldShare}
 use Rattle.star_call.specs.declared.binding.Progress.{Progress as HeldProgress}
 use Rattle.star_call.specs.declared.binding.Turn.{Turn}

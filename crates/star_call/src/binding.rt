@@ -3,7 +3,7 @@
 ghost use Rattle.std.specs.Prelude.{◌≡◌, IfOk, map};
 ghost use Rattle.std.specs.List.{list_any};
 ghost use Rattle.std.specs.Option.{option_map};
-ghost use Rattle.star_eval.specs.Binding as spec;
+ghost use Rattle.star_meaning.specs.Binding as spec;
 ghost use Rattle.star_scope.specs.Names.{same_name};
 ghost use Rattle.star_scope.specs.Syntax as form;
 ghost use Rattle.star_call.specs.Shares.{all_named};
@@ -11,7 +11,7 @@ ghost use Rattle.star_call.specs.Steps.{progress_of, turn_of};
 
 use crate::names::{is_given, value_named};
 use crate::shares::{Share, Shares};
-use star_eval::given::{Given, NamedValue};
+use star_meaning::given::{Given, NamedValue};
 use star_store::values::Value;
 use star_syntax::tree::{Name, Parameter};
 use std::alloc::{AllocError, Global};
@@ -220,7 +220,7 @@ impl<'g> Names<'g> {
 }
 
 /// What each parameter gets: none where a value is missing, left over, unknown or given twice.
-#[tactic(auto, unfolding(star_eval::specs::Binding::bound_to))]
+#[tactic(auto, unfolding(star_meaning::specs::Binding::bound_to))]
 pub fn bound_to<'t, 'g>(
     alloc: Global,
     parameters: &'t [Parameter],

@@ -3,20 +3,21 @@
 ghost use Rattle.std.specs.Prelude.{◌≡◌};
 ghost use Rattle.std.specs.Option.{option_map};
 ghost use Rattle.star_scope.specs.Definitions.{definition_of};
-ghost use Rattle.star_eval.specs.Binding.{bound_to};
-ghost use Rattle.star_eval.specs.Calls as spec;
-ghost use Rattle.star_eval.specs.Gives.{Gives, GivesBy};
-ghost use Rattle.star_eval.specs.Run.{found};
-ghost use Rattle.star_eval.specs.Values.{content};
+ghost use Rattle.star_meaning.specs.Binding.{bound_to};
+ghost use Rattle.star_meaning.specs.Calls as spec;
+ghost use Rattle.star_machine.specs.Gives.{Gives, GivesBy};
+ghost use Rattle.star_meaning.specs.Run.{found};
+ghost use Rattle.star_meaning.specs.Values.{content};
 ghost use Rattle.star_call.specs.Callees.{GivesCallee, callee_in, defaults_in, definition_for, number_in, shown, with_definition};
 
 use crate::binding::bound_to;
 use crate::shares::Shares;
-use star_eval::content::Content;
-use star_eval::fault::{Code, Stop, faulted};
-use star_eval::given::Given;
-use star_eval::machine::Machine;
-use star_eval::setting::Setting;
+use star_machine::content::Content;
+use star_machine::fault::{Stop, faulted};
+use star_machine::machine::Machine;
+use star_machine::setting::Setting;
+use star_meaning::fault::Code;
+use star_meaning::given::Given;
 use star_scope::outline::Definition;
 use star_store::names::{BuiltIn, Method};
 use star_store::values::{Cell, Function, Value};
@@ -110,7 +111,7 @@ pub fn definition_number(machine: &Machine, setting: &Setting, value: Value) -> 
 impl<'t> Callee<'t> {
     /// What is called by a value, where `definition` is what the setting has at its `definition_number`. `BadType` where it may not
     /// be called or has no definition, `Recursion` where its definition is active.
-    #[tactic(auto, unfolding(star_eval::specs::Calls::callee))]
+    #[tactic(auto, unfolding(star_meaning::specs::Calls::callee))]
     pub fn of(
         machine: &Machine,
         setting: &Setting,

@@ -3,10 +3,6 @@
 
 pub mod binding;
 pub mod callee;
-#[cfg(test)]
-mod callee_tests;
 mod names;
 pub mod passed;
 pub mod shares;
-#[cfg(test)]
-mod tests;

@@ -1,10 +1,10 @@
 //! Values that are given by name.
 
 ghost use Rattle.std.specs.Prelude.{◌≡◌};
-ghost use Rattle.star_eval.specs.Arguments as spec;
-ghost use Rattle.star_eval.specs.Binding.{value_named};
+ghost use Rattle.star_meaning.specs.Arguments as spec;
+ghost use Rattle.star_meaning.specs.Binding.{value_named};
 
-use star_eval::given::NamedValue;
+use star_meaning::given::NamedValue;
 use star_store::values::Value;
 
 /// Whether a name is among those given.

@@ -2,18 +2,19 @@
 
 ghost use Rattle.std.specs.Prelude.{◌≡◌, ◌++◌, IfOk, OnOk};
 ghost use Rattle.std.specs.Option.{option_map};
-ghost use Rattle.star_eval.specs.Arguments as spec;
-ghost use Rattle.star_eval.specs.Gives.{Gives, GivesBy};
-ghost use Rattle.star_eval.specs.Values.{content, text_of};
+ghost use Rattle.star_meaning.specs.Arguments as spec;
+ghost use Rattle.star_machine.specs.Gives.{Gives, GivesBy};
+ghost use Rattle.star_meaning.specs.Values.{content, text_of};
 ghost use Rattle.star_call.specs.Passed.{all_shown};
 
 use crate::names::comes_twice;
 use sqlite_items::Items;
-use star_eval::content::Content;
-use star_eval::fault::{Code, Stop, faulted};
-use star_eval::given::{Given, NamedValue};
-use star_eval::machine::Machine;
-use star_eval::setting::Setting;
+use star_machine::content::Content;
+use star_machine::fault::{Stop, faulted};
+use star_machine::machine::Machine;
+use star_machine::setting::Setting;
+use star_meaning::fault::Code;
+use star_meaning::given::{Given, NamedValue};
 use star_store::values::{Cell, Value, Values};
 use star_text::Text;
 use std::alloc::{AllocError, Global};
@@ -227,7 +228,7 @@ fn with_named(
 /// What a call gives: first what stands behind `*` and `**` is checked, then their items and entries are taken, 1 before each, and
 /// then no name may come twice. `BadType` where `*` has no iterable, or `**` no dictionary whose keys are all strings; `Steps`
 /// where a payment is too large; `Args` where a name comes twice.
-#[tactic(auto, unfolding(star_eval::specs::Arguments::given))]
+#[tactic(auto, unfolding(star_meaning::specs::Arguments::given))]
 pub fn given(
     machine: &mut Machine,
     setting: &Setting,

@@ -1,14 +1,14 @@
 //! What parameters get.
 
 ghost use Rattle.std.specs.Prelude.{◌≡◌, map};
-ghost use Rattle.star_eval.specs.Binding as spec;
-ghost use Rattle.star_eval.specs.Gives.{Gives, GivesBy};
-ghost use Rattle.star_eval.specs.Run.{each};
+ghost use Rattle.star_meaning.specs.Binding as spec;
+ghost use Rattle.star_machine.specs.Gives.{Gives, GivesBy};
+ghost use Rattle.star_meaning.specs.Run.{each};
 ghost use Rattle.star_call.specs.Shares.{all_named, all_shown, bound_value, share_of, shown};
 
-use star_eval::fault::Stop;
-use star_eval::given::NamedValue;
-use star_eval::machine::Machine;
+use star_machine::fault::Stop;
+use star_machine::machine::Machine;
+use star_meaning::given::NamedValue;
 use star_store::values::{Entries, Value, Values};
 use star_syntax::tree::Name;
 use std::marker::Model;
@@ -34,7 +34,7 @@ pub struct Shares<'t, 'g> {
 impl<'t, 'g> Model for Shares<'t, 'g> {
     ghost use Rattle.std.specs.Prelude.{List};
     ghost use Rattle.star_syntax.specs.declared.tree.Name.{Name as AnyName};
-    ghost use Rattle.star_eval.specs.Binding.{Share as AnyShare};
+    ghost use Rattle.star_meaning.specs.Binding.{Share as AnyShare};
     ghost use Rattle.star_call.specs.Shares.{all_named, all_shown};
 
     ghost Value = { List (AnyName × AnyShare) };
@@ -93,7 +93,7 @@ fn made_of(
 }
 
 /// Each of these shares as a value, in order.
-#[tactic(auto, unfolding(star_eval::specs::Binding::make_shares))]
+#[tactic(auto, unfolding(star_meaning::specs::Binding::make_shares))]
 fn all_made<'t>(
     machine: &mut Machine,
     line: usize,

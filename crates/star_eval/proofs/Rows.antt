@@ -1,152 +1,54 @@
--- Worked programs, by computation: what each ends in, and for most the exact number of steps, with one less of which it ends in `steps`.
-use Rattle.std.specs.Prelude.{◌≡◌, ℕ, List, Some, None, [], ◌∷◌, pos}
-use Rattle.std.specs.Fmt.{digits}
-use Rattle.std.proofs.Common.{refl}
-use Rattle.star_syntax.specs.declared.tree.Expression.{Expression, out-Expression}
-use Rattle.star_syntax.specs.declared.tree.Expression.TheVariants as e
-use Rattle.star_syntax.specs.declared.tree.Target.{Target, out-Target}
-use Rattle.star_syntax.specs.declared.tree.Target.TheVariants as t
-use Rattle.star_syntax.specs.declared.tree.Argument.{out-Argument}
-use Rattle.star_syntax.specs.declared.tree.Argument.TheVariants as a
-use Rattle.star_syntax.specs.declared.tree.Clause.{out-Clause}
-use Rattle.star_syntax.specs.declared.tree.Parameter.{out-Parameter}
-use Rattle.star_syntax.specs.declared.tree.Parameter.TheVariants as q
-use Rattle.star_syntax.specs.declared.tree.Statement.{Statement, roll-Statement}
-use Rattle.star_syntax.specs.declared.tree.Form.{Form, out-Form}
-use Rattle.star_syntax.specs.declared.tree.Form.TheVariants as f
-use Rattle.star_syntax.specs.declared.tree.BinaryOperator.TheVariants as op
-use Rattle.star_syntax.specs.declared.tree.Name.{Name}
-use Rattle.star_syntax.specs.declared.tree.Position.{Position}
-use Rattle.star_scope.specs.declared.blocks.Block.{Block}
-use Rattle.star_scope.specs.Definitions.{Definition, Statements}
-use Rattle.star_eval.specs.Program.{Setting}
-use Rattle.star_eval.specs.Module.{local, Local, Good, Stopped}
-use Rattle.star_eval.specs.declared.fault.Code.TheVariants as code
+-- Files more, and what a setting knows of the files whose outlines it has.
+use Rattle.std.proofs.Common.{◌≡◌, ℕ, List, [], ◌∷◌, ◌++◌, map, Option, Some, None, Result, Ok, Err, refl, ap, sym, ◌∙◌, slice_get}
+use Rattle.std.specs.Prelude.{IfOk}
+use Rattle.std.specs.Option.{option_and_then, option_flatten, option_map}
+use Rattle.std.proofs.lemmas.List.{map-append}
+use denote.Ref.{Bor}
+use Rattle.star_label.specs.Files.{File}
+use Rattle.star_syntax.specs.declared.tree.Statement.{Statement}
+use Rattle.star_scope.specs.declared.error.ScopeFault.{ScopeFault}
+use Rattle.star_scope.specs.declared.program.Prelude.{Prelude}
+use Rattle.star_scope.specs.declared.program.Program.{Program}
+use Rattle.star_scope.specs.Definitions.{Definition, definition_in}
+use Rattle.star_scope.specs.Names.{Names}
+use Rattle.star_scope.specs.Outlines.{Outline, names_in}
+use Rattle.star_scope.specs.Resolve.{Resolves}
+use Rattle.star_meaning.specs.Local.{outlines}
+use Rattle.star_meaning.specs.Program.{Setting, blocks_in, definition_of, names_of}
+use Rattle.star_meaning.specs.Programs.{Files, IsOfFile, PlacedFile, outline_at, placed_file, trees_of}
+use Rattle.star_machine.proofs.ProgramRows.{outline_there}
+use Rattle.star_eval.specs.World.{AreOutlined}
 
-abbrev n : List ℕ → Name
-n t = record { text = t; position = record { line = 0; token = 0 } }
+rows : List (Option (Bor (List Statement))) → List (Option (List Statement))
+rows xs = map (option_map (λ ss. ss.now)) xs
 
-abbrev v : List ℕ → Expression
-v t = e.Name (n t)
+of_placed : (o : Option (Bor Program)) → option_map (λ p. p.now.statements.now) o ≡ option_map (λ f. f.statements) (option_map (λ p. placed_file p.now) o)
+of_placed None = refl
+of_placed (Some p) = refl
 
-abbrev to : List ℕ → Target
-to t' = t.Name (n t')
+-- one file more
+pub trees_pushed : (xs : List (Option (Bor (List Statement)))) (files : Files) (x : Option (Bor (List Statement))) (p : Option (Bor Program))
+    → map (option_map (λ ss. ss.now)) xs ≡ trees_of files
+    → option_map (λ ss. ss.now) x ≡ option_map (λ p. p.now.statements.now) p
+    → map (option_map (λ ss. ss.now)) (xs ++ x ∷ []) ≡ trees_of (files ++ option_map (λ p. placed_file p.now) p ∷ [])
+trees_pushed xs files x p h k =
+    map-append (option_map (λ ss. ss.now)) xs (x ∷ [])
+    ∙ ap (λ ys. ys ++ option_map (λ ss. ss.now) x ∷ []) h
+    ∙ ap (λ y. trees_of files ++ y ∷ []) (k ∙ of_placed p)
+    ∙ sym (map-append (option_map (λ f. f.statements)) files (option_map (λ p. placed_file p.now) p ∷ []))
 
-abbrev at : ℕ → ℕ → Form → Statement
-at line token x = roll-Statement (record { position = record { line = line; token = token }; form = x })
+-- what is resolved is of a file
+pub of_file : (labels : List File) (n : ℕ) (prelude : Option Prelude) (ss : List Statement) (o : Result Program ScopeFault) → Resolves labels n prelude ss o → IfOk o (λ p. IsOfFile p)
+of_file labels n prelude ss (Ok p) h = (n, prelude, ss, h.0, h.3)
+of_file labels n prelude ss (Err e) h = tt
 
-abbrev here : ℕ → Position
-here k = record { line = 0; token = k }
+outline_in : (w : Setting) (files : Files) (file : ℕ) → AreOutlined w files → option_flatten (slice_get w.outlines file) ≡ outline_at files file
+outline_in w files file h = ap (λ os. option_flatten (slice_get os file)) h ∙ outline_there files file
 
-abbrev one_file : List (List ℕ) → List Definition → List Block → Setting
-one_file names ds bs = record { home = 0; outlines = Some (record { definitions = ds; blocks = record { number = 0; names = names } ∷ bs; loaded = [] }) ∷ []; shelf = []; loads = []; prelude = None }
+pub definition_there : (w : Setting) (files : Files) (file number : ℕ) → AreOutlined w files
+    → option_and_then (λ o. definition_in o.definitions number) (outline_at files file) ≡ definition_of w file number
+definition_there w files file number h = sym (ap (option_and_then (λ o. definition_in o.definitions number)) (outline_in w files file h))
 
-abbrev i : ℕ → Expression
-i k = e.Int (pos k)
-
-abbrev s' : List ℕ → Expression
-s' k = e.Text k
-
-abbrev call : Expression → List Expression → Expression
-call g [] = e.Call g []
-call g (x ∷ []) = e.Call g (a.Positional x ∷ [])
-call g (x ∷ y ∷ more) = e.Call g (a.Positional x ∷ a.Positional y ∷ [])
-
-abbrev shown : Local → Local
-shown (Good shelf gs texts lines) = Good [] [] texts lines
-shown (Stopped f lines) = Stopped f lines
-
--- x = 1 ⏎ y = 2
-pub assign_two : (shown (local (one_file ((120 ∷ []) ∷ (121 ∷ []) ∷ []) ([]) ([])) 10 ((at 1 101 (f.Assign (t.Name (n (120 ∷ []))) (e.Int (pos 1)))) ∷ (at 2 102 (f.Assign (t.Name (n (121 ∷ []))) (e.Int (pos 2)))) ∷ [])) ≡ Good [] [] (((120 ∷ []), (49 ∷ [])) ∷ ((121 ∷ []), (50 ∷ [])) ∷ []) ([]))
-    × (shown (local (one_file ((120 ∷ []) ∷ (121 ∷ []) ∷ []) ([]) ([])) 9 ((at 1 101 (f.Assign (t.Name (n (120 ∷ []))) (e.Int (pos 1)))) ∷ (at 2 102 (f.Assign (t.Name (n (121 ∷ []))) (e.Int (pos 2)))) ∷ [])) ≡ Stopped (record { code = code.Steps; line = 2 }) ([]))
-unfolding out-Form out-Expression out-Target out-Argument out-Clause out-Parameter denote.Hole.Carrier.out denote.Hole.Carrier.shown denote.Hole.Carrier.hidden digits Rattle.star_eval.specs.Arguments.given Rattle.star_eval.specs.Arguments.name_key Rattle.star_eval.specs.Binding.bound_to Rattle.star_eval.specs.Binding.make_shares Rattle.star_eval.specs.BuiltIns.call_built_in Rattle.star_eval.specs.Calls.callee Rattle.star_eval.specs.Calls.activate Rattle.star_eval.specs.Calls.deactivate Rattle.star_eval.specs.ListMethods.extend Rattle.star_eval.specs.Methods.attribute Rattle.star_eval.specs.Methods.call_method Rattle.star_eval.specs.Module.meaning Rattle.star_eval.specs.Operators.operate Rattle.star_eval.specs.Operators.prefix Rattle.star_eval.specs.Operators.compared Rattle.star_eval.specs.Pairs.pairs_of Rattle.star_eval.specs.Pairs.put_pairs Rattle.star_eval.specs.Pairs.dict_of Rattle.star_eval.specs.Pairs.update_with Rattle.star_eval.specs.Run.pay Rattle.star_eval.specs.Run.make Rattle.star_eval.specs.Run.build Rattle.star_eval.specs.Run.add_line Rattle.star_eval.specs.Subscript.index Rattle.star_eval.specs.Subscript.put_entry Rattle.star_eval.specs.Subscript.set_index Rattle.star_eval.specs.Subscript.slice Rattle.star_eval.specs.Values.count_of Rattle.star_eval.specs.Values.take_item Rattle.star_eval.specs.Values.iterate Rattle.star_eval.specs.Values.leave Rattle.star_eval.specs.Values.is_true Rattle.star_eval.specs.Values.equal Rattle.star_eval.specs.Values.compare Rattle.star_eval.specs.Values.check_key Rattle.star_eval.specs.Values.repr Rattle.star_eval.specs.Values.str Rattle.star_eval.specs.Values.guard Rattle.star_eval.specs.Values.change Rattle.star_eval.specs.Variables.read_name Rattle.star_eval.specs.Variables.bind_name Rattle.star_eval.specs.Variables.new_frame Rattle.star_store.specs.Text.text Rattle.star_store.specs.Equal.same Rattle.star_store.specs.Order.order Rattle.star_store.specs.Key.check Rattle.star_store.specs.Key.is_key Rattle.star_store.specs.Key.same_key
-assign_two = (refl, refl)
-
--- x = 1 ⏎ x = 22
-pub assign_twice : (shown (local (one_file ((120 ∷ []) ∷ []) ([]) ([])) 8 ((at 1 101 (f.Assign (t.Name (n (120 ∷ []))) (e.Int (pos 1)))) ∷ (at 2 102 (f.Assign (t.Name (n (120 ∷ []))) (e.Int (pos 22)))) ∷ [])) ≡ Good [] [] (((120 ∷ []), (50 ∷ 50 ∷ [])) ∷ []) ([]))
-    × (shown (local (one_file ((120 ∷ []) ∷ []) ([]) ([])) 7 ((at 1 101 (f.Assign (t.Name (n (120 ∷ []))) (e.Int (pos 1)))) ∷ (at 2 102 (f.Assign (t.Name (n (120 ∷ []))) (e.Int (pos 22)))) ∷ [])) ≡ Stopped (record { code = code.Steps; line = 2 }) ([]))
-unfolding out-Form out-Expression out-Target out-Argument out-Clause out-Parameter denote.Hole.Carrier.out denote.Hole.Carrier.shown denote.Hole.Carrier.hidden digits Rattle.star_eval.specs.Arguments.given Rattle.star_eval.specs.Arguments.name_key Rattle.star_eval.specs.Binding.bound_to Rattle.star_eval.specs.Binding.make_shares Rattle.star_eval.specs.BuiltIns.call_built_in Rattle.star_eval.specs.Calls.callee Rattle.star_eval.specs.Calls.activate Rattle.star_eval.specs.Calls.deactivate Rattle.star_eval.specs.ListMethods.extend Rattle.star_eval.specs.Methods.attribute Rattle.star_eval.specs.Methods.call_method Rattle.star_eval.specs.Module.meaning Rattle.star_eval.specs.Operators.operate Rattle.star_eval.specs.Operators.prefix Rattle.star_eval.specs.Operators.compared Rattle.star_eval.specs.Pairs.pairs_of Rattle.star_eval.specs.Pairs.put_pairs Rattle.star_eval.specs.Pairs.dict_of Rattle.star_eval.specs.Pairs.update_with Rattle.star_eval.specs.Run.pay Rattle.star_eval.specs.Run.make Rattle.star_eval.specs.Run.build Rattle.star_eval.specs.Run.add_line Rattle.star_eval.specs.Subscript.index Rattle.star_eval.specs.Subscript.put_entry Rattle.star_eval.specs.Subscript.set_index Rattle.star_eval.specs.Subscript.slice Rattle.star_eval.specs.Values.count_of Rattle.star_eval.specs.Values.take_item Rattle.star_eval.specs.Values.iterate Rattle.star_eval.specs.Values.leave Rattle.star_eval.specs.Values.is_true Rattle.star_eval.specs.Values.equal Rattle.star_eval.specs.Values.compare Rattle.star_eval.specs.Values.check_key Rattle.star_eval.specs.Values.repr Rattle.star_eval.specs.Values.str Rattle.star_eval.specs.Values.guard Rattle.star_eval.specs.Values.change Rattle.star_eval.specs.Variables.read_name Rattle.star_eval.specs.Variables.bind_name Rattle.star_eval.specs.Variables.new_frame Rattle.star_store.specs.Text.text Rattle.star_store.specs.Equal.same Rattle.star_store.specs.Order.order Rattle.star_store.specs.Key.check Rattle.star_store.specs.Key.is_key Rattle.star_store.specs.Key.same_key
-assign_twice = (refl, refl)
-
--- x = 0 ⏎ x += 1
-pub add_in_place : (shown (local (one_file ((120 ∷ []) ∷ []) ([]) ([])) 7 ((at 1 101 (f.Assign (t.Name (n (120 ∷ []))) (e.Int (pos 0)))) ∷ (at 2 102 (f.Augment (t.Name (n (120 ∷ []))) op.Add (e.Int (pos 1)))) ∷ [])) ≡ Good [] [] (((120 ∷ []), (49 ∷ [])) ∷ []) ([]))
-    × (shown (local (one_file ((120 ∷ []) ∷ []) ([]) ([])) 6 ((at 1 101 (f.Assign (t.Name (n (120 ∷ []))) (e.Int (pos 0)))) ∷ (at 2 102 (f.Augment (t.Name (n (120 ∷ []))) op.Add (e.Int (pos 1)))) ∷ [])) ≡ Stopped (record { code = code.Steps; line = 2 }) ([]))
-unfolding out-Form out-Expression out-Target out-Argument out-Clause out-Parameter denote.Hole.Carrier.out denote.Hole.Carrier.shown denote.Hole.Carrier.hidden digits Rattle.star_eval.specs.Arguments.given Rattle.star_eval.specs.Arguments.name_key Rattle.star_eval.specs.Binding.bound_to Rattle.star_eval.specs.Binding.make_shares Rattle.star_eval.specs.BuiltIns.call_built_in Rattle.star_eval.specs.Calls.callee Rattle.star_eval.specs.Calls.activate Rattle.star_eval.specs.Calls.deactivate Rattle.star_eval.specs.ListMethods.extend Rattle.star_eval.specs.Methods.attribute Rattle.star_eval.specs.Methods.call_method Rattle.star_eval.specs.Module.meaning Rattle.star_eval.specs.Operators.operate Rattle.star_eval.specs.Operators.prefix Rattle.star_eval.specs.Operators.compared Rattle.star_eval.specs.Pairs.pairs_of Rattle.star_eval.specs.Pairs.put_pairs Rattle.star_eval.specs.Pairs.dict_of Rattle.star_eval.specs.Pairs.update_with Rattle.star_eval.specs.Run.pay Rattle.star_eval.specs.Run.make Rattle.star_eval.specs.Run.build Rattle.star_eval.specs.Run.add_line Rattle.star_eval.specs.Subscript.index Rattle.star_eval.specs.Subscript.put_entry Rattle.star_eval.specs.Subscript.set_index Rattle.star_eval.specs.Subscript.slice Rattle.star_eval.specs.Values.count_of Rattle.star_eval.specs.Values.take_item Rattle.star_eval.specs.Values.iterate Rattle.star_eval.specs.Values.leave Rattle.star_eval.specs.Values.is_true Rattle.star_eval.specs.Values.equal Rattle.star_eval.specs.Values.compare Rattle.star_eval.specs.Values.check_key Rattle.star_eval.specs.Values.repr Rattle.star_eval.specs.Values.str Rattle.star_eval.specs.Values.guard Rattle.star_eval.specs.Values.change Rattle.star_eval.specs.Variables.read_name Rattle.star_eval.specs.Variables.bind_name Rattle.star_eval.specs.Variables.new_frame Rattle.star_store.specs.Text.text Rattle.star_store.specs.Equal.same Rattle.star_store.specs.Order.order Rattle.star_store.specs.Key.check Rattle.star_store.specs.Key.is_key Rattle.star_store.specs.Key.same_key
-add_in_place = (refl, refl)
-
--- x = 1 ⏎ x <<= 3
-pub shift_in_place : (shown (local (one_file ((120 ∷ []) ∷ []) ([]) ([])) 7 ((at 1 101 (f.Assign (t.Name (n (120 ∷ []))) (e.Int (pos 1)))) ∷ (at 2 102 (f.Augment (t.Name (n (120 ∷ []))) op.ShiftLeft (e.Int (pos 3)))) ∷ [])) ≡ Good [] [] (((120 ∷ []), (56 ∷ [])) ∷ []) ([]))
-    × (shown (local (one_file ((120 ∷ []) ∷ []) ([]) ([])) 6 ((at 1 101 (f.Assign (t.Name (n (120 ∷ []))) (e.Int (pos 1)))) ∷ (at 2 102 (f.Augment (t.Name (n (120 ∷ []))) op.ShiftLeft (e.Int (pos 3)))) ∷ [])) ≡ Stopped (record { code = code.Steps; line = 2 }) ([]))
-unfolding out-Form out-Expression out-Target out-Argument out-Clause out-Parameter denote.Hole.Carrier.out denote.Hole.Carrier.shown denote.Hole.Carrier.hidden digits Rattle.star_eval.specs.Arguments.given Rattle.star_eval.specs.Arguments.name_key Rattle.star_eval.specs.Binding.bound_to Rattle.star_eval.specs.Binding.make_shares Rattle.star_eval.specs.BuiltIns.call_built_in Rattle.star_eval.specs.Calls.callee Rattle.star_eval.specs.Calls.activate Rattle.star_eval.specs.Calls.deactivate Rattle.star_eval.specs.ListMethods.extend Rattle.star_eval.specs.Methods.attribute Rattle.star_eval.specs.Methods.call_method Rattle.star_eval.specs.Module.meaning Rattle.star_eval.specs.Operators.operate Rattle.star_eval.specs.Operators.prefix Rattle.star_eval.specs.Operators.compared Rattle.star_eval.specs.Pairs.pairs_of Rattle.star_eval.specs.Pairs.put_pairs Rattle.star_eval.specs.Pairs.dict_of Rattle.star_eval.specs.Pairs.update_with Rattle.star_eval.specs.Run.pay Rattle.star_eval.specs.Run.make Rattle.star_eval.specs.Run.build Rattle.star_eval.specs.Run.add_line Rattle.star_eval.specs.Subscript.index Rattle.star_eval.specs.Subscript.put_entry Rattle.star_eval.specs.Subscript.set_index Rattle.star_eval.specs.Subscript.slice Rattle.star_eval.specs.Values.count_of Rattle.star_eval.specs.Values.take_item Rattle.star_eval.specs.Values.iterate Rattle.star_eval.specs.Values.leave Rattle.star_eval.specs.Values.is_true Rattle.star_eval.specs.Values.equal Rattle.star_eval.specs.Values.compare Rattle.star_eval.specs.Values.check_key Rattle.star_eval.specs.Values.repr Rattle.star_eval.specs.Values.str Rattle.star_eval.specs.Values.guard Rattle.star_eval.specs.Values.change Rattle.star_eval.specs.Variables.read_name Rattle.star_eval.specs.Variables.bind_name Rattle.star_eval.specs.Variables.new_frame Rattle.star_store.specs.Text.text Rattle.star_store.specs.Equal.same Rattle.star_store.specs.Order.order Rattle.star_store.specs.Key.check Rattle.star_store.specs.Key.is_key Rattle.star_store.specs.Key.same_key
-shift_in_place = (refl, refl)
-
--- x = "a" ⏎ x += "b"
-pub join_in_place : (shown (local (one_file ((120 ∷ []) ∷ []) ([]) ([])) 17 ((at 1 101 (f.Assign (t.Name (n (120 ∷ []))) (e.Text (97 ∷ [])))) ∷ (at 2 102 (f.Augment (t.Name (n (120 ∷ []))) op.Add (e.Text (98 ∷ [])))) ∷ [])) ≡ Good [] [] (((120 ∷ []), (34 ∷ 97 ∷ 98 ∷ 34 ∷ [])) ∷ []) ([]))
-    × (shown (local (one_file ((120 ∷ []) ∷ []) ([]) ([])) 16 ((at 1 101 (f.Assign (t.Name (n (120 ∷ []))) (e.Text (97 ∷ [])))) ∷ (at 2 102 (f.Augment (t.Name (n (120 ∷ []))) op.Add (e.Text (98 ∷ [])))) ∷ [])) ≡ Stopped (record { code = code.Steps; line = 2 }) ([]))
-unfolding out-Form out-Expression out-Target out-Argument out-Clause out-Parameter denote.Hole.Carrier.out denote.Hole.Carrier.shown denote.Hole.Carrier.hidden digits Rattle.star_eval.specs.Arguments.given Rattle.star_eval.specs.Arguments.name_key Rattle.star_eval.specs.Binding.bound_to Rattle.star_eval.specs.Binding.make_shares Rattle.star_eval.specs.BuiltIns.call_built_in Rattle.star_eval.specs.Calls.callee Rattle.star_eval.specs.Calls.activate Rattle.star_eval.specs.Calls.deactivate Rattle.star_eval.specs.ListMethods.extend Rattle.star_eval.specs.Methods.attribute Rattle.star_eval.specs.Methods.call_method Rattle.star_eval.specs.Module.meaning Rattle.star_eval.specs.Operators.operate Rattle.star_eval.specs.Operators.prefix Rattle.star_eval.specs.Operators.compared Rattle.star_eval.specs.Pairs.pairs_of Rattle.star_eval.specs.Pairs.put_pairs Rattle.star_eval.specs.Pairs.dict_of Rattle.star_eval.specs.Pairs.update_with Rattle.star_eval.specs.Run.pay Rattle.star_eval.specs.Run.make Rattle.star_eval.specs.Run.build Rattle.star_eval.specs.Run.add_line Rattle.star_eval.specs.Subscript.index Rattle.star_eval.specs.Subscript.put_entry Rattle.star_eval.specs.Subscript.set_index Rattle.star_eval.specs.Subscript.slice Rattle.star_eval.specs.Values.count_of Rattle.star_eval.specs.Values.take_item Rattle.star_eval.specs.Values.iterate Rattle.star_eval.specs.Values.leave Rattle.star_eval.specs.Values.is_true Rattle.star_eval.specs.Values.equal Rattle.star_eval.specs.Values.compare Rattle.star_eval.specs.Values.check_key Rattle.star_eval.specs.Values.repr Rattle.star_eval.specs.Values.str Rattle.star_eval.specs.Values.guard Rattle.star_eval.specs.Values.change Rattle.star_eval.specs.Variables.read_name Rattle.star_eval.specs.Variables.bind_name Rattle.star_eval.specs.Variables.new_frame Rattle.star_store.specs.Text.text Rattle.star_store.specs.Equal.same Rattle.star_store.specs.Order.order Rattle.star_store.specs.Key.check Rattle.star_store.specs.Key.is_key Rattle.star_store.specs.Key.same_key Rattle.star_store.specs.Text.shown_char lib.Utf8.encode Rattle.std.specs.Str.chars
-join_in_place = (refl, refl)
-
--- x = 1; y = 2
-pub two_on_a_line : (shown (local (one_file ((120 ∷ []) ∷ (121 ∷ []) ∷ []) ([]) ([])) 10 ((at 1 101 (f.Assign (t.Name (n (120 ∷ []))) (e.Int (pos 1)))) ∷ (at 1 102 (f.Assign (t.Name (n (121 ∷ []))) (e.Int (pos 2)))) ∷ [])) ≡ Good [] [] (((120 ∷ []), (49 ∷ [])) ∷ ((121 ∷ []), (50 ∷ [])) ∷ []) ([]))
-    × (shown (local (one_file ((120 ∷ []) ∷ (121 ∷ []) ∷ []) ([]) ([])) 9 ((at 1 101 (f.Assign (t.Name (n (120 ∷ []))) (e.Int (pos 1)))) ∷ (at 1 102 (f.Assign (t.Name (n (121 ∷ []))) (e.Int (pos 2)))) ∷ [])) ≡ Stopped (record { code = code.Steps; line = 1 }) ([]))
-unfolding out-Form out-Expression out-Target out-Argument out-Clause out-Parameter denote.Hole.Carrier.out denote.Hole.Carrier.shown denote.Hole.Carrier.hidden digits Rattle.star_eval.specs.Arguments.given Rattle.star_eval.specs.Arguments.name_key Rattle.star_eval.specs.Binding.bound_to Rattle.star_eval.specs.Binding.make_shares Rattle.star_eval.specs.BuiltIns.call_built_in Rattle.star_eval.specs.Calls.callee Rattle.star_eval.specs.Calls.activate Rattle.star_eval.specs.Calls.deactivate Rattle.star_eval.specs.ListMethods.extend Rattle.star_eval.specs.Methods.attribute Rattle.star_eval.specs.Methods.call_method Rattle.star_eval.specs.Module.meaning Rattle.star_eval.specs.Operators.operate Rattle.star_eval.specs.Operators.prefix Rattle.star_eval.specs.Operators.compared Rattle.star_eval.specs.Pairs.pairs_of Rattle.star_eval.specs.Pairs.put_pairs Rattle.star_eval.specs.Pairs.dict_of Rattle.star_eval.specs.Pairs.update_with Rattle.star_eval.specs.Run.pay Rattle.star_eval.specs.Run.make Rattle.star_eval.specs.Run.build Rattle.star_eval.specs.Run.add_line Rattle.star_eval.specs.Subscript.index Rattle.star_eval.specs.Subscript.put_entry Rattle.star_eval.specs.Subscript.set_index Rattle.star_eval.specs.Subscript.slice Rattle.star_eval.specs.Values.count_of Rattle.star_eval.specs.Values.take_item Rattle.star_eval.specs.Values.iterate Rattle.star_eval.specs.Values.leave Rattle.star_eval.specs.Values.is_true Rattle.star_eval.specs.Values.equal Rattle.star_eval.specs.Values.compare Rattle.star_eval.specs.Values.check_key Rattle.star_eval.specs.Values.repr Rattle.star_eval.specs.Values.str Rattle.star_eval.specs.Values.guard Rattle.star_eval.specs.Values.change Rattle.star_eval.specs.Variables.read_name Rattle.star_eval.specs.Variables.bind_name Rattle.star_eval.specs.Variables.new_frame Rattle.star_store.specs.Text.text Rattle.star_store.specs.Equal.same Rattle.star_store.specs.Order.order Rattle.star_store.specs.Key.check Rattle.star_store.specs.Key.is_key Rattle.star_store.specs.Key.same_key
-two_on_a_line = (refl, refl)
-
--- x = "a\"b"
-pub text_of_a_string : (shown (local (one_file ((120 ∷ []) ∷ []) ([]) ([])) 14 ((at 1 101 (f.Assign (t.Name (n (120 ∷ []))) (e.Text (97 ∷ 34 ∷ 98 ∷ [])))) ∷ [])) ≡ Good [] [] (((120 ∷ []), (34 ∷ 97 ∷ 92 ∷ 34 ∷ 98 ∷ 34 ∷ [])) ∷ []) ([]))
-    × (shown (local (one_file ((120 ∷ []) ∷ []) ([]) ([])) 13 ((at 1 101 (f.Assign (t.Name (n (120 ∷ []))) (e.Text (97 ∷ 34 ∷ 98 ∷ [])))) ∷ [])) ≡ Stopped (record { code = code.Steps; line = 1 }) ([]))
-unfolding out-Form out-Expression out-Target out-Argument out-Clause out-Parameter denote.Hole.Carrier.out denote.Hole.Carrier.shown denote.Hole.Carrier.hidden digits Rattle.star_eval.specs.Arguments.given Rattle.star_eval.specs.Arguments.name_key Rattle.star_eval.specs.Binding.bound_to Rattle.star_eval.specs.Binding.make_shares Rattle.star_eval.specs.BuiltIns.call_built_in Rattle.star_eval.specs.Calls.callee Rattle.star_eval.specs.Calls.activate Rattle.star_eval.specs.Calls.deactivate Rattle.star_eval.specs.ListMethods.extend Rattle.star_eval.specs.Methods.attribute Rattle.star_eval.specs.Methods.call_method Rattle.star_eval.specs.Module.meaning Rattle.star_eval.specs.Operators.operate Rattle.star_eval.specs.Operators.prefix Rattle.star_eval.specs.Operators.compared Rattle.star_eval.specs.Pairs.pairs_of Rattle.star_eval.specs.Pairs.put_pairs Rattle.star_eval.specs.Pairs.dict_of Rattle.star_eval.specs.Pairs.update_with Rattle.star_eval.specs.Run.pay Rattle.star_eval.specs.Run.make Rattle.star_eval.specs.Run.build Rattle.star_eval.specs.Run.add_line Rattle.star_eval.specs.Subscript.index Rattle.star_eval.specs.Subscript.put_entry Rattle.star_eval.specs.Subscript.set_index Rattle.star_eval.specs.Subscript.slice Rattle.star_eval.specs.Values.count_of Rattle.star_eval.specs.Values.take_item Rattle.star_eval.specs.Values.iterate Rattle.star_eval.specs.Values.leave Rattle.star_eval.specs.Values.is_true Rattle.star_eval.specs.Values.equal Rattle.star_eval.specs.Values.compare Rattle.star_eval.specs.Values.check_key Rattle.star_eval.specs.Values.repr Rattle.star_eval.specs.Values.str Rattle.star_eval.specs.Values.guard Rattle.star_eval.specs.Values.change Rattle.star_eval.specs.Variables.read_name Rattle.star_eval.specs.Variables.bind_name Rattle.star_eval.specs.Variables.new_frame Rattle.star_store.specs.Text.text Rattle.star_store.specs.Equal.same Rattle.star_store.specs.Order.order Rattle.star_store.specs.Key.check Rattle.star_store.specs.Key.is_key Rattle.star_store.specs.Key.same_key Rattle.star_store.specs.Text.shown_char lib.Utf8.encode Rattle.std.specs.Str.chars
-text_of_a_string = (refl, refl)
-
--- "é"
-pub bytes_of_a_string : (shown (local (one_file ([]) ([]) ([])) 5 ((at 1 101 (f.Expression (e.Text (195 ∷ 169 ∷ [])))) ∷ [])) ≡ Good [] [] ([]) ([]))
-    × (shown (local (one_file ([]) ([]) ([])) 4 ((at 1 101 (f.Expression (e.Text (195 ∷ 169 ∷ [])))) ∷ [])) ≡ Stopped (record { code = code.Steps; line = 1 }) ([]))
-unfolding out-Form out-Expression out-Target out-Argument out-Clause out-Parameter denote.Hole.Carrier.out denote.Hole.Carrier.shown denote.Hole.Carrier.hidden digits Rattle.star_eval.specs.Arguments.given Rattle.star_eval.specs.Arguments.name_key Rattle.star_eval.specs.Binding.bound_to Rattle.star_eval.specs.Binding.make_shares Rattle.star_eval.specs.BuiltIns.call_built_in Rattle.star_eval.specs.Calls.callee Rattle.star_eval.specs.Calls.activate Rattle.star_eval.specs.Calls.deactivate Rattle.star_eval.specs.ListMethods.extend Rattle.star_eval.specs.Methods.attribute Rattle.star_eval.specs.Methods.call_method Rattle.star_eval.specs.Module.meaning Rattle.star_eval.specs.Operators.operate Rattle.star_eval.specs.Operators.prefix Rattle.star_eval.specs.Operators.compared Rattle.star_eval.specs.Pairs.pairs_of Rattle.star_eval.specs.Pairs.put_pairs Rattle.star_eval.specs.Pairs.dict_of Rattle.star_eval.specs.Pairs.update_with Rattle.star_eval.specs.Run.pay Rattle.star_eval.specs.Run.make Rattle.star_eval.specs.Run.build Rattle.star_eval.specs.Run.add_line Rattle.star_eval.specs.Subscript.index Rattle.star_eval.specs.Subscript.put_entry Rattle.star_eval.specs.Subscript.set_index Rattle.star_eval.specs.Subscript.slice Rattle.star_eval.specs.Values.count_of Rattle.star_eval.specs.Values.take_item Rattle.star_eval.specs.Values.iterate Rattle.star_eval.specs.Values.leave Rattle.star_eval.specs.Values.is_true Rattle.star_eval.specs.Values.equal Rattle.star_eval.specs.Values.compare Rattle.star_eval.specs.Values.check_key Rattle.star_eval.specs.Values.repr Rattle.star_eval.specs.Values.str Rattle.star_eval.specs.Values.guard Rattle.star_eval.specs.Values.change Rattle.star_eval.specs.Variables.read_name Rattle.star_eval.specs.Variables.bind_name Rattle.star_eval.specs.Variables.new_frame Rattle.star_store.specs.Text.text Rattle.star_store.specs.Equal.same Rattle.star_store.specs.Order.order Rattle.star_store.specs.Key.check Rattle.star_store.specs.Key.is_key Rattle.star_store.specs.Key.same_key
-bytes_of_a_string = (refl, refl)
-
--- def name(): ⏎   pass
-pub definition : (shown (local (one_file ((110 ∷ 97 ∷ 109 ∷ 101 ∷ []) ∷ []) (record { number = 101; parameters = ([]); body = Statements ((at 2 102 f.Pass) ∷ []) } ∷ []) (record { number = 102; names = ([]) } ∷ [])) 19 ((at 1 101 (f.Def (n (110 ∷ 97 ∷ 109 ∷ 101 ∷ [])) ([]) ((at 2 102 f.Pass) ∷ []))) ∷ [])) ≡ Good [] [] (((110 ∷ 97 ∷ 109 ∷ 101 ∷ []), (60 ∷ 102 ∷ 117 ∷ 110 ∷ 99 ∷ 116 ∷ 105 ∷ 111 ∷ 110 ∷ 32 ∷ 110 ∷ 97 ∷ 109 ∷ 101 ∷ 62 ∷ [])) ∷ []) ([]))
-    × (shown (local (one_file ((110 ∷ 97 ∷ 109 ∷ 101 ∷ []) ∷ []) (record { number = 101; parameters = ([]); body = Statements ((at 2 102 f.Pass) ∷ []) } ∷ []) (record { number = 102; names = ([]) } ∷ [])) 18 ((at 1 101 (f.Def (n (110 ∷ 97 ∷ 109 ∷ 101 ∷ [])) ([]) ((at 2 102 f.Pass) ∷ []))) ∷ [])) ≡ Stopped (record { code = code.Steps; line = 1 }) ([]))
-unfolding out-Form out-Expression out-Target out-Argument out-Clause out-Parameter denote.Hole.Carrier.out denote.Hole.Carrier.shown denote.Hole.Carrier.hidden digits Rattle.star_eval.specs.Arguments.given Rattle.star_eval.specs.Arguments.name_key Rattle.star_eval.specs.Binding.bound_to Rattle.star_eval.specs.Binding.make_shares Rattle.star_eval.specs.BuiltIns.call_built_in Rattle.star_eval.specs.Calls.callee Rattle.star_eval.specs.Calls.activate Rattle.star_eval.specs.Calls.deactivate Rattle.star_eval.specs.ListMethods.extend Rattle.star_eval.specs.Methods.attribute Rattle.star_eval.specs.Methods.call_method Rattle.star_eval.specs.Module.meaning Rattle.star_eval.specs.Operators.operate Rattle.star_eval.specs.Operators.prefix Rattle.star_eval.specs.Operators.compared Rattle.star_eval.specs.Pairs.pairs_of Rattle.star_eval.specs.Pairs.put_pairs Rattle.star_eval.specs.Pairs.dict_of Rattle.star_eval.specs.Pairs.update_with Rattle.star_eval.specs.Run.pay Rattle.star_eval.specs.Run.make Rattle.star_eval.specs.Run.build Rattle.star_eval.specs.Run.add_line Rattle.star_eval.specs.Subscript.index Rattle.star_eval.specs.Subscript.put_entry Rattle.star_eval.specs.Subscript.set_index Rattle.star_eval.specs.Subscript.slice Rattle.star_eval.specs.Values.count_of Rattle.star_eval.specs.Values.take_item Rattle.star_eval.specs.Values.iterate Rattle.star_eval.specs.Values.leave Rattle.star_eval.specs.Values.is_true Rattle.star_eval.specs.Values.equal Rattle.star_eval.specs.Values.compare Rattle.star_eval.specs.Values.check_key Rattle.star_eval.specs.Values.repr Rattle.star_eval.specs.Values.str Rattle.star_eval.specs.Values.guard Rattle.star_eval.specs.Values.change Rattle.star_eval.specs.Variables.read_name Rattle.star_eval.specs.Variables.bind_name Rattle.star_eval.specs.Variables.new_frame Rattle.star_store.specs.Text.text Rattle.star_store.specs.Equal.same Rattle.star_store.specs.Order.order Rattle.star_store.specs.Key.check Rattle.star_store.specs.Key.is_key Rattle.star_store.specs.Key.same_key
-definition = (refl, refl)
-
--- def f(a = 1): ⏎   pass
-pub default : (shown (local (one_file ((102 ∷ []) ∷ []) (record { number = 101; parameters = ((q.Default (n (97 ∷ [])) (e.Int (pos 1))) ∷ []); body = Statements ((at 2 102 f.Pass) ∷ []) } ∷ []) (record { number = 102; names = ((97 ∷ []) ∷ []) } ∷ [])) 17 ((at 1 101 (f.Def (n (102 ∷ [])) ((q.Default (n (97 ∷ [])) (e.Int (pos 1))) ∷ []) ((at 2 102 f.Pass) ∷ []))) ∷ [])) ≡ Good [] [] (((102 ∷ []), (60 ∷ 102 ∷ 117 ∷ 110 ∷ 99 ∷ 116 ∷ 105 ∷ 111 ∷ 110 ∷ 32 ∷ 102 ∷ 62 ∷ [])) ∷ []) ([]))
-    × (shown (local (one_file ((102 ∷ []) ∷ []) (record { number = 101; parameters = ((q.Default (n (97 ∷ [])) (e.Int (pos 1))) ∷ []); body = Statements ((at 2 102 f.Pass) ∷ []) } ∷ []) (record { number = 102; names = ((97 ∷ []) ∷ []) } ∷ [])) 16 ((at 1 101 (f.Def (n (102 ∷ [])) ((q.Default (n (97 ∷ [])) (e.Int (pos 1))) ∷ []) ((at 2 102 f.Pass) ∷ []))) ∷ [])) ≡ Stopped (record { code = code.Steps; line = 1 }) ([]))
-unfolding out-Form out-Expression out-Target out-Argument out-Clause out-Parameter denote.Hole.Carrier.out denote.Hole.Carrier.shown denote.Hole.Carrier.hidden digits Rattle.star_eval.specs.Arguments.given Rattle.star_eval.specs.Arguments.name_key Rattle.star_eval.specs.Binding.bound_to Rattle.star_eval.specs.Binding.make_shares Rattle.star_eval.specs.BuiltIns.call_built_in Rattle.star_eval.specs.Calls.callee Rattle.star_eval.specs.Calls.activate Rattle.star_eval.specs.Calls.deactivate Rattle.star_eval.specs.ListMethods.extend Rattle.star_eval.specs.Methods.attribute Rattle.star_eval.specs.Methods.call_method Rattle.star_eval.specs.Module.meaning Rattle.star_eval.specs.Operators.operate Rattle.star_eval.specs.Operators.prefix Rattle.star_eval.specs.Operators.compared Rattle.star_eval.specs.Pairs.pairs_of Rattle.star_eval.specs.Pairs.put_pairs Rattle.star_eval.specs.Pairs.dict_of Rattle.star_eval.specs.Pairs.update_with Rattle.star_eval.specs.Run.pay Rattle.star_eval.specs.Run.make Rattle.star_eval.specs.Run.build Rattle.star_eval.specs.Run.add_line Rattle.star_eval.specs.Subscript.index Rattle.star_eval.specs.Subscript.put_entry Rattle.star_eval.specs.Subscript.set_index Rattle.star_eval.specs.Subscript.slice Rattle.star_eval.specs.Values.count_of Rattle.star_eval.specs.Values.take_item Rattle.star_eval.specs.Values.iterate Rattle.star_eval.specs.Values.leave Rattle.star_eval.specs.Values.is_true Rattle.star_eval.specs.Values.equal Rattle.star_eval.specs.Values.compare Rattle.star_eval.specs.Values.check_key Rattle.star_eval.specs.Values.repr Rattle.star_eval.specs.Values.str Rattle.star_eval.specs.Values.guard Rattle.star_eval.specs.Values.change Rattle.star_eval.specs.Variables.read_name Rattle.star_eval.specs.Variables.bind_name Rattle.star_eval.specs.Variables.new_frame Rattle.star_store.specs.Text.text Rattle.star_store.specs.Equal.same Rattle.star_store.specs.Order.order Rattle.star_store.specs.Key.check Rattle.star_store.specs.Key.is_key Rattle.star_store.specs.Key.same_key
-default = (refl, refl)
-
--- x = 9223372036854775807 ⏎ x += 1
-pub overflow : (shown (local (one_file ((120 ∷ []) ∷ []) ([]) ([])) 1000000 ((at 1 101 (f.Assign (t.Name (n (120 ∷ []))) (e.Int (pos 9223372036854775807)))) ∷ (at 2 102 (f.Augment (t.Name (n (120 ∷ []))) op.Add (e.Int (pos 1)))) ∷ [])) ≡ Stopped (record { code = code.Overflow; line = 2 }) ([]))
-unfolding out-Form out-Expression out-Target out-Argument out-Clause out-Parameter denote.Hole.Carrier.out denote.Hole.Carrier.shown denote.Hole.Carrier.hidden digits Rattle.star_eval.specs.Arguments.given Rattle.star_eval.specs.Arguments.name_key Rattle.star_eval.specs.Binding.bound_to Rattle.star_eval.specs.Binding.make_shares Rattle.star_eval.specs.BuiltIns.call_built_in Rattle.star_eval.specs.Calls.callee Rattle.star_eval.specs.Calls.activate Rattle.star_eval.specs.Calls.deactivate Rattle.star_eval.specs.ListMethods.extend Rattle.star_eval.specs.Methods.attribute Rattle.star_eval.specs.Methods.call_method Rattle.star_eval.specs.Module.meaning Rattle.star_eval.specs.Operators.operate Rattle.star_eval.specs.Operators.prefix Rattle.star_eval.specs.Operators.compared Rattle.star_eval.specs.Pairs.pairs_of Rattle.star_eval.specs.Pairs.put_pairs Rattle.star_eval.specs.Pairs.dict_of Rattle.star_eval.specs.Pairs.update_with Rattle.star_eval.specs.Run.pay Rattle.star_eval.specs.Run.make Rattle.star_eval.specs.Run.build Rattle.star_eval.specs.Run.add_line Rattle.star_eval.specs.Subscript.index Rattle.star_eval.specs.Subscript.put_entry Rattle.star_eval.specs.Subscript.set_index Rattle.star_eval.specs.Subscript.slice Rattle.star_eval.specs.Values.count_of Rattle.star_eval.specs.Values.take_item Rattle.star_eval.specs.Values.iterate Rattle.star_eval.specs.Values.leave Rattle.star_eval.specs.Values.is_true Rattle.star_eval.specs.Values.equal Rattle.star_eval.specs.Values.compare Rattle.star_eval.specs.Values.check_key Rattle.star_eval.specs.Values.repr Rattle.star_eval.specs.Values.str Rattle.star_eval.specs.Values.guard Rattle.star_eval.specs.Values.change Rattle.star_eval.specs.Variables.read_name Rattle.star_eval.specs.Variables.bind_name Rattle.star_eval.specs.Variables.new_frame Rattle.star_store.specs.Text.text Rattle.star_store.specs.Equal.same Rattle.star_store.specs.Order.order Rattle.star_store.specs.Key.check Rattle.star_store.specs.Key.is_key Rattle.star_store.specs.Key.same_key
-overflow = refl
-
--- x = 1 ⏎ x //= 0
-pub zero : (shown (local (one_file ((120 ∷ []) ∷ []) ([]) ([])) 1000000 ((at 1 101 (f.Assign (t.Name (n (120 ∷ []))) (e.Int (pos 1)))) ∷ (at 2 102 (f.Augment (t.Name (n (120 ∷ []))) op.FloorDivide (e.Int (pos 0)))) ∷ [])) ≡ Stopped (record { code = code.Zero; line = 2 }) ([]))
-unfolding out-Form out-Expression out-Target out-Argument out-Clause out-Parameter denote.Hole.Carrier.out denote.Hole.Carrier.shown denote.Hole.Carrier.hidden digits Rattle.star_eval.specs.Arguments.given Rattle.star_eval.specs.Arguments.name_key Rattle.star_eval.specs.Binding.bound_to Rattle.star_eval.specs.Binding.make_shares Rattle.star_eval.specs.BuiltIns.call_built_in Rattle.star_eval.specs.Calls.callee Rattle.star_eval.specs.Calls.activate Rattle.star_eval.specs.Calls.deactivate Rattle.star_eval.specs.ListMethods.extend Rattle.star_eval.specs.Methods.attribute Rattle.star_eval.specs.Methods.call_method Rattle.star_eval.specs.Module.meaning Rattle.star_eval.specs.Operators.operate Rattle.star_eval.specs.Operators.prefix Rattle.star_eval.specs.Operators.compared Rattle.star_eval.specs.Pairs.pairs_of Rattle.star_eval.specs.Pairs.put_pairs Rattle.star_eval.specs.Pairs.dict_of Rattle.star_eval.specs.Pairs.update_with Rattle.star_eval.specs.Run.pay Rattle.star_eval.specs.Run.make Rattle.star_eval.specs.Run.build Rattle.star_eval.specs.Run.add_line Rattle.star_eval.specs.Subscript.index Rattle.star_eval.specs.Subscript.put_entry Rattle.star_eval.specs.Subscript.set_index Rattle.star_eval.specs.Subscript.slice Rattle.star_eval.specs.Values.count_of Rattle.star_eval.specs.Values.take_item Rattle.star_eval.specs.Values.iterate Rattle.star_eval.specs.Values.leave Rattle.star_eval.specs.Values.is_true Rattle.star_eval.specs.Values.equal Rattle.star_eval.specs.Values.compare Rattle.star_eval.specs.Values.check_key Rattle.star_eval.specs.Values.repr Rattle.star_eval.specs.Values.str Rattle.star_eval.specs.Values.guard Rattle.star_eval.specs.Values.change Rattle.star_eval.specs.Variables.read_name Rattle.star_eval.specs.Variables.bind_name Rattle.star_eval.specs.Variables.new_frame Rattle.star_store.specs.Text.text Rattle.star_store.specs.Equal.same Rattle.star_store.specs.Order.order Rattle.star_store.specs.Key.check Rattle.star_store.specs.Key.is_key Rattle.star_store.specs.Key.same_key
-zero = refl
-
--- x += 1
-pub unbound_in_place : (shown (local (one_file ((120 ∷ []) ∷ []) ([]) ([])) 1000000 ((at 1 101 (f.Augment (t.Name (n (120 ∷ []))) op.Add (e.Int (pos 1)))) ∷ [])) ≡ Stopped (record { code = code.Unbound; line = 1 }) ([]))
-unfolding out-Form out-Expression out-Target out-Argument out-Clause out-Parameter denote.Hole.Carrier.out denote.Hole.Carrier.shown denote.Hole.Carrier.hidden digits Rattle.star_eval.specs.Arguments.given Rattle.star_eval.specs.Arguments.name_key Rattle.star_eval.specs.Binding.bound_to Rattle.star_eval.specs.Binding.make_shares Rattle.star_eval.specs.BuiltIns.call_built_in Rattle.star_eval.specs.Calls.callee Rattle.star_eval.specs.Calls.activate Rattle.star_eval.specs.Calls.deactivate Rattle.star_eval.specs.ListMethods.extend Rattle.star_eval.specs.Methods.attribute Rattle.star_eval.specs.Methods.call_method Rattle.star_eval.specs.Module.meaning Rattle.star_eval.specs.Operators.operate Rattle.star_eval.specs.Operators.prefix Rattle.star_eval.specs.Operators.compared Rattle.star_eval.specs.Pairs.pairs_of Rattle.star_eval.specs.Pairs.put_pairs Rattle.star_eval.specs.Pairs.dict_of Rattle.star_eval.specs.Pairs.update_with Rattle.star_eval.specs.Run.pay Rattle.star_eval.specs.Run.make Rattle.star_eval.specs.Run.build Rattle.star_eval.specs.Run.add_line Rattle.star_eval.specs.Subscript.index Rattle.star_eval.specs.Subscript.put_entry Rattle.star_eval.specs.Subscript.set_index Rattle.star_eval.specs.Subscript.slice Rattle.star_eval.specs.Values.count_of Rattle.star_eval.specs.Values.take_item Rattle.star_eval.specs.Values.iterate Rattle.star_eval.specs.Values.leave Rattle.star_eval.specs.Values.is_true Rattle.star_eval.specs.Values.equal Rattle.star_eval.specs.Values.compare Rattle.star_eval.specs.Values.check_key Rattle.star_eval.specs.Values.repr Rattle.star_eval.specs.Values.str Rattle.star_eval.specs.Values.guard Rattle.star_eval.specs.Values.change Rattle.star_eval.specs.Variables.read_name Rattle.star_eval.specs.Variables.bind_name Rattle.star_eval.specs.Variables.new_frame Rattle.star_store.specs.Text.text Rattle.star_store.specs.Equal.same Rattle.star_store.specs.Order.order Rattle.star_store.specs.Key.check Rattle.star_store.specs.Key.is_key Rattle.star_store.specs.Key.same_key
-unbound_in_place = refl
-
--- x = y ⏎ y = 1
-pub unbound_global : (shown (local (one_file ((120 ∷ []) ∷ (121 ∷ []) ∷ []) ([]) ([])) 1000000 ((at 1 101 (f.Assign (t.Name (n (120 ∷ []))) (e.Name (n (121 ∷ []))))) ∷ (at 2 102 (f.Assign (t.Name (n (121 ∷ []))) (e.Int (pos 1)))) ∷ [])) ≡ Stopped (record { code = code.Unbound; line = 1 }) ([]))
-unfolding out-Form out-Expression out-Target out-Argument out-Clause out-Parameter denote.Hole.Carrier.out denote.Hole.Carrier.shown denote.Hole.Carrier.hidden digits Rattle.star_eval.specs.Arguments.given Rattle.star_eval.specs.Arguments.name_key Rattle.star_eval.specs.Binding.bound_to Rattle.star_eval.specs.Binding.make_shares Rattle.star_eval.specs.BuiltIns.call_built_in Rattle.star_eval.specs.Calls.callee Rattle.star_eval.specs.Calls.activate Rattle.star_eval.specs.Calls.deactivate Rattle.star_eval.specs.ListMethods.extend Rattle.star_eval.specs.Methods.attribute Rattle.star_eval.specs.Methods.call_method Rattle.star_eval.specs.Module.meaning Rattle.star_eval.specs.Operators.operate Rattle.star_eval.specs.Operators.prefix Rattle.star_eval.specs.Operators.compared Rattle.star_eval.specs.Pairs.pairs_of Rattle.star_eval.specs.Pairs.put_pairs Rattle.star_eval.specs.Pairs.dict_of Rattle.star_eval.specs.Pairs.update_with Rattle.star_eval.specs.Run.pay Rattle.star_eval.specs.Run.make Rattle.star_eval.specs.Run.build Rattle.star_eval.specs.Run.add_line Rattle.star_eval.specs.Subscript.index Rattle.star_eval.specs.Subscript.put_entry Rattle.star_eval.specs.Subscript.set_index Rattle.star_eval.specs.Subscript.slice Rattle.star_eval.specs.Values.count_of Rattle.star_eval.specs.Values.take_item Rattle.star_eval.specs.Values.iterate Rattle.star_eval.specs.Values.leave Rattle.star_eval.specs.Values.is_true Rattle.star_eval.specs.Values.equal Rattle.star_eval.specs.Values.compare Rattle.star_eval.specs.Values.check_key Rattle.star_eval.specs.Values.repr Rattle.star_eval.specs.Values.str Rattle.star_eval.specs.Values.guard Rattle.star_eval.specs.Values.change Rattle.star_eval.specs.Variables.read_name Rattle.star_eval.specs.Variables.bind_name Rattle.star_eval.specs.Variables.new_frame Rattle.star_store.specs.Text.text Rattle.star_store.specs.Equal.same Rattle.star_store.specs.Order.order Rattle.star_store.specs.Key.check Rattle.star_store.specs.Key.is_key Rattle.star_store.specs.Key.same_key
-unbound_global = refl
-
--- for i in 5: pass
-pub int_is_not_iterable : (shown (local (one_file ((105 ∷ []) ∷ []) ([]) ([])) 1000000 ((at 1 101 (f.For (t.Name (n (105 ∷ []))) (e.Int (pos 5)) ((at 1 102 f.Pass) ∷ []))) ∷ [])) ≡ Stopped (record { code = code.BadType; line = 1 }) ([]))
-unfolding out-Form out-Expression out-Target out-Argument out-Clause out-Parameter denote.Hole.Carrier.out denote.Hole.Carrier.shown denote.Hole.Carrier.hidden digits Rattle.star_eval.specs.Arguments.given Rattle.star_eval.specs.Arguments.name_key Rattle.star_eval.specs.Binding.bound_to Rattle.star_eval.specs.Binding.make_shares Rattle.star_eval.specs.BuiltIns.call_built_in Rattle.star_eval.specs.Calls.callee Rattle.star_eval.specs.Calls.activate Rattle.star_eval.specs.Calls.deactivate Rattle.star_eval.specs.ListMethods.extend Rattle.star_eval.specs.Methods.attribute Rattle.star_eval.specs.Methods.call_method Rattle.star_eval.specs.Module.meaning Rattle.star_eval.specs.Operators.operate Rattle.star_eval.specs.Operators.prefix Rattle.star_eval.specs.Operators.compared Rattle.star_eval.specs.Pairs.pairs_of Rattle.star_eval.specs.Pairs.put_pairs Rattle.star_eval.specs.Pairs.dict_of Rattle.star_eval.specs.Pairs.update_with Rattle.star_eval.specs.Run.pay Rattle.star_eval.specs.Run.make Rattle.star_eval.specs.Run.build Rattle.star_eval.specs.Run.add_line Rattle.star_eval.specs.Subscript.index Rattle.star_eval.specs.Subscript.put_entry Rattle.star_eval.specs.Subscript.set_index Rattle.star_eval.specs.Subscript.slice Rattle.star_eval.specs.Values.count_of Rattle.star_eval.specs.Values.take_item Rattle.star_eval.specs.Values.iterate Rattle.star_eval.specs.Values.leave Rattle.star_eval.specs.Values.is_true Rattle.star_eval.specs.Values.equal Rattle.star_eval.specs.Values.compare Rattle.star_eval.specs.Values.check_key Rattle.star_eval.specs.Values.repr Rattle.star_eval.specs.Values.str Rattle.star_eval.specs.Values.guard Rattle.star_eval.specs.Values.change Rattle.star_eval.specs.Variables.read_name Rattle.star_eval.specs.Variables.bind_name Rattle.star_eval.specs.Variables.new_frame Rattle.star_store.specs.Text.text Rattle.star_store.specs.Equal.same Rattle.star_store.specs.Order.order Rattle.star_store.specs.Key.check Rattle.star_store.specs.Key.is_key Rattle.star_store.specs.Key.same_key
-int_is_not_iterable = refl
-
--- for i in "abc": pass
-pub string_is_not_iterable : (shown (local (one_file ((105 ∷ []) ∷ []) ([]) ([])) 1000000 ((at 1 101 (f.For (t.Name (n (105 ∷ []))) (e.Text (97 ∷ 98 ∷ 99 ∷ [])) ((at 1 102 f.Pass) ∷ []))) ∷ [])) ≡ Stopped (record { code = code.BadType; line = 1 }) ([]))
-unfolding out-Form out-Expression out-Target out-Argument out-Clause out-Parameter denote.Hole.Carrier.out denote.Hole.Carrier.shown denote.Hole.Carrier.hidden digits Rattle.star_eval.specs.Arguments.given Rattle.star_eval.specs.Arguments.name_key Rattle.star_eval.specs.Binding.bound_to Rattle.star_eval.specs.Binding.make_shares Rattle.star_eval.specs.BuiltIns.call_built_in Rattle.star_eval.specs.Calls.callee Rattle.star_eval.specs.Calls.activate Rattle.star_eval.specs.Calls.deactivate Rattle.star_eval.specs.ListMethods.extend Rattle.star_eval.specs.Methods.attribute Rattle.star_eval.specs.Methods.call_method Rattle.star_eval.specs.Module.meaning Rattle.star_eval.specs.Operators.operate Rattle.star_eval.specs.Operators.prefix Rattle.star_eval.specs.Operators.compared Rattle.star_eval.specs.Pairs.pairs_of Rattle.star_eval.specs.Pairs.put_pairs Rattle.star_eval.specs.Pairs.dict_of Rattle.star_eval.specs.Pairs.update_with Rattle.star_eval.specs.Run.pay Rattle.star_eval.specs.Run.make Rattle.star_eval.specs.Run.build Rattle.star_eval.specs.Run.add_line Rattle.star_eval.specs.Subscript.index Rattle.star_eval.specs.Subscript.put_entry Rattle.star_eval.specs.Subscript.set_index Rattle.star_eval.specs.Subscript.slice Rattle.star_eval.specs.Values.count_of Rattle.star_eval.specs.Values.take_item Rattle.star_eval.specs.Values.iterate Rattle.star_eval.specs.Values.leave Rattle.star_eval.specs.Values.is_true Rattle.star_eval.specs.Values.equal Rattle.star_eval.specs.Values.compare Rattle.star_eval.specs.Values.check_key Rattle.star_eval.specs.Values.repr Rattle.star_eval.specs.Values.str Rattle.star_eval.specs.Values.guard Rattle.star_eval.specs.Values.change Rattle.star_eval.specs.Variables.read_name Rattle.star_eval.specs.Variables.bind_name Rattle.star_eval.specs.Variables.new_frame Rattle.star_store.specs.Text.text Rattle.star_store.specs.Equal.same Rattle.star_store.specs.Order.order Rattle.star_store.specs.Key.check Rattle.star_store.specs.Key.is_key Rattle.star_store.specs.Key.same_key
-string_is_not_iterable = refl
-
--- a, b = 1
-pub int_is_not_unpacked : (shown (local (one_file ((97 ∷ []) ∷ (98 ∷ []) ∷ []) ([]) ([])) 1000000 ((at 1 101 (f.Assign (t.Tuple ((t.Name (n (97 ∷ []))) ∷ (t.Name (n (98 ∷ []))) ∷ [])) (e.Int (pos 1)))) ∷ [])) ≡ Stopped (record { code = code.BadType; line = 1 }) ([]))
-unfolding out-Form out-Expression out-Target out-Argument out-Clause out-Parameter denote.Hole.Carrier.out denote.Hole.Carrier.shown denote.Hole.Carrier.hidden digits Rattle.star_eval.specs.Arguments.given Rattle.star_eval.specs.Arguments.name_key Rattle.star_eval.specs.Binding.bound_to Rattle.star_eval.specs.Binding.make_shares Rattle.star_eval.specs.BuiltIns.call_built_in Rattle.star_eval.specs.Calls.callee Rattle.star_eval.specs.Calls.activate Rattle.star_eval.specs.Calls.deactivate Rattle.star_eval.specs.ListMethods.extend Rattle.star_eval.specs.Methods.attribute Rattle.star_eval.specs.Methods.call_method Rattle.star_eval.specs.Module.meaning Rattle.star_eval.specs.Operators.operate Rattle.star_eval.specs.Operators.prefix Rattle.star_eval.specs.Operators.compared Rattle.star_eval.specs.Pairs.pairs_of Rattle.star_eval.specs.Pairs.put_pairs Rattle.star_eval.specs.Pairs.dict_of Rattle.star_eval.specs.Pairs.update_with Rattle.star_eval.specs.Run.pay Rattle.star_eval.specs.Run.make Rattle.star_eval.specs.Run.build Rattle.star_eval.specs.Run.add_line Rattle.star_eval.specs.Subscript.index Rattle.star_eval.specs.Subscript.put_entry Rattle.star_eval.specs.Subscript.set_index Rattle.star_eval.specs.Subscript.slice Rattle.star_eval.specs.Values.count_of Rattle.star_eval.specs.Values.take_item Rattle.star_eval.specs.Values.iterate Rattle.star_eval.specs.Values.leave Rattle.star_eval.specs.Values.is_true Rattle.star_eval.specs.Values.equal Rattle.star_eval.specs.Values.compare Rattle.star_eval.specs.Values.check_key Rattle.star_eval.specs.Values.repr Rattle.star_eval.specs.Values.str Rattle.star_eval.specs.Values.guard Rattle.star_eval.specs.Values.change Rattle.star_eval.specs.Variables.read_name Rattle.star_eval.specs.Variables.bind_name Rattle.star_eval.specs.Variables.new_frame Rattle.star_store.specs.Text.text Rattle.star_store.specs.Equal.same Rattle.star_store.specs.Order.order Rattle.star_store.specs.Key.check Rattle.star_store.specs.Key.is_key Rattle.star_store.specs.Key.same_key
-int_is_not_unpacked = refl
+pub names_there : (w : Setting) (files : Files) (file number : ℕ) → AreOutlined w files
+    → names_in (blocks_in (outline_at files file)) number ≡ names_of w file number
+names_there w files file number h = sym (ap (λ o. names_in (blocks_in o) number) (outline_in w files file h))

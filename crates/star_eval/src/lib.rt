@@ -1,21 +1,16 @@
-//! What a program means, as definitions, and laws of it; and what runs it.
+//! What runs a program.
 #![tactic(auto)]
 
-pub mod comparisons;
-pub mod content;
-pub mod cuts;
-pub mod fault;
-pub mod given;
-pub mod law;
-pub mod machine;
-pub mod operators;
-mod percent;
-pub mod place;
-pub mod programs;
-mod search;
-pub mod setting;
-pub mod slices;
-pub mod subscript;
-#[cfg(test)]
-mod tests;
-pub mod texts;
+mod calls;
+mod comprehensions;
+pub mod context;
+pub mod evaluate;
+pub mod execute;
+pub mod files;
+mod loads;
+mod nodes;
+mod output;
+mod parts;
+mod targets;
+pub mod variables;
+pub mod world;

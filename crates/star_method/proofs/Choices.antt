@@ -2,12 +2,12 @@
 use Rattle.std.proofs.Common.{◌≡◌, List, [], ◌∷◌, ℕ, true, false, Option, Some, None, is_some, refl, ap}
 use Rattle.star_store.specs.declared.values.Value.{Value}
 use Rattle.star_store.specs.declared.values.Cell.TheVariants as cell
-use Rattle.star_eval.specs.Run.{State}
-use Rattle.star_eval.specs.Program.{Setting}
-use Rattle.star_eval.specs.Arguments.{before_all}
-use Rattle.star_eval.specs.Kinds.{bytes_of}
-use Rattle.star_eval.specs.TextMethods.{texts_of}
-use Rattle.star_eval.specs.Values.{Content, Nothing, Truth, Number, BuiltInFunction, Held, Nowhere, content, text_of}
+use Rattle.star_meaning.specs.Run.{State}
+use Rattle.star_meaning.specs.Program.{Setting}
+use Rattle.star_meaning.specs.Arguments.{before_all}
+use Rattle.star_machine.specs.Kinds.{bytes_of}
+use Rattle.star_meaning.specs.TextMethods.{texts_of}
+use Rattle.star_meaning.specs.Values.{Content, Nothing, Truth, Number, BuiltInFunction, Held, Nowhere, content, text_of}
 use Rattle.star_method.specs.Ends.{bytes_each}
 
 before_some : (c : Content) (r : Option (List (List ℕ))) (us : List (List ℕ)) → (is_some r ≡ true → r ≡ Some us) → is_some (before_all (text_of c) r) ≡ true → before_all (text_of c) r ≡ Some (bytes_of c ∷ us)

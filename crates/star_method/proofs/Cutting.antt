@@ -6,8 +6,8 @@ use Rattle.std.specs.Str.Pattern.{LacksTextAt, FindsText}
 use Rattle.std.proofs.lemmas.Bool.Decides.{nat_tests}
 use Rattle.std.proofs.lemmas.List.{take-append-drop}
 use Rattle.std.proofs.lemmas.Str.Pattern.{starts_text}
-use Rattle.star_eval.specs.BuiltIns.{joined}
-use Rattle.star_eval.specs.Texts.{may_cut, one_less, parts, parts_from}
+use Rattle.star_meaning.specs.BuiltIns.{joined}
+use Rattle.star_meaning.specs.Texts.{may_cut, one_less, parts, parts_from}
 
 -- the bytes of a separator are passed over
 skip_over : (by : List ℕ) (left : Option ℕ) (n : ℕ) (xs ys part : List ℕ) → length xs ≡ n → parts_from by left n part (xs ++ ys) ≡ parts_from by left 0 part ys

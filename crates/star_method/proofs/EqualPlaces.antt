@@ -4,14 +4,14 @@ use Rattle.star_store.specs.declared.values.Value.{Value}
 use Rattle.star_store.specs.declared.values.Cell.TheVariants as cell
 use Rattle.star_store.specs.Equal.{same}
 use Rattle.star_store.specs.Spend.{Spent, Enough, Lacks, Spend, answer, spend_then}
-use Rattle.star_eval.specs.declared.content.Kind.TheVariants as kind
-use Rattle.star_eval.specs.Run.{State, Done, and_then, give, settled}
-use Rattle.star_eval.specs.Program.{Setting, seen}
-use Rattle.star_eval.specs.Values.{Content, Nothing, Truth, Number, BuiltInFunction, Held, Nowhere, content, equal}
-use Rattle.star_eval.specs.Kinds.{kind_of, row_in}
-use Rattle.star_eval.specs.ListMethods.{equal_place, items_of}
-use Rattle.star_eval.specs.Search.{first_place_where, found_place}
-use Rattle.star_eval.proofs.KindCases.{is_list, row_seen}
+use Rattle.star_machine.specs.declared.content.Kind.TheVariants as kind
+use Rattle.star_meaning.specs.Run.{State, Done, and_then, give, settled}
+use Rattle.star_meaning.specs.Program.{Setting, seen}
+use Rattle.star_meaning.specs.Values.{Content, Nothing, Truth, Number, BuiltInFunction, Held, Nowhere, content, equal}
+use Rattle.star_machine.specs.Kinds.{kind_of, row_in}
+use Rattle.star_meaning.specs.ListMethods.{equal_place, items_of}
+use Rattle.star_machine.specs.Search.{first_place_where, found_place}
+use Rattle.star_machine.proofs.KindCases.{is_list, row_seen}
 
 settled_again : {A : Type 0} (line : ℕ) (o : Spent A) (s : State) (n : ℕ) → settled line o (record s { steps = n }) ≡ settled line o s
 settled_again line (Enough x left) s n = refl

@@ -1,6 +1,6 @@
 -- A place that is found lies within the ends.
 use Rattle.std.proofs.Common.{◌≡◌, ℕ, zero, suc, ◌+◌, ◌-◌, ◌<◌, ◌≤◌, Bool, true, false, List, length, Some, if◌then◌else◌, arith}
-use Rattle.star_eval.specs.Operators.{first_place, place_between, stands_at}
+use Rattle.star_meaning.specs.Operators.{first_place, place_between, stands_at}
 
 first_turn : (t u : List ℕ) (n i j : ℕ) (e : Bool) → (first_place t u n (i + 1) ≡ Some j → (i + 1 ≤ j) × (j < i + 1 + n)) → (if e then Some i else first_place t u n (i + 1)) ≡ Some j → (i ≤ j) × (j < i + suc n)
 first_turn t u n i j true f h = let e : i ≡ j = cc in (omega arith, omega arith)

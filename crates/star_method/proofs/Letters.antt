@@ -2,7 +2,7 @@
 use Rattle.std.proofs.Common.{◌≡◌, ℕ, List, [], ◌∷◌, map, refl, arith}
 use Rattle.std.proofs.lemmas.Bool.Decides.{nat_tests}
 use Rattle.std.specs.Char.{to_ascii_lowercase, to_ascii_uppercase}
-use Rattle.star_eval.specs.Texts.{lower, upper}
+use Rattle.star_meaning.specs.Texts.{lower, upper}
 
 lower_one : (b : ℕ) → to_ascii_lowercase b ≡ lower b
 lower_one b = grind (arith, nat_tests)

@@ -7,7 +7,7 @@ use Rattle.std.proofs.lemmas.Str.{IsCharBoundary-start}
 use Rattle.std.proofs.Math.Seq.{drop-cons}
 use Rattle.std.proofs.lemmas.List.{take-append-drop, reverse-append, reverse-reverse}
 use Rattle.std.proofs.lemmas.List.Folds.{list_all_more}
-use Rattle.star_eval.specs.Texts.{goes_on, begins_inside, led_by, characters, without_front, without_end}
+use Rattle.star_meaning.specs.Texts.{goes_on, begins_inside, led_by, characters, without_front, without_end}
 
 and_true : (p q : Bool) → p ≡ true → q ≡ true → (p && q) ≡ true
 and_true true true h k = refl

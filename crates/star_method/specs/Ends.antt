@@ -2,12 +2,12 @@
 use Rattle.std.specs.Prelude.{ℕ, nat_eq, Bool, List, [], ◌∷◌, ◌++◌, length, map, Option, ℤ, pos}
 use Rattle.std.specs.List.{ends_with, starts_with}
 use Rattle.star_store.specs.declared.values.Value.{Value}
-use Rattle.star_eval.specs.Run.{State}
-use Rattle.star_eval.specs.Program.{Setting}
-use Rattle.star_eval.specs.Kinds.{bytes_of}
-use Rattle.star_eval.specs.Operators.{place_between}
-use Rattle.star_eval.specs.TextMethods.{end_of, place_or_none}
-use Rattle.star_eval.specs.Values.{content}
+use Rattle.star_meaning.specs.Run.{State}
+use Rattle.star_meaning.specs.Program.{Setting}
+use Rattle.star_machine.specs.Kinds.{bytes_of}
+use Rattle.star_meaning.specs.Operators.{place_between}
+use Rattle.star_meaning.specs.TextMethods.{end_of, place_or_none}
+use Rattle.star_meaning.specs.Values.{content}
 use Rattle.star_method.specs.declared.texts.Edge.{Edge}
 use Rattle.star_method.specs.declared.texts.Edge.TheVariants as edge
 

@@ -1,8 +1,8 @@
 -- Pairs that are gathered to be put into a dictionary.
 use Rattle.std.specs.Prelude.{ℕ}
 use Rattle.star_store.specs.declared.values.Value.{Value}
-use Rattle.star_eval.specs.Run.{Action, ◌>>=◌, give, pay}
-use Rattle.star_eval.specs.Pairs.{Pairs}
+use Rattle.star_meaning.specs.Run.{Action, ◌>>=◌, give, pay}
+use Rattle.star_meaning.specs.Pairs.{Pairs}
 use Rattle.star_method.specs.declared.pairs.Pairs.{Pairs as Gathered}
 
 abbrev pub as_pairs : Gathered → Pairs

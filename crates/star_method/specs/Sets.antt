@@ -1,6 +1,6 @@
 -- Sets of characters.
 use Rattle.std.specs.Prelude.{ℕ, Bool, List}
-use Rattle.star_eval.specs.Texts.{is_blank, is_in}
+use Rattle.star_meaning.specs.Texts.{is_blank, is_in}
 use Rattle.star_method.specs.declared.characters.Set.{Set}
 use Rattle.star_method.specs.declared.characters.Set.TheVariants as set
 

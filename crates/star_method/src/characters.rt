@@ -2,7 +2,7 @@
 
 ghost use Rattle.std.specs.Prelude.{◌≡◌, ◌∷◌, ◌++◌, ◌<◌, ◌≤◌, ◌+◌, [], MatchOption, drop, false, get_or, length, take, true};
 ghost use Rattle.std.specs.List.{list_all};
-ghost use Rattle.star_eval.specs.Texts as spec;
+ghost use Rattle.star_meaning.specs.Texts as spec;
 ghost use Rattle.star_method.specs.Sets.{test_of};
 
 use star_text::Text;

@@ -1,19 +1,20 @@
 //! The methods of dictionaries. `clear` is that of lists.
 
 ghost use Rattle.std.specs.Prelude.{◌≡◌, IfOk, map, slice_get};
-ghost use Rattle.star_eval.specs.DictMethods as spec;
-ghost use Rattle.star_eval.specs.Gives.{Gives};
-ghost use Rattle.star_eval.specs.Run.{each};
-ghost use Rattle.star_eval.specs.Subscript.{entries_in};
-ghost use Rattle.star_eval.specs.Values.{content};
+ghost use Rattle.star_meaning.specs.DictMethods as spec;
+ghost use Rattle.star_machine.specs.Gives.{Gives};
+ghost use Rattle.star_meaning.specs.Run.{each};
+ghost use Rattle.star_meaning.specs.Subscript.{entries_in};
+ghost use Rattle.star_meaning.specs.Values.{content};
 
 use crate::pairs::{entries_of, update_with};
-use star_eval::content::Content;
-use star_eval::fault::{Code, Stop, faulted};
-use star_eval::given::Given;
-use star_eval::machine::Machine;
-use star_eval::setting::Setting;
-use star_eval::subscript::put_entry;
+use star_machine::content::Content;
+use star_machine::fault::{Stop, faulted};
+use star_machine::machine::Machine;
+use star_machine::setting::Setting;
+use star_machine::subscript::put_entry;
+use star_meaning::fault::Code;
+use star_meaning::given::Given;
 use star_store::arena::write::Change;
 use star_store::values::{Cell, Value, Values};
 use std::alloc::{AllocError, Global};

@@ -6,6 +6,4 @@ pub mod dicts;
 pub mod lists;
 pub mod pairs;
 pub mod parts;
-#[cfg(test)]
-mod tests;
 pub mod texts;

@@ -1,18 +1,19 @@
 //! The methods of lists.
 
 ghost use Rattle.std.specs.Prelude.{◌≡◌, length};
-ghost use Rattle.star_eval.specs.Gives.{Gives};
-ghost use Rattle.star_eval.specs.ListMethods as spec;
-ghost use Rattle.star_eval.specs.Run.{all_of};
-ghost use Rattle.star_eval.specs.Values.{content};
+ghost use Rattle.star_machine.specs.Gives.{Gives};
+ghost use Rattle.star_meaning.specs.ListMethods as spec;
+ghost use Rattle.star_meaning.specs.Run.{all_of};
+ghost use Rattle.star_meaning.specs.Values.{content};
 
-use star_eval::content::{Content, Kind};
-use star_eval::fault::{Code, Stop, faulted};
-use star_eval::given::Given;
-use star_eval::machine::Machine;
-use star_eval::setting::Setting;
-use star_eval::slices::bound_of;
-use star_eval::subscript::place_from;
+use star_machine::content::{Content, Kind};
+use star_machine::fault::{Stop, faulted};
+use star_machine::machine::Machine;
+use star_machine::setting::Setting;
+use star_machine::slices::bound_of;
+use star_machine::subscript::place_from;
+use star_meaning::fault::Code;
+use star_meaning::given::Given;
 use star_store::arena::write::Change;
 use star_store::values::{Cell, Value};
 
@@ -90,7 +91,7 @@ pub fn call_clear(
 }
 
 /// Adds the items of an iterable: `BadType` for what is none, the write guard, all items, 1 for each.
-#[tactic(auto, unfolding(star_eval::specs::ListMethods::extend))]
+#[tactic(auto, unfolding(star_meaning::specs::ListMethods::extend))]
 pub fn extend(
     machine: &mut Machine,
     setting: &Setting,
@@ -123,7 +124,7 @@ pub fn call_extend(
 }
 
 /// The place of the first item of a list that is equal to a value.
-#[tactic(auto, unfolding(star_eval::specs::Search::found_place), using(crate::proofs::EqualPlaces::place_in_list, crate::proofs::EqualPlaces::place_in_none))]
+#[tactic(auto, unfolding(star_machine::specs::Search::found_place), using(crate::proofs::EqualPlaces::place_in_list, crate::proofs::EqualPlaces::place_in_none))]
 fn equal_place(
     machine: &mut Machine,
     setting: &Setting,

@@ -1,19 +1,20 @@
 //! The pairs that `update` puts into a dictionary.
 
 ghost use Rattle.std.specs.Prelude.{◌≡◌, IfOk};
-ghost use Rattle.star_eval.specs.Gives.{Gives, GivesBy};
-ghost use Rattle.star_eval.specs.Pairs as spec;
-ghost use Rattle.star_eval.specs.Run.{all_of, each};
-ghost use Rattle.star_eval.specs.Subscript.{entries_in};
-ghost use Rattle.star_eval.specs.Values.{content, guard};
+ghost use Rattle.star_machine.specs.Gives.{Gives, GivesBy};
+ghost use Rattle.star_meaning.specs.Pairs as spec;
+ghost use Rattle.star_meaning.specs.Run.{all_of, each};
+ghost use Rattle.star_meaning.specs.Subscript.{entries_in};
+ghost use Rattle.star_meaning.specs.Values.{content, guard};
 ghost use Rattle.star_method.specs.Gathered.{as_pairs, taken_entry};
 
-use star_eval::content::{Content, Kind};
-use star_eval::fault::{Code, Stop, faulted};
-use star_eval::given::NamedValue;
-use star_eval::machine::Machine;
-use star_eval::setting::Setting;
-use star_eval::subscript::put_entry;
+use star_machine::content::{Content, Kind};
+use star_machine::fault::{Stop, faulted};
+use star_machine::machine::Machine;
+use star_machine::setting::Setting;
+use star_machine::subscript::put_entry;
+use star_meaning::fault::Code;
+use star_meaning::given::NamedValue;
 use star_store::values::{Cell, Entries, Value};
 use std::alloc::AllocError;
 
@@ -146,7 +147,7 @@ pub fn pairs_count(
 }
 
 /// The pairs of the argument with so many items: none where there is no argument.
-#[tactic(auto, unfolding(star_eval::specs::Pairs::pairs_of))]
+#[tactic(auto, unfolding(star_meaning::specs::Pairs::pairs_of))]
 pub fn pairs_of(
     machine: &mut Machine,
     setting: &Setting,
@@ -248,7 +249,7 @@ fn put_each_named(
 }
 
 /// Puts all pairs, then all values given by name, into a dictionary that stands.
-#[tactic(auto, unfolding(star_eval::specs::Pairs::put_pairs))]
+#[tactic(auto, unfolding(star_meaning::specs::Pairs::put_pairs))]
 fn put_pairs(
     machine: &mut Machine,
     setting: &Setting,
@@ -274,7 +275,7 @@ fn put_pairs(
 }
 
 /// `BadType` for an argument that is no iterable, the write guard, all pairs, then the puts.
-#[tactic(auto, unfolding(star_eval::specs::Pairs::update_with))]
+#[tactic(auto, unfolding(star_meaning::specs::Pairs::update_with))]
 pub fn update_with(
     machine: &mut Machine,
     setting: &Setting,

@@ -1,19 +1,20 @@
 //! `split` and `replace`.
 
 ghost use Rattle.std.specs.Prelude.{◌≡◌, ◌∷◌, ◌<◌, [], IfOk, MatchOption, length};
-ghost use Rattle.star_eval.specs.BuiltIns.{joined};
-ghost use Rattle.star_eval.specs.Gives.{Gives, GivesBy};
-ghost use Rattle.star_eval.specs.Kinds.{bytes_of};
-ghost use Rattle.star_eval.specs.Run.{each};
-ghost use Rattle.star_eval.specs.TextMethods as spec;
-ghost use Rattle.star_eval.specs.Texts as texts;
-ghost use Rattle.star_eval.specs.Values.{content, new_text};
+ghost use Rattle.star_meaning.specs.BuiltIns.{joined};
+ghost use Rattle.star_machine.specs.Gives.{Gives, GivesBy};
+ghost use Rattle.star_machine.specs.Kinds.{bytes_of};
+ghost use Rattle.star_meaning.specs.Run.{each};
+ghost use Rattle.star_meaning.specs.TextMethods as spec;
+ghost use Rattle.star_meaning.specs.Texts as texts;
+ghost use Rattle.star_meaning.specs.Values.{content, new_text};
 
 use crate::texts::pay_for_bytes;
-use star_eval::fault::{Code, Stop, faulted};
-use star_eval::given::Given;
-use star_eval::machine::Machine;
-use star_eval::setting::Setting;
+use star_machine::fault::{Stop, faulted};
+use star_machine::machine::Machine;
+use star_machine::setting::Setting;
+use star_meaning::fault::Code;
+use star_meaning::given::Given;
 use star_store::values::{Value, Values};
 use star_text::Text;
 use std::alloc::{AllocError, Global};

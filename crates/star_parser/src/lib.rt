@@ -37,6 +37,3 @@ pub fn parse(alloc: Global, text: &str) -> Result<Tree, SyntaxFault>
         None => Err(SyntaxFault::BadSyntax),
     }
 }
-
-#[cfg(test)]
-mod tree_tests;

@@ -12,12 +12,6 @@ mod names;
 pub mod outline;
 pub mod placement;
 pub mod program;
-#[cfg(test)]
-mod program_tests;
 pub mod spot;
 pub mod spots;
-#[cfg(test)]
-mod tests;
-#[cfg(test)]
-mod use_tests;
 pub mod uses;

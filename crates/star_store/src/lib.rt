@@ -11,8 +11,6 @@ pub mod key;
 pub mod names;
 pub mod order;
 pub mod range;
-#[cfg(test)]
-mod tests;
 pub mod text;
 pub mod truth;
 pub mod values;

@@ -1,6 +1,6 @@
 use Rattle.std.proofs.Common.{◌≡◌, drop}
 use Rattle.std.specs.List.{list_all}
-use Rattle.star_eval.specs.Format.{is_word_byte}
+use Rattle.star_meaning.specs.Format.{is_word_byte}
 use Rattle.star_attribute.proofs.fields.are_word_bytes.Given as goal
 
 abbrev pub invariant-loop-byte : goal.invariant-loop-byte

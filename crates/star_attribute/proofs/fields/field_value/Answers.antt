@@ -1,7 +1,7 @@
 use Rattle.std.proofs.Common.{◌≡◌, nat_eq, true, false, length, sym, rules}
 use Rattle.std.specs.List.{list_all}
-use Rattle.star_eval.specs.BuiltIns.{is_digit}
-use Rattle.star_eval.specs.Format.{is_field_name}
+use Rattle.star_meaning.specs.BuiltIns.{is_digit}
+use Rattle.star_meaning.specs.Format.{is_field_name}
 use Rattle.star_attribute.proofs.fields.field_value.Goals as goal
 
 pub returns-then-is_field_name : goal.returns-then-is_field_name

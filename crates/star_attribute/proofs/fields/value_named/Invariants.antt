@@ -1,7 +1,7 @@
 use Rattle.std.proofs.Common.{◌≡◌, drop}
 use Rattle.std.specs.List.{find}
 use Rattle.star_scope.specs.Names.{same_name}
-use Rattle.star_eval.specs.declared.given.NamedValue.{NamedValue}
+use Rattle.star_meaning.specs.declared.given.NamedValue.{NamedValue}
 use Rattle.star_attribute.proofs.fields.value_named.Given as goal
 
 abbrev pub invariant-loop-named : goal.invariant-loop-named

@@ -1,5 +1,5 @@
 use Rattle.std.proofs.Common.{◌∷◌, ap, sym, ◌∙◌, string_bytes, rules}
-use Rattle.star_eval.specs.Format.{Outside, formatted}
+use Rattle.star_meaning.specs.Format.{Outside, formatted}
 use Rattle.star_attribute.specs.Fields.{as_numbering}
 use Rattle.star_attribute.proofs.Braces.{outside_cut, outside_last}
 use Rattle.star_attribute.proofs.formats.formatted.Goals as goal

@@ -1,7 +1,7 @@
 use Rattle.std.proofs.Common.{◌≡◌, [], length, string_bytes}
 use denote.Shadow.{shadow}
 use denote.Text.{Utf8}
-use Rattle.star_eval.specs.Format.{formatted, Outside, Unused}
+use Rattle.star_meaning.specs.Format.{formatted, Outside, Unused}
 use Rattle.star_attribute.specs.Fields.{as_numbering}
 use Rattle.star_attribute.proofs.formats.formatted.Given as goal
 

@@ -1,5 +1,5 @@
 use Rattle.std.proofs.Common.{◌≡◌, drop}
-use Rattle.star_eval.specs.BuiltIns.{best_of}
+use Rattle.star_meaning.specs.BuiltIns.{best_of}
 use Rattle.star_builtin.specs.Best.{better}
 use Rattle.star_builtin.proofs.best.best_of.Given as goal
 

@@ -1,6 +1,6 @@
 use Rattle.std.proofs.Common.{◌≡◌, take, drop}
-use Rattle.star_eval.specs.Gives.{with_front}
-use Rattle.star_eval.specs.Pairs.{taken_entries}
+use Rattle.star_machine.specs.Gives.{with_front}
+use Rattle.star_meaning.specs.Pairs.{taken_entries}
 use Rattle.star_builtin.proofs.dicts.taken_entries.Given as goal
 
 abbrev pub invariant-loop-entry : goal.invariant-loop-entry

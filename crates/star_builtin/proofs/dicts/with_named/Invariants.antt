@@ -1,5 +1,5 @@
 use Rattle.std.proofs.Common.{◌≡◌, drop}
-use Rattle.star_eval.specs.Pairs.{with_named}
+use Rattle.star_meaning.specs.Pairs.{with_named}
 use Rattle.star_builtin.proofs.dicts.with_named.Given as goal
 
 abbrev pub invariant-loop-value : goal.invariant-loop-value

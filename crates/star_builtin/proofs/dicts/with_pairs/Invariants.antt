@@ -1,5 +1,5 @@
 use Rattle.std.proofs.Common.{◌≡◌, [], drop}
-use Rattle.star_eval.specs.Pairs.{with_pairs}
+use Rattle.star_meaning.specs.Pairs.{with_pairs}
 use Rattle.star_builtin.proofs.dicts.with_pairs.Given as goal
 
 abbrev pub invariant-loop-pair : goal.invariant-loop-pair

@@ -1,8 +1,8 @@
 use Rattle.std.proofs.Common.{◌≡◌, drop}
 use Rattle.star_store.specs.declared.values.Value.{Value}
-use Rattle.star_eval.specs.Gives.{with_front}
-use Rattle.star_eval.specs.Run.{each}
-use Rattle.star_eval.specs.Values.{take_item}
+use Rattle.star_machine.specs.Gives.{with_front}
+use Rattle.star_meaning.specs.Run.{each}
+use Rattle.star_meaning.specs.Values.{take_item}
 use Rattle.star_builtin.proofs.rows.items_at.Given as goal
 
 abbrev pub invariant-loop-value : goal.invariant-loop-value

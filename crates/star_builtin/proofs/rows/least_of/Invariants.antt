@@ -1,5 +1,5 @@
 use Rattle.std.proofs.Common.{◌≡◌, ◌∷◌, drop}
-use Rattle.star_eval.specs.BuiltIns.{least}
+use Rattle.star_meaning.specs.BuiltIns.{least}
 use Rattle.star_builtin.proofs.rows.least_of.Given as goal
 
 abbrev pub invariant-loop-number : goal.invariant-loop-number

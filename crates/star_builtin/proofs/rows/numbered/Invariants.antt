@@ -1,6 +1,6 @@
 use Rattle.std.proofs.Common.{◌≡◌, ◌+ℤ◌, pos, drop}
-use Rattle.star_eval.specs.Gives.{with_front}
-use Rattle.star_eval.specs.BuiltIns.{numbered}
+use Rattle.star_machine.specs.Gives.{with_front}
+use Rattle.star_meaning.specs.BuiltIns.{numbered}
 use Rattle.star_builtin.proofs.rows.numbered.Given as goal
 
 abbrev pub invariant-loop-item : goal.invariant-loop-item

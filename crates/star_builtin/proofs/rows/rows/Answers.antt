@@ -1,5 +1,5 @@
 use Rattle.std.proofs.Common.{◌∙◌, ◌<◌, arith}
-use Rattle.star_eval.proofs.Turns.{collected}
+use Rattle.star_machine.proofs.Turns.{collected}
 use Rattle.star_builtin.proofs.rows.rows.Goals as goal
 
 pub loop-i-preserved : goal.loop-i-preserved

@@ -1,7 +1,7 @@
 use Rattle.std.proofs.Common.{◌≡◌, ◌-◌}
-use Rattle.star_eval.specs.Gives.{with_front}
-use Rattle.star_eval.specs.Run.{collect}
-use Rattle.star_eval.specs.BuiltIns.{row_at}
+use Rattle.star_machine.specs.Gives.{with_front}
+use Rattle.star_meaning.specs.Run.{collect}
+use Rattle.star_meaning.specs.BuiltIns.{row_at}
 use Rattle.star_builtin.proofs.rows.rows.Given as goal
 
 abbrev pub invariant-loop-i : goal.invariant-loop-i

@@ -1,5 +1,5 @@
 use Rattle.std.proofs.Common.{◌≡◌, ◌∷◌, drop, string_bytes}
-use Rattle.star_eval.specs.BuiltIns.{joined}
+use Rattle.star_meaning.specs.BuiltIns.{joined}
 use Rattle.star_builtin.proofs.say.push_texts.Given as goal
 
 abbrev pub invariant-loop-text : goal.invariant-loop-text

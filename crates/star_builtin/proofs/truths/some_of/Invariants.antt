@@ -1,6 +1,6 @@
 use Rattle.std.proofs.Common.{◌≡◌, ◌-◌}
-use Rattle.star_eval.specs.Run.{until}
-use Rattle.star_eval.specs.BuiltIns.{is_decided}
+use Rattle.star_meaning.specs.Run.{until}
+use Rattle.star_meaning.specs.BuiltIns.{is_decided}
 use Rattle.star_builtin.proofs.truths.some_of.Given as goal
 
 abbrev pub invariant-loop-i : goal.invariant-loop-i

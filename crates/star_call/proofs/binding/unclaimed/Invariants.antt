@@ -1,5 +1,5 @@
 use Rattle.std.proofs.Common.{◌≡◌, ◌++◌, drop}
-use Rattle.star_eval.specs.Binding.{unclaimed}
+use Rattle.star_meaning.specs.Binding.{unclaimed}
 use Rattle.star_call.specs.Shares.{all_named}
 use Rattle.star_call.proofs.binding.unclaimed.Given as goal
 

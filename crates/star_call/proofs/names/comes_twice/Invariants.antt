@@ -1,5 +1,5 @@
 use Rattle.std.proofs.Common.{◌≡◌, length}
-use Rattle.star_eval.specs.Arguments.{comes_twice}
+use Rattle.star_meaning.specs.Arguments.{comes_twice}
 use Rattle.star_call.proofs.names.comes_twice.Given as goal
 
 abbrev pub invariant-loop-rest : goal.invariant-loop-rest

@@ -1,5 +1,5 @@
 use Rattle.std.proofs.Common.{◌≡◌, drop}
-use Rattle.star_eval.specs.Arguments.{is_given}
+use Rattle.star_meaning.specs.Arguments.{is_given}
 use Rattle.star_call.proofs.names.is_given.Given as goal
 
 abbrev pub invariant-loop-value : goal.invariant-loop-value

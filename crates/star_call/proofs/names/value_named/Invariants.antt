@@ -1,5 +1,5 @@
 use Rattle.std.proofs.Common.{◌≡◌, drop}
-use Rattle.star_eval.specs.Binding.{value_named}
+use Rattle.star_meaning.specs.Binding.{value_named}
 use Rattle.star_call.proofs.names.value_named.Given as goal
 
 abbrev pub invariant-loop-value : goal.invariant-loop-value

@@ -1,7 +1,7 @@
 use Rattle.std.proofs.Common.{◌≡◌, ◌++◌, List, drop}
 use Rattle.std.specs.Option.{option_map}
-use Rattle.star_eval.specs.declared.given.NamedValue.{NamedValue}
-use Rattle.star_eval.specs.Arguments.{named_entries}
+use Rattle.star_meaning.specs.declared.given.NamedValue.{NamedValue}
+use Rattle.star_meaning.specs.Arguments.{named_entries}
 use Rattle.star_call.proofs.passed.named_entries.Given as goal
 
 abbrev pub invariant-loop-entry : goal.invariant-loop-entry

@@ -1,6 +1,6 @@
 use Rattle.std.proofs.Common.{◌≡◌, map, drop}
-use Rattle.star_eval.specs.Binding.{make_shares}
-use Rattle.star_eval.specs.Gives.{with_front}
+use Rattle.star_meaning.specs.Binding.{make_shares}
+use Rattle.star_machine.specs.Gives.{with_front}
 use Rattle.star_call.specs.Shares.{all_named, all_shown, bound_value}
 use Rattle.star_call.proofs.shares.all_made.Given as goal
 

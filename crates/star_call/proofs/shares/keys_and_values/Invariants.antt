@@ -1,7 +1,7 @@
 use Rattle.std.proofs.Common.{◌≡◌, drop}
-use Rattle.star_eval.specs.Binding.{key_and_value}
-use Rattle.star_eval.specs.Gives.{with_front}
-use Rattle.star_eval.specs.Run.{each}
+use Rattle.star_meaning.specs.Binding.{key_and_value}
+use Rattle.star_machine.specs.Gives.{with_front}
+use Rattle.star_meaning.specs.Run.{each}
 use Rattle.star_call.specs.Shares.{all_named}
 use Rattle.star_call.proofs.shares.keys_and_values.Given as goal
 

@@ -1,5 +1,5 @@
 use Rattle.std.proofs.Common.{◌≡◌, ◌∷◌, ◌+◌, ◌-◌, ◌<◌, ap, ◌∙◌, length, take, drop, length-drop, rules, arith}
-use Rattle.star_eval.specs.Texts.{characters}
+use Rattle.star_meaning.specs.Texts.{characters}
 use Rattle.star_method.proofs.OneByOne.{first_is, rest_whole}
 use Rattle.star_method.proofs.characters.first_character.Goals as goal
 

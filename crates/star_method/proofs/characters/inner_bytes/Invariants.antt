@@ -1,6 +1,6 @@
 use Rattle.std.proofs.Common.{◌≡◌, take, true}
 use Rattle.std.specs.List.{list_all}
-use Rattle.star_eval.specs.Texts.{goes_on}
+use Rattle.star_meaning.specs.Texts.{goes_on}
 use Rattle.star_method.proofs.characters.inner_bytes.Given as goal
 
 abbrev pub invariant-loop-at : goal.invariant-loop-at

@@ -1,7 +1,7 @@
 use Rattle.std.proofs.Common.{◌≡◌, length}
 use denote.Shadow.{shadow}
 use denote.Text.{Utf8}
-use Rattle.star_eval.specs.Texts.{characters}
+use Rattle.star_meaning.specs.Texts.{characters}
 use Rattle.star_scope.specs.Names.{same_name}
 use Rattle.std.specs.List.{list_any}
 use Rattle.star_method.proofs.characters.is_in.Given as goal

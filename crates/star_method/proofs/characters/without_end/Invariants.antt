@@ -1,7 +1,7 @@
 use Rattle.std.proofs.Common.{◌≡◌, length}
 use denote.Shadow.{shadow}
 use denote.Text.{Utf8}
-use Rattle.star_eval.specs.Texts.{characters, without_end}
+use Rattle.star_meaning.specs.Texts.{characters, without_end}
 use Rattle.star_method.specs.Sets.{test_of}
 use Rattle.star_method.proofs.characters.without_end.Given as goal
 

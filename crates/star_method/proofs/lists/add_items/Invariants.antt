@@ -1,6 +1,6 @@
 use Rattle.std.proofs.Common.{◌≡◌, drop}
-use Rattle.star_eval.specs.ListMethods.{add_item}
-use Rattle.star_eval.specs.Run.{all_of}
+use Rattle.star_meaning.specs.ListMethods.{add_item}
+use Rattle.star_meaning.specs.Run.{all_of}
 use Rattle.star_method.proofs.lists.add_items.Given as goal
 
 abbrev pub invariant-loop-item : goal.invariant-loop-item

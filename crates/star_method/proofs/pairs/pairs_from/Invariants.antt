@@ -1,7 +1,7 @@
 use Rattle.std.proofs.Common.{◌≡◌, drop}
-use Rattle.star_eval.specs.Gives.{with_front}
-use Rattle.star_eval.specs.Pairs.{pair_of}
-use Rattle.star_eval.specs.Run.{each}
+use Rattle.star_machine.specs.Gives.{with_front}
+use Rattle.star_meaning.specs.Pairs.{pair_of}
+use Rattle.star_meaning.specs.Run.{each}
 use Rattle.star_method.proofs.pairs.pairs_from.Given as goal
 
 abbrev pub invariant-loop-item : goal.invariant-loop-item

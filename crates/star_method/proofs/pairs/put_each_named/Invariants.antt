@@ -1,6 +1,6 @@
 use Rattle.std.proofs.Common.{◌≡◌, drop}
-use Rattle.star_eval.specs.Pairs.{put_named}
-use Rattle.star_eval.specs.Run.{all_of}
+use Rattle.star_meaning.specs.Pairs.{put_named}
+use Rattle.star_meaning.specs.Run.{all_of}
 use Rattle.star_method.proofs.pairs.put_each_named.Given as goal
 
 abbrev pub invariant-loop-value : goal.invariant-loop-value

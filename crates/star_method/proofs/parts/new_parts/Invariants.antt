@@ -1,10 +1,10 @@
 use Rattle.std.proofs.Common.{◌≡◌, length}
 use denote.Shadow.{shadow}
 use denote.Text.{Utf8}
-use Rattle.star_eval.specs.Gives.{with_front}
-use Rattle.star_eval.specs.Run.{each}
-use Rattle.star_eval.specs.Texts.{parts}
-use Rattle.star_eval.specs.Values.{new_text}
+use Rattle.star_machine.specs.Gives.{with_front}
+use Rattle.star_meaning.specs.Run.{each}
+use Rattle.star_meaning.specs.Texts.{parts}
+use Rattle.star_meaning.specs.Values.{new_text}
 use Rattle.star_method.proofs.parts.new_parts.Given as goal
 
 abbrev pub invariant-loop-before : goal.invariant-loop-before

@@ -1,5 +1,5 @@
 use Rattle.std.proofs.Common.{◌≡◌, true}
-use Rattle.star_eval.specs.Texts.{may_cut}
+use Rattle.star_meaning.specs.Texts.{may_cut}
 use Rattle.star_method.proofs.Cutting.{cut_is}
 use Rattle.star_method.proofs.parts.next_cut.Goals as goal
 

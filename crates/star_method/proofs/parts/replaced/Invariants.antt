@@ -1,8 +1,8 @@
 use Rattle.std.proofs.Common.{◌≡◌, ◌++◌, length, string_bytes}
 use denote.Shadow.{shadow}
 use denote.Text.{Utf8}
-use Rattle.star_eval.specs.BuiltIns.{joined}
-use Rattle.star_eval.specs.Texts.{parts}
+use Rattle.star_meaning.specs.BuiltIns.{joined}
+use Rattle.star_meaning.specs.Texts.{parts}
 use Rattle.star_method.proofs.parts.replaced.Given as goal
 
 abbrev pub invariant-loop-before : goal.invariant-loop-before

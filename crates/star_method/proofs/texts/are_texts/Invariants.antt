@@ -1,5 +1,5 @@
 use Rattle.std.proofs.Common.{◌≡◌, drop, is_some}
-use Rattle.star_eval.specs.TextMethods.{texts_of}
+use Rattle.star_meaning.specs.TextMethods.{texts_of}
 use Rattle.star_method.proofs.texts.are_texts.Given as goal
 
 abbrev pub invariant-loop-value : goal.invariant-loop-value

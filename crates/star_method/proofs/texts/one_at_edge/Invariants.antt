@@ -1,7 +1,7 @@
 use Rattle.std.proofs.Common.{◌≡◌, drop}
 use Rattle.std.specs.List.{list_any}
-use Rattle.star_eval.specs.Kinds.{bytes_of}
-use Rattle.star_eval.specs.Values.{content}
+use Rattle.star_machine.specs.Kinds.{bytes_of}
+use Rattle.star_meaning.specs.Values.{content}
 use Rattle.star_method.specs.Ends.{at_edge, bytes_each}
 use Rattle.star_method.proofs.texts.one_at_edge.Given as goal
 

@@ -1,9 +1,9 @@
 use Rattle.std.proofs.Common.{◌≡◌, ap, sym, ◌∙◌}
 use Rattle.star_store.specs.declared.values.Cell.TheVariants as cell
 use Rattle.star_scope.specs.Definitions.{definition_of}
-use Rattle.star_eval.specs.Calls.{callee}
-use Rattle.star_eval.specs.Program.{definition_of as in_setting}
-use Rattle.star_eval.specs.Values.{Held, content}
+use Rattle.star_meaning.specs.Calls.{callee}
+use Rattle.star_meaning.specs.Program.{definition_of as in_setting}
+use Rattle.star_meaning.specs.Values.{Held, content}
 use Rattle.star_call.specs.Callees.{definition_for}
 use Rattle.std.specs.Option.{option_map}
 use Rattle.star_call.proofs.callee.Callee.of.Goals as goal

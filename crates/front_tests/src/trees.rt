@@ -1,0 +1,334 @@
+//! Worked texts.
+
+use star_lex::lex;
+use star_lex::token::SyntaxFault;
+use star_parser::nest::too_nested;
+use star_parser::parse;
+use star_syntax::leaf::{Word, leaves};
+use star_syntax::name::is_name;
+use star_syntax::tree::{BinaryOperator, Expression, Form, Position, Target, Tree};
+use std::alloc::{AllocError, Global};
+
+/// A letter for the answer, and the line of a fault that has one: a tree, or a bad token, indentation, nesting or syntax.
+fn shown(alloc: Global, answer: Result<Tree, SyntaxFault>) -> Result<String, AllocError> {
+    match answer {
+        Ok(_) => format!(in alloc; "t"),
+        Err(SyntaxFault::BadToken { line }) => format!(in alloc; "b{line}"),
+        Err(SyntaxFault::BadIndent { line }) => format!(in alloc; "i{line}"),
+        Err(SyntaxFault::TooNested { line }) => format!(in alloc; "n{line}"),
+        Err(SyntaxFault::BadSyntax) => format!(in alloc; "s"),
+        Err(SyntaxFault::Memory) => format!(in alloc; "m"),
+    }
+}
+
+/// Each row is a text and what is shown of its answer.
+const ROWS: &str = "\
+    \x1ex = 1\n\x1ft\
+    \x1e1 + 2 = x\n\x1fs\
+    \x1ex, [y, z[0]] = w\n\x1ft\
+    \x1ex, f() = w\n\x1fs\
+    \x1ex[1:2] = 3\n\x1fs\
+    \x1ex.a = 3\n\x1fs\
+    \x1e(x) = 1\n\x1ft\
+    \x1e() = []\n\x1ft\
+    \x1e[] = ()\n\x1ft\
+    \x1ex += 1\n\x1ft\
+    \x1e(x) += 1\n\x1ft\
+    \x1ex[0] //= 1\n\x1ft\
+    \x1ex **= 1\n\x1fs\
+    \x1ex, y += 1\n\x1fs\
+    \x1e[x] += 1\n\x1fs\
+    \x1ex.a += 1\n\x1fs\
+    \x1efor x, y[0] in z: pass\n\x1ft\
+    \x1efor f() in z: pass\n\x1fs\
+    \x1efor x[0] in y: pass\n\x1ft\
+    \x1e[x for x[1:] in y]\n\x1fs\
+    \x1e[x for (x, y) in z if x if y for w in x]\n\x1ft\
+    \x1eload(':a.star', 'b', c = 'd',)\n\x1ft\
+    \x1eload(':a.star', 'if')\n\x1fs\
+    \x1eload(':a.star', '1a')\n\x1fs\
+    \x1eload(':a.star', '')\n\x1fs\
+    \x1eload(':a.star', '\\x61')\n\x1ft\
+    \x1eload(':a.star')\n\x1ft\
+    \x1eload(':a.star', b)\n\x1fs\
+    \x1eload()\n\x1fs\
+    \x1ex = load(':a.star')\n\x1fs\
+    \x1e1 < 2\n\x1ft\
+    \x1e1 < 2 < 3\n\x1fs\
+    \x1e1 not in 2\n\x1ft\
+    \x1enot 1 in 2\n\x1ft\
+    \x1e1 in 2 in 3\n\x1fs\
+    \x1e1 == not 2\n\x1fs\
+    \x1edef f(a, b = 1, *c, d, e = 2, **g): pass\n\x1ft\
+    \x1edef f(a = 1, b): pass\n\x1fs\
+    \x1edef f(*, a): pass\n\x1ft\
+    \x1edef f(*): pass\n\x1fs\
+    \x1edef f(*, **k): pass\n\x1fs\
+    \x1edef f(**k, a): pass\n\x1fs\
+    \x1edef f(*a, *b): pass\n\x1fs\
+    \x1edef f(a,): pass\n\x1ft\
+    \x1edef f(,): pass\n\x1fs\
+    \x1edef f(): pass\n\x1ft\
+    \x1ef(1, a = 2, *b, c = 3, **d)\n\x1ft\
+    \x1ef(a = 1, 2)\n\x1fs\
+    \x1ef(*a, *b)\n\x1fs\
+    \x1ef(**a, b = 1)\n\x1fs\
+    \x1ef(*a, 1)\n\x1fs\
+    \x1ef(1,)\n\x1ft\
+    \x1ef(,)\n\x1fs\
+    \x1ef(a == 1)\n\x1ft\
+    \x1ef((a) = 1)\n\x1fs\
+    \x1elambda: 1\n\x1ft\
+    \x1elambda a, b = 1, *c: a\n\x1ft\
+    \x1elambda a,: 1\n\x1fs\
+    \x1ex[lambda: 1]\n\x1ft\
+    \x1ex[1:2:3], x[:], x[::2], x[1:], x[1, 2]\n\x1ft\
+    \x1ex[]\n\x1fs\
+    \x1ex[1:2, 3]\n\x1fs\
+    \x1e(1,)\n\x1ft\
+    \x1e()\n\x1ft\
+    \x1e(,)\n\x1fs\
+    \x1e[1, 2,]\n\x1ft\
+    \x1e[,]\n\x1fs\
+    \x1e{1: 2, 3: 4,}\n\x1ft\
+    \x1e{1: 2 for x in y}\n\x1ft\
+    \x1e{1}\n\x1fs\
+    \x1e{}\n\x1ft\
+    \x1ereturn 1, 2\n\x1ft\
+    \x1ereturn\n\x1ft\
+    \x1ereturn 1 2\n\x1fs\
+    \x1epass; break; continue;\n\x1ft\
+    \x1epass;; pass\n\x1fs\
+    \x1e\x1ft\
+    \x1e\n\n\x1ft\
+    \x1eif a:\n  b\nelif c: d\nelse:\n  if e: f\n  g\n\x1ft\
+    \x1eif a: b\nelse: c\nelif d: e\n\x1fs\
+    \x1eelse: a\n\x1fs\
+    \x1eif a:\nb\n\x1fs\
+    \x1e  a\n\x1fs\
+    \x1edef f(x):\n  return x\n\nf(1)\n\x1ft\
+    \x1efor x in 1, 2: pass\n\x1ft\
+    \x1eif a: if b: c\n\x1fs\
+    \x1e1 if 2 else 3 if 4 else 5\n\x1ft\
+    \x1e1 if 2\n\x1fs\
+    \x1ex = y = 1\n\x1fs\
+    \x1e-1 + ~2 * +3\n\x1ft\
+    \x1ea.b.c(1)[2].d\n\x1ft\
+    \x1ea.pass\n\x1fs\
+    \x1eclass\n\x1fs\
+    \x1ewhile True: pass\n\x1fs\
+    \x1ea b\n\x1fs\
+    \x1e(1\n\x1fs\
+    \x1e1)\n\x1fs\
+    \x1ex = 'é'\n\x1ft\
+    \x1ex = \"\"\"é\\u00e9\\x41\"\"\"\n\x1ft\
+    \x1ex = 09\n\x1fb1\
+    \x1e\n\n x = '\n\x1fb3\
+    \x1eif a:\n\tb\n\x1fi2\
+";
+
+#[test]
+fn rules_of_the_grammar(rt: HostRuntime) -> Result<(), AllocError> {
+    let mut count = 0u32;
+    for row in ROWS.split('\x1e').skip(1) {
+        if let Some((text, wanted)) = row.split_once('\x1f') {
+            let found = shown(rt.alloc(), parse(rt.alloc(), text))?;
+            assert_eq!(rt; found.as_str(), wanted, "{text}");
+            count = count.saturating_add(1);
+        }
+    }
+    assert_eq!(rt; count, 102);
+    Ok(())
+}
+
+fn is_int(expression: &Expression, wanted: i64) -> bool {
+    match expression {
+        Expression::Int(value) => *value == wanted,
+        _ => false,
+    }
+}
+
+fn is_difference(expression: &Expression, left: i64, right: i64) -> bool {
+    match expression {
+        Expression::Binary {
+            operator: BinaryOperator::Subtract,
+            left: one,
+            right: other,
+        } => is_int(one.get(), left) && is_int(other.get(), right),
+        _ => false,
+    }
+}
+
+/// `(1 - 2) - 3`.
+fn groups_left(expression: &Expression) -> bool {
+    match expression {
+        Expression::Binary {
+            operator: BinaryOperator::Subtract,
+            left,
+            right,
+        } => is_difference(left.get(), 1, 2) && is_int(right.get(), 3),
+        _ => false,
+    }
+}
+
+fn is_name_at(target: &Target, text: &str, position: Position) -> bool {
+    match target {
+        Target::Name(name) => name.text.as_str() == text && name.position == position,
+        _ => false,
+    }
+}
+
+fn assigns_difference(tree: &Tree) -> bool {
+    let Some(statement) = tree.statements.get(1) else {
+        return false;
+    };
+    let position = Position { line: 2, token: 2 };
+    match &statement.form {
+        Form::Assign { target, value } => {
+            statement.position == position
+                && is_name_at(target, "x", position)
+                && groups_left(value)
+        }
+        _ => false,
+    }
+}
+
+#[test]
+fn minus_groups_to_the_left(rt: HostRuntime) {
+    let answer = parse(rt.alloc(), "pass\nx = 1 - 2 - 3\n");
+    assert!(rt; matches!(&answer, Ok(tree) if assigns_difference(tree)));
+}
+
+fn is_one_tuple(tree: &Tree) -> bool {
+    match tree.statements.get(0) {
+        Some(statement) => match &statement.form {
+            Form::Expression(Expression::Tuple(items)) => items.len() == 1,
+            _ => false,
+        },
+        None => false,
+    }
+}
+
+#[test]
+fn a_trailing_comma_makes_a_tuple(rt: HostRuntime) {
+    let answer = parse(rt.alloc(), "(1,)\n");
+    assert!(rt; matches!(&answer, Ok(tree) if is_one_tuple(tree)));
+    let answer = parse(rt.alloc(), "(1)\n");
+    assert!(rt; matches!(&answer, Ok(tree) if !is_one_tuple(tree)));
+}
+
+fn settles(answer: Result<Tree, SyntaxFault>) -> bool {
+    !matches!(answer, Err(SyntaxFault::Memory))
+}
+
+fn every_prefix_settles(alloc: Global, text: &str) -> bool {
+    for size in 0..text.len() {
+        if let Some(prefix) = text.get(..size) {
+            if !settles(parse(alloc, prefix)) {
+                return false;
+            }
+        }
+    }
+    true
+}
+
+#[test]
+fn every_prefix(rt: HostRuntime) {
+    let texts = [
+        "def f(x, *y, z = 1, **w):\n    return x // 2 << 3\n",
+        "if a:\n  if b:\n    c\n  elif d: e\n  else:\n    f\ng",
+        "x = {'a': [1, 0x2F, 0o17], \"b\": (r'\\d+',)}\r\n",
+        "s = '''a\n'b'\\\n''' \\\n + \"\\u00e9\\x41\"",
+        "load(\":a.star\", b = \"c\")\nx += b != 1 # end\n",
+        "for i, j in range(10)[1:2]:\n  pass; break\n",
+        "f(1, a = lambda x, *y: x, *b, **c).d[::2]",
+        "[x for x in y if not x <= 3]; z >>= ~4 ^ 5 | 6 & 7\n",
+        "{k: v if k else w for k, v in x or y and z}\n",
+        "x = -1 not in (2, 3,), 'é'\n",
+    ];
+    for text in &texts {
+        assert!(rt; every_prefix_settles(rt.alloc(), text), "{text}");
+    }
+}
+
+fn push_times(text: &mut String, sign: &str, count: usize) -> Result<(), AllocError> {
+    for _ in 0..count {
+        text.push_str(sign)?;
+    }
+    Ok(())
+}
+
+fn brackets(alloc: Global, opening: usize, closing: usize) -> Result<String, AllocError> {
+    let mut text = String::new(alloc);
+    push_times(&mut text, "(", opening)?;
+    push_times(&mut text, ")", closing)?;
+    Ok(text)
+}
+
+#[test]
+fn nesting(rt: HostRuntime) -> Result<(), AllocError> {
+    let rows = [
+        (100, 100, "t"),
+        (101, 101, "n1"),
+        (101, 0, "n1"),
+        (1_048_576, 0, "n1"),
+    ];
+    for (opening, closing, wanted) in rows {
+        let text = brackets(rt.alloc(), opening, closing)?;
+        let found = shown(rt.alloc(), parse(rt.alloc(), text.as_str()))?;
+        assert_eq!(rt; found.as_str(), wanted);
+    }
+    Ok(())
+}
+
+/// What `too_nested` answers, or 0 for a text that has no tokens.
+fn weighed(alloc: Global, text: &str) -> Result<Option<usize>, AllocError> {
+    match lex(alloc, text) {
+        Ok(tokens) => too_nested(alloc, &tokens),
+        Err(_) => Ok(Some(0)),
+    }
+}
+
+#[test]
+fn weights(rt: HostRuntime) -> Result<(), AllocError> {
+    let alloc = rt.alloc();
+    assert!(rt; weighed(alloc, "x = 1\n")? == None);
+    let text = brackets(alloc, 101, 0)?;
+    assert!(rt; weighed(alloc, text.as_str())? == Some(1));
+    Ok(())
+}
+
+/// Whether the third leaf of a text is a string with a value, at a position.
+fn third_is_text(
+    alloc: Global,
+    text: &str,
+    value: &str,
+    position: Position,
+) -> Result<bool, AllocError> {
+    let tokens = match lex(alloc, text) {
+        Ok(tokens) => tokens,
+        Err(_) => return Ok(false),
+    };
+    let leaves = leaves(alloc, text, &tokens)?;
+    Ok(match leaves.get(2) {
+        Some(leaf) => matches!(&leaf.word, Word::Text(found) if found.as_str() == value)
+            && leaf.position == position
+            && leaves.len() == 5,
+        None => false,
+    })
+}
+
+#[test]
+fn leaves_of_a_text(rt: HostRuntime) -> Result<(), AllocError> {
+    let position = Position { line: 2, token: 2 };
+    assert!(rt; third_is_text(rt.alloc(), "x\n'\\u00e9'", "é", position)?);
+    Ok(())
+}
+
+#[test]
+fn names(rt: HostRuntime) {
+    assert!(rt; is_name(b"a1_"));
+    assert!(rt; !is_name(b"1a"));
+    assert!(rt; !is_name(b""));
+    assert!(rt; !is_name(b"load"));
+}

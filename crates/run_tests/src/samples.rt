@@ -1,0 +1,252 @@
+// How a test runs programs of a few lines.
+
+ghost use Rattle.star_meaning.specs.Programs.{IsOfFile};
+
+use crate::variables::{published, two};
+use star_eval::context::Context;
+use star_eval::evaluate::evaluate;
+use star_eval::execute::{execute, execute_each};
+use star_eval::files::{Files, program_of};
+use star_eval::variables::new_frame;
+use star_eval::world::World;
+use star_label::files::Files as Labels;
+use star_machine::fault::{Stop, faulted};
+use star_machine::machine::Machine;
+use star_meaning::fault::Code;
+use star_meaning::place::Place;
+use star_parser::parse;
+use star_scope::program::Program;
+use star_store::arena::Homes;
+use star_store::values::Value;
+use star_syntax::tree::{Form, Statement, Tree};
+use star_text::Text;
+use std::alloc::Global;
+use std::process::Abort;
+use std::test::Fail;
+
+/// A program of `//:a.star`, the steps and levels that it has, and what is wanted of it: the text of its last value, which is
+/// empty where its last statement is no expression, or why it stops.
+#[derive(Clone, Copy)]
+struct Sample<'s> {
+    source: &'s str,
+    steps: u32,
+    levels: u32,
+    want: Result<&'s str, Stop>,
+}
+
+/// The text of the value of a program's last statement.
+fn text_of_last(
+    machine: &mut Machine,
+    world: &World,
+    context: Context,
+    statement: &Statement,
+) -> Result<Text, Stop> {
+    let line = statement.position.line;
+    match &statement.form {
+        Form::Expression(expression) => {
+            let place = Place {
+                file: 0,
+                frame: context.place.frame,
+                line,
+            };
+            let value = evaluate(machine, world, context.at(place), expression)?;
+            machine.repr(world.setting(), 400, line, value)
+        }
+        _ => {
+            let _flow = execute(machine, world, context, statement)?;
+            Ok(Text::new(machine.alloc(), "")?)
+        }
+    }
+}
+
+/// The text of the value of a program's last statement, behind those before it.
+fn text_of(
+    machine: &mut Machine,
+    world: &World,
+    context: Context,
+    statements: &[Statement],
+) -> Result<Text, Stop> {
+    let place = statements.len().saturating_sub(1);
+    let _flow = execute_each(machine, world, context, &statements[..place])?;
+    match statements.get(place) {
+        Some(last) => text_of_last(machine, world, context, last),
+        None => Err(Stop::Memory),
+    }
+}
+
+fn sample_is_as_wanted_in(
+    rt: &impl Abort,
+    machine: &mut Machine,
+    world: &World,
+    frame: Value,
+    statements: &[Statement],
+    sample: Sample<'_>,
+) -> Result<(), Fail> {
+    let context = Context {
+        levels: sample.levels,
+        place: Place {
+            file: 0,
+            frame,
+            line: 1,
+        },
+    };
+    let made = text_of(machine, world, context, statements);
+    let made = match &made {
+        Ok(text) => Ok(text.as_str()),
+        Err(stop) => Err(*stop),
+    };
+    assert_eq!(rt; made, sample.want, "{}", sample.source);
+    Ok(())
+}
+
+fn sample_is_as_wanted_over(
+    rt: &impl Abort,
+    alloc: Global,
+    files: &Files,
+    homes: &Homes,
+    program: &Program,
+    sample: Sample<'_>,
+) -> Result<(), Fail> {
+    assert!(rt; sample.steps < 1_000_000_000);
+    let world = World::new(0, homes, files, program.loads(), None);
+    let mut machine = Machine::new(alloc, 0, sample.steps);
+    let frame = new_frame(&mut machine, &world, 0, 0, None)?;
+    sample_is_as_wanted_in(rt, &mut machine, &world, frame, program.body(), sample)
+}
+
+fn sample_is_as_wanted_with(
+    rt: &impl Abort,
+    alloc: Global,
+    program: &Program,
+    sample: Sample<'_>,
+) -> Result<(), Fail>
+    requires { IsOfFile program.now }
+{
+    let mut files = Files::new(alloc);
+    files.push(Some(program))?;
+    let store = published(alloc)?;
+    let mut homes = Homes::new(alloc);
+    homes.add(1, &store)?;
+    sample_is_as_wanted_over(rt, alloc, &files, &homes, program, sample)
+}
+
+fn sample_is_as_wanted_of(
+    rt: &impl Abort,
+    alloc: Global,
+    labels: &Labels,
+    tree: &Tree,
+    sample: Sample<'_>,
+) -> Result<(), Fail> {
+    assert!(rt; 0 < labels.len());
+    let program = program_of(alloc, labels, 0, tree, None)?;
+    sample_is_as_wanted_with(rt, alloc, &program, sample)
+}
+
+/// Asserts what is wanted of a program.
+fn sample_is_as_wanted(
+    rt: &impl Abort,
+    alloc: Global,
+    labels: &Labels,
+    sample: Sample<'_>,
+) -> Result<(), Fail> {
+    let tree = parse(alloc, sample.source)?;
+    sample_is_as_wanted_of(rt, alloc, labels, &tree, sample)
+}
+
+/// Asserts the text of the last value of each program.
+pub(crate) fn give(rt: &impl Abort, alloc: Global, samples: &[(&str, &str)]) -> Result<(), Fail> {
+    let labels = two(alloc)?;
+    for (source, want) in samples {
+        let sample = Sample {
+            source: *source,
+            steps: 10_000,
+            levels: 400,
+            want: Ok(*want),
+        };
+        sample_is_as_wanted(rt, alloc, &labels, sample)?;
+    }
+    Ok(())
+}
+
+/// Asserts the fault of each program, and its line.
+pub(crate) fn fault(
+    rt: &impl Abort,
+    alloc: Global,
+    samples: &[(&str, Code, usize)],
+) -> Result<(), Fail> {
+    let labels = two(alloc)?;
+    for (source, code, line) in samples {
+        let sample = Sample {
+            source: *source,
+            steps: 10_000,
+            levels: 400,
+            want: Err(faulted(*code, *line)),
+        };
+        sample_is_as_wanted(rt, alloc, &labels, sample)?;
+    }
+    Ok(())
+}
+
+/// Asserts what is wanted of a program where it has enough steps and levels, and where one is missing.
+fn needs(
+    rt: &impl Abort,
+    alloc: Global,
+    labels: &Labels,
+    enough: Sample<'_>,
+    short: Sample<'_>,
+) -> Result<(), Fail> {
+    sample_is_as_wanted(rt, alloc, labels, enough)?;
+    sample_is_as_wanted(rt, alloc, labels, short)
+}
+
+/// Asserts the least number of steps with which each program, whose last statement is no expression, ends well. With one less it
+/// ends in a line.
+pub(crate) fn cost(
+    rt: &impl Abort,
+    alloc: Global,
+    samples: &[(&str, u32, usize)],
+) -> Result<(), Fail> {
+    let labels = two(alloc)?;
+    for (source, steps, line) in samples {
+        let enough = Sample {
+            source: *source,
+            steps: *steps,
+            levels: 400,
+            want: Ok(""),
+        };
+        let short = Sample {
+            source: *source,
+            steps: steps.saturating_sub(1),
+            levels: 400,
+            want: Err(faulted(Code::Steps, *line)),
+        };
+        needs(rt, alloc, &labels, enough, short)?;
+    }
+    Ok(())
+}
+
+/// Asserts the least number of levels with which each program, whose last statement is no expression, ends well. With one less it
+/// ends in a line.
+pub(crate) fn open(
+    rt: &impl Abort,
+    alloc: Global,
+    samples: &[(&str, u32, usize)],
+) -> Result<(), Fail> {
+    let labels = two(alloc)?;
+    for (source, levels, line) in samples {
+        let enough = Sample {
+            source: *source,
+            steps: 10_000,
+            levels: *levels,
+            want: Ok(""),
+        };
+        let short = Sample {
+            source: *source,
+            steps: 10_000,
+            levels: levels.saturating_sub(1),
+            want: Err(faulted(Code::Deep, *line)),
+        };
+        needs(rt, alloc, &labels, enough, short)?;
+    }
+    Ok(())
+}

@@ -1,0 +1,220 @@
+use Rattle.std.proofs.Common.{◌≡◌, List, ◌+◌, ◌-◌, ◌*◌, ◌^◌, drop, length}
+use Rattle.star_meaning.specs.Calls.{pass}
+use Rattle.star_meaning.specs.Comprehensions.{clause_turn}
+use Rattle.star_meaning.specs.Expressions.{defaults, entry_of}
+use Rattle.star_machine.specs.Gives.{with_front}
+use Rattle.star_meaning.specs.Meaning.{block, repeat, turns}
+use Rattle.star_meaning.specs.Run.{Action, each}
+use Rattle.star_meaning.specs.declared.place.Flow.{Flow}
+use Rattle.star_syntax.specs.declared.tree.Arm.{Arm}
+use Rattle.star_meaning.specs.Statements.{arms, loop_turn}
+use Rattle.star_meaning.specs.Targets.{to_each}
+use Rattle.star_eval.specs.World.{meant, variables}
+use Rattle.star_eval.specs.Steps.{behind}
+use Rattle.star_call.specs.Passed.{all_shown}
+use Rattle.star_eval.proofs.+run.Given as goal
+
+abbrev pub decreases-evaluate::evaluate : goal.decreases-evaluate::evaluate
+decreases-evaluate::evaluate l = 2 ^ 70 * l.context.levels
+
+abbrev pub decreases-execute::execute : goal.decreases-execute::execute
+decreases-execute::execute l = 2 ^ 70 * l.context.levels
+
+abbrev pub decreases-execute::assign : goal.decreases-execute::assign
+decreases-execute::assign l = 2 ^ 70 * l.context.levels
+
+abbrev pub decreases-execute::read_target : goal.decreases-execute::read_target
+decreases-execute::read_target l = 2 ^ 70 * l.context.levels
+
+abbrev pub decreases-evaluate::run_function : goal.decreases-evaluate::run_function
+decreases-evaluate::run_function l = 2 ^ 70 * l.context.levels
+
+abbrev pub decreases-evaluate::evaluate_each : goal.decreases-evaluate::evaluate_each
+decreases-evaluate::evaluate_each l = 2 ^ 70 * l.context.levels + 1
+
+abbrev pub decreases-evaluate::evaluate_maybe : goal.decreases-evaluate::evaluate_maybe
+decreases-evaluate::evaluate_maybe l = 2 ^ 70 * l.context.levels + 1
+
+abbrev pub decreases-evaluate::evaluate_entry : goal.decreases-evaluate::evaluate_entry
+decreases-evaluate::evaluate_entry l = 2 ^ 70 * l.context.levels + 1
+
+abbrev pub decreases-evaluate::evaluate_defaults : goal.decreases-evaluate::evaluate_defaults
+decreases-evaluate::evaluate_defaults l = 2 ^ 70 * l.context.levels + 1
+
+abbrev pub decreases-evaluate::pass : goal.decreases-evaluate::pass
+decreases-evaluate::pass l = 2 ^ 70 * l.context.levels + 1
+
+abbrev pub decreases-execute::execute_each : goal.decreases-execute::execute_each
+decreases-execute::execute_each l = 2 ^ 70 * l.context.levels + 1
+
+abbrev pub decreases-execute::assign_to : goal.decreases-execute::assign_to
+decreases-execute::assign_to l = 2 ^ 70 * l.context.levels + 1
+
+abbrev pub decreases-evaluate::run_body : goal.decreases-evaluate::run_body
+decreases-evaluate::run_body l = 2 ^ 70 * l.context.levels + 2
+
+abbrev pub decreases-evaluate::run_left : goal.decreases-evaluate::run_left
+decreases-evaluate::run_left l = 2 ^ 70 * l.context.levels + 3
+
+abbrev pub decreases-evaluate::evaluate_entries : goal.decreases-evaluate::evaluate_entries
+decreases-evaluate::evaluate_entries l = 2 ^ 70 * l.context.levels + 2
+
+abbrev pub decreases-evaluate::make_function : goal.decreases-evaluate::make_function
+decreases-evaluate::make_function l = 2 ^ 70 * l.context.levels + 2
+
+abbrev pub decreases-evaluate::pass_each : goal.decreases-evaluate::pass_each
+decreases-evaluate::pass_each l = 2 ^ 70 * l.context.levels + 2
+
+abbrev pub decreases-execute::assign_each : goal.decreases-execute::assign_each
+decreases-execute::assign_each l = 2 ^ 70 * l.context.levels + 2
+
+abbrev pub decreases-execute::execute_turn : goal.decreases-execute::execute_turn
+decreases-execute::execute_turn l = 2 ^ 70 * l.context.levels + 2
+
+abbrev pub decreases-execute::execute_arms : goal.decreases-execute::execute_arms
+decreases-execute::execute_arms l = 2 ^ 70 * l.context.levels + 2
+
+abbrev pub decreases-execute::augment_target : goal.decreases-execute::augment_target
+decreases-execute::augment_target l = 2 ^ 70 * l.context.levels + 2
+
+abbrev pub decreases-evaluate::call_on : goal.decreases-evaluate::call_on
+decreases-evaluate::call_on l = 2 ^ 70 * l.context.levels + 2
+
+abbrev pub decreases-execute::unpack_to : goal.decreases-execute::unpack_to
+decreases-execute::unpack_to l = 2 ^ 70 * l.context.levels + 3
+
+abbrev pub decreases-evaluate::call : goal.decreases-evaluate::call
+decreases-evaluate::call l = 2 ^ 70 * l.context.levels + 3
+
+abbrev pub decreases-execute::execute_turns : goal.decreases-execute::execute_turns
+decreases-execute::execute_turns l = 2 ^ 70 * l.context.levels + 3
+
+abbrev pub decreases-execute::execute_loop : goal.decreases-execute::execute_loop
+decreases-execute::execute_loop l = 2 ^ 70 * l.context.levels + 4
+
+abbrev pub decreases-evaluate::evaluate_node : goal.decreases-evaluate::evaluate_node
+decreases-evaluate::evaluate_node l = 2 ^ 70 * l.context.levels + (2 ^ 70 - 1)
+
+abbrev pub decreases-execute::execute_form : goal.decreases-execute::execute_form
+decreases-execute::execute_form l = 2 ^ 70 * l.context.levels + (2 ^ 70 - 1)
+
+abbrev pub decreases-execute::assign_node : goal.decreases-execute::assign_node
+decreases-execute::assign_node l = 2 ^ 70 * l.context.levels + (2 ^ 70 - 1)
+
+abbrev pub decreases-comprehensions::make_list : goal.decreases-comprehensions::make_list
+decreases-comprehensions::make_list l = 2 ^ 70 * l.context.levels + (2 ^ 69 + 2)
+
+abbrev pub decreases-comprehensions::fill : goal.decreases-comprehensions::fill
+decreases-comprehensions::fill l = 2 ^ 70 * l.context.levels + 2 ^ 69
+
+abbrev pub decreases-comprehensions::fill_list : goal.decreases-comprehensions::fill_list
+decreases-comprehensions::fill_list l = 2 ^ 70 * l.context.levels + (2 ^ 69 + 1)
+
+abbrev pub decreases-comprehensions::make_dict : goal.decreases-comprehensions::make_dict
+decreases-comprehensions::make_dict l = 2 ^ 70 * l.context.levels + (2 ^ 69 + 2)
+
+abbrev pub decreases-comprehensions::fill_dict : goal.decreases-comprehensions::fill_dict
+decreases-comprehensions::fill_dict l = 2 ^ 70 * l.context.levels + (2 ^ 69 + 1)
+
+abbrev pub decreases-comprehensions::add : goal.decreases-comprehensions::add
+decreases-comprehensions::add l = 2 ^ 70 * l.context.levels + 2
+
+abbrev pub decreases-comprehensions::run_clauses : goal.decreases-comprehensions::run_clauses
+decreases-comprehensions::run_clauses l = 2 ^ 70 * l.context.levels + (8 * length l.more.now + 3)
+
+abbrev pub decreases-comprehensions::run_turn : goal.decreases-comprehensions::run_turn
+decreases-comprehensions::run_turn l = 2 ^ 70 * l.context.levels + (8 * length l.more.now + 5)
+
+abbrev pub decreases-comprehensions::run_turns : goal.decreases-comprehensions::run_turns
+decreases-comprehensions::run_turns l = 2 ^ 70 * l.context.levels + (8 * length l.more.now + 6)
+
+abbrev pub decreases-comprehensions::run_over : goal.decreases-comprehensions::run_over
+decreases-comprehensions::run_over l = 2 ^ 70 * l.context.levels + (8 * length l.more.now + 7)
+
+abbrev pub decreases-comprehensions::run_clause : goal.decreases-comprehensions::run_clause
+decreases-comprehensions::run_clause l = 2 ^ 70 * l.context.levels + (8 * length l.rest.now + 10)
+
+abbrev pub decreases-nodes::evaluate_and : goal.decreases-nodes::evaluate_and
+decreases-nodes::evaluate_and l = 2 ^ 70 * l.context.levels + 3
+
+abbrev pub decreases-nodes::evaluate_attribute : goal.decreases-nodes::evaluate_attribute
+decreases-nodes::evaluate_attribute l = 2 ^ 70 * l.context.levels + 3
+
+abbrev pub decreases-nodes::evaluate_binary : goal.decreases-nodes::evaluate_binary
+decreases-nodes::evaluate_binary l = 2 ^ 70 * l.context.levels + 3
+
+abbrev pub decreases-nodes::evaluate_choice : goal.decreases-nodes::evaluate_choice
+decreases-nodes::evaluate_choice l = 2 ^ 70 * l.context.levels + 3
+
+abbrev pub decreases-nodes::evaluate_comparison : goal.decreases-nodes::evaluate_comparison
+decreases-nodes::evaluate_comparison l = 2 ^ 70 * l.context.levels + 3
+
+abbrev pub decreases-nodes::evaluate_dict : goal.decreases-nodes::evaluate_dict
+decreases-nodes::evaluate_dict l = 2 ^ 70 * l.context.levels + 3
+
+abbrev pub decreases-nodes::evaluate_index : goal.decreases-nodes::evaluate_index
+decreases-nodes::evaluate_index l = 2 ^ 70 * l.context.levels + 3
+
+abbrev pub decreases-nodes::evaluate_list : goal.decreases-nodes::evaluate_list
+decreases-nodes::evaluate_list l = 2 ^ 70 * l.context.levels + 3
+
+abbrev pub decreases-nodes::evaluate_or : goal.decreases-nodes::evaluate_or
+decreases-nodes::evaluate_or l = 2 ^ 70 * l.context.levels + 3
+
+abbrev pub decreases-nodes::evaluate_slice : goal.decreases-nodes::evaluate_slice
+decreases-nodes::evaluate_slice l = 2 ^ 70 * l.context.levels + 3
+
+abbrev pub decreases-nodes::evaluate_tuple : goal.decreases-nodes::evaluate_tuple
+decreases-nodes::evaluate_tuple l = 2 ^ 70 * l.context.levels + 3
+
+abbrev pub decreases-nodes::evaluate_unary : goal.decreases-nodes::evaluate_unary
+decreases-nodes::evaluate_unary l = 2 ^ 70 * l.context.levels + 3
+
+abbrev pub invariant-evaluate::evaluate_each-loop-expression : goal.invariant-evaluate::evaluate_each-loop-expression
+invariant-evaluate::evaluate_each-loop-expression l =
+    let f = (meant l.world l.context.levels).expr l.context.place in
+    with_front l.values (each f (drop l.expression-index l.expressions) l.machine) ≡ each f l.expressions l.fn.machine
+
+abbrev pub invariant-evaluate::evaluate_entries-loop-entry : goal.invariant-evaluate::evaluate_entries-loop-entry
+invariant-evaluate::evaluate_entries-loop-entry l =
+    let f = entry_of (meant l.world l.context.levels) l.context.place in
+    with_front l.found (each f (drop l.entry-index l.entries) l.machine) ≡ each f l.entries l.fn.machine
+
+abbrev pub invariant-evaluate::evaluate_defaults-loop-parameter : goal.invariant-evaluate::evaluate_defaults-loop-parameter
+invariant-evaluate::evaluate_defaults-loop-parameter l =
+    let f = defaults (meant l.world l.context.levels) l.context.place in
+    with_front l.values (f (drop l.parameter-index l.parameters) l.machine) ≡ f l.parameters l.fn.machine
+
+abbrev pub invariant-evaluate::pass_each-loop-argument : goal.invariant-evaluate::pass_each-loop-argument
+invariant-evaluate::pass_each-loop-argument l =
+    let f = pass (meant l.world l.context.levels) l.context.place in
+    with_front (all_shown l.values.items) (each f (drop l.argument-index l.arguments) l.machine) ≡ each f l.arguments l.fn.machine
+
+abbrev pub invariant-execute::execute_each-loop-statement : goal.invariant-execute::execute_each-loop-statement
+invariant-execute::execute_each-loop-statement l =
+    let f = (meant l.world l.context.levels).stmt l.context.place in
+    block f (drop l.statement-index l.statements) l.machine ≡ block f l.statements l.fn.machine
+
+abbrev pub invariant-execute::execute_arms-loop-arm : goal.invariant-execute::execute_arms-loop-arm
+invariant-execute::execute_arms-loop-arm l =
+    let m = meant l.world l.context.levels in
+    let f : List Arm → Action Flow = λ xs. arms l.world.setting m l.context.place xs (block (m.stmt l.context.place) l.otherwise) in
+    f (drop l.arm-index l.arms) l.machine ≡ f l.arms l.fn.machine
+
+abbrev pub invariant-execute::execute_turns-loop-i : goal.invariant-execute::execute_turns-loop-i
+invariant-execute::execute_turns-loop-i l =
+    let c = l.world in
+    let f = loop_turn (variables c) c.setting (meant c l.context.levels) l.context.place l.target l.body l.value in
+    turns f (l.count - l.i) l.i l.machine ≡ turns f l.count 0 l.fn.machine
+
+abbrev pub invariant-comprehensions::run_turns-loop-i : goal.invariant-comprehensions::run_turns-loop-i
+invariant-comprehensions::run_turns-loop-i l =
+    let c = l.world in
+    let f = clause_turn (variables c) c.setting (meant c l.context.levels) l.context.place l.target l.value (behind c l.context.levels l.context.place l.more l.output) in
+    repeat f (l.count - l.i) l.i l.machine ≡ repeat f l.count 0 l.fn.machine
+
+abbrev pub invariant-execute::assign_each-loop-target : goal.invariant-execute::assign_each-loop-target
+invariant-execute::assign_each-loop-target l =
+    let c = l.world in
+    let f = to_each (variables c) (meant c l.context.levels) l.context.place in
+    f (drop l.target-index l.targets) l.rest l.machine ≡ f l.targets l.values l.fn.machine

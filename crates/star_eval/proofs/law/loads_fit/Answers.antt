@@ -1,5 +1,0 @@
-use Rattle.star_eval.proofs.LoadedFit.{loads_fit}
-use Rattle.star_eval.proofs.law.loads_fit.Goals as goal
-
-pub returns : goal.returns
-returns c = loads_fit

@@ -1,5 +1,0 @@
-use Rattle.star_eval.proofs.MoreSteps.{local_more}
-use Rattle.star_eval.proofs.law.more_steps_mean_the_same.Goals as goal
-
-pub returns : goal.returns
-returns c = local_more

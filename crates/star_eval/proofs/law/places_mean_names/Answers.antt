@@ -1,5 +1,0 @@
-use Rattle.star_eval.proofs.ByPlaces.{places_mean_names}
-use Rattle.star_eval.proofs.law.places_mean_names.Goals as goal
-
-pub returns : goal.returns
-returns c = places_mean_names

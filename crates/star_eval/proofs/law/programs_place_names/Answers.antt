@@ -1,5 +1,0 @@
-use Rattle.star_eval.proofs.Resolved.{programs_place_names}
-use Rattle.star_eval.proofs.law.programs_place_names.Goals as goal
-
-pub returns : goal.returns
-returns c = programs_place_names

@@ -1,5 +1,0 @@
-use Rattle.star_eval.proofs.ReadPlaces.{spots_mean_names}
-use Rattle.star_eval.proofs.law.spots_mean_names.Goals as goal
-
-pub returns : goal.returns
-returns c = spots_mean_names

@@ -1,0 +1,86 @@
+-- What the parts of a run by places are, in the words of the meaning.
+use denote.Ref.{Bor}
+use Rattle.std.specs.Prelude.{ℕ, ◌+◌, List, [], ◌∷◌, Some}
+use Rattle.star_store.specs.declared.values.Value.{Value}
+use Rattle.star_syntax.specs.declared.tree.Clause.{Clause}
+use Rattle.star_syntax.specs.declared.tree.Name.{Name}
+use Rattle.star_meaning.specs.declared.place.Place.{Place}
+use Rattle.star_meaning.specs.Places.{bind_spot}
+use Rattle.star_meaning.specs.Programs.{tables_of}
+use Rattle.star_store.specs.declared.values.Cell.TheVariants as cell
+use Rattle.star_syntax.specs.declared.tree.Clauses.{Clauses}
+use Rattle.star_syntax.specs.declared.tree.Entry.{Entry}
+use Rattle.star_syntax.specs.declared.tree.Expression.{Expression}
+use Rattle.star_scope.specs.Definitions.{Definition}
+use Rattle.star_meaning.specs.Binding.{Share, make_shares}
+use Rattle.star_meaning.specs.Calls.{deactivate, run_body}
+use Rattle.star_meaning.specs.Run.{Action, Done, ◌>>=◌, all_of, build, give, pay}
+use Rattle.star_meaning.specs.Meaning.{Meaning, Read}
+use Rattle.star_meaning.specs.Comprehensions.{clauses, all_clauses, add_element, add_entry}
+use Rattle.star_eval.specs.declared.output.Output.{Output}
+use Rattle.star_eval.specs.declared.output.Output.TheVariants as output
+use Rattle.star_eval.specs.declared.targets.TargetParts.{TargetParts}
+use Rattle.star_eval.specs.World.{World, meant, variables}
+
+-- what a comprehension adds behind its clauses
+abbrev pub last : World → ℕ → Place → Output → Action (Unit {0})
+last c levels p (output.Element e l) = add_element c.setting (meant c levels) p e.now l
+last c levels p (output.Entry e d) = add_entry c.setting levels (meant c levels) p e.now d
+
+-- the clauses of a comprehension from one on, and what is added behind them
+abbrev pub behind : World → ℕ → Place → List Clause → Output → Action (Unit {0})
+behind c levels p cs o = clauses (variables c) c.setting (meant c levels) p cs (last c levels p o)
+
+-- the parts of an index target, and what stood there
+abbrev pub shown_parts : TargetParts → Read
+shown_parts r = record { base = r.base; index = r.index; old = r.old }
+
+-- names are bound to values, one after another
+abbrev pub bind_all : World → Place → List (Name × Value) → Action (Unit {0})
+bind_all w p xs = all_of (λ x. bind_spot (tables_of w.files) p x.0 x.1) xs
+
+-- the definition with this number in a file becomes active
+unfoldable pub begin : ℕ → ℕ → Action (Unit {0})
+begin file number = λ s. Done tt (record s { active = (file, number) ∷ s.active })
+
+-- a call of a function with these values of its parameters, up to its body, which k runs: its frame, the parameters in it; then its definition is active
+abbrev pub within : {A : Type 0} → World → Place → ℕ → List (Name × Value) → (Place → Action A) → Action A
+within w q number values k = do
+  _ ← bind_all w q values
+  _ ← begin q.file number
+  k q
+
+abbrev pub framed : {A : Type 0} → World → ℕ → ℕ → ℕ → Value → List (Name × Value) → (Place → Action A) → Action A
+framed w line file number parent values k = do
+  _ ← pay line 1
+  frame ← (variables w).frame file (1 + number) (Some parent)
+  within w (record { file = file; frame = frame; line = line }) number values k
+
+abbrev pub entering : {A : Type 0} → World → ℕ → ℕ → ℕ → Value → List (Name × Share) → (Place → Action A) → Action A
+entering w line file number parent shares k = make_shares line shares >>= λ values. framed w line file number parent values k
+
+-- what is left of a call: the body runs, and its definition ceases to be active
+abbrev pub left : Meaning → Definition → Place → Action Value
+left m d q = run_body m q d.body >>= λ v. deactivate >>= λ _. give v
+
+-- the list or dictionary to which a comprehension adds
+abbrev pub container : Output → Value
+container (output.Element e l) = l
+container (output.Entry e d) = d
+
+-- all clauses of a comprehension over the first iterable, and then what they added to
+abbrev pub filled : World → ℕ → Place → Clauses → Value → Output → Action Value
+filled w levels p cs v o = do
+  _ ← all_clauses (variables w) w.setting (meant w levels) p cs v (last w levels p o)
+  give (container o)
+
+-- a new list to which the clauses of a comprehension add, over the first iterable; and a new dictionary
+abbrev pub filled_list : World → ℕ → ℕ → Place → Bor Expression → Clauses → Value → Action Value
+filled_list w levels line p e cs v = do
+  l ← build line 1 (cell.List [])
+  filled w levels p cs v (output.Element e l)
+
+abbrev pub filled_dict : World → ℕ → ℕ → Place → Bor Entry → Clauses → Value → Action Value
+filled_dict w levels line p e cs v = do
+  d ← build line 1 (cell.Dict [])
+  filled w levels p cs v (output.Entry e d)

@@ -1,0 +1,102 @@
+//! Parts of calls that run nothing themselves.
+
+ghost use Rattle.std.specs.Prelude.{◌≡◌, map};
+ghost use Rattle.std.specs.Option.{option_map};
+ghost use Rattle.star_scope.specs.Definitions.{definition_of};
+ghost use Rattle.star_meaning.specs.Calls as spec;
+ghost use Rattle.star_machine.specs.Gives.{Gives, GivesBy};
+ghost use Rattle.star_meaning.specs.Run.{Done, give};
+ghost use Rattle.star_meaning.specs.Values.{content};
+ghost use Rattle.star_call.specs.Callees.{definition_for, shown};
+ghost use Rattle.star_call.specs.Shares.{bound_value};
+ghost use Rattle.star_eval.specs.Steps.{bind_all, entering, framed};
+
+use crate::variables::{bind, paid_frame};
+use crate::world::World;
+use star_call::callee::{Called, Callee, definition_number};
+use star_call::shares::{Shares, make_shares};
+use star_machine::fault::Stop;
+use star_machine::machine::Machine;
+use star_meaning::place::Place;
+use star_scope::outline::Definition;
+use star_store::values::Value;
+use star_syntax::tree::Name;
+
+/// The definition of a function: none of another value, or where its file has none.
+fn definition_of<'t>(
+    machine: &Machine,
+    world: &World<'_, 't>,
+    value: Value,
+) -> Option<Definition<'t>>
+    ensures { option_map definition_of result ≡ definition_for world.now.setting (content world.now.setting machine.now value) }
+{
+    match definition_number(machine, world.setting(), value) {
+        Some((file, number)) => world.definition(file, number),
+        None => None,
+    }
+}
+
+/// What is called by a value. `BadType` where it may not be called, then `Recursion` where its definition is active.
+pub(crate) fn callee_of<'t>(
+    machine: &Machine,
+    world: &World<'_, 't>,
+    line: usize,
+    value: Value,
+) -> Result<Callee<'t>, Stop>
+    ensures { GivesBy (shown (content world.now.setting machine.now)) (spec.callee world.now.setting line value machine.now) result machine.now }
+{
+    let definition = definition_of(machine, world, value);
+    Callee::of(machine, world.setting(), line, value, definition)
+}
+
+/// Binds parameters to their values, in order.
+pub(crate) fn bind_all(
+    machine: &mut Machine,
+    world: &World,
+    place: Place,
+    values: &[(&Name, Value)],
+)
+    ensures { bind_all world.now place (map bound_value values.now) machine.old ≡ Done tt machine.new }
+{
+    for (name, value) in values {
+        bind(machine, world, place, *name, *value);
+    }
+}
+
+/// The place in which the body of a call runs, whose parameters have these values: its frame, which pays 1, with the parameters in
+/// it; then its definition is active.
+#[tactic(auto, unfolding(crate::specs::Steps::begin))]
+fn enter_with(
+    machine: &mut Machine,
+    world: &World,
+    line: usize,
+    called: Called<'_>,
+    values: &[(&Name, Value)],
+) -> Result<Place, Stop>
+    ensures { Gives (framed world.now line called.entry.file called.entry.number called.entry.frame (map bound_value values.now) give machine.old) result machine.new }
+{
+    let block = 1 + called.number as usize;
+    let frame = paid_frame(machine, world, line, called.file, block, Some(called.frame))?;
+    let place = Place {
+        file: called.file,
+        frame,
+        line,
+    };
+    bind_all(machine, world, place, values);
+    machine.activate(called.file, called.number)?;
+    Ok(place)
+}
+
+/// The place in which the body of a call runs: the values of its parameters are made, then it is entered with them.
+pub(crate) fn enter_call(
+    machine: &mut Machine,
+    world: &World,
+    line: usize,
+    called: Called<'_>,
+    shares: &Shares<'_, '_>,
+) -> Result<Place, Stop>
+    ensures { Gives (entering world.now line called.entry.file called.entry.number called.entry.frame shares.now give machine.old) result machine.new }
+{
+    let values = make_shares(machine, line, shares)?;
+    enter_with(machine, world, line, called, &values)
+}

@@ -1,0 +1,32 @@
+//! What a comprehension adds behind its clauses.
+
+ghost use Rattle.std.specs.Prelude.{◌≡◌};
+ghost use Rattle.star_eval.specs.Steps.{container};
+
+use star_store::values::Value;
+use star_syntax::tree::{Entry, Expression};
+
+/// What a comprehension adds behind its clauses, and to which list or dictionary.
+#[derive(Clone, Copy)]
+pub enum Output<'t> {
+    Element {
+        element: &'t Expression,
+        list: Value,
+    },
+    Entry {
+        entry: &'t Entry,
+        dict: Value,
+    },
+}
+
+impl<'t> Output<'t> {
+    /// The list or dictionary.
+    pub fn container(self) -> Value
+        ensures { result ≡ container self.entry }
+    {
+        match self {
+            Output::Element { list, .. } => list,
+            Output::Entry { dict, .. } => dict,
+        }
+    }
+}

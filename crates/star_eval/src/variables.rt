@@ -1,0 +1,280 @@
+//! Variables by their places.
+
+ghost use Rattle.std.specs.Prelude.{◌≡◌, ◌<◌, ◌+◌, ◌^◌, None, Some, length, map, replicate, slice_get, IfOk};
+ghost use Rattle.std.specs.Option.{option_and_then, option_copied};
+ghost use Rattle.star_store.specs.Names.{built_in_name};
+ghost use Rattle.star_store.specs.Store.{global_of};
+ghost use Rattle.star_machine.specs.Gives.{Gives};
+ghost use Rattle.star_meaning.specs.Places.{at_spot, bind_spot, frame_above, joined, new_slots, own_spot, read_spot, slot_in};
+ghost use Rattle.star_meaning.specs.Program.{published_of, seen};
+ghost use Rattle.star_meaning.specs.Programs.{tables_of};
+ghost use Rattle.star_meaning.specs.Run.{Done, and_then, pay};
+ghost use Rattle.star_meaning.specs.Variables.{built_ins, frame_of, outermost};
+
+use crate::world::World;
+use star_machine::fault::{Stop, faulted};
+use star_machine::machine::Machine;
+use star_machine::setting::Setting;
+use star_meaning::fault::Code;
+use star_meaning::place::Place;
+use star_scope::spot::Spot;
+use star_store::names::BuiltIn;
+use star_store::values::{Cell, Frame, Slots, Value};
+use star_syntax::tree::Name;
+use std::alloc::{AllocError, Global};
+
+/// The frame to which a value leads: none for another value.
+fn frame_at<'a>(machine: &'a Machine, setting: &'a Setting<'a>, value: Value) -> Option<&'a Frame>
+    ensures { option_copied result ≡ frame_of (seen setting.now machine.now value) }
+{
+    match machine.read(setting, value) {
+        Some(Cell::Frame(frame)) => Some(frame),
+        _ => None,
+    }
+}
+
+/// The frame around a frame.
+fn parent_of(machine: &Machine, setting: &Setting, frame: Option<Value>) -> Option<Value>
+    ensures { result ≡ option_and_then (λ f. f.parent) (option_and_then (λ v. frame_of (seen setting.now machine.now v)) frame) }
+{
+    match frame {
+        Some(value) => {
+            match frame_at(machine, setting, value) {
+                Some(found) => found.parent,
+                None => None,
+            }
+        }
+        None => None,
+    }
+}
+
+/// The frame that is so many frames above a frame.
+#[tactic(auto, using(crate::proofs::Frames::above_next))]
+fn frame_above(machine: &Machine, setting: &Setting, up: usize, frame: Value) -> Option<Value>
+    ensures { result ≡ frame_above setting.now machine.now up (Some frame) }
+{
+    let mut found = Some(frame);
+    for _i in 0..up {
+        found = parent_of(machine, setting, found);
+    }
+    found
+}
+
+/// The value of a slot: none where its variable is unbound, or there is no such slot.
+fn value_of(slots: &Slots, slot: usize) -> Option<Value>
+    ensures { result ≡ joined (slice_get slots.now slot) }
+{
+    match slots.get(slot) {
+        Some(value) => value,
+        None => None,
+    }
+}
+
+/// The value of a slot of a frame.
+fn value_in(
+    machine: &Machine,
+    setting: &Setting,
+    slot: usize,
+    frame: Option<Value>,
+) -> Option<Value>
+    ensures { result ≡ joined (slot_in setting.now machine.now slot frame) }
+{
+    match frame {
+        Some(value) => {
+            match frame_at(machine, setting, value) {
+                Some(found) => value_of(&found.slots, slot),
+                None => None,
+            }
+        }
+        None => None,
+    }
+}
+
+/// The value of a name among the globals of the prelude.
+fn prelude_value(setting: &Setting, name: &str) -> Option<Value>
+    ensures { result ≡ option_and_then (λ q. global_of name.now q.globals) (option_and_then (published_of setting.now) setting.now.prelude) }
+{
+    match setting.prelude() {
+        Some(file) => {
+            match setting.published(file as usize) {
+                Some(store) => store.global(name),
+                None => None,
+            }
+        }
+        None => None,
+    }
+}
+
+/// The value of a name among built-in functions.
+fn built_in_among(functions: &[BuiltIn], name: &str) -> Option<Value>
+    ensures { result ≡ global_of name.now (map (λ b. (built_in_name b, Value.Builtin b)) functions.now) }
+{
+    for function in functions {
+        if function.name() == name {
+            return Some(Value::Builtin(*function));
+        }
+    }
+    None
+}
+
+/// The value of a name of a built-in function.
+fn built_in(name: &str) -> Option<Value>
+    ensures { result ≡ global_of name.now (map (λ b. (built_in_name b, Value.Builtin b)) built_ins) }
+{
+    let functions = [
+        BuiltIn::Abs,
+        BuiltIn::All,
+        BuiltIn::Any,
+        BuiltIn::Bool,
+        BuiltIn::Dict,
+        BuiltIn::Enumerate,
+        BuiltIn::Fail,
+        BuiltIn::Int,
+        BuiltIn::Len,
+        BuiltIn::List,
+        BuiltIn::Max,
+        BuiltIn::Min,
+        BuiltIn::Print,
+        BuiltIn::Range,
+        BuiltIn::Repr,
+        BuiltIn::Reversed,
+        BuiltIn::Sorted,
+        BuiltIn::Str,
+        BuiltIn::Tuple,
+        BuiltIn::Type,
+        BuiltIn::Zip,
+    ];
+    built_in_among(&functions, name)
+}
+
+/// The value of a name of the outermost block.
+fn outermost_value(name: &str) -> Option<Value>
+    ensures { result ≡ global_of name.now outermost }
+{
+    if "None" == name {
+        return Some(Value::NoneValue);
+    }
+    if "True" == name {
+        return Some(Value::Bool(true));
+    }
+    if "False" == name {
+        return Some(Value::Bool(false));
+    }
+    built_in(name)
+}
+
+/// The value at a spot: none where it is unbound.
+fn at_spot(
+    machine: &Machine,
+    setting: &Setting,
+    place: Place,
+    name: &str,
+    spot: Option<Spot>,
+) -> Option<Value>
+    ensures { result ≡ at_spot setting.now machine.now place name.now spot }
+{
+    match spot {
+        Some(Spot::Frame { up, slot }) => {
+            let frame = frame_above(machine, setting, up, place.frame);
+            value_in(machine, setting, slot, frame)
+        }
+        Some(Spot::Prelude) => prelude_value(setting, name),
+        Some(Spot::Outermost) => outermost_value(name),
+        None => None,
+    }
+}
+
+/// The value of a name. `Unbound` where it has none.
+#[tactic(auto, unfolding(star_meaning::specs::Places::read_spot))]
+pub fn read(machine: &Machine, world: &World, place: Place, name: &Name) -> Result<Value, Stop>
+    ensures { Gives (read_spot (tables_of world.now.files) world.now.setting place name.now machine.now) result machine.now }
+{
+    let spot = world.spot(place.file, name.position.token);
+    match at_spot(machine, world.setting(), place, name.text.as_str(), spot) {
+        Some(value) => Ok(value),
+        None => Err(faulted(Code::Unbound, place.line)),
+    }
+}
+
+/// The slot of a name in the innermost frame: none for a name that stands elsewhere.
+fn own_spot(spot: Option<Spot>) -> Option<usize>
+    ensures { result ≡ own_spot spot }
+{
+    match spot {
+        Some(Spot::Frame { up: 0, slot }) => Some(slot),
+        _ => None,
+    }
+}
+
+/// Gives a name of the innermost frame a value.
+#[tactic(auto, unfolding(star_meaning::specs::Places::bind_spot))]
+pub fn bind(machine: &mut Machine, world: &World, place: Place, name: &Name, value: Value)
+    ensures { bind_spot (tables_of world.now.files) place name.now value machine.old ≡ Done tt machine.new }
+{
+    if let Some(slot) = own_spot(world.spot(place.file, name.position.token)) {
+        machine.bind(place.frame, slot, value);
+    }
+}
+
+/// So many slots, all of them unbound.
+fn unbound(alloc: Global, count: usize) -> Result<Slots, AllocError>
+    ensures { IfOk result (λ slots. slots ≡ replicate count None) }
+{
+    let mut values = Vec::new(alloc);
+    values.resize(count, None)?;
+    Ok(Slots::new(values))
+}
+
+/// The frame of a block of a file, in which all names are unbound.
+fn frame_cell(
+    alloc: Global,
+    world: &World,
+    file: u32,
+    block: u32,
+    parent: Option<Value>,
+) -> Result<Cell, AllocError>
+    ensures { IfOk result (λ c. c ≡ Cell.Frame (record { file = file; block = block; parent = parent; slots = replicate ((tables_of world.now.files).slots file block) None })) }
+{
+    let slots = unbound(alloc, world.slots(file, block as usize))?;
+    Ok(Cell::Frame(Frame {
+        file,
+        block,
+        parent,
+        slots,
+    }))
+}
+
+/// A new frame of a block that is not paid for, as that of a file is.
+#[tactic(auto, unfolding(star_meaning::specs::Places::new_slots))]
+pub fn new_frame(
+    machine: &mut Machine,
+    world: &World,
+    file: u32,
+    block: u32,
+    parent: Option<Value>,
+) -> Result<Value, Stop>
+    requires { length machine.old.store.cells + machine.old.steps + 1 < 2 ^ 32 }
+    ensures { Gives (new_slots (tables_of world.now.files) file block parent machine.old) result machine.new }
+{
+    let cell = frame_cell(machine.alloc(), world, file, block, parent)?;
+    machine.make(cell)
+}
+
+/// A new frame of a block, for which 1 is paid, as that of a call or of a comprehension.
+#[tactic(auto, unfolding(star_meaning::specs::Places::new_slots, star_meaning::specs::Run::build))]
+pub fn paid_frame(
+    machine: &mut Machine,
+    world: &World,
+    line: usize,
+    file: u32,
+    block: usize,
+    parent: Option<Value>,
+) -> Result<Value, Stop>
+    ensures { Gives (and_then (pay line 1 machine.old) (λ _. new_slots (tables_of world.now.files) file block parent)) result machine.new }
+{
+    let Ok(block) = u32::try_from(block) else {
+        return Err(Stop::Memory);
+    };
+    let cell = frame_cell(machine.alloc(), world, file, block, parent)?;
+    machine.build(line, 1, cell)
+}

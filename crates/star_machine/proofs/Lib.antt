@@ -1,0 +1,14 @@
+pub mod Bytes
+pub mod Cells
+pub mod Contents
+pub mod Filling
+pub mod FirstEqual
+pub mod KindCases
+pub mod Parts
+pub mod ProgramRows
+pub mod Ranges
+pub mod Shifts
+pub mod Slicing
+pub mod Subscripts
+pub mod Times
+pub mod Turns

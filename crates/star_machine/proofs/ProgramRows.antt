@@ -1,0 +1,58 @@
+-- Rows of programs: the file at a place, one file more, and its outline.
+use Rattle.std.proofs.Common.{◌≡◌, ℕ, zero, suc, List, [], ◌∷◌, ◌++◌, map, length, slice_get, Option, Some, None, refl, ap, sym, ◌∙◌}
+use Rattle.std.specs.Prelude.{⊤, MatchOption}
+use Rattle.std.specs.Option.{option_and_then, option_flatten, option_map}
+use Rattle.std.proofs.lemmas.Option.{slice_get-map}
+use Rattle.std.proofs.lemmas.List.{map-append}
+use denote.Ref.{Bor}
+use Rattle.star_scope.specs.declared.program.Program.{Program}
+use Rattle.star_scope.specs.Definitions.{Definition, definition_in}
+use Rattle.star_scope.specs.Outlines.{Outline, names_in, outline}
+use Rattle.star_meaning.specs.Local.{outlines}
+use Rattle.star_meaning.specs.Program.{blocks_in}
+use Rattle.star_meaning.specs.Programs.{AllOfFiles, Files, IsOfFile, PlacedFile, file_in, outline_at, placed_file, placed_files, slots_in, trees_of}
+
+flat : (o : Option (Option (Bor Program))) → option_flatten (option_map (option_map (λ p. placed_file p.now)) o) ≡ option_map (λ p. placed_file p.now) (option_flatten o)
+flat None = refl
+flat (Some None) = refl
+flat (Some (Some p)) = refl
+
+-- the file at a place is that of the program there
+pub file_at : (ps : List (Option (Bor Program))) (file : ℕ) → file_in (placed_files ps) file ≡ option_map (λ p. placed_file p.now) (option_flatten (slice_get ps file))
+file_at ps file = ap option_flatten (slice_get-map (option_map (λ p. placed_file p.now)) ps file) ∙ flat (slice_get ps file)
+
+-- the program at a place is that of some file
+pub of_file_at : (ps : List (Option (Bor Program))) (file : ℕ) → AllOfFiles ps → MatchOption (option_flatten (slice_get ps file)) ⊤ (λ p. IsOfFile p.now)
+of_file_at [] file h = tt
+of_file_at (None ∷ ps) zero h = tt
+of_file_at (None ∷ ps) (suc file) h = of_file_at ps file h
+of_file_at (Some p ∷ ps) zero h = h.0
+of_file_at (Some p ∷ ps) (suc file) h = of_file_at ps file h.1
+
+-- one more file
+pub all_pushed : (ps : List (Option (Bor Program))) (o : Option (Bor Program)) → AllOfFiles ps → MatchOption o ⊤ (λ p. IsOfFile p.now) → AllOfFiles (ps ++ o ∷ [])
+all_pushed [] None h k = tt
+all_pushed [] (Some p) h k = (k, tt)
+all_pushed (None ∷ ps) o h k = all_pushed ps o h k
+all_pushed (Some p ∷ ps) o h k = (h.0, all_pushed ps o h.1 k)
+
+pub placed_pushed : (ps : List (Option (Bor Program))) (o : Option (Bor Program)) → placed_files (ps ++ o ∷ []) ≡ placed_files ps ++ option_map (λ p. placed_file p.now) o ∷ []
+placed_pushed ps o = map-append (option_map (λ p. placed_file p.now)) ps (o ∷ [])
+
+-- what is known of the program of some file
+pub definitions_are : (p : Program) → IsOfFile p → p.definitions ≡ (outline p.statements.now).definitions
+definitions_are p h = h.4.definitions ∙ ap (λ ss. (outline ss).definitions) (sym h.4.statements)
+
+pub blocks_are : (p : Program) → IsOfFile p → p.blocks ≡ (outline p.statements.now).blocks
+blocks_are p h = h.4.blocks ∙ ap (λ ss. (outline ss).blocks) (sym h.4.statements)
+
+-- the outline of a file among those of all
+flat_outline : (o : Option (Option PlacedFile)) → option_flatten (option_map (option_map outline) (option_map (option_map (λ f. f.statements)) o)) ≡ option_map (λ f. outline f.statements) (option_flatten o)
+flat_outline None = refl
+flat_outline (Some None) = refl
+flat_outline (Some (Some f)) = refl
+
+pub outline_there : (files : Files) (file : ℕ) → option_flatten (slice_get (outlines (trees_of files)) file) ≡ outline_at files file
+outline_there files file =
+    ap option_flatten (slice_get-map (option_map outline) (trees_of files) file ∙ ap (option_map (option_map outline)) (slice_get-map (option_map (λ f. f.statements)) files file))
+    ∙ flat_outline (slice_get files file)

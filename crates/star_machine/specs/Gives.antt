@@ -1,0 +1,31 @@
+-- What a function of the evaluator answered, and the state that it left, are what was to be answered and left.
+use Rattle.std.specs.Prelude.{◌≡◌, ℕ, List, ◌++◌, Result, Ok, Err}
+use Rattle.star_store.specs.declared.fault.StoreFault.{StoreFault}
+use Rattle.star_store.specs.declared.fault.StoreFault.TheVariants as refused
+use Rattle.star_machine.specs.declared.fault.Stop.{Stop}
+use Rattle.star_machine.specs.declared.fault.Stop.TheVariants.{Memory, Faulted}
+use Rattle.star_meaning.specs.Run.{State, Outcome, Done, Failed, code_of}
+
+-- why an evaluation stops at which the store refused a call: for want of memory, or at a fault
+abbrev pub stop_of : ℕ → StoreFault → Stop
+stop_of line refused.Memory = Memory
+stop_of line f = Faulted (record { code = code_of f; line = line })
+
+-- A run that stopped: at this fault with these lines. Where memory ran out nothing is said.
+abbrev pub Ends : {A : Type 0} → Outcome A → Stop → State → Type 0
+Ends o Memory new = Unit {0}
+Ends o (Faulted f) new = o ≡ Failed f new.lines
+
+abbrev pub Gives : {A : Type 0} → Outcome A → Result A Stop → State → Type 0
+Gives o (Ok x) new = o ≡ Done x new
+Gives o (Err e) new = Ends o e new
+
+-- The same of a function that answers a reference, whose content is what was to be answered.
+abbrev pub GivesBy : {A B : Type 0} → (B → A) → Outcome A → Result B Stop → State → Type 0
+GivesBy f o (Ok x) new = o ≡ Done (f x) new
+GivesBy f o (Err e) new = Ends o e new
+
+-- answers behind those that are there
+abbrev pub with_front : {A : Type 0} → List A → Outcome (List A) → Outcome (List A)
+with_front front (Done xs s) = Done (front ++ xs) s
+with_front front (Failed f lines) = Failed f lines

@@ -1,0 +1,7 @@
+pub mod Cuts
+pub mod Fills
+pub mod Gives
+pub mod Kinds
+pub mod Search
+pub mod Shown
+pub mod Slices

@@ -1,0 +1,21 @@
+-- The first of some values that is equal to another one, and how far an int lies from another one.
+use Rattle.std.specs.Prelude.{ℕ, ◌+◌, ◌/◌, ◌%◌, nat_eq, nat_lt, ℤ, pos, negsuc, ◌&&◌, false, Bool, List, [], ◌∷◌, Option, Some, None, if◌then◌else◌}
+use Rattle.star_store.specs.declared.values.Value.{Value}
+use Rattle.star_store.specs.Spend.{Spend, answer, spend_then}
+use Rattle.star_store.specs.Equal.{same}
+use Rattle.star_meaning.specs.Run.{Action, visiting}
+use Rattle.star_meaning.specs.Program.{Setting, seen}
+
+-- the place of the first one, counted from a number on, that passes a test which costs steps
+abbrev pub first_place_where : (Value → Spend Bool) → ℕ → List Value → Spend (Option ℕ)
+first_place_where f i [] = answer None
+first_place_where f i (y ∷ ys) = λ n. spend_then (f y n) (λ b. if b then answer (Some i) else first_place_where f (i + 1) ys)
+
+-- the place of the first value that is equal to another one, with the visits of both up to it
+unfoldable pub found_place : Setting → ℕ → ℕ → Value → List Value → Action (Option ℕ)
+found_place w levels line x ys = visiting line (λ s. first_place_where (λ y. same (seen w s) levels y x) 0 ys)
+
+-- whether fewer than so many steps of a size make up a distance
+abbrev pub reached : ℤ → ℕ → ℕ → Bool
+reached (pos gap) n count = nat_eq (gap % n) 0 && nat_lt (gap / n) count
+reached (negsuc gap) n count = false

@@ -1,0 +1,151 @@
+//! What values are, or hold.
+
+ghost use Rattle.std.specs.Prelude.{◌≡◌, ◌<◌, ◌*◌, ◌+ℤ◌, ◌-ℤ◌, ◌*ℤ◌, pos};
+ghost use Rattle.std.specs.Int.{int_gap};
+ghost use Rattle.star_store.specs.Range.{range_length};
+ghost use Rattle.star_machine.specs.Kinds.{kind_of};
+ghost use Rattle.star_machine.specs.Shown.{shown};
+ghost use Rattle.std.specs.Option.{option_copied};
+ghost use Rattle.star_meaning.specs.Values.{Held, content, count_in, held, int_of, item_in, range_item};
+
+use star_store::names::{BuiltIn, Method};
+use star_store::range::Range;
+use star_store::values::{Cell, Value};
+
+/// What a value is, or holds.
+#[derive(Clone, Copy)]
+pub enum Content<'a> {
+    Nothing,
+    Truth(bool),
+    Number(i64),
+    BuiltInFunction(BuiltIn),
+    Held(&'a Cell),
+    Nowhere,
+}
+
+/// Of which kind a value is, with what stands in the value itself or is small.
+#[derive(Clone, Copy)]
+pub enum Kind {
+    Nothing,
+    Truth(bool),
+    Number(i64),
+    BuiltInFunction(BuiltIn),
+    Text,
+    Range(Range),
+    Tuple,
+    List,
+    Dict,
+    Function,
+    Frame,
+    Method(Method, Value),
+    Nowhere,
+}
+
+impl<'a> Content<'a> {
+    /// Its kind.
+    pub fn kind(self) -> Kind
+        ensures { result ≡ kind_of (shown self.entry) }
+    {
+        match self {
+            Content::Nothing => Kind::Nothing,
+            Content::Truth(truth) => Kind::Truth(truth),
+            Content::Number(number) => Kind::Number(number),
+            Content::BuiltInFunction(function) => Kind::BuiltInFunction(function),
+            Content::Held(cell) => kind_of_cell(cell),
+            Content::Nowhere => Kind::Nowhere,
+        }
+    }
+
+    /// What a cell holds, if there is one.
+    pub fn of_cell(cell: Option<&'a Cell>) -> Content<'a>
+        ensures { shown result ≡ held (option_copied cell.entry) }
+    {
+        match cell {
+            Some(cell) => Content::Held(cell),
+            None => Content::Nowhere,
+        }
+    }
+
+    /// How many items an iterable has: a list, a tuple, a dictionary (its keys) or a range.
+    pub fn count(self) -> Option<usize>
+        ensures { result ≡ count_in (shown self.entry) }
+    {
+        match self {
+            Content::Held(Cell::Tuple(items)) => Some(items.len()),
+            Content::Held(Cell::List(items)) => Some(items.len()),
+            Content::Held(Cell::Dict(entries)) => Some(entries.len()),
+            Content::Held(Cell::Range(range)) => Some(range.len() as usize),
+            _ => None,
+        }
+    }
+
+    /// Its item at a place: none outside.
+    pub fn item(self, at: usize) -> Option<Value>
+        ensures { result ≡ item_in (shown self.entry) at }
+    {
+        match self {
+            Content::Held(Cell::Tuple(items)) => items.get(at),
+            Content::Held(Cell::List(items)) => items.get(at),
+            Content::Held(Cell::Dict(entries)) => match entries.get(at) {
+                Some((key, _value)) => Some(key),
+                None => None,
+            },
+            Content::Held(Cell::Range(range)) => range_item(*range, at),
+            _ => None,
+        }
+    }
+}
+
+fn kind_of_cell(cell: &Cell) -> Kind
+    ensures { result ≡ kind_of (Held cell.now) }
+{
+    match cell {
+        Cell::Text(_) => Kind::Text,
+        Cell::Range(range) => Kind::Range(*range),
+        Cell::Tuple(_) => Kind::Tuple,
+        Cell::List(_) => Kind::List,
+        Cell::Dict(_) => Kind::Dict,
+        Cell::Func(_) => Kind::Function,
+        Cell::Frame(_) => Kind::Frame,
+        Cell::Bound(method, receiver) => Kind::Method(*method, *receiver),
+    }
+}
+
+/// The int of a range at a place: none outside.
+fn range_item(range: Range, at: usize) -> Option<Value>
+    ensures { result ≡ range_item range at }
+{
+    if at as u64 >= range.len() {
+        return None;
+    }
+    Some(Value::Int(int_at(range, at as u64)))
+}
+
+/// The int of a range at a place that it has.
+#[tactic(auto, using(crate::proofs::Ranges::within_up, crate::proofs::Ranges::within_down, crate::proofs::Ranges::steps_up, crate::proofs::Ranges::steps_down))]
+fn int_at(range: Range, at: u64) -> i64
+    requires { at < range_length range }
+    ensures { result ≡ (range.start +ℤ pos at *ℤ range.step) }
+{
+    let step = range.step.unsigned_abs();
+    if range.step > 0 {
+        return int_above(range.start, range.stop, step, at);
+    }
+    int_below(range.start, range.stop, step, at)
+}
+
+/// The int so many steps above a start, if it lies below a stop.
+fn int_above(start: i64, stop: i64, step: u64, at: u64) -> i64
+    requires { at * step < int_gap start stop }
+    ensures { result ≡ start +ℤ pos (at * step) }
+{
+    (start as i128 + (at * step) as i128) as i64
+}
+
+/// The int so many steps below a start, if it lies above a stop.
+fn int_below(start: i64, stop: i64, step: u64, at: u64) -> i64
+    requires { at * step < int_gap stop start }
+    ensures { result ≡ start -ℤ pos (at * step) }
+{
+    (start as i128 - (at * step) as i128) as i64
+}

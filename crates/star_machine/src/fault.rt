@@ -1,0 +1,60 @@
+//! How a run ends where it does not end well.
+
+ghost use Rattle.std.specs.Prelude.{◌≡◌};
+ghost use Rattle.star_store.specs.declared.fault.StoreFault.TheVariants as refused;
+ghost use Rattle.star_machine.specs.declared.fault.Stop.TheVariants.{Memory};
+ghost use Rattle.star_machine.specs.Gives.{stop_of};
+
+use star_meaning::fault::{Code, Fault};
+use star_store::fault::StoreFault;
+use std::alloc::{AllocError, AllocFailed};
+
+/// Why an evaluation stops: the run has a fault, or a growth was refused.
+#[derive(Clone, Copy, Debug, PartialEq, Eq, Drop)]
+pub enum Stop {
+    /// A growth was refused.
+    Memory,
+    /// The fault of the run.
+    Faulted(Fault),
+}
+
+/// A fault at a line.
+pub fn faulted(code: Code, line: usize) -> Stop
+    ensures { result ≡ Stop.Faulted (record { code = code; line = line }) }
+{
+    Stop::Faulted(Fault { code, line })
+}
+
+/// Why an evaluation stops at which the store refused a call.
+pub fn refused(fault: StoreFault, line: usize) -> Stop
+    ensures { result ≡ stop_of line fault }
+{
+    let code = match fault {
+        StoreFault::Frozen => Code::Frozen,
+        StoreFault::Iterating => Code::Iterating,
+        StoreFault::BadType => Code::BadType,
+        StoreFault::Index => Code::Index,
+        StoreFault::Key => Code::Key,
+        StoreFault::Overflow => Code::Overflow,
+        StoreFault::Steps => Code::Steps,
+        StoreFault::Deep => Code::Deep,
+        StoreFault::Memory => return Stop::Memory,
+    };
+    faulted(code, line)
+}
+
+impl From<AllocError> for Stop {
+    ghost from_gives = { λ _ e. e ≡ Memory };
+
+    fn from(_error: AllocError) -> Stop {
+        Stop::Memory
+    }
+}
+
+impl<T: Drop> From<AllocFailed<T>> for Stop {
+    ghost from_gives = { λ _ e. e ≡ Memory };
+
+    fn from(_error: AllocFailed<T>) -> Stop {
+        Stop::Memory
+    }
+}

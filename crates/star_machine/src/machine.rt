@@ -1,0 +1,649 @@
+//! The machine: what a run changes.
+
+ghost use Rattle.std.specs.Prelude.{◌≡◌, ◌<◌, ◌≤◌, ◌+◌, ◌^◌, ◌∷◌, ◌&&◌, [], length, nat_eq, pos, slice_get, IfErr, IfOk, OnOk};
+ghost use Rattle.std.specs.List.{list_any};
+ghost use Rattle.std.specs.Option.{option_copied};
+ghost use Rattle.star_store.specs.Store.{bound};
+ghost use Rattle.star_meaning.specs.Calls.{deactivate, is_active};
+ghost use Rattle.star_meaning.specs.Run.{Done, add_line, agreed, and_then, build, give, make, pay, storing, visiting};
+ghost use Rattle.star_meaning.specs.Program.{seen};
+ghost use Rattle.star_machine.specs.Gives.{Gives, GivesBy};
+ghost use Rattle.star_machine.specs.Shown.{shown};
+ghost use Rattle.star_machine.specs.Kinds.{bytes_of, kind_of, row_in, size_of};
+ghost use Rattle.star_machine.specs.Search.{found_place};
+ghost use Rattle.star_meaning.specs.Subscript.{entries_in};
+ghost use Rattle.star_meaning.specs.Values.{int_of, place_in, value_in, text_of, change, check_key, compare, content, count_of, equal, guard, is_true, iterate, leave, new_dict, new_int, new_list, new_text, bare, new_tuple, repr, str, take_all, take_item, take_items, want_bool, want_int, want_text};
+
+use crate::content::{Content, Kind};
+use crate::fault::{Stop, faulted, refused};
+use crate::search::equal_place;
+use crate::setting::Setting;
+use star_meaning::fault::Code;
+use star_store::arena::Arena;
+use star_store::arena::write::Change;
+use star_store::budget::Budget;
+use star_store::equal::equal;
+use star_store::fault::StoreFault;
+use star_store::key::{check_key, place_of, value_of};
+use star_store::order::order;
+use star_store::text::repr;
+use star_store::truth::is_true;
+use star_store::values::{Cell, Entries, Function, Value, Values};
+use star_text::Text;
+use std::alloc::{AllocError, Global};
+use std::cmp::Ordering;
+use std::marker::Model;
+
+/// What a run changes: the running module's store, the definitions that are active (file and number, the innermost first), the
+/// steps left, and the lines printed.
+#[derive(Drop)]
+pub struct Machine {
+    alloc: Global,
+    arena: Arena,
+    active: Vec<(u32, u32)>,
+    steps: u64,
+    lines: Vec<Text>,
+}
+
+impl Model for Machine {
+    ghost use Rattle.star_meaning.specs.Run.{State};
+
+    ghost Value = { State };
+
+    ghost view = { λ m. record { store = m.arena; active = m.active.items; steps = m.steps; lines = m.lines.items } };
+
+    ghost use Rattle.std.specs.Prelude.{◌+◌, ◌^◌, ◌<◌, length};
+
+    ghost invariant = { λ m. length m.arena.cells + m.steps < 2 ^ 32 };
+}
+
+impl Machine {
+    /// A machine of a file, with no cell, where so many steps are left.
+    pub fn new(alloc: Global, home: u32, steps: u32) -> Machine
+        requires { steps < 2 ^ 31 }
+        ensures { result ≡ record { store = record { home = home; cells = [] }; active = []; steps = steps; lines = [] } }
+    {
+        Machine {
+            alloc,
+            arena: Arena::new(alloc, home),
+            active: Vec::new(alloc),
+            steps: steps as u64,
+            lines: Vec::new(alloc),
+        }
+    }
+
+    /// Pays steps. `Steps` where they are more than are left.
+    #[tactic(auto, unfolding(star_meaning::specs::Run::pay))]
+    pub fn pay(&mut self, line: usize, steps: u128) -> Result<(), Stop>
+        ensures answer { Gives (pay line steps self.old) result self.new }
+        ensures kept { self.new.store ≡ self.old.store }
+    {
+        if (self.steps as u128) < steps {
+            return Err(faulted(Code::Steps, line));
+        }
+        self.steps -= steps as u64;
+        Ok(())
+    }
+
+    /// What a value leads to: none for what is no `Ref` or leads nowhere.
+    pub fn read<'a>(&'a self, setting: &'a Setting<'a>, value: Value) -> Option<&'a Cell>
+        ensures { option_copied result ≡ seen setting.now self.now value }
+    {
+        self.arena.read(setting.homes(), value)
+    }
+
+    /// What a value is, or holds.
+    pub fn content<'a>(&'a self, setting: &'a Setting<'a>, value: Value) -> Content<'a>
+        ensures { shown result ≡ content setting.now self.now value }
+    {
+        match value {
+            Value::NoneValue => Content::Nothing,
+            Value::Bool(truth) => Content::Truth(truth),
+            Value::Int(number) => Content::Number(number),
+            Value::Builtin(function) => Content::BuiltInFunction(function),
+            Value::Ref { .. } => Content::of_cell(self.read(setting, value)),
+        }
+    }
+
+    /// Of which kind a value is.
+    pub fn kind(&self, setting: &Setting, value: Value) -> Kind
+        ensures { result ≡ kind_of (content setting.now self.now value) }
+    {
+        self.content(setting, value).kind()
+    }
+
+    /// How many items an iterable has: none for another value.
+    pub fn size(&self, setting: &Setting, value: Value) -> usize
+        ensures { result ≡ size_of (content setting.now self.now value) }
+    {
+        self.content(setting, value).count().unwrap_or(0)
+    }
+
+    /// A new cell that is paid for.
+    #[tactic(auto, unfolding(star_meaning::specs::Run::build, star_meaning::specs::Run::make, star_meaning::specs::Run::pay))]
+    pub fn build(&mut self, line: usize, cost: u128, cell: Cell) -> Result<Value, Stop>
+        requires { 0 < cost }
+        ensures { Gives (build line cost cell self.old) result self.new }
+    {
+        if (self.steps as u128) < cost {
+            return Err(faulted(Code::Steps, line));
+        }
+        self.steps -= cost as u64;
+        match self.arena.make(cell) {
+            Ok(value) => Ok(value),
+            Err(_memory) => Err(Stop::Memory),
+        }
+    }
+
+    /// A new cell that is not paid for, as the frame of a file is.
+    #[tactic(auto, unfolding(star_meaning::specs::Run::make))]
+    pub fn make(&mut self, cell: Cell) -> Result<Value, Stop>
+        requires { length self.old.store.cells + self.old.steps + 1 < 2 ^ 32 }
+        ensures { Gives (make cell self.old) result self.new }
+    {
+        match self.arena.make(cell) {
+            Ok(value) => Ok(value),
+            Err(_memory) => Err(Stop::Memory),
+        }
+    }
+
+    /// Gives a slot of a frame of this module a value. Where there is no such slot, nothing changes.
+    #[tactic(auto, using(crate::proofs::Cells::length_bound))]
+    pub fn bind(&mut self, frame: Value, slot: usize, value: Value)
+        ensures { storing (bound frame slot value) self.old ≡ Done tt self.new }
+    {
+        self.arena.bind(frame, slot, value);
+    }
+
+    /// Whether the definition of a function is active.
+    pub fn is_active(&self, function: &Function) -> bool
+        ensures { result ≡ is_active self.now function.now }
+    {
+        is_among(&self.active, function.file, function.definition)
+    }
+
+    /// The definition with this number in a file becomes active, as the innermost.
+    pub fn activate(&mut self, file: u32, definition: u32) -> Result<(), Stop>
+        ensures active { OnOk result (self.new ≡ record self.old { active = (file, definition) ∷ self.old.active }) }
+        ensures memory { IfErr result (λ e. e ≡ Stop.Memory) }
+    {
+        self.active.insert(0, (file, definition))?;
+        Ok(())
+    }
+
+    /// The innermost active definition ceases to be active.
+    #[tactic(auto, unfolding(star_meaning::specs::Calls::deactivate))]
+    pub fn deactivate(&mut self)
+        ensures { deactivate self.old ≡ Done tt self.new }
+    {
+        if !self.active.is_empty() {
+            let _definition = self.active.remove(0);
+        }
+    }
+
+    /// Whether so many steps are left. `Steps` where they are not.
+    pub fn afford(&self, line: usize, steps: u128) -> Result<(), Stop>
+        ensures enough { OnOk result (steps ≤ self.now.steps) }
+        ensures lacking { IfErr result (λ e. (e ≡ Stop.Faulted (record { code = Code.Steps; line = line })) × (self.now.steps < steps)) }
+    {
+        if (self.steps as u128) < steps {
+            return Err(faulted(Code::Steps, line));
+        }
+        Ok(())
+    }
+
+    /// A new string: 1 and its bytes are paid.
+    pub fn new_text(&mut self, line: usize, text: Text) -> Result<Value, Stop>
+        ensures { Gives (new_text line text self.old) result self.new }
+    {
+        let cost = 1 + text.as_str().len() as u128;
+        self.build(line, cost, Cell::Text(text))
+    }
+
+    /// A new tuple: 1 and its items are paid.
+    pub fn new_tuple(&mut self, line: usize, items: Values) -> Result<Value, Stop>
+        ensures { Gives (new_tuple line items self.old) result self.new }
+    {
+        let cost = 1 + items.len() as u128;
+        self.build(line, cost, Cell::Tuple(items))
+    }
+
+    /// A new list: 1 and its items are paid.
+    pub fn new_list(&mut self, line: usize, items: Values) -> Result<Value, Stop>
+        ensures { Gives (new_list line items self.old) result self.new }
+    {
+        let cost = 1 + items.len() as u128;
+        self.build(line, cost, Cell::List(items))
+    }
+
+    /// A new dictionary: 1 and its entries are paid.
+    pub fn new_dict(&mut self, line: usize, entries: Entries) -> Result<Value, Stop>
+        ensures { Gives (new_dict line entries self.old) result self.new }
+    {
+        let cost = 1 + entries.len() as u128;
+        self.build(line, cost, Cell::Dict(entries))
+    }
+
+    /// The number of items of an iterable. `BadType` for another value.
+    #[tactic(auto, unfolding(star_meaning::specs::Values::count_of))]
+    pub fn count_of(&self, setting: &Setting, line: usize, value: Value) -> Result<usize, Stop>
+        ensures { Gives (count_of setting.now line value self.now) result self.now }
+    {
+        match self.content(setting, value).count() {
+            Some(count) => Ok(count),
+            None => Err(faulted(Code::BadType, line)),
+        }
+    }
+
+    /// Takes the item at a place: 1 is paid before it.
+    #[tactic(auto, unfolding(star_meaning::specs::Values::take_item, star_meaning::specs::Run::pay))]
+    pub fn take_item(
+        &mut self,
+        setting: &Setting,
+        line: usize,
+        value: Value,
+        at: usize,
+    ) -> Result<Value, Stop>
+        ensures answer { Gives (take_item setting.now line value at self.old) result self.new }
+        ensures kept { self.new.store ≡ self.old.store }
+    {
+        self.pay(line, 1)?;
+        match self.content(setting, value).item(at) {
+            Some(item) => Ok(item),
+            None => Err(faulted(Code::BadType, line)),
+        }
+    }
+
+    /// Whether a value counts as true.
+    #[tactic(auto, unfolding(star_meaning::specs::Values::is_true))]
+    pub fn is_true(&self, setting: &Setting, value: Value) -> bool
+        ensures { is_true setting.now value self.now ≡ Done result self.now }
+    {
+        is_true(&self.arena, setting.homes(), value)
+    }
+
+    /// Whether two values are equal, which pays a step for each visit.
+    #[tactic(auto, unfolding(star_meaning::specs::Values::equal))]
+    pub fn equal(
+        &mut self,
+        setting: &Setting,
+        levels: u32,
+        line: usize,
+        x: Value,
+        y: Value,
+    ) -> Result<bool, Stop>
+        ensures answer { Gives (equal setting.now levels line x y self.old) result self.new }
+        ensures kept { self.new.store ≡ self.old.store }
+    {
+        let mut budget = Budget {
+            steps: self.steps,
+            levels,
+        };
+        let answer = equal(&self.arena, setting.homes(), &mut budget, x, y);
+        self.steps = budget.steps;
+        answer.map_err(|fault| refused(fault, line))
+    }
+
+    /// The order of two values, which pays a step for each visit. `BadType` where they have none.
+    #[tactic(auto, unfolding(star_meaning::specs::Values::compare))]
+    pub fn compare(
+        &mut self,
+        setting: &Setting,
+        levels: u32,
+        line: usize,
+        x: Value,
+        y: Value,
+    ) -> Result<Ordering, Stop>
+        ensures answer { Gives (compare setting.now levels line x y self.old) result self.new }
+        ensures kept { self.new.store ≡ self.old.store }
+    {
+        let mut budget = Budget {
+            steps: self.steps,
+            levels,
+        };
+        let answer = order(&self.arena, setting.homes(), &mut budget, x, y);
+        self.steps = budget.steps;
+        answer.map_err(|fault| refused(fault, line))
+    }
+
+    /// Checks that a value is a key, which pays a step for each visit. `BadType` where it is none.
+    #[tactic(auto, unfolding(star_meaning::specs::Values::check_key))]
+    pub fn check_key(
+        &mut self,
+        setting: &Setting,
+        levels: u32,
+        line: usize,
+        key: Value,
+    ) -> Result<(), Stop>
+        ensures answer { Gives (check_key setting.now levels line key self.old) result self.new }
+        ensures kept { self.new.store ≡ self.old.store }
+    {
+        let mut budget = Budget {
+            steps: self.steps,
+            levels,
+        };
+        let answer = check_key(&self.arena, setting.homes(), &mut budget, key);
+        self.steps = budget.steps;
+        answer.map_err(|fault| refused(fault, line))
+    }
+
+    /// The text of a value, which pays a step for each visit.
+    #[tactic(auto, unfolding(star_meaning::specs::Values::repr))]
+    pub fn repr(
+        &mut self,
+        setting: &Setting,
+        levels: u32,
+        line: usize,
+        value: Value,
+    ) -> Result<Text, Stop>
+        ensures answer { Gives (repr setting.now levels line value self.old) result self.new }
+        ensures kept { self.new.store ≡ self.old.store }
+    {
+        let mut budget = Budget {
+            steps: self.steps,
+            levels,
+        };
+        let answer = repr(self.alloc, &self.arena, setting.homes(), &mut budget, value);
+        self.steps = budget.steps;
+        answer.map_err(|fault| refused(fault, line))
+    }
+
+    /// The write guard: `BadType` for what is no list or dictionary, then `Frozen`, then `Iterating`.
+    #[tactic(auto, unfolding(star_meaning::specs::Values::guard))]
+    pub fn guard(&self, setting: &Setting, line: usize, value: Value) -> Result<(), Stop>
+        ensures { Gives (guard setting.now line value self.now) result self.now }
+    {
+        let answer = self.arena.may_write(setting.homes(), value);
+        answer.map_err(|fault| refused(fault, line))
+    }
+
+    /// Changes a list or a dictionary, and answers the value replaced or taken out.
+    #[tactic(auto, unfolding(star_meaning::specs::Values::change), using(crate::proofs::Cells::length_written))]
+    pub fn change(
+        &mut self,
+        setting: &Setting,
+        line: usize,
+        target: Value,
+        by: Change,
+    ) -> Result<Option<Value>, Stop>
+        ensures { Gives (change setting.now line target by self.old) result self.new }
+    {
+        let answer = self.arena.write(setting.homes(), target, by);
+        answer.map_err(|fault| refused(fault, line))
+    }
+
+    /// Prints a line.
+    #[tactic(auto, unfolding(star_meaning::specs::Run::add_line))]
+    pub fn add_line(&mut self, text: Text) -> Result<(), Stop>
+        ensures { Gives (add_line text self.old) result self.new }
+    {
+        self.lines.push(text)?;
+        Ok(())
+    }
+
+    /// Closes an iteration.
+    #[tactic(auto, unfolding(star_meaning::specs::Values::leave), using(crate::proofs::Cells::length_closed))]
+    pub fn leave(&mut self, value: Value)
+        ensures { leave value self.old ≡ Done tt self.new }
+    {
+        self.arena.close_iter(value);
+    }
+
+    /// The allocator of this run.
+    pub fn alloc(&self) -> Global {
+        self.alloc
+    }
+
+    /// An int as a value, or the refusal of its arithmetic.
+    pub fn new_int(&self, line: usize, int: Result<i64, StoreFault>) -> Result<Value, Stop>
+        ensures { Gives (and_then (agreed line int self.now) (λ n. give (Value.Int n))) result self.now }
+    {
+        match int {
+            Ok(int) => Ok(Value::Int(int)),
+            Err(fault) => Err(refused(fault, line)),
+        }
+    }
+
+    /// A count as a value. `Overflow` where it is outside 64 bits.
+    pub fn new_count(&self, line: usize, count: usize) -> Result<Value, Stop>
+        ensures { Gives (new_int line (pos count) self.now) result self.now }
+    {
+        if count > i64::MAX as usize {
+            return Err(faulted(Code::Overflow, line));
+        }
+        Ok(Value::Int(count as i64))
+    }
+
+    /// An int is wanted: else `BadType`.
+    pub fn want_int(&self, setting: &Setting, line: usize, value: Value) -> Result<i64, Stop>
+        ensures { Gives (want_int setting.now line value self.now) result self.now }
+    {
+        match self.content(setting, value) {
+            Content::Number(int) => Ok(int),
+            _ => Err(faulted(Code::BadType, line)),
+        }
+    }
+
+    /// A bool is wanted: else `BadType`.
+    pub fn want_bool(&self, setting: &Setting, line: usize, value: Value) -> Result<bool, Stop>
+        ensures { Gives (want_bool setting.now line value self.now) result self.now }
+    {
+        match self.content(setting, value) {
+            Content::Truth(truth) => Ok(truth),
+            _ => Err(faulted(Code::BadType, line)),
+        }
+    }
+
+    /// A string is wanted: else `BadType`.
+    pub fn check_text(&self, setting: &Setting, line: usize, value: Value) -> Result<(), Stop>
+        ensures answer { Gives (and_then (want_text setting.now line value self.now) (λ t. give tt)) result self.now }
+        ensures text { OnOk result (text_of (content setting.now self.now value) ≡ Some (bytes_of (content setting.now self.now value))) }
+    {
+        let _text = self.want_text(setting, line, value)?;
+        Ok(())
+    }
+
+    /// A string is wanted: else `BadType`.
+    pub fn want_text<'a>(
+        &'a self,
+        setting: &'a Setting<'a>,
+        line: usize,
+        value: Value,
+    ) -> Result<&'a Text, Stop>
+        ensures { GivesBy (λ t. t.now) (want_text setting.now line value self.now) result self.now }
+    {
+        match self.content(setting, value) {
+            Content::Held(Cell::Text(text)) => Ok(text),
+            _ => Err(faulted(Code::BadType, line)),
+        }
+    }
+
+    /// A string as it is, with one visit.
+    fn bare(&mut self, levels: u32, line: usize, text: Text) -> Result<Text, Stop>
+        ensures answer { Gives (visiting line (λ s. bare levels text) self.old) result self.new }
+        ensures kept { self.new.store ≡ self.old.store }
+    {
+        if levels == 0 {
+            return Err(faulted(Code::Deep, line));
+        }
+        if self.steps < 1 {
+            return Err(faulted(Code::Steps, line));
+        }
+        self.steps -= 1;
+        Ok(text)
+    }
+
+    /// What `str` makes of a value: a string itself, with one visit, else the text.
+    #[tactic(auto, unfolding(star_meaning::specs::Values::str))]
+    pub fn str(
+        &mut self,
+        setting: &Setting,
+        levels: u32,
+        line: usize,
+        value: Value,
+    ) -> Result<Text, Stop>
+        ensures answer { Gives (str setting.now levels line value self.old) result self.new }
+        ensures kept { self.new.store ≡ self.old.store }
+    {
+        match self.text_of(setting, value)? {
+            Some(text) => self.bare(levels, line, text),
+            None => self.repr(setting, levels, line, value),
+        }
+    }
+
+    /// A copy of a string: empty for another value.
+    pub fn copied_text(&self, setting: &Setting, value: Value) -> Result<Text, AllocError>
+        ensures { IfOk result (λ t. t ≡ bytes_of (content setting.now self.now value)) }
+    {
+        match self.content(setting, value) {
+            Content::Held(Cell::Text(text)) => Text::new(self.alloc, text.as_str()),
+            _ => Text::new(self.alloc, ""),
+        }
+    }
+
+    /// A copy of the string that a value is: none for another value.
+    fn text_of(&self, setting: &Setting, value: Value) -> Result<Option<Text>, AllocError>
+        ensures { IfOk result (λ t. t ≡ text_of (content setting.now self.now value)) }
+    {
+        match self.content(setting, value) {
+            Content::Held(Cell::Text(text)) => Ok(Some(Text::new(self.alloc, text.as_str())?)),
+            _ => Ok(None),
+        }
+    }
+
+    /// Takes so many items, from the first on: 1 is paid before each.
+    #[tactic(auto, using(crate::proofs::Turns::collect_next))]
+    pub fn take_items(
+        &mut self,
+        setting: &Setting,
+        line: usize,
+        value: Value,
+        count: usize,
+    ) -> Result<Values, Stop>
+        ensures { Gives (take_items setting.now line value count self.old) result self.new }
+    {
+        let mut items = Vec::new(self.alloc);
+        for i in 0..count {
+            items.push(self.take_item(setting, line, value, i)?)?;
+        }
+        Ok(Values::new(items))
+    }
+
+    /// Takes all items of an iterable.
+    pub fn take_all(&mut self, setting: &Setting, line: usize, value: Value) -> Result<Values, Stop>
+        ensures { Gives (take_all setting.now line value self.old) result self.new }
+    {
+        let count = self.count_of(setting, line, value)?;
+        self.take_items(setting, line, value, count)
+    }
+
+    /// Opens an iteration, and gives the number of items. `BadType` for what is no iterable.
+    #[tactic(auto, unfolding(star_meaning::specs::Values::iterate), using(crate::proofs::Cells::length_opened))]
+    pub fn iterate(&mut self, setting: &Setting, line: usize, value: Value) -> Result<usize, Stop>
+        ensures { Gives (iterate setting.now line value self.old) result self.new }
+    {
+        let count = self.count_of(setting, line, value)?;
+        if self.arena.open_iterations(value) >= u32::MAX - 1 {
+            return Err(Stop::Memory);
+        }
+        self.arena.open_iter(value);
+        Ok(count)
+    }
+
+    /// The place of the first item of a list or tuple that is equal to a value, with a visit for each pair up to it.
+    #[tactic(auto, unfolding(crate::specs::Search::found_place))]
+    pub fn equal_place(
+        &mut self,
+        setting: &Setting,
+        levels: u32,
+        line: usize,
+        row: Value,
+        value: Value,
+    ) -> Result<Option<usize>, Stop>
+        ensures answer { Gives (found_place setting.now levels line value (row_in (seen setting.now self.old row)) self.old) result self.new }
+        ensures kept { self.new.store ≡ self.old.store }
+    {
+        let mut budget = Budget {
+            steps: self.steps,
+            levels,
+        };
+        let answer = equal_place(&self.arena, setting.homes(), &mut budget, row, value);
+        self.steps = budget.steps;
+        answer.map_err(|fault| refused(fault, line))
+    }
+
+    /// The int that a value is: none for another value.
+    pub fn int_of(&self, setting: &Setting, value: Value) -> Option<i64>
+        ensures { result ≡ int_of (content setting.now self.now value) }
+    {
+        match self.content(setting, value) {
+            Content::Number(int) => Some(int),
+            _ => None,
+        }
+    }
+
+    /// The bytes of a string: none for another value.
+    pub fn bytes<'a>(&'a self, setting: &'a Setting<'a>, value: Value) -> &'a [u8]
+        ensures { result.now ≡ bytes_of (content setting.now self.now value) }
+    {
+        match self.content(setting, value) {
+            Content::Held(Cell::Text(text)) => text.as_str().as_bytes(),
+            _ => &[],
+        }
+    }
+
+    /// How many bytes a string has: none for another value.
+    pub fn text_size(&self, setting: &Setting, value: Value) -> usize
+        ensures { result ≡ length (bytes_of (content setting.now self.now value)) }
+    {
+        self.bytes(setting, value).len()
+    }
+
+    /// The byte of a string at a place: none outside, and for another value.
+    pub fn byte(&self, setting: &Setting, value: Value, at: usize) -> Option<u8>
+        ensures { result ≡ slice_get (bytes_of (content setting.now self.now value)) at }
+    {
+        self.bytes(setting, value).get(at).copied()
+    }
+
+    /// The place of the entry with a key.
+    pub fn place_of(&self, setting: &Setting, key: Value, entries: &Entries) -> Option<usize>
+        ensures { result ≡ place_in setting.now self.now key entries.now }
+    {
+        place_of(&self.arena, setting.homes(), key, entries)
+    }
+
+    /// The place of the entry of a dictionary with a key.
+    pub fn place_in(&self, setting: &Setting, dict: Value, key: Value) -> Option<usize>
+        ensures { result ≡ place_in setting.now self.now key (entries_in (content setting.now self.now dict)) }
+    {
+        match self.content(setting, dict) {
+            Content::Held(Cell::Dict(entries)) => self.place_of(setting, key, entries),
+            _ => None,
+        }
+    }
+
+    /// The value that a dictionary has for a key.
+    pub fn value_in(&self, setting: &Setting, dict: Value, key: Value) -> Option<Value>
+        ensures { result ≡ value_in setting.now self.now key (entries_in (content setting.now self.now dict)) }
+    {
+        match self.content(setting, dict) {
+            Content::Held(Cell::Dict(entries)) => {
+                value_of(&self.arena, setting.homes(), key, entries)
+            }
+            _ => None,
+        }
+    }
+}
+
+/// Whether a definition is among the active ones.
+fn is_among(active: &[(u32, u32)], file: u32, definition: u32) -> bool
+    ensures { result ≡ list_any (λ a. nat_eq a.0 file && nat_eq a.1 definition) active.now }
+{
+    for one in active {
+        if one.0 == file && one.1 == definition {
+            return true;
+        }
+    }
+    false
+}

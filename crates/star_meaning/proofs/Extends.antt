@@ -1,0 +1,211 @@
+-- An action that does not fail for want of steps does the same with more steps.
+use Rattle.std.proofs.Common.{◌≡◌, ◌≢◌, ℕ, zero, suc, ◌+◌, ◌-◌, ◌<◌, ◌≤◌, List, [], ◌∷◌, ◌++◌, length, Option, Some, None, Bool, true, false, if◌then◌else◌, refl, ap, sym, ◌∙◌, arith, subst, nat_lt, nat_eq, Result, Ok, Err}
+use Rattle.star_store.specs.declared.values.Value.{Value}
+use Rattle.star_store.specs.declared.values.Cell.{Cell}
+use Rattle.star_store.specs.declared.values.Function.{Function}
+use Rattle.star_store.specs.declared.arena.write.Change.{Change}
+use Rattle.star_store.specs.declared.fault.StoreFault.{StoreFault}
+use Rattle.star_store.specs.declared.fault.StoreFault.TheVariants as refused
+use Rattle.star_store.specs.Store.{Store}
+use Rattle.star_store.specs.Spend.{Spend, Spent, Enough, Lacks}
+use Rattle.star_store.specs.Write.{write}
+use Rattle.star_syntax.specs.declared.tree.Expression.{Expression}
+use Rattle.star_syntax.specs.declared.tree.Statement.{Statement}
+use Rattle.star_syntax.specs.declared.tree.Target.{Target}
+use Rattle.star_syntax.specs.declared.tree.Name.{Name}
+use Rattle.star_meaning.specs.declared.fault.Code.{Code}
+use Rattle.star_meaning.specs.declared.fault.Code.TheVariants as code
+use Rattle.star_meaning.specs.declared.place.Place.{Place}
+use Rattle.star_meaning.specs.declared.place.Flow.{Flow}
+use Rattle.star_meaning.specs.declared.place.Flow.TheVariants as flow
+use Rattle.star_meaning.specs.Run.{State, Outcome, Done, Failed, Action, and_then, ◌>>=◌, give, fail, pay, check, found, code_of, agreed, settled, visiting, seeing, storing, make, build, each, all_of, collect, until, add_line}
+use Rattle.star_scope.specs.Definitions.{Definition}
+use Rattle.star_meaning.specs.Program.{Setting, Variables}
+use Rattle.star_meaning.specs.Values.{written, change}
+use Rattle.star_meaning.specs.Binding.{Share}
+use Rattle.star_meaning.specs.Meaning.{Meaning, then_go, block, then_turn, turns, repeat}
+use Rattle.star_meaning.specs.Calls.{activate, deactivate}
+use Rattle.std.proofs.lemmas.Bool.{ltb-false}
+use Rattle.star_meaning.proofs.Reaches.{NotForWant, further, Reaches, reaches-same, reaches-order, reaches-check, reaches-text, reaches-bare}
+
+-- the state with so many more steps
+abbrev pub with_more : ℕ → State → State
+with_more k s = record s { steps = s.steps + k }
+
+-- an outcome with so many more steps left
+abbrev pub later : {A : Type 0} → ℕ → Outcome A → Outcome A
+later k (Done x t) = Done x (with_more k t)
+later k (Failed f lines) = Failed f lines
+
+-- an outcome that is not for want of steps
+abbrev pub NotForSteps : {A : Type 0} → Outcome A → Type 0
+NotForSteps (Done x t) = Unit {0}
+NotForSteps (Failed f lines) = f.code ≢ code.Steps
+
+pub record Extends {A : Type 0} (m : Action A) : Type 0 where
+  pub holds : (k : ℕ) (s : State) → NotForSteps (m s) → m (with_more k s) ≡ later k (m s)
+
+then_later : {A B : Type 0} (k : ℕ) (o o' : Outcome A) (f : A → Action B) → (NotForSteps o → o' ≡ later k o) → ((x : A) → Extends (f x)) → NotForSteps (and_then o f) → and_then o' f ≡ later k (and_then o f)
+then_later k (Done x u) o' f h g n = rw (h tt) ((g x).holds k u n)
+then_later k (Failed e lines) o' f h g n = rw (h n) refl
+
+pub extends_then : {A B : Type 0} (m : Action A) (f : A → Action B) → Extends m → ((x : A) → Extends (f x)) → Extends (m >>= f)
+extends_then m f g h = record { holds = λ k s n. then_later k (m s) (m (with_more k s)) f (g.holds k s) h n }
+
+pub extends_give : {A : Type 0} (x : A) → Extends (give x)
+extends_give x = record { holds = λ k s n. refl }
+
+pub extends_fail : (A : Type 0) (c : Code) (line : ℕ) → Extends (fail {A = A} c line)
+extends_fail A c line = record { holds = λ k s n. refl }
+
+pub extends_if : {A : Type 0} (b : Bool) (m n : Action A) → Extends m → Extends n → Extends (if b then m else n)
+extends_if true m n k l = k
+extends_if false m n k l = l
+
+pub extends_found : {A : Type 0} (c : Code) (line : ℕ) (o : Option A) → Extends (found c line o)
+extends_found {A = A} c line None = extends_fail A c line
+extends_found {A = A} c line (Some x) = extends_give x
+
+paid_more : (b : Bool) (line n k : ℕ) (s : State) → nat_lt s.steps n ≡ b → NotForSteps {A = Unit {0}} (if b then fail code.Steps line s else Done tt (record s { steps = s.steps - n })) → (if nat_lt (s.steps + k) n then fail code.Steps line (with_more k s) else Done tt (record s { steps = s.steps + k - n })) ≡ later {A = Unit {0}} k (if b then fail code.Steps line s else Done tt (record s { steps = s.steps - n }))
+paid_more true line n k s e h = absurd (h refl)
+paid_more false line n k s e h =
+    let enough : n ≤ s.steps = ltb-false s.steps n e in
+    let none : nat_lt (s.steps + k) n ≡ false = grind (arith, enough) in
+    let left : s.steps + k - n ≡ s.steps - n + k = omega (arith, enough) in
+    rw none (rw left refl)
+
+pub extends_pay : (line n : ℕ) → Extends (pay line n)
+unfolding pay
+extends_pay line n = record { holds = λ k s h. paid_more (nat_lt s.steps n) line n k s refl h }
+
+pub extends_seeing : {A : Type 0} (f : State → Action A) → ((k : ℕ) (s : State) → f (with_more k s) ≡ f s) → ((s : State) → Extends (f s)) → Extends (seeing f)
+extends_seeing f same g = record { holds = λ k s n. rw (same k s) ((g s).holds k s n) }
+
+pub extends_check : (c : Code) (line : ℕ) (b : Bool) → Extends (check c line b)
+extends_check c line b = extends_if b _ _ (extends_give {A = Unit {0}} tt) (extends_fail (Unit {0}) c line)
+
+pub extends_make : (c : Cell) → Extends (make c)
+unfolding make
+extends_make c = record { holds = λ k s n. refl }
+
+pub extends_build : (line cost : ℕ) (c : Cell) → Extends (build line cost c)
+unfolding build
+extends_build line cost c = extends_then _ _ (extends_pay line cost) (λ _. extends_make c)
+
+pub extends_each : {A B : Type 0} (f : A → Action B) (xs : List A) → ((x : A) → Extends (f x)) → Extends (each f xs)
+extends_each {B = B} f [] k = extends_give {A = List B} []
+extends_each {B = B} f (x ∷ xs) k = extends_then _ _ (k x) (λ y. extends_then _ _ (extends_each f xs k) (λ ys. extends_give (y ∷ ys)))
+
+pub extends_all_of : {A : Type 0} (f : A → Action (Unit {0})) (xs : List A) → ((x : A) → Extends (f x)) → Extends (all_of f xs)
+extends_all_of f [] k = extends_give {A = Unit {0}} tt
+extends_all_of f (x ∷ xs) k = extends_then _ _ (k x) (λ _. extends_all_of f xs k)
+
+pub extends_collect : {B : Type 0} (f : ℕ → Action B) (n i : ℕ) → ((i : ℕ) → Extends (f i)) → Extends (collect f n i)
+extends_collect {B = B} f zero i k = extends_give {A = List B} []
+extends_collect {B = B} f (suc n) i k = extends_then _ _ (k i) (λ y. extends_then _ _ (extends_collect f n (i + 1) k) (λ ys. extends_give (y ∷ ys)))
+
+pub extends_until : (f : ℕ → Action Bool) (n i : ℕ) → ((i : ℕ) → Extends (f i)) → Extends (until f n i)
+extends_until f zero i k = extends_give false
+extends_until f (suc n) i k = extends_then _ _ (k i) (λ stop. extends_if stop _ _ (extends_give true) (extends_until f n (i + 1) k))
+
+pub extends_agreed : {A : Type 0} (line : ℕ) (r : Result A StoreFault) → Extends (agreed line r)
+extends_agreed {A = A} line (Ok x) = extends_give x
+extends_agreed {A = A} line (Err f) = extends_fail A (code_of f) line
+
+-- a refusal that is not for want of steps is a fault of another code
+not_steps : (f : StoreFault) → (code_of f ≢ code.Steps) → f ≢ refused.Steps
+not_steps f h e = h (ap code_of e)
+
+settled_more : {A : Type 0} (line k : ℕ) (s : State) (o o' : Spent A) → (NotForWant o → o' ≡ further k o) → NotForSteps (settled line o s) → settled line o' (with_more k s) ≡ later k (settled line o s)
+settled_more line k s (Enough x left) o' h n = rw (h tt) refl
+settled_more line k s (Lacks f left) o' h n = rw (h (not_steps f n)) refl
+
+pub extends_visiting : {A : Type 0} (line : ℕ) (f : State → Spend A) → ((k : ℕ) (s : State) → f (with_more k s) ≡ f s) → ((s : State) → Reaches (f s)) → Extends (visiting line f)
+extends_visiting line f same g = record { holds = λ k s n. rw (same k s) (settled_more line k s (f s s.steps) (f s (s.steps + k)) (g s k s.steps) n) }
+
+pub extends_storing : (f : Store → Store) → Extends (storing f)
+extends_storing f = record { holds = λ k s n. refl }
+
+extends_written : (line : ℕ) (r : Result (Option Value × Store) StoreFault) → Extends (written line r)
+extends_written line (Ok r) = record { holds = λ k s n. refl }
+extends_written line (Err f) = record { holds = λ k s n. refl }
+
+pub extends_change : (w : Setting) (line : ℕ) (v : Value) (c : Change) → Extends (change w line v c)
+unfolding change
+extends_change w line v c = extends_seeing _ (λ k s. refl) (λ s. extends_written line (write s.store w.shelf v c))
+
+pub extends_add_line : (bytes : List ℕ) → Extends (add_line bytes)
+unfolding add_line
+extends_add_line bytes = record { holds = λ k s n. refl }
+
+pub extends_activate : (f : Function) → Extends (activate f)
+unfolding activate
+extends_activate f = record { holds = λ k s n. refl }
+
+pub extends_deactivate : Extends deactivate
+unfolding deactivate
+extends_deactivate = record { holds = λ k s n. refl }
+
+pub extends_then_go : (rest : Action Flow) (f : Flow) → Extends rest → Extends (then_go rest f)
+extends_then_go rest flow.Next k = k
+extends_then_go rest flow.Break k = extends_give _
+extends_then_go rest flow.Continue k = extends_give _
+extends_then_go rest (flow.Return v) k = extends_give _
+
+pub extends_block : {A : Type 0} (f : A → Action Flow) (xs : List A) → ((x : A) → Extends (f x)) → Extends (block f xs)
+extends_block f [] k = extends_give _
+extends_block f (x ∷ xs) k = extends_then _ _ (k x) (λ y. extends_then_go _ y (extends_block f xs k))
+
+pub extends_then_turn : (rest : Action Flow) (f : Flow) → Extends rest → Extends (then_turn rest f)
+extends_then_turn rest flow.Next k = k
+extends_then_turn rest flow.Break k = extends_give _
+extends_then_turn rest flow.Continue k = k
+extends_then_turn rest (flow.Return v) k = extends_give _
+
+pub extends_turns : (f : ℕ → Action Flow) (n i : ℕ) → ((i : ℕ) → Extends (f i)) → Extends (turns f n i)
+extends_turns f zero i k = extends_give _
+extends_turns f (suc n) i k = extends_then _ _ (k i) (λ y. extends_then_turn _ y (extends_turns f n (i + 1) k))
+
+pub extends_repeat : (f : ℕ → Action (Unit {0})) (n i : ℕ) → ((i : ℕ) → Extends (f i)) → Extends (repeat f n i)
+extends_repeat f zero i k = extends_give {A = Unit {0}} tt
+extends_repeat f (suc n) i k = extends_then _ _ (k i) (λ _. extends_repeat f n (i + 1) k)
+
+-- the three actions on variables keep it
+pub record VariablesExtend (vs : Variables) : Type 0 where
+  pub read : (p : Place) (n : Name) → Extends (vs.read p n)
+  pub bind : (p : Place) (n : Name) (v : Value) → Extends (vs.bind p n v)
+  pub frame : (file number : ℕ) (parent : Option Value) → Extends (vs.frame file number parent)
+
+pub extends_read : (vs : Variables) → VariablesExtend vs → (p : Place) (n : Name) → Extends (vs.read p n)
+extends_read vs k = k.read
+
+pub extends_bind : (vs : Variables) → VariablesExtend vs → (p : Place) (n : Name) (v : Value) → Extends (vs.bind p n v)
+extends_bind vs k = k.bind
+
+pub extends_frame : (vs : Variables) → VariablesExtend vs → (file number : ℕ) (parent : Option Value) → Extends (vs.frame file number parent)
+extends_frame vs k = k.frame
+
+-- all parts of a program keep it
+pub record AllExtend (m : Meaning) : Type 0 where
+  pub expr : (p : Place) (e : Expression) → Extends (m.expr p e)
+  pub stmt : (p : Place) (x : Statement) → Extends (m.stmt p x)
+  pub assign : (p : Place) (t : Target) (v : Value) → Extends (m.assign p t v)
+  pub parts : (p : Place) (e i : Expression) → Extends (m.parts p e i)
+  pub call : (p : Place) (f : Function) (d : Definition) (shares : List (Name × Share)) → Extends (m.call p f d shares)
+
+pub extends_expr : (m : Meaning) → AllExtend m → (p : Place) (e : Expression) → Extends (m.expr p e)
+extends_expr m k = k.expr
+
+pub extends_stmt : (m : Meaning) → AllExtend m → (p : Place) (x : Statement) → Extends (m.stmt p x)
+extends_stmt m k = k.stmt
+
+pub extends_assign : (m : Meaning) → AllExtend m → (p : Place) (t : Target) (v : Value) → Extends (m.assign p t v)
+extends_assign m k = k.assign
+
+pub extends_parts : (m : Meaning) → AllExtend m → (p : Place) (e i : Expression) → Extends (m.parts p e i)
+extends_parts m k = k.parts
+
+pub extends_call : (m : Meaning) → AllExtend m → (p : Place) (f : Function) (d : Definition) (shares : List (Name × Share)) → Extends (m.call p f d shares)
+extends_call m k = k.call
+
+pub ruleset extends = (refl, reaches-same, reaches-order, reaches-check, reaches-text, reaches-bare, extends_then, extends_give, extends_fail, extends_if, extends_found, extends_pay, extends_seeing, extends_check, extends_make, extends_build, extends_each, extends_all_of, extends_collect, extends_until, extends_agreed, extends_visiting, extends_storing, extends_change, extends_add_line, extends_activate, extends_deactivate, extends_block, extends_turns, extends_repeat, extends_read, extends_bind, extends_frame, extends_expr, extends_stmt, extends_assign, extends_parts, extends_call)

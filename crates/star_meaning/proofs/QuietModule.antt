@@ -1,0 +1,10 @@
+-- Module: no part makes a function, and each keeps the frames.
+use Rattle.star_store.specs.declared.values.Value.{Value}
+use Rattle.star_meaning.specs.Program.{Setting}
+use Rattle.std.proofs.Common.{ℕ, List}
+use Rattle.star_meaning.specs.Module.{global_text}
+use Rattle.star_meaning.proofs.Quiet.{keeps, Keeps}
+use Rattle.star_meaning.proofs.QuietValues.{keeps-repr}
+
+pub keeps-global_text : (w : Setting) (levels : ℕ) (line : ℕ) (g : List ℕ × Value) → Keeps (global_text w levels line g)
+keeps-global_text w levels line g = search (keeps, keeps-repr) depth 14

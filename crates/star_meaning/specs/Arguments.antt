@@ -1,0 +1,143 @@
+-- What a call gives: values by place and by name, as they stand and from `*` and `**`.
+use Rattle.std.specs.Prelude.{ℕ, nat_eq, Bool, false, not, ◌||◌, List, [], ◌∷◌, ◌++◌, length, Option, Some, None, slice_get}
+use Rattle.std.specs.List.{list_any, list_all}
+use Rattle.std.specs.Option.{option_map}
+use Rattle.star_store.specs.declared.values.Value.{Value}
+use Rattle.star_store.specs.declared.values.Cell.TheVariants as cell
+use Rattle.star_meaning.specs.declared.fault.Code.TheVariants as code
+use Rattle.star_meaning.specs.declared.given.Given.{Given}
+use Rattle.star_meaning.specs.declared.given.NamedValue.{NamedValue}
+use Rattle.star_meaning.specs.Run.{State, Action, ◌>>=◌, give, fail, pay, check, found, each, seeing}
+use Rattle.star_scope.specs.Names.{same_name}
+use Rattle.star_meaning.specs.Program.{Setting}
+use Rattle.star_meaning.specs.Values.{Content, Held, content, text_of, count_of, take_items, new_text}
+
+-- an argument with its value, as it stands in the call
+pub data Passed : Type 0 where
+  Plain : Value → Passed
+  Named : List ℕ → Value → Passed
+  Star : Value → Passed
+  StarStar : Value → Passed
+
+-- the values that stand by place, and those that stand by name
+abbrev pub plain_of : List Passed → List Value
+plain_of [] = []
+plain_of (Plain v ∷ ps) = v ∷ plain_of ps
+plain_of (Named n v ∷ ps) = plain_of ps
+plain_of (Star v ∷ ps) = plain_of ps
+plain_of (StarStar v ∷ ps) = plain_of ps
+
+abbrev pub named_of : List Passed → List NamedValue
+named_of [] = []
+named_of (Plain v ∷ ps) = named_of ps
+named_of (Named n v ∷ ps) = record { name = n; key = None; value = v } ∷ named_of ps
+named_of (Star v ∷ ps) = named_of ps
+named_of (StarStar v ∷ ps) = named_of ps
+
+-- what stands behind `*` and behind `**`
+abbrev pub star_of : List Passed → Option Value
+star_of [] = None
+star_of (Plain v ∷ ps) = star_of ps
+star_of (Named n v ∷ ps) = star_of ps
+star_of (Star v ∷ ps) = Some v
+star_of (StarStar v ∷ ps) = star_of ps
+
+abbrev pub star_star_of : List Passed → Option Value
+star_star_of [] = None
+star_star_of (Plain v ∷ ps) = star_star_of ps
+star_star_of (Named n v ∷ ps) = star_star_of ps
+star_star_of (Star v ∷ ps) = star_star_of ps
+star_star_of (StarStar v ∷ ps) = Some v
+
+-- the number of items behind `*`: `type` where it is not iterable
+abbrev pub star_count : Setting → ℕ → Option Value → Action ℕ
+star_count w line None = give 0
+star_count w line (Some v) = count_of w line v
+
+abbrev pub take_star : Setting → ℕ → Option Value → ℕ → Action (List Value)
+take_star w line None n = give []
+take_star w line (Some v) n = take_items w line v n
+
+-- the entries of a dictionary whose keys are all strings, by name
+abbrev pub named_entry : Setting → State → Value × Value → Option (List ℕ) → Option NamedValue
+named_entry w s e None = None
+named_entry w s e (Some t) = Some (record { name = t; key = Some e.0; value = e.1 })
+
+abbrev pub before_all : {A : Type 0} → Option A → Option (List A) → Option (List A)
+before_all (Some x) (Some xs) = Some (x ∷ xs)
+before_all _ _ = None
+
+abbrev pub named_entries : Setting → State → List (Value × Value) → Option (List NamedValue)
+named_entries w s [] = Some []
+named_entries w s (e ∷ es) = before_all (named_entry w s e (text_of (content w s e.0))) (named_entries w s es)
+
+abbrev pub names_in : Setting → State → Content → Option (List NamedValue)
+names_in w s (Held (cell.Dict es)) = named_entries w s es
+names_in w s _ = None
+
+-- what stands behind `**`: `type` unless it is a dictionary whose keys are all strings
+abbrev pub star_star_names : Setting → ℕ → Option Value → Action (List NamedValue)
+star_star_names w line None = give []
+star_star_names w line (Some v) = seeing (λ s. found code.BadType line (names_in w s (content w s v)))
+
+-- 1 is paid before each entry that is taken
+abbrev pub take_names : ℕ → List NamedValue → Action (List NamedValue)
+take_names line ns = each (λ n. pay line 1 >>= λ _. give n) ns
+
+-- whether a name is among those given
+abbrev pub is_given : List ℕ → List NamedValue → Bool
+is_given name ns = list_any (λ n. same_name n.name name) ns
+
+-- whether a name comes twice
+abbrev pub comes_twice : List NamedValue → Bool
+comes_twice [] = false
+comes_twice (n ∷ ns) = is_given n.name ns || comes_twice ns
+
+-- what a call gives, in order: what stands behind `*` and `**` is checked, then their items and entries are taken, then no name may come twice
+unfoldable pub given : Setting → ℕ → List Passed → Action Given
+given w line ps = do
+  n ← star_count w line (star_of ps)
+  names ← star_star_names w line (star_star_of ps)
+  xs ← take_star w line (star_of ps) n
+  ns ← take_names line names
+  _ ← check code.Args line (not (comes_twice (named_of ps ++ ns)))
+  give (record { plain = plain_of ps ++ xs; named = named_of ps ++ ns })
+
+-- a name as a key: one that stands in the call is a new string, one from `**` is the key that stands there
+unfoldable pub name_key : ℕ → NamedValue → Option Value → Action Value
+name_key line n (Some k) = give k
+name_key line n None = new_text line n.name
+
+abbrev pub key_for : ℕ → NamedValue → Action Value
+key_for line n = name_key line n n.key
+
+-- values by place alone
+abbrev pub by_place : ℕ → Given → Action (List Value)
+by_place line g = check code.Args line (nat_eq (length g.named) 0) >>= λ _. give g.plain
+
+-- values by place, and no name but this one
+abbrev pub with_name : ℕ → List ℕ → Given → Action (List Value × Option Value)
+with_name line name g = check code.Args line (list_all (λ n. same_name n.name name) g.named) >>= λ _. give (g.plain, option_map (λ n. n.value) (slice_get g.named 0))
+
+-- exactly so many values by place
+abbrev pub only_one : ℕ → List Value → Action Value
+only_one line (x ∷ []) = give x
+only_one line _ = fail code.Args line
+
+abbrev pub none_or_one : ℕ → List Value → Action (Option Value)
+none_or_one line [] = give None
+none_or_one line (x ∷ []) = give (Some x)
+none_or_one line _ = fail code.Args line
+
+abbrev pub one_or_two : ℕ → List Value → Action (Value × Option Value)
+one_or_two line (x ∷ []) = give (x, None)
+one_or_two line (x ∷ y ∷ []) = give (x, Some y)
+one_or_two line _ = fail code.Args line
+
+abbrev pub two : ℕ → List Value → Action (Value × Value)
+two line (x ∷ y ∷ []) = give (x, y)
+two line _ = fail code.Args line
+
+abbrev pub no_value : ℕ → List Value → Action (Unit {0})
+no_value line [] = give tt
+no_value line _ = fail code.Args line

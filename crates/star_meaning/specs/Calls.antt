@@ -1,0 +1,114 @@
+-- Calls: what may be called, and the run of a function.
+use Rattle.std.specs.Prelude.{ℕ, ◌+◌, nat_eq, Bool, not, ◌&&◌, List, [], ◌∷◌, Some}
+use Rattle.std.specs.List.{list_any}
+use Rattle.star_store.specs.declared.values.Value.{Value}
+use Rattle.star_store.specs.declared.values.Value.TheVariants as value
+use Rattle.star_store.specs.declared.values.Cell.TheVariants as cell
+use Rattle.star_store.specs.declared.values.Function.{Function}
+use Rattle.star_store.specs.declared.names.BuiltIn.{BuiltIn}
+use Rattle.star_store.specs.declared.names.Method.{Method}
+use Rattle.star_syntax.specs.declared.tree.Argument.{Argument}
+use Rattle.star_syntax.specs.declared.tree.Expression.{Expression}
+use Rattle.star_syntax.specs.declared.tree.Name.{Name}
+use Rattle.star_syntax.specs.declared.tree.Argument.TheOpen as tree
+use Rattle.star_meaning.specs.declared.fault.Code.TheVariants as code
+use Rattle.star_meaning.specs.declared.place.Place.{Place}
+use Rattle.star_meaning.specs.declared.place.Flow.{Flow}
+use Rattle.star_meaning.specs.declared.place.Flow.TheVariants as flow
+use Rattle.star_scope.specs.Syntax.{ArgumentForm, argument}
+use Rattle.star_meaning.specs.Run.{State, Action, Done, ◌>>=◌, give, fail, pay, check, found, each, all_of, seeing}
+use Rattle.star_scope.specs.Definitions.{Definition, Body, Statements, Answer}
+use Rattle.star_meaning.specs.Program.{Setting, Variables, definition_of}
+use Rattle.star_meaning.specs.Values.{Content, BuiltInFunction, Held, with_content}
+use Rattle.star_meaning.specs.declared.given.Given.{Given}
+use Rattle.star_meaning.specs.Arguments.{Passed, Plain, Named, Star, StarStar, given}
+use Rattle.star_meaning.specs.BuiltIns.{call_built_in}
+use Rattle.star_meaning.specs.Methods.{call_method}
+use Rattle.star_meaning.specs.Binding.{Share, bound_to, make_shares}
+use Rattle.star_meaning.specs.Meaning.{Meaning, block}
+
+-- an argument's value
+abbrev pub pass_form : Meaning → Place → ArgumentForm → Action Passed
+pass_form m p (tree.Positional e) = m.expr p e >>= λ v. give (Plain v)
+pass_form m p (tree.Named n e) = m.expr p e >>= λ v. give (Named n.text v)
+pass_form m p (tree.Argument-F.Argument::Star e) = m.expr p e >>= λ v. give (Star v)
+pass_form m p (tree.Argument-F.Argument::StarStar e) = m.expr p e >>= λ v. give (StarStar v)
+
+abbrev pub pass : Meaning → Place → Argument → Action Passed
+pass m p a = pass_form m p (argument a)
+
+-- what may be called
+pub data Callee : Type 0 where
+  AFunction : Function → Definition → Callee
+  ABuiltIn : BuiltIn → Callee
+  AMethod : Method → Value → Callee
+
+-- whether a definition is active
+abbrev pub is_active : State → Function → Bool
+is_active s f = list_any (λ a. nat_eq a.0 f.file && nat_eq a.1 f.definition) s.active
+
+-- a function may be called unless its definition is active: two closures of one definition are the same
+abbrev pub function_callee : Setting → ℕ → Function → Action Callee
+function_callee w line f = do
+  _ ← seeing (λ s. check code.Recursion line (not (is_active s f)))
+  d ← found code.BadType line (definition_of w f.file f.definition)
+  give (AFunction f d)
+
+abbrev pub callee_of : Setting → ℕ → Content → Action Callee
+callee_of w line (Held (cell.Func f)) = function_callee w line f
+callee_of w line (BuiltInFunction b) = give (ABuiltIn b)
+callee_of w line (Held (cell.Bound m x)) = give (AMethod m x)
+callee_of w line _ = fail code.BadType line
+
+-- a value that is called: `type` where it is not callable, then `recursion`
+unfoldable pub callee : Setting → ℕ → Value → Action Callee
+callee w line v = with_content w v (callee_of w line)
+
+-- a call on what is given: a function's arguments are bound, or `args`; then it runs, at a level of its own
+abbrev pub called : Setting → ℕ → Meaning → Place → Callee → Given → Action Value
+called w levels m p (AFunction f d) g = found code.Args p.line (bound_to d.parameters f.defaults g) >>= m.call p f d
+called w levels m p (ABuiltIn b) g = call_built_in w levels p.line b g
+called w levels m p (AMethod b x) g = call_method w levels p.line b x g
+
+-- a call: the callee, the arguments in source order, then the checks in order, then the work
+abbrev pub call_node : Setting → ℕ → Meaning → Place → Expression → List Argument → Action Value
+call_node w levels m p f es = do
+  v ← m.expr p f
+  ps ← each (pass m p) es
+  c ← callee w p.line v
+  g ← given w p.line ps
+  called w levels m p c g
+
+-- a definition becomes active, and ceases to be
+unfoldable pub activate : Function → Action (Unit {0})
+activate f = λ s. Done tt (record s { active = (f.file, f.definition) ∷ s.active })
+
+abbrev pub rest_of : List (ℕ × ℕ) → List (ℕ × ℕ)
+rest_of [] = []
+rest_of (a ∷ more) = more
+
+unfoldable pub deactivate : Action (Unit {0})
+deactivate = λ s. Done tt (record s { active = rest_of s.active })
+
+-- a function without `return` answers None
+abbrev pub answer_of : Flow → Value
+answer_of (flow.Return v) = v
+answer_of _ = value.NoneValue
+
+-- what a call runs
+abbrev pub run_body : Meaning → Place → Body → Action Value
+run_body m p (Statements body) = block (m.stmt p) body >>= λ f. give (answer_of f)
+run_body m p (Answer e) = m.expr p e
+
+-- the run of a function: the tuple of `*name`, the strings and the dictionary of `**name`, the frame, the parameters in it, the body
+abbrev pub run : Variables → Meaning → Place → Function → Definition → List (Name × Share) → Action Value
+run vs m p f d shares = do
+  values ← make_shares p.line shares
+  _ ← pay p.line 1
+  frame ← vs.frame f.file (1 + f.definition) (Some f.frame)
+  let q : Place = record { file = f.file; frame = frame; line = p.line } in do
+    _ ← all_of (λ x. vs.bind q x.0 x.1) values
+    _ ← activate f
+    v ← run_body m q d.body
+    _ ← deactivate
+    give v

@@ -1,0 +1,55 @@
+-- The parts of a program that open a level, and what each does where so many levels may be opened.
+use Rattle.std.specs.Prelude.{ℕ, zero, suc, ◌+◌, List, [], ◌∷◌}
+use Rattle.star_store.specs.declared.values.Value.{Value}
+use Rattle.star_store.specs.declared.values.Function.{Function}
+use Rattle.star_syntax.specs.declared.tree.Expression.{Expression}
+use Rattle.star_syntax.specs.declared.tree.Target.{Target}
+use Rattle.star_syntax.specs.declared.tree.Statement.{Statement}
+use Rattle.star_syntax.specs.declared.tree.Name.{Name}
+use Rattle.star_meaning.specs.declared.place.Place.{Place}
+use Rattle.star_meaning.specs.declared.place.Flow.{Flow}
+use Rattle.star_meaning.specs.declared.place.Flow.TheVariants as flow
+use Rattle.star_meaning.specs.Run.{Action, ◌>>=◌, give}
+use Rattle.star_scope.specs.Definitions.{Definition}
+use Rattle.star_meaning.specs.Binding.{Share}
+
+-- the value of an index target, and what stands there: read before an augmented assignment
+pub record Read : Type 0 where
+  pub base : Value
+  pub index : Value
+  pub old : Value
+
+-- an expression's value; what a statement does; what a target that is no plain name does with a value; the parts of an index target with what they read; and a call of a function with the shares of its parameters
+pub record Meaning : Type 0 where
+  pub expr : Place → Expression → Action Value
+  pub stmt : Place → Statement → Action Flow
+  pub assign : Place → Target → Value → Action (Unit {0})
+  pub parts : Place → Expression → Expression → Action Read
+  pub call : Place → Function → Definition → List (Name × Share) → Action Value
+
+-- goes on where nothing ends the statements
+abbrev pub then_go : Action Flow → Flow → Action Flow
+then_go rest flow.Next = rest
+then_go rest other = give other
+
+-- statements in order
+abbrev pub block : {A : Type 0} → (A → Action Flow) → List A → Action Flow
+block f [] = give flow.Next
+block f (x ∷ xs) = f x >>= then_go (block f xs)
+
+-- a turn of a loop: the next one follows, or the loop ends
+abbrev pub then_turn : Action Flow → Flow → Action Flow
+then_turn rest flow.Next = rest
+then_turn rest flow.Continue = rest
+then_turn rest flow.Break = give flow.Next
+then_turn rest (flow.Return v) = give (flow.Return v)
+
+-- so many turns of a loop, from its i-th on
+abbrev pub turns : (ℕ → Action Flow) → ℕ → ℕ → Action Flow
+turns f zero i = give flow.Next
+turns f (suc n) i = f i >>= then_turn (turns f n (i + 1))
+
+-- so many turns of a clause, from its i-th on
+abbrev pub repeat : (ℕ → Action (Unit {0})) → ℕ → ℕ → Action (Unit {0})
+repeat f zero i = give tt
+repeat f (suc n) i = f i >>= λ _. repeat f n (i + 1)

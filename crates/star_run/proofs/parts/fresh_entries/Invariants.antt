@@ -1,8 +1,0 @@
-use Rattle.std.proofs.Common.{◌≡◌, [], drop}
-use Rattle.star_eval.specs.Expressions.{fresh_entries}
-use Rattle.star_run.proofs.parts.fresh_entries.Given as goal
-
-abbrev pub invariant-loop-entry : goal.invariant-loop-entry
-invariant-loop-entry l =
-    let f = fresh_entries l.world.setting l.context.levels l.context.place.line in
-    f l.entries (drop l.entry-index l.found) l.machine ≡ f [] l.found l.fn.machine

@@ -1,0 +1,735 @@
+// What the calls of this crate answer, on examples.
+
+use star_store::arena::write::Change;
+use star_store::arena::{Arena, Homes, freeze};
+use star_store::arithmetic::{add, floor_div, floor_mod, mul, neg, shl, sub};
+use star_store::budget::Budget;
+use star_store::equal::equal;
+use star_store::fault::StoreFault;
+use star_store::key::check_key;
+use star_store::names::{BuiltIn, Method};
+use star_store::order::order;
+use star_store::range::Range;
+use star_store::text::repr;
+use star_store::truth::is_true;
+use star_store::values::{Cell, Entries, Frame, Function, Slots, Value, Values};
+use star_text::Text;
+use std::alloc::Global;
+use std::cmp::Ordering;
+use std::process::Abort;
+use std::test::Fail;
+
+const AMPLE: Budget = Budget {
+    steps: 1_000_000,
+    levels: 400,
+};
+
+/// A new cell, in an arena that has room.
+fn made(rt: &impl Abort, arena: &mut Arena, cell: Cell) -> Result<Value, Fail> {
+    assert!(rt; arena.len() < 1_000_000);
+    Ok(arena.make(cell)?)
+}
+
+fn text(alloc: Global, rt: &impl Abort, arena: &mut Arena, content: &str) -> Result<Value, Fail> {
+    made(rt, arena, Cell::Text(Text::new(alloc, content)?))
+}
+
+fn list(alloc: Global, rt: &impl Abort, arena: &mut Arena, items: &[Value]) -> Result<Value, Fail> {
+    let items = Vec::from_slice(alloc, items)?;
+    made(rt, arena, Cell::List(Values::new(items)))
+}
+
+fn tuple(
+    alloc: Global,
+    rt: &impl Abort,
+    arena: &mut Arena,
+    items: &[Value],
+) -> Result<Value, Fail> {
+    let items = Vec::from_slice(alloc, items)?;
+    made(rt, arena, Cell::Tuple(Values::new(items)))
+}
+
+fn range(
+    rt: &impl Abort,
+    arena: &mut Arena,
+    start: i64,
+    stop: i64,
+    step: i64,
+) -> Result<Value, Fail> {
+    made(rt, arena, Cell::Range(Range { start, stop, step }))
+}
+
+fn dict(alloc: Global, rt: &impl Abort, arena: &mut Arena) -> Result<Value, Fail> {
+    made(rt, arena, Cell::Dict(Entries::new(alloc)))
+}
+
+/// Asserts that a value's text is this one.
+fn shows(
+    alloc: Global,
+    rt: &impl Abort,
+    arena: &Arena,
+    homes: &Homes,
+    value: Value,
+    want: &str,
+) -> Result<(), Fail> {
+    let mut budget = AMPLE;
+    let text = repr(alloc, arena, homes, &mut budget, value)?;
+    assert_eq!(rt; text.as_str(), want);
+    Ok(())
+}
+
+/// Asserts how a text is refused with so many steps and levels, and how many steps it leaves.
+fn tells(
+    alloc: Global,
+    rt: &impl Abort,
+    arena: &Arena,
+    homes: &Homes,
+    (steps, levels): (u64, u32),
+    value: Value,
+    want: Option<StoreFault>,
+    left: u64,
+) {
+    let mut budget = Budget { steps, levels };
+    let refusal = repr(alloc, arena, homes, &mut budget, value).err();
+    assert!(rt; refusal == want);
+    assert!(rt; budget.steps == left);
+}
+
+/// Asserts what a write answers.
+fn writes(
+    rt: &impl Abort,
+    arena: &mut Arena,
+    homes: &Homes,
+    target: Value,
+    change: Change,
+    want: Result<Option<Value>, StoreFault>,
+) {
+    let answer = arena.write(homes, target, change);
+    assert!(rt; answer == want);
+}
+
+/// Asserts what a look-up answers.
+fn finds(
+    rt: &impl Abort,
+    arena: &Arena,
+    homes: &Homes,
+    dict: Value,
+    key: Value,
+    want: Result<Option<Value>, StoreFault>,
+) {
+    let answer = arena.find(homes, dict, key);
+    assert!(rt; answer == want);
+}
+
+/// Asserts whether a value may be written.
+fn may_write(
+    rt: &impl Abort,
+    arena: &Arena,
+    homes: &Homes,
+    target: Value,
+    want: Result<(), StoreFault>,
+) {
+    let answer = arena.may_write(homes, target);
+    assert!(rt; answer == want);
+}
+
+/// Opens an iteration where none is open.
+fn iterate(rt: &impl Abort, arena: &mut Arena, value: Value) {
+    assert!(rt; arena.open_iterations(value) == 0);
+    arena.open_iter(value);
+}
+
+/// Asserts what equality answers with so many steps and levels, and how many steps it leaves.
+fn equals(
+    rt: &impl Abort,
+    arena: &Arena,
+    homes: &Homes,
+    (steps, levels): (u64, u32),
+    (x, y): (Value, Value),
+    want: Result<bool, StoreFault>,
+    left: u64,
+) {
+    let mut budget = Budget { steps, levels };
+    let answer = equal(arena, homes, &mut budget, x, y);
+    assert!(rt; answer == want);
+    assert!(rt; budget.steps == left);
+    assert!(rt; budget.levels == levels);
+}
+
+/// Asserts what order answers with 20 steps, and how many steps it leaves.
+fn ordered(
+    rt: &impl Abort,
+    arena: &Arena,
+    homes: &Homes,
+    (x, y): (Value, Value),
+    want: Result<Ordering, StoreFault>,
+    left: u64,
+) {
+    let mut budget = Budget {
+        steps: 20,
+        levels: 400,
+    };
+    let answer = order(arena, homes, &mut budget, x, y);
+    assert!(rt; answer == want);
+    assert!(rt; budget.steps == left);
+}
+
+/// Asserts what a key check answers with so many steps and levels, and how many steps it leaves.
+fn checks(
+    rt: &impl Abort,
+    arena: &Arena,
+    homes: &Homes,
+    (steps, levels): (u64, u32),
+    key: Value,
+    want: Result<(), StoreFault>,
+    left: u64,
+) {
+    let mut budget = Budget { steps, levels };
+    let answer = check_key(arena, homes, &mut budget, key);
+    assert!(rt; answer == want);
+    assert!(rt; budget.steps == left);
+}
+
+// A list is iterated, written, shown and published.
+#[test]
+fn a_list_in_its_life(rt: HostRuntime) -> Result<(), Fail> {
+    let alloc = rt.alloc();
+    let homes = Homes::new(alloc);
+    let mut arena = Arena::new(alloc, 0);
+    let v = list(alloc, &rt, &mut arena, &[Value::Int(1)])?;
+    assert_eq!(rt; v, Value::Ref { home: 0, at: 0 });
+    iterate(&rt, &mut arena, v);
+    writes(
+        &rt,
+        &mut arena,
+        &homes,
+        v,
+        Change::Append(Value::Int(2)),
+        Err(StoreFault::Iterating),
+    );
+    may_write(&rt, &arena, &homes, v, Err(StoreFault::Iterating));
+    arena.close_iter(v);
+    may_write(&rt, &arena, &homes, v, Ok(()));
+    writes(
+        &rt,
+        &mut arena,
+        &homes,
+        v,
+        Change::Append(Value::Int(2)),
+        Ok(None),
+    );
+    shows(alloc, &rt, &arena, &homes, v, "[1, 2]")?;
+    let t = text(alloc, &rt, &mut arena, "t")?;
+    writes(
+        &rt,
+        &mut arena,
+        &homes,
+        t,
+        Change::Append(Value::Int(2)),
+        Err(StoreFault::BadType),
+    );
+    may_write(&rt, &arena, &homes, t, Err(StoreFault::BadType));
+    Ok(())
+}
+
+// A published list is read and not written, and the first global of a name counts.
+#[test]
+fn a_published_list(rt: HostRuntime) -> Result<(), Fail> {
+    let alloc = rt.alloc();
+    let mut arena = Arena::new(alloc, 0);
+    let v = list(alloc, &rt, &mut arena, &[Value::Int(1), Value::Int(2)])?;
+    let mut globals = Vec::new(alloc);
+    globals.push((String::from_str(alloc, "v")?, v))?;
+    globals.push((String::from_str(alloc, "v")?, Value::NoneValue))?;
+    let frozen = freeze(arena, globals);
+    assert!(rt; frozen.global("v") == Some(v));
+    assert!(rt; frozen.global("w").is_none());
+    let mut homes = Homes::new(alloc);
+    homes.add(0, &frozen)?;
+    let mut arena = Arena::new(alloc, 1);
+    let change = Change::Append(Value::Int(3));
+    writes(&rt, &mut arena, &homes, v, change, Err(StoreFault::Frozen));
+    may_write(&rt, &arena, &homes, v, Err(StoreFault::Frozen));
+    shows(alloc, &rt, &arena, &homes, v, "[1, 2]")?;
+    Ok(())
+}
+
+// Each change of a list, and each refusal.
+#[test]
+fn changes_of_a_list(rt: HostRuntime) -> Result<(), Fail> {
+    let alloc = rt.alloc();
+    let homes = Homes::new(alloc);
+    let mut arena = Arena::new(alloc, 0);
+    let l = list(alloc, &rt, &mut arena, &[])?;
+    let one = Value::Int(1);
+    let two = Value::Int(2);
+    writes(
+        &rt,
+        &mut arena,
+        &homes,
+        l,
+        Change::Insert(1, one),
+        Err(StoreFault::Index),
+    );
+    writes(&rt, &mut arena, &homes, l, Change::Insert(0, one), Ok(None));
+    writes(&rt, &mut arena, &homes, l, Change::Insert(1, two), Ok(None));
+    writes(
+        &rt,
+        &mut arena,
+        &homes,
+        l,
+        Change::Set(1, one),
+        Ok(Some(two)),
+    );
+    writes(
+        &rt,
+        &mut arena,
+        &homes,
+        l,
+        Change::Set(2, one),
+        Err(StoreFault::Index),
+    );
+    writes(
+        &rt,
+        &mut arena,
+        &homes,
+        l,
+        Change::RemoveAt(2),
+        Err(StoreFault::Index),
+    );
+    writes(
+        &rt,
+        &mut arena,
+        &homes,
+        l,
+        Change::RemoveAt(0),
+        Ok(Some(one)),
+    );
+    writes(
+        &rt,
+        &mut arena,
+        &homes,
+        l,
+        Change::Put(one, two),
+        Err(StoreFault::BadType),
+    );
+    shows(alloc, &rt, &arena, &homes, l, "[1]")?;
+    writes(&rt, &mut arena, &homes, l, Change::Clear, Ok(None));
+    shows(alloc, &rt, &arena, &homes, l, "[]")?;
+    Ok(())
+}
+
+// Each change of a dictionary, and each refusal; the order of insertion stays, and True is another key than 1.
+#[test]
+fn changes_of_a_dictionary(rt: HostRuntime) -> Result<(), Fail> {
+    let alloc = rt.alloc();
+    let homes = Homes::new(alloc);
+    let mut arena = Arena::new(alloc, 0);
+    let d = dict(alloc, &rt, &mut arena)?;
+    let a = text(alloc, &rt, &mut arena, "a")?;
+    let b = text(alloc, &rt, &mut arena, "b")?;
+    let b_again = text(alloc, &rt, &mut arena, "b")?;
+    writes(
+        &rt,
+        &mut arena,
+        &homes,
+        d,
+        Change::Put(b, Value::Int(1)),
+        Ok(None),
+    );
+    writes(
+        &rt,
+        &mut arena,
+        &homes,
+        d,
+        Change::Put(a, Value::Int(2)),
+        Ok(None),
+    );
+    writes(
+        &rt,
+        &mut arena,
+        &homes,
+        d,
+        Change::Put(b_again, Value::Int(3)),
+        Ok(Some(Value::Int(1))),
+    );
+    shows(alloc, &rt, &arena, &homes, d, "{\"b\": 3, \"a\": 2}")?;
+    finds(&rt, &arena, &homes, d, b_again, Ok(Some(Value::Int(3))));
+    finds(&rt, &arena, &homes, d, Value::Int(1), Ok(None));
+    finds(&rt, &arena, &homes, d, d, Err(StoreFault::BadType));
+    finds(&rt, &arena, &homes, a, a, Err(StoreFault::BadType));
+    writes(
+        &rt,
+        &mut arena,
+        &homes,
+        d,
+        Change::Put(d, a),
+        Err(StoreFault::BadType),
+    );
+    writes(
+        &rt,
+        &mut arena,
+        &homes,
+        d,
+        Change::Append(a),
+        Err(StoreFault::BadType),
+    );
+    writes(
+        &rt,
+        &mut arena,
+        &homes,
+        d,
+        Change::Delete(b_again),
+        Ok(Some(Value::Int(3))),
+    );
+    writes(
+        &rt,
+        &mut arena,
+        &homes,
+        d,
+        Change::Delete(b),
+        Err(StoreFault::Key),
+    );
+    shows(alloc, &rt, &arena, &homes, d, "{\"a\": 2}")?;
+    writes(&rt, &mut arena, &homes, d, Change::Clear, Ok(None));
+    shows(alloc, &rt, &arena, &homes, d, "{}")?;
+    Ok(())
+}
+
+// True is another key than 1.
+#[test]
+fn true_and_one_are_two_keys(rt: HostRuntime) -> Result<(), Fail> {
+    let alloc = rt.alloc();
+    let homes = Homes::new(alloc);
+    let mut arena = Arena::new(alloc, 0);
+    let d = dict(alloc, &rt, &mut arena)?;
+    let a = text(alloc, &rt, &mut arena, "a")?;
+    let b = text(alloc, &rt, &mut arena, "b")?;
+    writes(
+        &rt,
+        &mut arena,
+        &homes,
+        d,
+        Change::Put(Value::Int(1), a),
+        Ok(None),
+    );
+    writes(
+        &rt,
+        &mut arena,
+        &homes,
+        d,
+        Change::Put(Value::Bool(true), b),
+        Ok(None),
+    );
+    finds(&rt, &arena, &homes, d, Value::Bool(true), Ok(Some(b)));
+    finds(&rt, &arena, &homes, d, Value::Int(1), Ok(Some(a)));
+    Ok(())
+}
+
+// A key check visits the key and the items of its tuples.
+#[test]
+fn keys(rt: HostRuntime) -> Result<(), Fail> {
+    let alloc = rt.alloc();
+    let homes = Homes::new(alloc);
+    let mut arena = Arena::new(alloc, 0);
+    let empty = tuple(alloc, &rt, &mut arena, &[])?;
+    let key = tuple(alloc, &rt, &mut arena, &[Value::Int(1), empty])?;
+    let l = list(alloc, &rt, &mut arena, &[])?;
+    checks(&rt, &arena, &homes, (10, 400), key, Ok(()), 7);
+    checks(
+        &rt,
+        &arena,
+        &homes,
+        (10, 400),
+        l,
+        Err(StoreFault::BadType),
+        9,
+    );
+    checks(
+        &rt,
+        &arena,
+        &homes,
+        (2, 400),
+        key,
+        Err(StoreFault::Steps),
+        0,
+    );
+    checks(&rt, &arena, &homes, (10, 1), key, Err(StoreFault::Deep), 9);
+    Ok(())
+}
+
+// Lists that hold themselves are visited until the steps or the levels end.
+#[test]
+fn equality_of_what_holds_itself(rt: HostRuntime) -> Result<(), Fail> {
+    let alloc = rt.alloc();
+    let homes = Homes::new(alloc);
+    let mut arena = Arena::new(alloc, 0);
+    let x = list(alloc, &rt, &mut arena, &[])?;
+    let y = list(alloc, &rt, &mut arena, &[])?;
+    writes(&rt, &mut arena, &homes, x, Change::Append(x), Ok(None));
+    writes(&rt, &mut arena, &homes, y, Change::Append(y), Ok(None));
+    let ample = 1_000_000;
+    equals(
+        &rt,
+        &arena,
+        &homes,
+        (5, 400),
+        (x, y),
+        Err(StoreFault::Steps),
+        0,
+    );
+    equals(
+        &rt,
+        &arena,
+        &homes,
+        (ample, 400),
+        (x, y),
+        Err(StoreFault::Deep),
+        ample - 400,
+    );
+    equals(
+        &rt,
+        &arena,
+        &homes,
+        (ample, 400),
+        (x, x),
+        Err(StoreFault::Deep),
+        ample - 400,
+    );
+    Ok(())
+}
+
+// Values of two types are unequal; ranges are equal by their ints, dictionaries by their entries in any order.
+#[test]
+fn equality(rt: HostRuntime) -> Result<(), Fail> {
+    let alloc = rt.alloc();
+    let homes = Homes::new(alloc);
+    let mut arena = Arena::new(alloc, 0);
+    let one = Value::Int(1);
+    let two = Value::Int(2);
+    equals(
+        &rt,
+        &arena,
+        &homes,
+        (9, 9),
+        (Value::Bool(true), one),
+        Ok(false),
+        8,
+    );
+    let r = range(&rt, &mut arena, 0, 5, 3)?;
+    let s = range(&rt, &mut arena, 0, 4, 3)?;
+    equals(&rt, &arena, &homes, (9, 9), (r, s), Ok(true), 8);
+    let d = dict(alloc, &rt, &mut arena)?;
+    let e = dict(alloc, &rt, &mut arena)?;
+    writes(&rt, &mut arena, &homes, d, Change::Put(one, r), Ok(None));
+    writes(&rt, &mut arena, &homes, d, Change::Put(two, s), Ok(None));
+    writes(&rt, &mut arena, &homes, e, Change::Put(two, r), Ok(None));
+    writes(&rt, &mut arena, &homes, e, Change::Put(one, r), Ok(None));
+    equals(&rt, &arena, &homes, (9, 9), (d, e), Ok(true), 6);
+    Ok(())
+}
+
+// Ints, bools, strings, lists and tuples have an order, each among its own type.
+#[test]
+fn orders(rt: HostRuntime) -> Result<(), Fail> {
+    let alloc = rt.alloc();
+    let homes = Homes::new(alloc);
+    let mut arena = Arena::new(alloc, 0);
+    let one = Value::Int(1);
+    let two = Value::Int(2);
+    let bools = (Value::Bool(false), Value::Bool(true));
+    let t = text(alloc, &rt, &mut arena, "ab")?;
+    let u = text(alloc, &rt, &mut arena, "b")?;
+    let x = list(alloc, &rt, &mut arena, &[one, one])?;
+    let y = list(alloc, &rt, &mut arena, &[one, two])?;
+    let z = list(alloc, &rt, &mut arena, &[one])?;
+    ordered(&rt, &arena, &homes, (two, one), Ok(Ordering::Greater), 19);
+    ordered(&rt, &arena, &homes, bools, Ok(Ordering::Less), 19);
+    ordered(&rt, &arena, &homes, (t, u), Ok(Ordering::Less), 19);
+    ordered(&rt, &arena, &homes, (one, t), Err(StoreFault::BadType), 19);
+    ordered(&rt, &arena, &homes, (x, y), Ok(Ordering::Less), 16);
+    ordered(&rt, &arena, &homes, (x, z), Ok(Ordering::Greater), 18);
+    Ok(())
+}
+
+#[test]
+fn sums_and_products(rt: HostRuntime) {
+    let least = i64::MIN;
+    let over = Err(StoreFault::Overflow);
+    let answers = [
+        (add(i64::MAX, 1), over),
+        (add(-3, 1), Ok(-2)),
+        (sub(least, 1), over),
+        (sub(-3, 1), Ok(-4)),
+        (mul(4_294_967_296, 2_147_483_648), over),
+        (mul(-3, 5), Ok(-15)),
+        (neg(least), over),
+        (neg(3), Ok(-3)),
+    ];
+    for (answer, want) in answers {
+        assert!(rt; answer == want);
+    }
+}
+
+#[test]
+fn quotients(rt: HostRuntime) {
+    for (x, y, quotient, left) in [
+        (-7, 2, Ok(-4), 1),
+        (7, -2, Ok(-4), -1),
+        (7, 2, Ok(3), 1),
+        (-7, -2, Ok(3), -1),
+        (i64::MIN, -1, Err(StoreFault::Overflow), 0),
+    ] {
+        assert!(rt; y != 0);
+        assert!(rt; floor_div(x, y) == quotient);
+        assert!(rt; floor_mod(x, y) == Ok(left));
+    }
+}
+
+#[test]
+fn shifts(rt: HostRuntime) {
+    for (x, count, want) in [
+        (1, 62, Ok(4611686018427387904)),
+        (1, 63, Err(StoreFault::Overflow)),
+        (-1, 63, Ok(i64::MIN)),
+        (0, i64::MAX, Ok(0)),
+        (1, i64::MAX, Err(StoreFault::Overflow)),
+    ] {
+        assert!(rt; count >= 0);
+        assert!(rt; shl(x, count) == want);
+    }
+}
+
+// The texts of simple values.
+#[test]
+fn texts(rt: HostRuntime) -> Result<(), Fail> {
+    let alloc = rt.alloc();
+    let homes = Homes::new(alloc);
+    let mut arena = Arena::new(alloc, 0);
+    shows(alloc, &rt, &arena, &homes, Value::NoneValue, "None")?;
+    shows(alloc, &rt, &arena, &homes, Value::Bool(true), "True")?;
+    shows(
+        alloc,
+        &rt,
+        &arena,
+        &homes,
+        Value::Int(i64::MIN),
+        "-9223372036854775808",
+    )?;
+    let len = Value::Builtin(BuiltIn::Len);
+    shows(alloc, &rt, &arena, &homes, len, "<built-in function len>")?;
+    let t = text(alloc, &rt, &mut arena, "\"\\\n\r\t\u{1}\u{7f}é'")?;
+    shows(
+        alloc,
+        &rt,
+        &arena,
+        &homes,
+        t,
+        "\"\\\"\\\\\\n\\r\\t\\x01\\x7fé'\"",
+    )?;
+    Ok(())
+}
+
+// The texts of tuples, ranges and methods.
+#[test]
+fn texts_of_cells(rt: HostRuntime) -> Result<(), Fail> {
+    let alloc = rt.alloc();
+    let homes = Homes::new(alloc);
+    let mut arena = Arena::new(alloc, 0);
+    let none = tuple(alloc, &rt, &mut arena, &[])?;
+    let one = tuple(alloc, &rt, &mut arena, &[Value::Int(1)])?;
+    let two = tuple(alloc, &rt, &mut arena, &[Value::Int(1), one])?;
+    shows(alloc, &rt, &arena, &homes, none, "()")?;
+    shows(alloc, &rt, &arena, &homes, one, "(1,)")?;
+    shows(alloc, &rt, &arena, &homes, two, "(1, (1,))")?;
+    let r = range(&rt, &mut arena, 0, 5, 1)?;
+    shows(alloc, &rt, &arena, &homes, r, "range(5)")?;
+    let r = range(&rt, &mut arena, 1, 5, 1)?;
+    shows(alloc, &rt, &arena, &homes, r, "range(1, 5)")?;
+    let r = range(&rt, &mut arena, 0, 5, -2)?;
+    shows(alloc, &rt, &arena, &homes, r, "range(0, 5, -2)")?;
+    assert!(rt; !is_true(&arena, &homes, r));
+    let m = made(&rt, &mut arena, Cell::Bound(Method::ListAppend, r))?;
+    shows(
+        alloc,
+        &rt,
+        &arena,
+        &homes,
+        m,
+        "<built-in method append of list value>",
+    )?;
+    Ok(())
+}
+
+// A list or dictionary inside itself is not shown again, and a text has a price.
+#[test]
+fn texts_of_what_holds_itself(rt: HostRuntime) -> Result<(), Fail> {
+    let alloc = rt.alloc();
+    let homes = Homes::new(alloc);
+    let mut arena = Arena::new(alloc, 0);
+    let l = list(alloc, &rt, &mut arena, &[])?;
+    let t = tuple(alloc, &rt, &mut arena, &[l])?;
+    writes(&rt, &mut arena, &homes, l, Change::Append(t), Ok(None));
+    shows(alloc, &rt, &arena, &homes, l, "[([...],)]")?;
+    shows(alloc, &rt, &arena, &homes, t, "([([...],)],)")?;
+    let d = dict(alloc, &rt, &mut arena)?;
+    let key = text(alloc, &rt, &mut arena, "d")?;
+    writes(&rt, &mut arena, &homes, d, Change::Put(key, d), Ok(None));
+    shows(alloc, &rt, &arena, &homes, d, "{\"d\": {...}}")?;
+    tells(alloc, &rt, &arena, &homes, (4, 400), d, None, 1);
+    tells(
+        alloc,
+        &rt,
+        &arena,
+        &homes,
+        (1, 400),
+        d,
+        Some(StoreFault::Steps),
+        0,
+    );
+    tells(
+        alloc,
+        &rt,
+        &arena,
+        &homes,
+        (4, 1),
+        d,
+        Some(StoreFault::Deep),
+        3,
+    );
+    Ok(())
+}
+
+// A frame's slot is bound, and a function shows its name.
+#[test]
+fn frames_and_functions(rt: HostRuntime) -> Result<(), Fail> {
+    let alloc = rt.alloc();
+    let homes = Homes::new(alloc);
+    let mut arena = Arena::new(alloc, 0);
+    let mut slots = Vec::new(alloc);
+    slots.push(None)?;
+    let frame = Frame {
+        file: 0,
+        block: 0,
+        parent: None,
+        slots: Slots::new(slots),
+    };
+    let frame = made(&rt, &mut arena, Cell::Frame(frame))?;
+    arena.bind(frame, 0, Value::Int(7));
+    let slot = match arena.read(&homes, frame) {
+        Some(Cell::Frame(found)) => found.slots.get(0),
+        _ => None,
+    };
+    assert_eq!(rt; slot, Some(Some(Value::Int(7))));
+    let function = Function {
+        file: 0,
+        definition: 3,
+        name: Text::new(alloc, "f")?,
+        defaults: Values::new(Vec::new(alloc)),
+        frame,
+    };
+    let function = made(&rt, &mut arena, Cell::Func(function))?;
+    shows(alloc, &rt, &arena, &homes, function, "<function f>")?;
+    assert!(rt; is_true(&arena, &homes, function));
+    Ok(())
+}
