@@ -28,7 +28,7 @@ use star_syntax::tree::{Arm, BinaryOperator, Expression, Form, Statement, Target
 /// its line.
 #[cycle(run)]
 #[tactic(auto, using(star_meaning::proofs::Levels::stmt_at, star_meaning::proofs::Levels::stmt_at_none))]
-pub(crate) fn execute(
+pub fn execute(
     machine: &mut Machine,
     world: &World,
     context: Context,
@@ -120,7 +120,7 @@ fn execute_form(
 
 /// Statements in order, up to the first behind which the next one does not follow.
 #[cycle(run)]
-pub(crate) fn execute_each(
+pub fn execute_each(
     machine: &mut Machine,
     world: &World,
     context: Context,
