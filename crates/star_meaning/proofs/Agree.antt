@@ -28,8 +28,9 @@ use Rattle.star_meaning.specs.Laws.{KeepsFrame}
 use Rattle.star_meaning.specs.Local.{Trees, outlines}
 use Rattle.star_meaning.specs.Places.{AllFit, FitsBlock, FitsChain, FitsFunction, IsResolved, Stands, Tables, bind_spot, new_slots, outer_names, read_spot}
 use Rattle.star_meaning.proofs.ReadPlaces.{spots_mean_names}
+use Rattle.star_meaning.proofs.Keeps.{Keeps}
 use Rattle.star_meaning.proofs.Quiet as quiet
-use Rattle.star_meaning.proofs.QuietVariables.{keeps-bind_name, keeps-read_name}
+use Rattle.star_meaning.proofs.KeepsVariables.{keeps-bind_name, keeps-read_name}
 
 -- behind it all frames are the same frames
 pub record Carries (s t : State) : Type 0 where
@@ -100,6 +101,9 @@ good_followed trees w s h (Failed f lines) k = tt
 
 pub agree_quiet : {A : Type 0} (trees : Trees) (w : Setting) (file : ℕ) (chain : List ℕ) (frame : Option Value) (m : Action A) → quiet.Keeps m → Agree trees w file chain frame m m
 agree_quiet trees w file chain frame m k = record { holds = λ s fit fits. (refl, good_followed trees w s fit (m s) (k.holds s)) }
+
+pub agree_kept : {A : Type 0} (trees : Trees) (w : Setting) (file : ℕ) (chain : List ℕ) (frame : Option Value) (m : Action A) → Keeps true m → Agree trees w file chain frame m m
+agree_kept trees w file chain frame m k = agree_quiet trees w file chain frame m (k.follows refl)
 
 -- what is known of the answer may be used behind it
 agreed_then : {A B : Type 0} (trees : Trees) (w : Setting) (file : ℕ) (chain : List ℕ) (frame : Option Value) (s : State) (o : Outcome A) (f g : A → Action B)
@@ -205,13 +209,13 @@ is_placed tables trees w r file ss u stands h = placed_at (tables.spots file) (b
 pub agree_read : (tables : Tables) (trees : Trees) (w : Setting) → Resolved tables trees w → (p : Place) (n : Name) (ss : List Statement) (chain : List ℕ)
     → Stands trees p.file ss → Contains (uses ss) (Named n chain) → Agree trees w p.file chain (Some p.frame) (read_spot tables w p n) (read_name w p n)
 agree_read tables trees w r p n ss chain stands h = record {
-  holds = λ s fit fits. ((spots_mean_names tables w p n chain s (is_placed tables trees w r p.file ss (Named n chain) stands h) fits).0, good_followed trees w s fit (read_name w p n s) ((keeps-read_name w p n).holds s));
+  holds = λ s fit fits. ((spots_mean_names tables w p n chain s (is_placed tables trees w r p.file ss (Named n chain) stands h) fits).0, good_followed trees w s fit (read_name w p n s) (((keeps-read_name w p n).follows refl).holds s));
 }
 
 pub agree_bind : (tables : Tables) (trees : Trees) (w : Setting) → Resolved tables trees w → (p : Place) (n : Name) (v : Value) (ss : List Statement) (chain : List ℕ)
     → Stands trees p.file ss → Contains (uses ss) (Named n chain) → Agree trees w p.file chain (Some p.frame) (bind_spot tables p n v) (bind_name w p n v)
 agree_bind tables trees w r p n v ss chain stands h = record {
-  holds = λ s fit fits. ((spots_mean_names tables w p n chain s (is_placed tables trees w r p.file ss (Named n chain) stands h) fits).1 v, good_followed trees w s fit (bind_name w p n v s) ((keeps-bind_name w p n v).holds s));
+  holds = λ s fit fits. ((spots_mean_names tables w p n chain s (is_placed tables trees w r p.file ss (Named n chain) stands h) fits).1 v, good_followed trees w s fit (bind_name w p n v s) (((keeps-bind_name w p n v).follows refl).holds s));
 }
 
 -- ---- a new frame

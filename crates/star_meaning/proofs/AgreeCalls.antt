@@ -30,15 +30,15 @@ use Rattle.star_meaning.specs.Binding.{Progress, Share, One, Step, also, bound_t
 use Rattle.star_meaning.specs.Calls.{AFunction, ABuiltIn, AMethod, Callee, activate, answer_of, deactivate, call_node, called, callee, callee_of, function_callee, is_active, pass, pass_form, run, run_body}
 use Rattle.star_meaning.specs.Local.{Trees}
 use Rattle.star_meaning.specs.Places.{AllFit, FitsChain, FitsFunction, Stands, Tables, bind_spot, by_places}
-use Rattle.star_meaning.proofs.Agree.{Agree, Every, Good, agree_all_of, agree_bind, agree_block, agree_each, agree_fail, agree_frame, agree_give, agree_quiet, agree_such, agree_then, carries_follows, chain_carries, fit_follows, good_on}
+use Rattle.star_meaning.proofs.Agree.{Agree, Every, Good, agree_all_of, agree_bind, agree_block, agree_each, agree_fail, agree_frame, agree_give, agree_kept, agree_quiet, agree_such, agree_then, carries_follows, chain_carries, fit_follows, good_on}
 use Rattle.star_meaning.proofs.AgreeParts.{AllAgree, Known, Scene, body_uses}
 use Rattle.star_meaning.proofs.UsesOf.{Sub, argument_level, by, every, first, inner_level, left, of_argument, of_inner, right}
 use Rattle.star_meaning.proofs.Quiet as quiet
-use Rattle.star_meaning.proofs.QuietArguments.{keeps-given}
-use Rattle.star_meaning.proofs.QuietBinding.{keeps-make_shares}
-use Rattle.star_meaning.proofs.QuietBuiltIns.{keeps-call_built_in}
-use Rattle.star_meaning.proofs.QuietMethods.{keeps-call_method}
-use Rattle.star_meaning.proofs.QuietCallee.{keeps-callee}
+use Rattle.star_meaning.proofs.KeepsArguments.{keeps-given}
+use Rattle.star_meaning.proofs.KeepsBinding.{keeps-make_shares}
+use Rattle.star_meaning.proofs.KeepsBuiltIns.{keeps-call_built_in}
+use Rattle.star_meaning.proofs.KeepsMethods.{keeps-call_method}
+use Rattle.star_meaning.proofs.KeepsCallee.{keeps-callee}
 
 -- ---- what an action that ends well has done
 
@@ -190,7 +190,7 @@ call_found tables trees w m n p ss chain h f d g us bs stands there known (Some 
 call_function : (tables : Tables) (trees : Trees) (w : Setting) (m n : Meaning) (p : Place) (ss : List Statement) (chain : List ℕ) → Scene tables trees w m n p ss chain → (levels : ℕ) (f : Function) (d : Definition) (ps : List Passed) (us : List Statement) (bs : List ℕ) → Stands trees f.file us → Contains (uses us) (Defined f.definition bs) → definition_of w f.file f.definition ≡ Some d
     → Agree trees w f.file bs (Some f.frame) (given w p.line ps >>= called w levels m p (AFunction f d)) (given w p.line ps >>= called w levels n p (AFunction f d))
 call_function tables trees w m n p ss chain h levels f d ps us bs stands there known =
-    agree_then trees w f.file bs (Some f.frame) _ _ _ _ (agree_quiet trees w f.file bs (Some f.frame) _ (keeps-given w p.line ps)) (λ g. call_found tables trees w m n p ss chain h f d g us bs stands there known (bound_to d.parameters f.defaults g) refl)
+    agree_then trees w f.file bs (Some f.frame) _ _ _ _ (agree_kept trees w f.file bs (Some f.frame) _ (keeps-given w p.line ps)) (λ g. call_found tables trees w m n p ss chain h f d g us bs stands there known (bound_to d.parameters f.defaults g) refl)
 
 abbrev behind : Setting → ℕ → Meaning → Place → List Passed → Callee → Action Value
 behind w levels m p ps c = given w p.line ps >>= λ g. called w levels m p c g
@@ -205,14 +205,14 @@ called_then tables trees w m n p ss chain h levels ps s fit fits v (Done (AFunct
     let r = (call_function tables trees w m n p ss chain h levels f d ps fitting.statements fitting.chain fitting.stands fitting.is_there c.1).holds t (fit_follows trees w s t k fit) now in
     (r.0, good_on trees w s t (carries_follows s t k) _ r.1)
 called_then tables trees w m n p ss chain h levels ps s fit fits v (Done (ABuiltIn b) t) is k =
-    let r = (agree_then trees w p.file chain (Some p.frame) _ _ _ _ (agree_quiet trees w p.file chain (Some p.frame) _ (keeps-given w p.line ps)) (λ g. agree_quiet trees w p.file chain (Some p.frame) _ (keeps-call_built_in w levels p.line b g))).holds t (fit_follows trees w s t k fit) (chain_carries w s t (carries_follows s t k) p.file chain (Some p.frame) fits) in
+    let r = (agree_then trees w p.file chain (Some p.frame) _ _ _ _ (agree_kept trees w p.file chain (Some p.frame) _ (keeps-given w p.line ps)) (λ g. agree_kept trees w p.file chain (Some p.frame) _ (keeps-call_built_in w levels p.line b g))).holds t (fit_follows trees w s t k fit) (chain_carries w s t (carries_follows s t k) p.file chain (Some p.frame) fits) in
     (r.0, good_on trees w s t (carries_follows s t k) _ r.1)
 called_then tables trees w m n p ss chain h levels ps s fit fits v (Done (AMethod b x) t) is k =
-    let r = (agree_then trees w p.file chain (Some p.frame) _ _ _ _ (agree_quiet trees w p.file chain (Some p.frame) _ (keeps-given w p.line ps)) (λ g. agree_quiet trees w p.file chain (Some p.frame) _ (keeps-call_method w levels p.line b x g))).holds t (fit_follows trees w s t k fit) (chain_carries w s t (carries_follows s t k) p.file chain (Some p.frame) fits) in
+    let r = (agree_then trees w p.file chain (Some p.frame) _ _ _ _ (agree_kept trees w p.file chain (Some p.frame) _ (keeps-given w p.line ps)) (λ g. agree_kept trees w p.file chain (Some p.frame) _ (keeps-call_method w levels p.line b x g))).holds t (fit_follows trees w s t k fit) (chain_carries w s t (carries_follows s t k) p.file chain (Some p.frame) fits) in
     (r.0, good_on trees w s t (carries_follows s t k) _ r.1)
 
 pub agree-callee : (tables : Tables) (trees : Trees) (w : Setting) (m n : Meaning) (p : Place) (ss : List Statement) (chain : List ℕ) → Scene tables trees w m n p ss chain → (levels : ℕ) (ps : List Passed) (v : Value) → Agree trees w p.file chain (Some p.frame) (callee w p.line v >>= behind w levels m p ps) (callee w p.line v >>= behind w levels n p ps)
-agree-callee tables trees w m n p ss chain h levels ps v = record { holds = λ s fit fits. called_then tables trees w m n p ss chain h levels ps s fit fits v (callee w p.line v s) refl ((keeps-callee w p.line v).holds s) }
+agree-callee tables trees w m n p ss chain h levels ps v = record { holds = λ s fit fits. called_then tables trees w m n p ss chain h levels ps s fit fits v (callee w p.line v s) refl (((keeps-callee w p.line v).follows refl).holds s) }
 
 pub agree-call_node : (tables : Tables) (trees : Trees) (w : Setting) (m n : Meaning) (p : Place) (ss : List Statement) (chain : List ℕ) → Scene tables trees w m n p ss chain → (levels : ℕ) (f : Expression) (es : List Argument) → Sub (in_expression f chain) (uses ss) → Sub (all_uses in_argument es chain) (uses ss) → Agree trees w p.file chain (Some p.frame) (call_node w levels m p f es) (call_node w levels n p f es)
 agree-call_node tables trees w m n p ss chain h levels f es k l = agree_then trees w p.file chain (Some p.frame) _ _ _ _ (h.parts.expr p f ss chain h.stands (k)) (λ v. agree_then trees w p.file chain (Some p.frame) _ _ _ _ (agree_each trees w p.file chain (Some p.frame) (λ a. Sub (in_argument a chain) (uses ss)) _ _ (λ a j. agree-pass tables trees w m n p ss chain h a j) es (every in_argument es chain (uses ss) l)) (λ ps. agree-callee tables trees w m n p ss chain h levels ps v))
@@ -239,7 +239,7 @@ pub agree-run : (tables : Tables) (trees : Trees) (w : Setting) (m n : Meaning) 
     → Every (λ x. Contains (uses ss) (Named x.0 ((1 + f.definition) ∷ chain))) xs
     → Agree trees w f.file chain (Some f.frame) (run (by_places tables w) m p f d xs) (run (by_names w) n p f d xs)
 agree-run tables trees w m n p f d xs ss chain known parts stands there is named =
-    agree_such trees w f.file chain (Some f.frame) _ _ _ _ (agree_quiet trees w f.file chain (Some f.frame) _ (keeps-make_shares p.line xs)) (λ s values t e.
+    agree_such trees w f.file chain (Some f.frame) _ _ _ _ (agree_kept trees w f.file chain (Some f.frame) _ (keeps-make_shares p.line xs)) (λ s values t e.
     agree_then trees w f.file chain (Some f.frame) _ _ _ _ (agree_quiet trees w f.file chain (Some f.frame) _ (quiet.keeps_pay p.line 1)) (λ _.
     agree_frame tables trees w known.resolved f.file (1 + f.definition) ss chain (Some f.frame) _ _ stands (λ v.
     run_inside tables trees w m n p f d values v ss chain known parts stands there is (made_in (λ x. Contains (uses ss) (Named x ((1 + f.definition) ∷ chain))) p.line xs values s t named e))))

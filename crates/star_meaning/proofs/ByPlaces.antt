@@ -12,14 +12,14 @@ use Rattle.star_meaning.specs.Meaning.{Meaning}
 use Rattle.star_meaning.specs.Module.{Ended, at_line, end, last_line, meaning, most_levels, nothing_opens, one_more, run_file, start}
 use Rattle.star_meaning.specs.Local.{Trees}
 use Rattle.star_meaning.specs.Places.{FitBehind, PlacesMeanNames, Stands, Tables, by_places}
-use Rattle.star_meaning.proofs.Agree.{Agree, Good, agree_block, agree_fail, agree_frame, agree_quiet, agree_then}
+use Rattle.star_meaning.proofs.Agree.{Agree, Good, agree_block, agree_fail, agree_frame, agree_kept, agree_then}
 use Rattle.star_meaning.proofs.AgreeParts.{AllAgree, Known, Scene, agree-parts_node, agree-target_node}
 use Rattle.star_meaning.proofs.AgreeCalls.{agree-run}
 use Rattle.star_meaning.proofs.AgreeNodes.{agree-node, agree-statement}
 use Rattle.star_meaning.proofs.DefinedFiles.{definitions_stand, uses_are}
 use Rattle.star_meaning.proofs.UsesOf.{Sub, all, by, every, of_expression, of_statement, of_target}
-use Rattle.star_meaning.proofs.Quiet.{Keeps, keeps, keeps_pay}
-use Rattle.star_meaning.proofs.QuietModule.{keeps-global_text}
+use Rattle.star_meaning.proofs.Keeps.{Keeps, keeps, keeps_pay}
+use Rattle.star_meaning.proofs.KeepsModule.{keeps-global_text}
 
 -- a statement of the running file has a line of its own, and stands at the same place
 line_file : (b : Bool) (p : Place) (line : ℕ) → (if b then record p { line = line } else p).file ≡ p.file
@@ -43,7 +43,7 @@ scene : (tables : Tables) (trees : Trees) (w : Setting) (m n : Meaning) (p : Pla
 scene tables trees w m n p ss chain k a h = record { known = k; parts = a; stands = h }
 
 paying : {A : Type 0} (trees : Trees) (w : Setting) (file : ℕ) (chain : List ℕ) (frame : Option Value) (line : ℕ) (a b : Action A) → Agree trees w file chain frame a b → Agree trees w file chain frame (pay line 1 >>= λ _. a) (pay line 1 >>= λ _. b)
-paying trees w file chain frame line a b h = agree_then trees w file chain frame _ _ _ _ (agree_quiet trees w file chain frame _ (keeps_pay line 1)) (λ _. h)
+paying trees w file chain frame line a b h = agree_then trees w file chain frame _ _ _ _ (agree_kept trees w file chain frame _ (keeps_pay line 1)) (λ _. h)
 
 abbrev StatementAgrees : Tables → Trees → Setting → ℕ → Meaning → Meaning → Statement → List ℕ → Place → ℕ → Value → Type 0
 StatementAgrees tables trees w levels m n x chain p file frame = Agree trees w file chain (Some frame) ((one_more (by_places tables w) w levels m).stmt p x) ((one_more (by_names w) w levels n).stmt p x)
@@ -73,7 +73,7 @@ unfolding meaning
 meaning_agrees tables trees w zero k = none_agree trees w
 meaning_agrees tables trees w (suc levels) k = more_agree tables trees w levels (meaning (by_places tables w) w levels) (meaning (by_names w) w levels) k (meaning_agrees tables trees w levels k)
 
-keeps-end : (w : Setting) (levels line : ℕ) (frame : Value) → Keeps (end w levels line frame)
+keeps-end : (w : Setting) (levels line : ℕ) (frame : Value) → Keeps true (end w levels line frame)
 keeps-end w levels line frame = search (keeps, keeps-global_text) depth 14
 
 file_agrees : (tables : Tables) (trees : Trees) (w : Setting) (levels : ℕ) (ss : List Statement) → Known tables trees w → Stands trees w.home ss → Agree trees w w.home [] None (run_file (by_places tables w) w levels ss) (run_file (by_names w) w levels ss)
@@ -83,7 +83,7 @@ file_agrees tables trees w levels ss k h =
     agree_then trees w w.home (0 ∷ []) (Some v) _ _ _ _
     (agree_block trees w w.home (0 ∷ []) (Some v) (λ x. Sub (in_statement x (0 ∷ [])) (uses ss)) _ _ (λ x s. a.stmt (record { file = w.home; frame = v; line = 1 }) x ss (0 ∷ []) h s) ss
     (every in_statement ss (0 ∷ []) (uses ss) (by _ _ (uses ss) (uses_are ss) (all (uses ss)))))
-    (λ _. agree_quiet trees w w.home (0 ∷ []) (Some v) _ (keeps-end w levels (last_line 1 ss) v)))
+    (λ _. agree_kept trees w w.home (0 ∷ []) (Some v) _ (keeps-end w levels (last_line 1 ss) v)))
 
 behind : (trees : Trees) (w : Setting) (steps : ℕ) (o : Outcome Ended) → Good trees w (start w steps) o → FitBehind trees w o
 behind trees w steps (Done e t) h = h.1

@@ -26,7 +26,7 @@ use Rattle.star_meaning.specs.Binding.{Share}
 use Rattle.star_meaning.specs.Meaning.{Meaning, then_go, block, then_turn, turns, repeat}
 use Rattle.star_meaning.specs.Calls.{activate, deactivate}
 use Rattle.std.proofs.lemmas.Bool.{ltb-false}
-use Rattle.star_meaning.proofs.Reaches.{NotForWant, further, Reaches, reaches-same, reaches-order, reaches-check, reaches-text, reaches-bare}
+use Rattle.star_meaning.proofs.Reaches.{NotForWant, further, Reaches}
 
 -- the state with so many more steps
 abbrev pub with_more : ℕ → State → State
@@ -169,43 +169,3 @@ extends_turns f (suc n) i k = extends_then _ _ (k i) (λ y. extends_then_turn _ 
 pub extends_repeat : (f : ℕ → Action (Unit {0})) (n i : ℕ) → ((i : ℕ) → Extends (f i)) → Extends (repeat f n i)
 extends_repeat f zero i k = extends_give {A = Unit {0}} tt
 extends_repeat f (suc n) i k = extends_then _ _ (k i) (λ _. extends_repeat f n (i + 1) k)
-
--- the three actions on variables keep it
-pub record VariablesExtend (vs : Variables) : Type 0 where
-  pub read : (p : Place) (n : Name) → Extends (vs.read p n)
-  pub bind : (p : Place) (n : Name) (v : Value) → Extends (vs.bind p n v)
-  pub frame : (file number : ℕ) (parent : Option Value) → Extends (vs.frame file number parent)
-
-pub extends_read : (vs : Variables) → VariablesExtend vs → (p : Place) (n : Name) → Extends (vs.read p n)
-extends_read vs k = k.read
-
-pub extends_bind : (vs : Variables) → VariablesExtend vs → (p : Place) (n : Name) (v : Value) → Extends (vs.bind p n v)
-extends_bind vs k = k.bind
-
-pub extends_frame : (vs : Variables) → VariablesExtend vs → (file number : ℕ) (parent : Option Value) → Extends (vs.frame file number parent)
-extends_frame vs k = k.frame
-
--- all parts of a program keep it
-pub record AllExtend (m : Meaning) : Type 0 where
-  pub expr : (p : Place) (e : Expression) → Extends (m.expr p e)
-  pub stmt : (p : Place) (x : Statement) → Extends (m.stmt p x)
-  pub assign : (p : Place) (t : Target) (v : Value) → Extends (m.assign p t v)
-  pub parts : (p : Place) (e i : Expression) → Extends (m.parts p e i)
-  pub call : (p : Place) (f : Function) (d : Definition) (shares : List (Name × Share)) → Extends (m.call p f d shares)
-
-pub extends_expr : (m : Meaning) → AllExtend m → (p : Place) (e : Expression) → Extends (m.expr p e)
-extends_expr m k = k.expr
-
-pub extends_stmt : (m : Meaning) → AllExtend m → (p : Place) (x : Statement) → Extends (m.stmt p x)
-extends_stmt m k = k.stmt
-
-pub extends_assign : (m : Meaning) → AllExtend m → (p : Place) (t : Target) (v : Value) → Extends (m.assign p t v)
-extends_assign m k = k.assign
-
-pub extends_parts : (m : Meaning) → AllExtend m → (p : Place) (e i : Expression) → Extends (m.parts p e i)
-extends_parts m k = k.parts
-
-pub extends_call : (m : Meaning) → AllExtend m → (p : Place) (f : Function) (d : Definition) (shares : List (Name × Share)) → Extends (m.call p f d shares)
-extends_call m k = k.call
-
-pub ruleset extends = (refl, reaches-same, reaches-order, reaches-check, reaches-text, reaches-bare, extends_then, extends_give, extends_fail, extends_if, extends_found, extends_pay, extends_seeing, extends_check, extends_make, extends_build, extends_each, extends_all_of, extends_collect, extends_until, extends_agreed, extends_visiting, extends_storing, extends_change, extends_add_line, extends_activate, extends_deactivate, extends_block, extends_turns, extends_repeat, extends_read, extends_bind, extends_frame, extends_expr, extends_stmt, extends_assign, extends_parts, extends_call)

@@ -1,254 +1,219 @@
--- Whatever an action does, the lines and the cells only grow in number, the steps only fall, and the module stays.
-use Rattle.std.proofs.Common.{◌≡◌, ℕ, zero, suc, ◌+◌, ◌-◌, ◌≤◌, List, [], ◌∷◌, ◌++◌, length, Option, Some, None, Bool, true, false, if◌then◌else◌, refl, ap, ◌∙◌, arith, nat_lt, nat_eq, Result, Ok, Err}
+-- What every run keeps, in one record: whatever an action does, the lines and the cells only grow in number and the steps only fall; where it
+-- ends well, the cells and the active definitions stay as they were; with more steps it does the same; and, where it is quiet, no function
+-- is new.
+use Rattle.std.proofs.Common.{◌≡◌, ℕ, List, Option, Bool, true, false, if◌then◌else◌, Result, refl}
 use Rattle.star_store.specs.declared.values.Value.{Value}
-use Rattle.star_store.specs.declared.values.Value.TheVariants as value
 use Rattle.star_store.specs.declared.values.Cell.{Cell}
-use Rattle.star_store.specs.declared.values.Counted.{Counted}
+use Rattle.star_store.specs.declared.values.Cell.TheVariants as cell
+use Rattle.star_store.specs.declared.values.Frame.{Frame}
 use Rattle.star_store.specs.declared.values.Function.{Function}
+use Rattle.star_store.specs.declared.range.Range.{Range}
+use Rattle.star_store.specs.declared.names.Method.{Method}
 use Rattle.star_store.specs.declared.arena.write.Change.{Change}
 use Rattle.star_store.specs.declared.fault.StoreFault.{StoreFault}
-use Rattle.star_store.specs.Store.{Store, made, changed, changed_at, bound, opened, closed}
-use Rattle.star_store.specs.Spend.{Spend, Spent, Enough, Lacks}
-use Rattle.star_store.specs.Write.{allowed, made_if, in_store}
+use Rattle.star_store.specs.Store.{bound}
+use Rattle.star_store.specs.Spend.{Spend}
 use Rattle.star_syntax.specs.declared.tree.Expression.{Expression}
 use Rattle.star_syntax.specs.declared.tree.Statement.{Statement}
 use Rattle.star_syntax.specs.declared.tree.Target.{Target}
 use Rattle.star_syntax.specs.declared.tree.Name.{Name}
+use Rattle.star_scope.specs.Definitions.{Definition}
 use Rattle.star_meaning.specs.declared.fault.Code.{Code}
-use Rattle.star_meaning.specs.declared.fault.Code.TheVariants as code
 use Rattle.star_meaning.specs.declared.place.Place.{Place}
 use Rattle.star_meaning.specs.declared.place.Flow.{Flow}
-use Rattle.star_meaning.specs.declared.place.Flow.TheVariants as flow
-use Rattle.star_meaning.specs.Run.{State, Outcome, Done, Failed, Action, and_then, ◌>>=◌, give, fail, pay, check, found, code_of, agreed, settled, visiting, seeing, storing, make, build, each, all_of, collect, until, add_line}
-use Rattle.star_scope.specs.Definitions.{Definition}
+use Rattle.star_meaning.specs.Run.{State, Action, ◌>>=◌, give, fail, pay, check, found, agreed, visiting, seeing, storing, make, build, each, all_of, collect, until, add_line}
 use Rattle.star_meaning.specs.Program.{Setting, Variables}
-use Rattle.star_meaning.specs.Values.{written, change}
+use Rattle.star_meaning.specs.Values.{change, count_of, iterate, leave}
 use Rattle.star_meaning.specs.Binding.{Share}
-use Rattle.star_meaning.specs.Laws.{Grows, Grown}
-use Rattle.star_meaning.proofs.Lowers.{Falls, Lowers, lowers-same, lowers-order, lowers-check, lowers-text, lowers-bare}
-use Rattle.star_meaning.specs.Meaning.{Meaning, then_go, block, then_turn, turns, repeat}
-use Rattle.star_meaning.specs.Calls.{activate, deactivate, rest_of}
+use Rattle.star_meaning.specs.Meaning.{Meaning, block, turns, repeat}
+use Rattle.star_meaning.specs.Calls.{activate, deactivate}
+use Rattle.star_meaning.proofs.Spending.{Spends, spends-same, spends-order, spends-check, spends-text, spends-bare}
+use Rattle.star_meaning.proofs.Growth as growth
+use Rattle.star_meaning.proofs.Stays as stays
+use Rattle.star_meaning.proofs.Extends as extends
+use Rattle.star_meaning.proofs.Extends.{with_more}
+use Rattle.star_meaning.proofs.Quiet as quiet
 
--- whatever state an action begins in, it keeps this
-pub record Keeps {A : Type 0} (m : Action A) : Type 0 where
-  pub holds : (s : State) → Grown s (m s)
+pub record Keeps {A : Type 0} (q : Bool) (m : Action A) : Type 0 where
+  pub grows : growth.Keeps m
+  pub stays : stays.Keeps m
+  pub extends : extends.Extends m
+  pub follows : q ≡ true → quiet.Keeps m
 
-append_nil : {A : Type 0} (xs : List A) → xs ≡ xs ++ []
-append_nil [] = refl
-append_nil (x ∷ xs) = ap (λ ys. x ∷ ys) (append_nil xs)
+impossible : false ≡ true → ⊥
+impossible e = cc
 
-append_assoc : {A : Type 0} (xs ys zs : List A) → (xs ++ ys) ++ zs ≡ xs ++ (ys ++ zs)
-append_assoc [] ys zs = refl
-append_assoc (x ∷ xs) ys zs = ap (λ us. x ∷ us) (append_assoc xs ys zs)
+never : {A : Type 0} → false ≡ true → A
+never e = absurd (impossible e)
 
--- a state with the same module and lines, as many cells, and no more steps
-pub less : (s : State) (store : Store) (active : List (ℕ × ℕ)) (steps : ℕ) → store.home ≡ s.store.home → length s.store.cells ≤ length store.cells → steps ≤ s.steps → Grows s (record { store = store; active = active; steps = steps; lines = s.lines })
-less s store active steps h k l = record { home = h; cells = k; steps = l; lines = ([], append_nil s.lines) }
+pub keeps_then : {q : Bool} {A B : Type 0} (m : Action A) (f : A → Action B) → Keeps q m → ((x : A) → Keeps q (f x)) → Keeps q (m >>= f)
+keeps_then m f k l = record { grows = growth.keeps_then m f k.grows (λ x. (l x).grows); stays = stays.keeps_then m f k.stays (λ x. (l x).stays); extends = extends.extends_then m f k.extends (λ x. (l x).extends); follows = λ h. quiet.keeps_then m f (k.follows h) (λ x. (l x).follows h) }
 
-pub same : (s : State) → Grows s s
-same s = less s s.store s.active s.steps refl (omega arith) (omega arith)
+pub keeps_give : {q : Bool} {A : Type 0} (x : A) → Keeps q (give x)
+keeps_give x = record { grows = growth.keeps_give x; stays = stays.keeps_give x; extends = extends.extends_give x; follows = λ h. quiet.keeps_give x }
 
-grown_on : {A : Type 0} (s u : State) → Grows s u → (o : Outcome A) → Grown u o → Grown s o
-grown_on s u a (Done x t) b = record { home = b.home ∙ a.home; cells = omega (arith, a.cells, b.cells); steps = omega (arith, a.steps, b.steps); lines = (a.lines.0 ++ b.lines.0, b.lines.1 ∙ ap (λ (xs : List (List ℕ)). xs ++ b.lines.0) a.lines.1 ∙ append_assoc s.lines a.lines.0 b.lines.0) }
-grown_on s u a (Failed f lines) b = (a.lines.0 ++ b.0, b.1 ∙ ap (λ (xs : List (List ℕ)). xs ++ b.0) a.lines.1 ∙ append_assoc s.lines a.lines.0 b.0)
+pub keeps_fail : {q : Bool} (A : Type 0) (code : Code) (line : ℕ) → Keeps q (fail {A = A} code line)
+keeps_fail A code line = record { grows = growth.keeps_fail A code line; stays = stays.keeps_fail A code line; extends = extends.extends_fail A code line; follows = λ h. quiet.keeps_fail A code line }
 
-grown_then : {A B : Type 0} (s : State) (o : Outcome A) (f : A → Action B) → Grown s o → ((x : A) → Keeps (f x)) → Grown s (and_then o f)
-grown_then s (Done x u) f h k = grown_on s u h (f x u) ((k x).holds u)
-grown_then s (Failed e lines) f h k = h
+pub keeps_if : {q : Bool} {A : Type 0} (b : Bool) (m n : Action A) → Keeps q m → Keeps q n → Keeps q (if b then m else n)
+keeps_if b m n k l = record { grows = growth.keeps_if b m n k.grows l.grows; stays = stays.keeps_if b m n k.stays l.stays; extends = extends.extends_if b m n k.extends l.extends; follows = λ h. quiet.keeps_if b m n (k.follows h) (l.follows h) }
 
-pub keeps_then : {A B : Type 0} (m : Action A) (f : A → Action B) → Keeps m → ((x : A) → Keeps (f x)) → Keeps (m >>= f)
-keeps_then m f k l = record { holds = λ s. grown_then s (m s) f (k.holds s) l }
+pub keeps_found : {q : Bool} {A : Type 0} (code : Code) (line : ℕ) (o : Option A) → Keeps q (found code line o)
+keeps_found code line o = record { grows = growth.keeps_found code line o; stays = stays.keeps_found code line o; extends = extends.extends_found code line o; follows = λ h. quiet.keeps_found code line o }
 
-pub keeps_give : {A : Type 0} (x : A) → Keeps (give x)
-keeps_give x = record { holds = λ s. same s }
+pub keeps_pay : {q : Bool} (line n : ℕ) → Keeps q (pay line n)
+keeps_pay line n = record { grows = growth.keeps_pay line n; stays = stays.keeps_pay line n; extends = extends.extends_pay line n; follows = λ h. quiet.keeps_pay line n }
 
-pub keeps_fail : (A : Type 0) (code : Code) (line : ℕ) → Keeps (fail {A = A} code line)
-keeps_fail A code line = record { holds = λ s. ([], append_nil s.lines) }
+pub keeps_seeing : {q : Bool} {A : Type 0} (f : State → Action A) → ((k : ℕ) (s : State) → f (with_more k s) ≡ f s) → ((s : State) → Keeps q (f s)) → Keeps q (seeing f)
+keeps_seeing f same k = record { grows = growth.keeps_seeing f (λ s. (k s).grows); stays = stays.keeps_seeing f (λ s. (k s).stays); extends = extends.extends_seeing f same (λ s. (k s).extends); follows = λ h. quiet.keeps_seeing f (λ s. (k s).follows h) }
 
-pub keeps_if : {A : Type 0} (b : Bool) (m n : Action A) → Keeps m → Keeps n → Keeps (if b then m else n)
-keeps_if true m n k l = k
-keeps_if false m n k l = l
+pub keeps_check : {q : Bool} (code : Code) (line : ℕ) (b : Bool) → Keeps q (check code line b)
+keeps_check code line b = record { grows = growth.keeps_check code line b; stays = stays.keeps_check code line b; extends = extends.extends_check code line b; follows = λ h. quiet.keeps_check code line b }
 
-pub keeps_found : {A : Type 0} (code : Code) (line : ℕ) (o : Option A) → Keeps (found code line o)
-keeps_found {A = A} code line None = keeps_fail A code line
-keeps_found {A = A} code line (Some x) = keeps_give x
+pub keeps_make : (c : Cell) → Keeps false (make c)
+keeps_make c = record { grows = growth.keeps_make c; stays = stays.keeps_make c; extends = extends.extends_make c; follows = λ h. never h }
 
-paid : (b : Bool) (line n : ℕ) (s : State) → Grown {A = Unit {0}} s (if b then fail code.Steps line s else Done tt (record s { steps = s.steps - n }))
-paid true line n s = ([], append_nil s.lines)
-paid false line n s = less s s.store s.active (s.steps - n) refl (omega arith) (omega arith)
+pub keeps_build : (line cost : ℕ) (c : Cell) → Keeps false (build line cost c)
+keeps_build line cost c = record { grows = growth.keeps_build line cost c; stays = stays.keeps_build line cost c; extends = extends.extends_build line cost c; follows = λ h. never h }
 
-pub keeps_pay : (line n : ℕ) → Keeps (pay line n)
-unfolding pay
-keeps_pay line n = record { holds = λ s. paid (nat_lt s.steps n) line n s }
+pub keeps_make_text : {q : Bool} (t : List ℕ) → Keeps q (make (cell.Text t))
+keeps_make_text t = record { grows = growth.keeps_make (cell.Text t); stays = stays.keeps_make (cell.Text t); extends = extends.extends_make (cell.Text t); follows = λ h. quiet.keeps_make_text t }
 
-pub keeps_seeing : {A : Type 0} (f : State → Action A) → ((s : State) → Keeps (f s)) → Keeps (seeing f)
-keeps_seeing f k = record { holds = λ s. (k s).holds s }
+pub keeps_make_tuple : {q : Bool} (xs : List Value) → Keeps q (make (cell.Tuple xs))
+keeps_make_tuple xs = record { grows = growth.keeps_make (cell.Tuple xs); stays = stays.keeps_make (cell.Tuple xs); extends = extends.extends_make (cell.Tuple xs); follows = λ h. quiet.keeps_make_tuple xs }
 
-pub keeps_check : (code : Code) (line : ℕ) (b : Bool) → Keeps (check code line b)
-keeps_check code line b = keeps_if b _ _ (keeps_give {A = Unit {0}} tt) (keeps_fail (Unit {0}) code line)
+pub keeps_make_list : {q : Bool} (xs : List Value) → Keeps q (make (cell.List xs))
+keeps_make_list xs = record { grows = growth.keeps_make (cell.List xs); stays = stays.keeps_make (cell.List xs); extends = extends.extends_make (cell.List xs); follows = λ h. quiet.keeps_make_list xs }
 
-length_more : {A : Type 0} (xs ys : List A) → length xs ≤ length (xs ++ ys)
-length_more [] ys = omega arith
-length_more (x ∷ xs) ys = omega (arith, length_more xs ys)
+pub keeps_make_dict : {q : Bool} (es : List (Value × Value)) → Keeps q (make (cell.Dict es))
+keeps_make_dict es = record { grows = growth.keeps_make (cell.Dict es); stays = stays.keeps_make (cell.Dict es); extends = extends.extends_make (cell.Dict es); follows = λ h. quiet.keeps_make_dict es }
 
-pub keeps_make : (c : Cell) → Keeps (make c)
-unfolding make
-keeps_make c = record { holds = λ s. less s (made c s.store) s.active s.steps refl (length_more s.store.cells _) (omega arith) }
+pub keeps_make_range : {q : Bool} (r : Range) → Keeps q (make (cell.Range r))
+keeps_make_range r = record { grows = growth.keeps_make (cell.Range r); stays = stays.keeps_make (cell.Range r); extends = extends.extends_make (cell.Range r); follows = λ h. quiet.keeps_make_range r }
 
-pub keeps_build : (line cost : ℕ) (c : Cell) → Keeps (build line cost c)
-unfolding build
-keeps_build line cost c = keeps_then _ _ (keeps_pay line cost) (λ _. keeps_make c)
+pub keeps_make_bound : {q : Bool} (m : Method) (v : Value) → Keeps q (make (cell.Bound m v))
+keeps_make_bound m v = record { grows = growth.keeps_make (cell.Bound m v); stays = stays.keeps_make (cell.Bound m v); extends = extends.extends_make (cell.Bound m v); follows = λ h. quiet.keeps_make_bound m v }
 
-pub keeps_each : {A B : Type 0} (f : A → Action B) (xs : List A) → ((x : A) → Keeps (f x)) → Keeps (each f xs)
-keeps_each {B = B} f [] k = keeps_give {A = List B} []
-keeps_each {B = B} f (x ∷ xs) k = keeps_then _ _ (k x) (λ y. keeps_then _ _ (keeps_each f xs k) (λ ys. keeps_give (y ∷ ys)))
+pub keeps_make_frame : {q : Bool} (x : Frame) → Keeps q (make (cell.Frame x))
+keeps_make_frame x = record { grows = growth.keeps_make (cell.Frame x); stays = stays.keeps_make (cell.Frame x); extends = extends.extends_make (cell.Frame x); follows = λ h. quiet.keeps_make_frame x }
 
-pub keeps_all_of : {A : Type 0} (f : A → Action (Unit {0})) (xs : List A) → ((x : A) → Keeps (f x)) → Keeps (all_of f xs)
-keeps_all_of f [] k = keeps_give {A = Unit {0}} tt
-keeps_all_of f (x ∷ xs) k = keeps_then _ _ (k x) (λ _. keeps_all_of f xs k)
+pub keeps_build_text : {q : Bool} (line cost : ℕ) (t : List ℕ) → Keeps q (build line cost (cell.Text t))
+keeps_build_text line cost t = record { grows = growth.keeps_build line cost (cell.Text t); stays = stays.keeps_build line cost (cell.Text t); extends = extends.extends_build line cost (cell.Text t); follows = λ h. quiet.keeps_build_text line cost t }
 
-pub keeps_collect : {B : Type 0} (f : ℕ → Action B) (n i : ℕ) → ((i : ℕ) → Keeps (f i)) → Keeps (collect f n i)
-keeps_collect {B = B} f zero i k = keeps_give {A = List B} []
-keeps_collect {B = B} f (suc n) i k = keeps_then _ _ (k i) (λ y. keeps_then _ _ (keeps_collect f n (i + 1) k) (λ ys. keeps_give (y ∷ ys)))
+pub keeps_build_tuple : {q : Bool} (line cost : ℕ) (xs : List Value) → Keeps q (build line cost (cell.Tuple xs))
+keeps_build_tuple line cost xs = record { grows = growth.keeps_build line cost (cell.Tuple xs); stays = stays.keeps_build line cost (cell.Tuple xs); extends = extends.extends_build line cost (cell.Tuple xs); follows = λ h. quiet.keeps_build_tuple line cost xs }
 
-pub keeps_until : (f : ℕ → Action Bool) (n i : ℕ) → ((i : ℕ) → Keeps (f i)) → Keeps (until f n i)
-keeps_until f zero i k = keeps_give false
-keeps_until f (suc n) i k = keeps_then _ _ (k i) (λ stop. keeps_if stop _ _ (keeps_give true) (keeps_until f n (i + 1) k))
+pub keeps_build_list : {q : Bool} (line cost : ℕ) (xs : List Value) → Keeps q (build line cost (cell.List xs))
+keeps_build_list line cost xs = record { grows = growth.keeps_build line cost (cell.List xs); stays = stays.keeps_build line cost (cell.List xs); extends = extends.extends_build line cost (cell.List xs); follows = λ h. quiet.keeps_build_list line cost xs }
 
-pub keeps_agreed : {A : Type 0} (line : ℕ) (r : Result A StoreFault) → Keeps (agreed line r)
-keeps_agreed {A = A} line (Ok x) = keeps_give x
-keeps_agreed {A = A} line (Err f) = keeps_fail A (code_of f) line
+pub keeps_build_dict : {q : Bool} (line cost : ℕ) (es : List (Value × Value)) → Keeps q (build line cost (cell.Dict es))
+keeps_build_dict line cost es = record { grows = growth.keeps_build line cost (cell.Dict es); stays = stays.keeps_build line cost (cell.Dict es); extends = extends.extends_build line cost (cell.Dict es); follows = λ h. quiet.keeps_build_dict line cost es }
 
-settled_grown : {A : Type 0} (line : ℕ) (s : State) (o : Spent A) → Falls s.steps o → Grown s (settled line o s)
-settled_grown line s (Enough x left) h = less s s.store s.active left refl (omega arith) h
-settled_grown line s (Lacks f left) h = ([], append_nil s.lines)
+pub keeps_build_range : {q : Bool} (line cost : ℕ) (r : Range) → Keeps q (build line cost (cell.Range r))
+keeps_build_range line cost r = record { grows = growth.keeps_build line cost (cell.Range r); stays = stays.keeps_build line cost (cell.Range r); extends = extends.extends_build line cost (cell.Range r); follows = λ h. quiet.keeps_build_range line cost r }
 
-pub keeps_visiting : {A : Type 0} (line : ℕ) (f : State → Spend A) → ((s : State) → Lowers (f s)) → Keeps (visiting line f)
-keeps_visiting line f k = record { holds = λ s. settled_grown line s (f s s.steps) (k s s.steps) }
+pub keeps_build_bound : {q : Bool} (line cost : ℕ) (m : Method) (v : Value) → Keeps q (build line cost (cell.Bound m v))
+keeps_build_bound line cost m v = record { grows = growth.keeps_build line cost (cell.Bound m v); stays = stays.keeps_build line cost (cell.Bound m v); extends = extends.extends_build line cost (cell.Bound m v); follows = λ h. quiet.keeps_build_bound line cost m v }
 
--- a change of the store that keeps its module, and does not have fewer cells behind it
-pub record Keeping (f : Store → Store) : Type 0 where
-  pub home : (s : Store) → (f s).home ≡ s.home
-  pub cells : (s : Store) → length s.cells ≤ length (f s).cells
+pub keeps_each : {q : Bool} {A B : Type 0} (f : A → Action B) (xs : List A) → ((x : A) → Keeps q (f x)) → Keeps q (each f xs)
+keeps_each f xs k = record { grows = growth.keeps_each f xs (λ x. (k x).grows); stays = stays.keeps_each f xs (λ x. (k x).stays); extends = extends.extends_each f xs (λ x. (k x).extends); follows = λ h. quiet.keeps_each f xs (λ x. (k x).follows h) }
 
-pub keeps_storing : (f : Store → Store) → Keeping f → Keeps (storing f)
-keeps_storing f k = record { holds = λ s. less s (f s.store) s.active s.steps (k.home s.store) (k.cells s.store) (omega arith) }
+pub keeps_all_of : {q : Bool} {A : Type 0} (f : A → Action (Unit {0})) (xs : List A) → ((x : A) → Keeps q (f x)) → Keeps q (all_of f xs)
+keeps_all_of f xs k = record { grows = growth.keeps_all_of f xs (λ x. (k x).grows); stays = stays.keeps_all_of f xs (λ x. (k x).stays); extends = extends.extends_all_of f xs (λ x. (k x).extends); follows = λ h. quiet.keeps_all_of f xs (λ x. (k x).follows h) }
 
-length_changed : (f : Counted → Counted) (xs : List Counted) (at : ℕ) → length xs ≤ length (changed_at f xs at)
-length_changed f [] at = omega arith
-length_changed f (x ∷ xs) zero = omega arith
-length_changed f (x ∷ xs) (suc at) = omega (arith, length_changed f xs at)
+pub keeps_collect : {q : Bool} {B : Type 0} (f : ℕ → Action B) (n i : ℕ) → ((i : ℕ) → Keeps q (f i)) → Keeps q (collect f n i)
+keeps_collect f n i k = record { grows = growth.keeps_collect f n i (λ j. (k j).grows); stays = stays.keeps_collect f n i (λ j. (k j).stays); extends = extends.extends_collect f n i (λ j. (k j).extends); follows = λ h. quiet.keeps_collect f n i (λ j. (k j).follows h) }
 
-own_home : (b : Bool) (s : Store) (cells : List Counted) → (if b then record s { cells = cells } else s).home ≡ s.home
-own_home true s cells = refl
-own_home false s cells = refl
+pub keeps_until : {q : Bool} (f : ℕ → Action Bool) (n i : ℕ) → ((i : ℕ) → Keeps q (f i)) → Keeps q (until f n i)
+keeps_until f n i k = record { grows = growth.keeps_until f n i (λ j. (k j).grows); stays = stays.keeps_until f n i (λ j. (k j).stays); extends = extends.extends_until f n i (λ j. (k j).extends); follows = λ h. quiet.keeps_until f n i (λ j. (k j).follows h) }
 
-own_cells : (b : Bool) (s : Store) (cells : List Counted) → length s.cells ≤ length cells → length s.cells ≤ length ((if b then record s { cells = cells } else s).cells)
-own_cells true s cells h = h
-own_cells false s cells h = omega arith
+pub keeps_agreed : {q : Bool} {A : Type 0} (line : ℕ) (r : Result A StoreFault) → Keeps q (agreed line r)
+keeps_agreed line r = record { grows = growth.keeps_agreed line r; stays = stays.keeps_agreed line r; extends = extends.extends_agreed line r; follows = λ h. quiet.keeps_agreed line r }
 
-changed_home : (f : Counted → Counted) (v : Value) (s : Store) → (changed f v s).home ≡ s.home
-changed_home f (value.Ref home at) s = own_home (nat_eq home s.home) s _
-changed_home f _ s = refl
+pub keeps_visiting : {q : Bool} {A : Type 0} (line : ℕ) (f : State → Spend A) → ((k : ℕ) (s : State) → f (with_more k s) ≡ f s) → ((s : State) → Spends (f s)) → Keeps q (visiting line f)
+keeps_visiting line f same k = record { grows = growth.keeps_visiting line f (λ s. (k s).lowers); stays = stays.keeps_visiting line f; extends = extends.extends_visiting line f same (λ s. (k s).reaches); follows = λ h. quiet.keeps_visiting line f }
 
-changed_cells : (f : Counted → Counted) (v : Value) (s : Store) → length s.cells ≤ length (changed f v s).cells
-changed_cells f (value.Ref home at) s = own_cells (nat_eq home s.home) s _ (length_changed f s.cells at)
-changed_cells f _ s = omega arith
+pub keeps_bound : {q : Bool} (frame : Value) (slot : ℕ) (v : Value) → Keeps q (storing (bound frame slot v))
+keeps_bound frame slot v = record { grows = growth.keeps_storing _ (growth.keeping_bound frame slot v); stays = stays.keeps_bound frame slot v; extends = extends.extends_storing _; follows = λ h. quiet.keeps_bound frame slot v }
 
-pub keeping_changed : (f : Counted → Counted) (v : Value) → Keeping (changed f v)
-keeping_changed f v = record { home = changed_home f v; cells = changed_cells f v }
+pub keeps_change : {q : Bool} (w : Setting) (line : ℕ) (v : Value) (c : Change) → Keeps q (change w line v c)
+keeps_change w line v c = record { grows = growth.keeps_change w line v c; stays = stays.keeps_change w line v c; extends = extends.extends_change w line v c; follows = λ h. quiet.keeps_change w line v c }
 
-pub keeping_bound : (frame : Value) (slot : ℕ) (v : Value) → Keeping (bound frame slot v)
-keeping_bound frame slot v = keeping_changed _ frame
+pub keeps_add_line : {q : Bool} (bytes : List ℕ) → Keeps q (add_line bytes)
+keeps_add_line bytes = record { grows = growth.keeps_add_line bytes; stays = stays.keeps_add_line bytes; extends = extends.extends_add_line bytes; follows = λ h. quiet.keeps_add_line bytes }
 
-pub keeping_opened : (v : Value) → Keeping (opened v)
-keeping_opened v = keeping_changed _ v
+-- a loop over a value, which is being iterated meanwhile
+grows_iterate : (w : Setting) (line : ℕ) (v : Value) → growth.Keeps (iterate w line v)
+unfolding iterate count_of
+grows_iterate w line v = growth.keeps_then _ _ (growth.keeps_seeing _ (λ s. growth.keeps_found _ line _)) (λ n. growth.keeps_then _ _ (growth.keeps_storing _ (growth.keeping_opened v)) (λ _. growth.keeps_give n))
 
-pub keeping_closed : (v : Value) → Keeping (closed v)
-keeping_closed v = keeping_changed _ v
+grows_leave : (v : Value) → growth.Keeps (leave v)
+unfolding leave
+grows_leave v = growth.keeps_storing _ (growth.keeping_closed v)
 
--- a write keeps the module and the number of cells
-store_written : (c : Result (Unit {0}) StoreFault) (d : Result (Option Value × Cell) StoreFault) (v : Value) (line : ℕ) (s : State) → Grown s (written line (made_if c (in_store v s.store d)) s)
-store_written (Ok u) (Ok r) v line s = less s (changed (λ e. record e { cell = r.1 }) v s.store) s.active s.steps (changed_home _ v s.store) (changed_cells _ v s.store) (omega arith)
-store_written (Ok u) (Err f) v line s = ([], append_nil s.lines)
-store_written (Err f) d v line s = ([], append_nil s.lines)
+extends_iterate : (w : Setting) (line : ℕ) (v : Value) → extends.Extends (iterate w line v)
+unfolding iterate count_of
+extends_iterate w line v = extends.extends_then _ _ (extends.extends_seeing _ (λ k s. refl) (λ s. extends.extends_found _ line _)) (λ n. extends.extends_then _ _ (extends.extends_storing _) (λ _. extends.extends_give n))
 
-pub keeps_change : (w : Setting) (line : ℕ) (v : Value) (c : Change) → Keeps (change w line v c)
-unfolding change
-keeps_change w line v c = record { holds = λ s. store_written (allowed s.store w.shelf v c) _ v line s }
+extends_leave : (v : Value) → extends.Extends (leave v)
+unfolding leave
+extends_leave v = extends.extends_storing _
 
-pub keeps_add_line : (bytes : List ℕ) → Keeps (add_line bytes)
-unfolding add_line
-keeps_add_line bytes = record { holds = λ s. record { home = refl; cells = omega arith; steps = omega arith; lines = (bytes ∷ [], refl) } }
+pub keeps_while : {q : Bool} {A : Type 0} (w : Setting) (line : ℕ) (v : Value) (m : ℕ → Action A) → ((n : ℕ) → Keeps q (m n)) → Keeps q (iterate w line v >>= λ n. m n >>= λ x. leave v)
+keeps_while w line v m k = record { grows = growth.keeps_then _ _ (grows_iterate w line v) (λ n. growth.keeps_then _ _ (k n).grows (λ x. grows_leave v)); stays = stays.keeps_while w line v m (λ n. (k n).stays); extends = extends.extends_then _ _ (extends_iterate w line v) (λ n. extends.extends_then _ _ (k n).extends (λ x. extends_leave v)); follows = λ h. quiet.keeps_then _ _ (quiet.keeps_iterate w line v) (λ n. quiet.keeps_then _ _ ((k n).follows h) (λ x. quiet.keeps_leave v)) }
 
-pub keeps_activate : (f : Function) → Keeps (activate f)
-unfolding activate
-keeps_activate f = record { holds = λ s. less s s.store ((f.file, f.definition) ∷ s.active) s.steps refl (omega arith) (omega arith) }
+pub keeps_looping : {q : Bool} {A : Type 0} (w : Setting) (line : ℕ) (v : Value) (m : ℕ → Action A) → ((n : ℕ) → Keeps q (m n)) → Keeps q (iterate w line v >>= λ n. m n >>= λ x. leave v >>= λ _. give x)
+keeps_looping w line v m k = record { grows = growth.keeps_then _ _ (grows_iterate w line v) (λ n. growth.keeps_then _ _ (k n).grows (λ x. growth.keeps_then _ _ (grows_leave v) (λ _. growth.keeps_give x))); stays = stays.keeps_looping w line v m (λ n. (k n).stays); extends = extends.extends_then _ _ (extends_iterate w line v) (λ n. extends.extends_then _ _ (k n).extends (λ x. extends.extends_then _ _ (extends_leave v) (λ _. extends.extends_give x))); follows = λ h. quiet.keeps_then _ _ (quiet.keeps_iterate w line v) (λ n. quiet.keeps_then _ _ ((k n).follows h) (λ x. quiet.keeps_then _ _ (quiet.keeps_leave v) (λ _. quiet.keeps_give x))) }
 
-pub keeps_deactivate : Keeps deactivate
-unfolding deactivate
-keeps_deactivate = record { holds = λ s. less s s.store (rest_of s.active) s.steps refl (omega arith) (omega arith) }
+-- what is done while a definition is active
+pub keeps_active : {q : Bool} {A : Type 0} (f : Function) (m : Action A) → Keeps q m → Keeps q (activate f >>= λ _. m >>= λ v. deactivate >>= λ _. give v)
+keeps_active f m k = record { grows = growth.keeps_then _ _ (growth.keeps_activate f) (λ _. growth.keeps_then _ _ k.grows (λ v. growth.keeps_then _ _ growth.keeps_deactivate (λ _. growth.keeps_give v))); stays = stays.keeps_active f m k.stays; extends = extends.extends_then _ _ (extends.extends_activate f) (λ _. extends.extends_then _ _ k.extends (λ v. extends.extends_then _ _ extends.extends_deactivate (λ _. extends.extends_give v))); follows = λ h. quiet.keeps_then _ _ (quiet.keeps_activate f) (λ _. quiet.keeps_then _ _ (k.follows h) (λ v. quiet.keeps_then _ _ quiet.keeps_deactivate (λ _. quiet.keeps_give v))) }
 
-pub keeps_then_go : (rest : Action Flow) (f : Flow) → Keeps rest → Keeps (then_go rest f)
-keeps_then_go rest flow.Next k = k
-keeps_then_go rest flow.Break k = keeps_give _
-keeps_then_go rest flow.Continue k = keeps_give _
-keeps_then_go rest (flow.Return v) k = keeps_give _
+pub keeps_block : {A : Type 0} (f : A → Action Flow) (xs : List A) → ((x : A) → Keeps false (f x)) → Keeps false (block f xs)
+keeps_block f xs k = record { grows = growth.keeps_block f xs (λ x. (k x).grows); stays = stays.keeps_block f xs (λ x. (k x).stays); extends = extends.extends_block f xs (λ x. (k x).extends); follows = λ h. never h }
 
-pub keeps_block : {A : Type 0} (f : A → Action Flow) (xs : List A) → ((x : A) → Keeps (f x)) → Keeps (block f xs)
-keeps_block f [] k = keeps_give _
-keeps_block f (x ∷ xs) k = keeps_then _ _ (k x) (λ y. keeps_then_go _ y (keeps_block f xs k))
+pub keeps_turns : (f : ℕ → Action Flow) (n i : ℕ) → ((i : ℕ) → Keeps false (f i)) → Keeps false (turns f n i)
+keeps_turns f n i k = record { grows = growth.keeps_turns f n i (λ j. (k j).grows); stays = stays.keeps_turns f n i (λ j. (k j).stays); extends = extends.extends_turns f n i (λ j. (k j).extends); follows = λ h. never h }
 
-pub keeps_then_turn : (rest : Action Flow) (f : Flow) → Keeps rest → Keeps (then_turn rest f)
-keeps_then_turn rest flow.Next k = k
-keeps_then_turn rest flow.Break k = keeps_give _
-keeps_then_turn rest flow.Continue k = k
-keeps_then_turn rest (flow.Return v) k = keeps_give _
-
-pub keeps_turns : (f : ℕ → Action Flow) (n i : ℕ) → ((i : ℕ) → Keeps (f i)) → Keeps (turns f n i)
-keeps_turns f zero i k = keeps_give _
-keeps_turns f (suc n) i k = keeps_then _ _ (k i) (λ y. keeps_then_turn _ y (keeps_turns f n (i + 1) k))
-
-pub keeps_repeat : (f : ℕ → Action (Unit {0})) (n i : ℕ) → ((i : ℕ) → Keeps (f i)) → Keeps (repeat f n i)
-keeps_repeat f zero i k = keeps_give {A = Unit {0}} tt
-keeps_repeat f (suc n) i k = keeps_then _ _ (k i) (λ _. keeps_repeat f n (i + 1) k)
+pub keeps_repeat : (f : ℕ → Action (Unit {0})) (n i : ℕ) → ((i : ℕ) → Keeps false (f i)) → Keeps false (repeat f n i)
+keeps_repeat f n i k = record { grows = growth.keeps_repeat f n i (λ j. (k j).grows); stays = stays.keeps_repeat f n i (λ j. (k j).stays); extends = extends.extends_repeat f n i (λ j. (k j).extends); follows = λ h. never h }
 
 -- the three actions on variables keep it
 pub record VariablesKeep (vs : Variables) : Type 0 where
-  pub read : (p : Place) (n : Name) → Keeps (vs.read p n)
-  pub bind : (p : Place) (n : Name) (v : Value) → Keeps (vs.bind p n v)
-  pub frame : (file number : ℕ) (parent : Option Value) → Keeps (vs.frame file number parent)
+  pub read : (p : Place) (n : Name) → Keeps false (vs.read p n)
+  pub bind : (p : Place) (n : Name) (v : Value) → Keeps false (vs.bind p n v)
+  pub frame : (file number : ℕ) (parent : Option Value) → Keeps false (vs.frame file number parent)
 
-pub keeps_read : (vs : Variables) → VariablesKeep vs → (p : Place) (n : Name) → Keeps (vs.read p n)
+pub keeps_read : (vs : Variables) → VariablesKeep vs → (p : Place) (n : Name) → Keeps false (vs.read p n)
 keeps_read vs k = k.read
 
-pub keeps_bind : (vs : Variables) → VariablesKeep vs → (p : Place) (n : Name) (v : Value) → Keeps (vs.bind p n v)
+pub keeps_bind : (vs : Variables) → VariablesKeep vs → (p : Place) (n : Name) (v : Value) → Keeps false (vs.bind p n v)
 keeps_bind vs k = k.bind
 
-pub keeps_frame : (vs : Variables) → VariablesKeep vs → (file number : ℕ) (parent : Option Value) → Keeps (vs.frame file number parent)
+pub keeps_frame : (vs : Variables) → VariablesKeep vs → (file number : ℕ) (parent : Option Value) → Keeps false (vs.frame file number parent)
 keeps_frame vs k = k.frame
 
 -- all parts of a program keep it
 pub record AllKeep (m : Meaning) : Type 0 where
-  pub expr : (p : Place) (e : Expression) → Keeps (m.expr p e)
-  pub stmt : (p : Place) (x : Statement) → Keeps (m.stmt p x)
-  pub assign : (p : Place) (t : Target) (v : Value) → Keeps (m.assign p t v)
-  pub parts : (p : Place) (e i : Expression) → Keeps (m.parts p e i)
-  pub call : (p : Place) (f : Function) (d : Definition) (shares : List (Name × Share)) → Keeps (m.call p f d shares)
+  pub expr : (p : Place) (e : Expression) → Keeps false (m.expr p e)
+  pub stmt : (p : Place) (x : Statement) → Keeps false (m.stmt p x)
+  pub assign : (p : Place) (t : Target) (v : Value) → Keeps false (m.assign p t v)
+  pub parts : (p : Place) (e i : Expression) → Keeps false (m.parts p e i)
+  pub call : (p : Place) (f : Function) (d : Definition) (shares : List (Name × Share)) → Keeps false (m.call p f d shares)
 
-pub keeps_expr : (m : Meaning) → AllKeep m → (p : Place) (e : Expression) → Keeps (m.expr p e)
+pub keeps_expr : (m : Meaning) → AllKeep m → (p : Place) (e : Expression) → Keeps false (m.expr p e)
 keeps_expr m k = k.expr
 
-pub keeps_stmt : (m : Meaning) → AllKeep m → (p : Place) (x : Statement) → Keeps (m.stmt p x)
+pub keeps_stmt : (m : Meaning) → AllKeep m → (p : Place) (x : Statement) → Keeps false (m.stmt p x)
 keeps_stmt m k = k.stmt
 
-pub keeps_assign : (m : Meaning) → AllKeep m → (p : Place) (t : Target) (v : Value) → Keeps (m.assign p t v)
+pub keeps_assign : (m : Meaning) → AllKeep m → (p : Place) (t : Target) (v : Value) → Keeps false (m.assign p t v)
 keeps_assign m k = k.assign
 
-pub keeps_parts : (m : Meaning) → AllKeep m → (p : Place) (e i : Expression) → Keeps (m.parts p e i)
+pub keeps_parts : (m : Meaning) → AllKeep m → (p : Place) (e i : Expression) → Keeps false (m.parts p e i)
 keeps_parts m k = k.parts
 
-pub keeps_call : (m : Meaning) → AllKeep m → (p : Place) (f : Function) (d : Definition) (shares : List (Name × Share)) → Keeps (m.call p f d shares)
+pub keeps_call : (m : Meaning) → AllKeep m → (p : Place) (f : Function) (d : Definition) (shares : List (Name × Share)) → Keeps false (m.call p f d shares)
 keeps_call m k = k.call
 
-pub ruleset keeps = (lowers-same, lowers-order, lowers-check, lowers-text, lowers-bare, keeps_then, keeps_give, keeps_fail, keeps_if, keeps_found, keeps_pay, keeps_seeing, keeps_check, keeps_make, keeps_build, keeps_each, keeps_all_of, keeps_collect, keeps_until, keeps_agreed, keeps_visiting, keeps_storing, keeping_bound, keeping_opened, keeping_closed, keeps_change, keeps_add_line, keeps_activate, keeps_deactivate, keeps_block, keeps_turns, keeps_repeat, keeps_read, keeps_bind, keeps_frame, keeps_expr, keeps_stmt, keeps_assign, keeps_parts, keeps_call)
+pub ruleset keeps = (refl, spends-same, spends-order, spends-check, spends-text, spends-bare, keeps_while, keeps_looping, keeps_active, keeps_then, keeps_give, keeps_fail, keeps_if, keeps_found, keeps_pay, keeps_seeing, keeps_check, keeps_make_text, keeps_make_tuple, keeps_make_list, keeps_make_dict, keeps_make_range, keeps_make_bound, keeps_make_frame, keeps_build_text, keeps_build_tuple, keeps_build_list, keeps_build_dict, keeps_build_range, keeps_build_bound, keeps_each, keeps_all_of, keeps_collect, keeps_until, keeps_agreed, keeps_visiting, keeps_bound, keeps_change, keeps_add_line, keeps_make, keeps_build, keeps_block, keeps_turns, keeps_repeat, keeps_read, keeps_bind, keeps_frame, keeps_expr, keeps_stmt, keeps_assign, keeps_parts, keeps_call)

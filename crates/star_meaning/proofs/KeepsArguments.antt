@@ -1,64 +1,64 @@
--- What the parts of Arguments keep.
+-- What every run keeps: arguments.
 use Rattle.star_store.specs.declared.values.Value.{Value}
 use Rattle.star_meaning.specs.Program.{Setting}
-use Rattle.std.proofs.Common.{ℕ, List, [], ◌∷◌, Option, Some, None}
+use Rattle.std.proofs.Common.{ℕ, List, [], ◌∷◌, Option, Some, None, Bool}
 use Rattle.star_meaning.specs.declared.given.NamedValue.{NamedValue}
 use Rattle.star_meaning.specs.declared.given.Given.{Given}
 use Rattle.star_meaning.specs.Arguments.{star_count, take_star, star_star_names, take_names, given, name_key, key_for, by_place, with_name, only_one, none_or_one, one_or_two, two, no_value, Passed}
 use Rattle.star_meaning.proofs.Keeps.{keeps, Keeps}
 use Rattle.star_meaning.proofs.KeepsValues.{keeps-new_text, keeps-count_of, keeps-take_items}
 
-pub keeps-star_count : (w : Setting) (line : ℕ) (a2 : Option Value) → Keeps (star_count w line a2)
+pub keeps-star_count : {q : Bool} → (w : Setting) (line : ℕ) (a2 : Option Value) → Keeps q (star_count w line a2)
 keeps-star_count w line None = search keeps depth 14
 keeps-star_count w line (Some v) = search (keeps, keeps-count_of) depth 14
 
-pub keeps-take_star : (w : Setting) (line : ℕ) (a2 : Option Value) (n : ℕ) → Keeps (take_star w line a2 n)
+pub keeps-take_star : {q : Bool} → (w : Setting) (line : ℕ) (a2 : Option Value) (n : ℕ) → Keeps q (take_star w line a2 n)
 keeps-take_star w line None n = search keeps depth 14
 keeps-take_star w line (Some v) n = search (keeps, keeps-take_items) depth 14
 
-pub keeps-star_star_names : (w : Setting) (line : ℕ) (a2 : Option Value) → Keeps (star_star_names w line a2)
+pub keeps-star_star_names : {q : Bool} → (w : Setting) (line : ℕ) (a2 : Option Value) → Keeps q (star_star_names w line a2)
 keeps-star_star_names w line None = search keeps depth 14
 keeps-star_star_names w line (Some v) = search keeps depth 14
 
-pub keeps-take_names : (line : ℕ) (ns : List NamedValue) → Keeps (take_names line ns)
+pub keeps-take_names : {q : Bool} → (line : ℕ) (ns : List NamedValue) → Keeps q (take_names line ns)
 keeps-take_names line ns = search keeps depth 14
 
-pub keeps-given : (w : Setting) (line : ℕ) (ps : List Passed) → Keeps (given w line ps)
+pub keeps-given : {q : Bool} → (w : Setting) (line : ℕ) (ps : List Passed) → Keeps q (given w line ps)
 unfolding given
 keeps-given w line ps = search (keeps, keeps-star_count, keeps-take_star, keeps-star_star_names, keeps-take_names) depth 14
 
-pub keeps-name_key : (line : ℕ) (n : NamedValue) (a2 : Option Value) → Keeps (name_key line n a2)
+pub keeps-name_key : {q : Bool} → (line : ℕ) (n : NamedValue) (a2 : Option Value) → Keeps q (name_key line n a2)
 unfolding name_key
 keeps-name_key line n (Some k) = search keeps depth 14
 keeps-name_key line n None = search (keeps, keeps-new_text) depth 14
 
-pub keeps-key_for : (line : ℕ) (n : NamedValue) → Keeps (key_for line n)
+pub keeps-key_for : {q : Bool} → (line : ℕ) (n : NamedValue) → Keeps q (key_for line n)
 keeps-key_for line n = search (keeps, keeps-name_key) depth 14
 
-pub keeps-by_place : (line : ℕ) (g : Given) → Keeps (by_place line g)
+pub keeps-by_place : {q : Bool} → (line : ℕ) (g : Given) → Keeps q (by_place line g)
 keeps-by_place line g = search keeps depth 14
 
-pub keeps-with_name : (line : ℕ) (name : List ℕ) (g : Given) → Keeps (with_name line name g)
+pub keeps-with_name : {q : Bool} → (line : ℕ) (name : List ℕ) (g : Given) → Keeps q (with_name line name g)
 keeps-with_name line name g = search keeps depth 14
 
-pub keeps-only_one : (line : ℕ) (a1 : List Value) → Keeps (only_one line a1)
+pub keeps-only_one : {q : Bool} → (line : ℕ) (a1 : List Value) → Keeps q (only_one line a1)
 keeps-only_one line (x ∷ []) = search keeps depth 14
 keeps-only_one line _ = search keeps depth 14
 
-pub keeps-none_or_one : (line : ℕ) (a1 : List Value) → Keeps (none_or_one line a1)
+pub keeps-none_or_one : {q : Bool} → (line : ℕ) (a1 : List Value) → Keeps q (none_or_one line a1)
 keeps-none_or_one line [] = search keeps depth 14
 keeps-none_or_one line (x ∷ []) = search keeps depth 14
 keeps-none_or_one line _ = search keeps depth 14
 
-pub keeps-one_or_two : (line : ℕ) (a1 : List Value) → Keeps (one_or_two line a1)
+pub keeps-one_or_two : {q : Bool} → (line : ℕ) (a1 : List Value) → Keeps q (one_or_two line a1)
 keeps-one_or_two line (x ∷ []) = search keeps depth 14
 keeps-one_or_two line (x ∷ y ∷ []) = search keeps depth 14
 keeps-one_or_two line _ = search keeps depth 14
 
-pub keeps-two : (line : ℕ) (a1 : List Value) → Keeps (two line a1)
+pub keeps-two : {q : Bool} → (line : ℕ) (a1 : List Value) → Keeps q (two line a1)
 keeps-two line (x ∷ y ∷ []) = search keeps depth 14
 keeps-two line _ = search keeps depth 14
 
-pub keeps-no_value : (line : ℕ) (a1 : List Value) → Keeps (no_value line a1)
+pub keeps-no_value : {q : Bool} → (line : ℕ) (a1 : List Value) → Keeps q (no_value line a1)
 keeps-no_value line [] = search keeps depth 14
 keeps-no_value line _ = search keeps depth 14

@@ -1,4 +1,4 @@
--- What the parts of Expressions keep.
+-- What every run keeps: expressions.
 use Rattle.star_store.specs.declared.values.Value.{Value}
 use Rattle.star_syntax.specs.declared.tree.Expression.{Expression}
 use Rattle.star_syntax.specs.declared.tree.Entry.{Entry}
@@ -8,7 +8,7 @@ use Rattle.star_meaning.specs.declared.place.Place.{Place}
 use Rattle.star_scope.specs.Syntax.{ExpressionForm, ParameterForm}
 use Rattle.star_meaning.specs.Program.{Setting, Variables}
 use Rattle.star_meaning.specs.Meaning.{Meaning}
-use Rattle.std.proofs.Common.{ℕ, List, [], ◌∷◌, Option, Some, None}
+use Rattle.std.proofs.Common.{ℕ, List, [], ◌∷◌, Option, Some, None, false}
 use Rattle.star_meaning.specs.Run.{Action}
 use Rattle.star_meaning.specs.Expressions.{defaults_behind, defaults, new_function, entry_of, fresh_entry, fresh_entries, maybe, node}
 use Rattle.star_meaning.proofs.Keeps.{keeps, Keeps, AllKeep, VariablesKeep}
@@ -18,33 +18,27 @@ use Rattle.star_meaning.proofs.KeepsSubscript.{keeps-index, keeps-slice}
 use Rattle.star_meaning.proofs.KeepsMethods.{keeps-attribute}
 use Rattle.star_meaning.proofs.KeepsComprehensions.{keeps-list_comprehension, keeps-dict_comprehension}
 use Rattle.star_meaning.proofs.KeepsCalls.{keeps-call_node}
+use Rattle.star_meaning.proofs.KeepsEntries.{keeps-fresh_entries}
 
-pub keeps-defaults_behind : (rest : Action (List Value)) (m : Meaning) (p : Place) (a3 : ParameterForm) → Keeps rest → AllKeep m → Keeps (defaults_behind rest m p a3)
+pub keeps-defaults_behind : (rest : Action (List Value)) (m : Meaning) (p : Place) (a3 : ParameterForm) → Keeps false rest → AllKeep m → Keeps false (defaults_behind rest m p a3)
 keeps-defaults_behind rest m p (tree.Default n e) k0 k1 = search keeps depth 14
 keeps-defaults_behind rest m p _ k0 k1 = search keeps depth 14
 
-pub keeps-defaults : (m : Meaning) (p : Place) (a2 : List Parameter) → AllKeep m → Keeps (defaults m p a2)
+pub keeps-defaults : (m : Meaning) (p : Place) (a2 : List Parameter) → AllKeep m → Keeps false (defaults m p a2)
 keeps-defaults m p [] k0 = search keeps depth 14
-keeps-defaults m p (q ∷ qs) k0 = let h1 : (z1 : Place) → Keeps (defaults m z1 qs) = λ z1. keeps-defaults m z1 qs k0 in search (keeps, keeps-defaults_behind, h1) depth 14
+keeps-defaults m p (q ∷ qs) k0 = let h1 : (z1 : Place) → Keeps false (defaults m z1 qs) = λ z1. keeps-defaults m z1 qs k0 in search (keeps, keeps-defaults_behind, h1) depth 14
 
-pub keeps-new_function : (m : Meaning) (p : Place) (number : ℕ) (name : List ℕ) (ps : List Parameter) → AllKeep m → Keeps (new_function m p number name ps)
+pub keeps-new_function : (m : Meaning) (p : Place) (number : ℕ) (name : List ℕ) (ps : List Parameter) → AllKeep m → Keeps false (new_function m p number name ps)
 keeps-new_function m p number name ps k0 = search (keeps, keeps-defaults) depth 14
 
-pub keeps-entry_of : (m : Meaning) (p : Place) (e : Entry) → AllKeep m → Keeps (entry_of m p e)
+pub keeps-entry_of : (m : Meaning) (p : Place) (e : Entry) → AllKeep m → Keeps false (entry_of m p e)
 keeps-entry_of m p e k0 = search keeps depth 14
 
-pub keeps-fresh_entry : (w : Setting) (levels : ℕ) (line : ℕ) (es : List (Value × Value)) (e : Value × Value) → Keeps (fresh_entry w levels line es e)
-keeps-fresh_entry w levels line es e = search (keeps, keeps-check_key) depth 14
-
-pub keeps-fresh_entries : (w : Setting) (levels : ℕ) (line : ℕ) (es : List (Value × Value)) (a4 : List (Value × Value)) → Keeps (fresh_entries w levels line es a4)
-keeps-fresh_entries w levels line es [] = search keeps depth 14
-keeps-fresh_entries w levels line es (e ∷ more) = let h1 : (z3 : List (Value × Value)) → Keeps (fresh_entries w levels line z3 more) = λ z3. keeps-fresh_entries w levels line z3 more in search (keeps, keeps-fresh_entry, h1) depth 14
-
-pub keeps-maybe : (m : Meaning) (p : Place) (a2 : Option Expression) → AllKeep m → Keeps (maybe m p a2)
+pub keeps-maybe : (m : Meaning) (p : Place) (a2 : Option Expression) → AllKeep m → Keeps false (maybe m p a2)
 keeps-maybe m p None k0 = search keeps depth 14
 keeps-maybe m p (Some e) k0 = search keeps depth 14
 
-pub keeps-node : (vs : Variables) (w : Setting) (levels : ℕ) (m : Meaning) (p : Place) (a5 : ExpressionForm) → VariablesKeep vs → AllKeep m → Keeps (node vs w levels m p a5)
+pub keeps-node : (vs : Variables) (w : Setting) (levels : ℕ) (m : Meaning) (p : Place) (a5 : ExpressionForm) → VariablesKeep vs → AllKeep m → Keeps false (node vs w levels m p a5)
 keeps-node vs w levels m p (tree.Expression-F.Expression::Name n) k0 k1 = search keeps depth 14
 keeps-node vs w levels m p (tree.Int n) k0 k1 = search keeps depth 14
 keeps-node vs w levels m p (tree.Text t) k0 k1 = search (keeps, keeps-new_text) depth 14

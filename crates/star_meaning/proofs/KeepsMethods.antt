@@ -1,10 +1,10 @@
--- What the parts of Methods keep.
+-- What every run keeps: methods.
 use Rattle.star_store.specs.declared.values.Value.{Value}
 use Rattle.star_store.specs.declared.names.Method.{Method}
 use Rattle.star_store.specs.declared.names.Method.TheVariants as method
 use Rattle.star_meaning.specs.Program.{Setting}
 use Rattle.star_meaning.specs.declared.given.Given.{Given}
-use Rattle.std.proofs.Common.{ℕ, List}
+use Rattle.std.proofs.Common.{ℕ, List, Bool}
 use Rattle.star_meaning.specs.Methods.{attribute, on_text, call_method}
 use Rattle.star_meaning.proofs.Keeps.{keeps, Keeps}
 use Rattle.star_meaning.proofs.KeepsValues.{keeps-with_content, keeps-want_text}
@@ -12,11 +12,11 @@ use Rattle.star_meaning.proofs.KeepsListMethods.{keeps-call_append, keeps-call_c
 use Rattle.star_meaning.proofs.KeepsDictMethods.{keeps-call_get, keeps-call_items, keeps-call_keys, keeps-call_values, keeps-call_dict_pop, keeps-call_popitem, keeps-call_setdefault, keeps-call_update}
 use Rattle.star_meaning.proofs.KeepsTextMethods.{keeps-call_edge, keeps-call_find, keeps-call_join, keeps-call_split, keeps-call_strip, keeps-call_case, keeps-call_replace, keeps-call_format}
 
-pub keeps-attribute : (w : Setting) (line : ℕ) (x : Value) (name : List ℕ) → Keeps (attribute w line x name)
+pub keeps-attribute : {q : Bool} → (w : Setting) (line : ℕ) (x : Value) (name : List ℕ) → Keeps q (attribute w line x name)
 unfolding attribute
 keeps-attribute w line x name = search (keeps, keeps-with_content) depth 14
 
-pub keeps-on_text : (w : Setting) (levels : ℕ) (line : ℕ) (a3 : Method) (t : List ℕ) (g : Given) → Keeps (on_text w levels line a3 t g)
+pub keeps-on_text : {q : Bool} → (w : Setting) (levels : ℕ) (line : ℕ) (a3 : Method) (t : List ℕ) (g : Given) → Keeps q (on_text w levels line a3 t g)
 keeps-on_text w levels line method.StringEndswith t g = search (keeps, keeps-call_edge) depth 14
 keeps-on_text w levels line method.StringFind t g = search (keeps, keeps-call_find) depth 14
 keeps-on_text w levels line method.StringFormat t g = search (keeps, keeps-call_format) depth 14
@@ -31,7 +31,7 @@ keeps-on_text w levels line method.StringStrip t g = search (keeps, keeps-call_s
 keeps-on_text w levels line method.StringUpper t g = search (keeps, keeps-call_case) depth 14
 keeps-on_text w levels line _ t g = search keeps depth 14
 
-pub keeps-call_method : (w : Setting) (levels : ℕ) (line : ℕ) (a3 : Method) (x : Value) (g : Given) → Keeps (call_method w levels line a3 x g)
+pub keeps-call_method : {q : Bool} → (w : Setting) (levels : ℕ) (line : ℕ) (a3 : Method) (x : Value) (g : Given) → Keeps q (call_method w levels line a3 x g)
 unfolding call_method
 keeps-call_method w levels line method.ListAppend x g = search (keeps, keeps-call_append) depth 14
 keeps-call_method w levels line method.ListClear x g = search (keeps, keeps-call_clear) depth 14

@@ -1,4 +1,4 @@
--- What the parts of Percent keep.
+-- What every run keeps: % on strings.
 use Rattle.star_store.specs.declared.values.Value.{Value}
 use Rattle.star_meaning.specs.Program.{Setting}
 use Rattle.star_meaning.specs.Values.{Content}
@@ -7,19 +7,19 @@ use Rattle.star_meaning.specs.Percent.{lettered, next_text, filled, percent}
 use Rattle.star_meaning.proofs.Keeps.{keeps, Keeps}
 use Rattle.star_meaning.proofs.KeepsValues.{keeps-want_int, keeps-new_text, keeps-repr, keeps-str}
 
-pub keeps-lettered : (w : Setting) (levels : ℕ) (line : ℕ) (letter : ℕ) (x : Value) → Keeps (lettered w levels line letter x)
+pub keeps-lettered : {q : Bool} → (w : Setting) (levels : ℕ) (line : ℕ) (letter : ℕ) (x : Value) → Keeps q (lettered w levels line letter x)
 keeps-lettered w levels line letter x = search (keeps, keeps-want_int, keeps-repr, keeps-str) depth 14
 
-pub keeps-next_text : (w : Setting) (levels : ℕ) (line : ℕ) (letter : ℕ) (a4 : List Value) → Keeps (next_text w levels line letter a4)
+pub keeps-next_text : {q : Bool} → (w : Setting) (levels : ℕ) (line : ℕ) (letter : ℕ) (a4 : List Value) → Keeps q (next_text w levels line letter a4)
 keeps-next_text w levels line letter [] = search keeps depth 14
 keeps-next_text w levels line letter (x ∷ xs) = search (keeps, keeps-lettered) depth 14
 
-pub keeps-filled : (w : Setting) (levels : ℕ) (line : ℕ) (a3 : Bool) (a4 : List ℕ) (a5 : List Value) (out : List ℕ) → Keeps (filled w levels line a3 a4 a5 out)
+pub keeps-filled : {q : Bool} → (w : Setting) (levels : ℕ) (line : ℕ) (a3 : Bool) (a4 : List ℕ) (a5 : List Value) (out : List ℕ) → Keeps q (filled w levels line a3 a4 a5 out)
 keeps-filled w levels line false [] [] out = search keeps depth 14
 keeps-filled w levels line false [] (x ∷ xs) out = search keeps depth 14
 keeps-filled w levels line true [] xs out = search keeps depth 14
-keeps-filled w levels line false (b ∷ bs) xs out = let h1 : (z0 : Setting) → Keeps (filled z0 levels line true bs xs out) = λ z0. keeps-filled z0 levels line true bs xs out in let h2 : (z6 : List ℕ) → Keeps (filled w levels line false bs xs z6) = λ z6. keeps-filled w levels line false bs xs z6 in search (keeps, h1, h2) depth 14
-keeps-filled w levels line true (b ∷ bs) xs out = let h1 : (z6 : List ℕ) → Keeps (filled w levels line false bs xs z6) = λ z6. keeps-filled w levels line false bs xs z6 in let h2 : (z5 : List Value) (z6 : List ℕ) → Keeps (filled w levels line false bs z5 z6) = λ z5 z6. keeps-filled w levels line false bs z5 z6 in search (keeps, keeps-next_text, h1, h2) depth 14
+keeps-filled {q = q} w levels line false (b ∷ bs) xs out = let h1 : (z0 : Setting) → Keeps q (filled z0 levels line true bs xs out) = λ z0. keeps-filled z0 levels line true bs xs out in let h2 : (z6 : List ℕ) → Keeps q (filled w levels line false bs xs z6) = λ z6. keeps-filled w levels line false bs xs z6 in search (keeps, h1, h2) depth 14
+keeps-filled {q = q} w levels line true (b ∷ bs) xs out = let h1 : (z6 : List ℕ) → Keeps q (filled w levels line false bs xs z6) = λ z6. keeps-filled w levels line false bs xs z6 in let h2 : (z5 : List Value) (z6 : List ℕ) → Keeps q (filled w levels line false bs z5 z6) = λ z5 z6. keeps-filled w levels line false bs z5 z6 in search (keeps, keeps-next_text, h1, h2) depth 14
 
-pub keeps-percent : (w : Setting) (levels : ℕ) (line : ℕ) (t : List ℕ) (c : Content) (y : Value) → Keeps (percent w levels line t c y)
+pub keeps-percent : {q : Bool} → (w : Setting) (levels : ℕ) (line : ℕ) (t : List ℕ) (c : Content) (y : Value) → Keeps q (percent w levels line t c y)
 keeps-percent w levels line t c y = search (keeps, keeps-new_text, keeps-filled) depth 14

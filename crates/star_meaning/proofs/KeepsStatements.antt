@@ -1,4 +1,4 @@
--- What the parts of Statements keep.
+-- What every run keeps: statements.
 use Rattle.star_store.specs.declared.values.Value.{Value}
 use Rattle.star_store.specs.declared.values.Cell.TheVariants as cell
 use Rattle.star_store.specs.Store.{Published}
@@ -18,49 +18,42 @@ use Rattle.star_scope.specs.Syntax.{StatementForm, TargetForm}
 use Rattle.star_meaning.specs.Program.{Setting, Variables}
 use Rattle.star_meaning.specs.Values.{Content, Held}
 use Rattle.star_meaning.specs.Meaning.{Meaning}
-use Rattle.std.proofs.Common.{ℕ, List, [], ◌∷◌, Option, Some, None}
+use Rattle.std.proofs.Common.{ℕ, List, [], ◌∷◌, Option, Some, None, false}
 use Rattle.star_meaning.specs.Run.{Action}
 use Rattle.star_meaning.specs.Statements.{augment_content, augmented, augment, arms, loop_turn, loop, load_name, returned, statement}
 use Rattle.star_meaning.proofs.Keeps.{keeps, Keeps, AllKeep, VariablesKeep}
-use Rattle.star_meaning.proofs.KeepsValues.{keeps-with_content, keeps-take_item, keeps-iterate, keeps-leave, keeps-is_true, keeps-guard}
+use Rattle.star_meaning.proofs.KeepsValues.{keeps-with_content, keeps-take_item, keeps-is_true, keeps-guard}
 use Rattle.star_meaning.proofs.KeepsOperators.{keeps-operate}
 use Rattle.star_meaning.proofs.KeepsSubscript.{keeps-index, keeps-set_index}
 use Rattle.star_meaning.proofs.KeepsPairs.{keeps-update_with}
 use Rattle.star_meaning.proofs.KeepsListMethods.{keeps-extend}
 use Rattle.star_meaning.proofs.KeepsTargets.{keeps-to_target}
 use Rattle.star_meaning.proofs.KeepsExpressions.{keeps-new_function}
+use Rattle.star_meaning.proofs.KeepsEntries.{keeps-augmented}
 
-pub keeps-augment_content : (w : Setting) (levels : ℕ) (line : ℕ) (a3 : BinaryOperator) (x : Value) (y : Value) (a6 : Content) → Keeps (augment_content w levels line a3 x y a6)
-keeps-augment_content w levels line binary.Add x y (Held (cell.List xs)) = search (keeps, keeps-extend) depth 14
-keeps-augment_content w levels line binary.BitOr x y (Held (cell.Dict es)) = search (keeps, keeps-guard, keeps-update_with) depth 14
-keeps-augment_content w levels line op x y c = search (keeps, keeps-operate) depth 14
-
-pub keeps-augmented : (w : Setting) (levels : ℕ) (line : ℕ) (op : BinaryOperator) (x : Value) (y : Value) → Keeps (augmented w levels line op x y)
-keeps-augmented w levels line op x y = search (keeps, keeps-with_content, keeps-augment_content) depth 14
-
-pub keeps-augment : (vs : Variables) (w : Setting) (levels : ℕ) (m : Meaning) (p : Place) (op : BinaryOperator) (e : Expression) (a7 : TargetForm) → VariablesKeep vs → AllKeep m → Keeps (augment vs w levels m p op e a7)
+pub keeps-augment : (vs : Variables) (w : Setting) (levels : ℕ) (m : Meaning) (p : Place) (op : BinaryOperator) (e : Expression) (a7 : TargetForm) → VariablesKeep vs → AllKeep m → Keeps false (augment vs w levels m p op e a7)
 keeps-augment vs w levels m p op e (tree.Target-F.Target::Name n) k0 k1 = search (keeps, keeps-augmented) depth 14
 keeps-augment vs w levels m p op e (tree.Target-F.Target::Index b i) k0 k1 = search (keeps, keeps-index, keeps-set_index, keeps-augmented) depth 14
 keeps-augment vs w levels m p op e _ k0 k1 = search keeps depth 14
 
-pub keeps-arms : (w : Setting) (m : Meaning) (p : Place) (a3 : List Arm) (otherwise : Action Flow) → AllKeep m → Keeps otherwise → Keeps (arms w m p a3 otherwise)
+pub keeps-arms : (w : Setting) (m : Meaning) (p : Place) (a3 : List Arm) (otherwise : Action Flow) → AllKeep m → Keeps false otherwise → Keeps false (arms w m p a3 otherwise)
 keeps-arms w m p [] otherwise k0 k1 = search keeps depth 14
-keeps-arms w m p (a ∷ more) otherwise k0 k1 = let h1 : (z0 : Setting) → Keeps (arms z0 m p more otherwise) = λ z0. keeps-arms z0 m p more otherwise k0 k1 in search (keeps, keeps-is_true, h1) depth 14
+keeps-arms w m p (a ∷ more) otherwise k0 k1 = let h1 : (z0 : Setting) → Keeps false (arms z0 m p more otherwise) = λ z0. keeps-arms z0 m p more otherwise k0 k1 in search (keeps, keeps-is_true, h1) depth 14
 
-pub keeps-loop_turn : (vs : Variables) (w : Setting) (m : Meaning) (p : Place) (t : Target) (body : List Statement) (v : Value) (i : ℕ) → VariablesKeep vs → AllKeep m → Keeps (loop_turn vs w m p t body v i)
+pub keeps-loop_turn : (vs : Variables) (w : Setting) (m : Meaning) (p : Place) (t : Target) (body : List Statement) (v : Value) (i : ℕ) → VariablesKeep vs → AllKeep m → Keeps false (loop_turn vs w m p t body v i)
 keeps-loop_turn vs w m p t body v i k0 k1 = search (keeps, keeps-take_item, keeps-to_target) depth 14
 
-pub keeps-loop : (vs : Variables) (w : Setting) (m : Meaning) (p : Place) (t : Target) (body : List Statement) (v : Value) → VariablesKeep vs → AllKeep m → Keeps (loop vs w m p t body v)
-keeps-loop vs w m p t body v k0 k1 = search (keeps, keeps-iterate, keeps-leave, keeps-loop_turn) depth 14
+pub keeps-loop : (vs : Variables) (w : Setting) (m : Meaning) (p : Place) (t : Target) (body : List Statement) (v : Value) → VariablesKeep vs → AllKeep m → Keeps false (loop vs w m p t body v)
+keeps-loop vs w m p t body v k0 k1 = search (keeps, keeps-loop_turn) depth 14
 
-pub keeps-load_name : (vs : Variables) (p : Place) (o : Option Published) (n : LoadedName) → VariablesKeep vs → Keeps (load_name vs p o n)
+pub keeps-load_name : (vs : Variables) (p : Place) (o : Option Published) (n : LoadedName) → VariablesKeep vs → Keeps false (load_name vs p o n)
 keeps-load_name vs p o n k0 = search keeps depth 14
 
-pub keeps-returned : (m : Meaning) (p : Place) (a2 : Option Expression) → AllKeep m → Keeps (returned m p a2)
+pub keeps-returned : (m : Meaning) (p : Place) (a2 : Option Expression) → AllKeep m → Keeps false (returned m p a2)
 keeps-returned m p None k0 = search keeps depth 14
 keeps-returned m p (Some e) k0 = search keeps depth 14
 
-pub keeps-statement : (vs : Variables) (w : Setting) (levels : ℕ) (m : Meaning) (p : Place) (at : Position) (a6 : StatementForm) → VariablesKeep vs → AllKeep m → Keeps (statement vs w levels m p at a6)
+pub keeps-statement : (vs : Variables) (w : Setting) (levels : ℕ) (m : Meaning) (p : Place) (at : Position) (a6 : StatementForm) → VariablesKeep vs → AllKeep m → Keeps false (statement vs w levels m p at a6)
 keeps-statement vs w levels m p at (form.Expression e) k0 k1 = search keeps depth 14
 keeps-statement vs w levels m p at (form.Assign t e) k0 k1 = search (keeps, keeps-to_target) depth 14
 keeps-statement vs w levels m p at (form.Augment t op e) k0 k1 = search (keeps, keeps-augment) depth 14

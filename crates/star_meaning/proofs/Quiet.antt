@@ -326,5 +326,3 @@ keeps_iterate w line v = keeps_then _ _ (keeps_seeing _ (λ s. keeps_found code.
 pub keeps_leave : (v : Value) → Keeps (leave v)
 unfolding leave
 keeps_leave v = changing closed_in (λ e. close_cell (is_container e.cell) e) v
-
-pub ruleset keeps = (keeps_then, keeps_give, keeps_fail, keeps_if, keeps_found, keeps_pay, keeps_seeing, keeps_check, keeps_make_text, keeps_make_tuple, keeps_make_list, keeps_make_dict, keeps_build_text, keeps_build_tuple, keeps_build_list, keeps_build_dict, keeps_build_range, keeps_build_bound, keeps_make_frame, keeps_each, keeps_all_of, keeps_collect, keeps_until, keeps_agreed, keeps_visiting, keeps_bound, keeps_change, keeps_add_line)
