@@ -10,11 +10,12 @@ use Rattle.star_scope.specs.declared.error.ScopeFault.{ScopeFault}
 use Rattle.star_scope.specs.declared.program.Prelude.{Prelude}
 use Rattle.star_scope.specs.declared.program.Program.{Program}
 use Rattle.star_scope.specs.Definitions.{Definition, definition_in}
-use Rattle.star_scope.specs.Names.{Names}
+use Rattle.star_scope.specs.Names.{Names, has_name}
 use Rattle.star_scope.specs.Outlines.{Outline, names_in}
 use Rattle.star_scope.specs.Resolve.{Resolves}
 use Rattle.star_meaning.specs.Local.{outlines}
-use Rattle.star_meaning.specs.Program.{Setting, blocks_in, definition_of, names_of}
+use Rattle.star_meaning.specs.Module.{loaded_names}
+use Rattle.star_meaning.specs.Program.{Setting, blocks_in, definition_of, names_of, outline_of}
 use Rattle.star_meaning.specs.Programs.{Files, IsOfFile, PlacedFile, outline_at, placed_file, trees_of}
 use Rattle.star_machine.proofs.ProgramRows.{outline_there}
 use Rattle.star_eval.specs.World.{AreOutlined}
@@ -52,3 +53,7 @@ definition_there w files file number h = sym (ap (option_and_then (λ o. definit
 pub names_there : (w : Setting) (files : Files) (file number : ℕ) → AreOutlined w files
     → names_in (blocks_in (outline_at files file)) number ≡ names_of w file number
 names_there w files file number h = sym (ap (λ o. names_in (blocks_in o) number) (outline_in w files file h))
+
+pub loaded_there : (w : Setting) (files : Files) (file : ℕ) (name : List ℕ) → AreOutlined w files
+    → has_name (loaded_names (outline_at files file)) name ≡ has_name (loaded_names (outline_of w file)) name
+loaded_there w files file name h = sym (ap (λ o. has_name (loaded_names o) name) (outline_in w files file h))

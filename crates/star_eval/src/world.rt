@@ -3,9 +3,11 @@
 ghost use Rattle.std.specs.Prelude.{◌≡◌, []};
 ghost use Rattle.std.specs.Option.{option_copied, option_map, unwrap_or};
 ghost use Rattle.star_meaning.specs.Local.{outlines};
+ghost use Rattle.star_meaning.specs.Module.{loaded_names};
 ghost use Rattle.star_meaning.specs.Program as program;
 ghost use Rattle.star_meaning.specs.Programs.{load_files, tables_of, trees_of};
 ghost use Rattle.star_scope.specs.Definitions.{definition_of};
+ghost use Rattle.star_scope.specs.Names.{has_name};
 
 use crate::files::Files;
 use star_machine::setting::Setting;
@@ -92,6 +94,14 @@ impl<'a, 't> World<'a, 't> {
         self.files
             .programs()
             .definition(file as usize, number as usize)
+    }
+
+    /// Whether a file loads this local name.
+    #[tactic(auto, using(crate::proofs::Rows::loaded_there))]
+    pub fn is_loaded(&self, file: u32, name: &str) -> bool
+        ensures { result ≡ has_name (loaded_names (program.outline_of self.now.setting file)) name.now }
+    {
+        self.files.programs().is_loaded(file as usize, name)
     }
 
     /// The names of a block of a file, by their slots: none where there is no such block.

@@ -1,13 +1,17 @@
 -- Rows of programs: the file at a place, one file more, and its outline.
-use Rattle.std.proofs.Common.{◌≡◌, ℕ, zero, suc, List, [], ◌∷◌, ◌++◌, map, length, slice_get, Option, Some, None, refl, ap, sym, ◌∙◌}
+use Rattle.std.proofs.Common.{◌≡◌, ℕ, zero, suc, Bool, true, false, not, ◌&&◌, ◌||◌, List, [], ◌∷◌, ◌++◌, map, length, slice_get, Option, Some, None, refl, ap, sym, ◌∙◌}
 use Rattle.std.specs.Prelude.{⊤, MatchOption}
-use Rattle.std.specs.Option.{option_and_then, option_flatten, option_map}
+use Rattle.std.specs.Option.{is_some, option_and_then, option_flatten, option_map}
 use Rattle.std.proofs.lemmas.Option.{slice_get-map}
 use Rattle.std.proofs.lemmas.List.{map-append}
+use Rattle.std.proofs.lemmas.Map.Views.{any-filter_same}
+use Rattle.std.proofs.lemmas.Slice.Eq.{bytes_eq-Decides}
 use denote.Ref.{Bor}
 use Rattle.star_scope.specs.declared.program.Program.{Program}
 use Rattle.star_scope.specs.Definitions.{Definition, definition_in}
+use Rattle.star_scope.specs.Names.{Names, has_name, once, same_name, slot_of}
 use Rattle.star_scope.specs.Outlines.{Outline, names_in, outline}
+use Rattle.star_scope.proofs.Numbers.{position_any}
 use Rattle.star_meaning.specs.Local.{outlines}
 use Rattle.star_meaning.specs.Program.{blocks_in}
 use Rattle.star_meaning.specs.Programs.{AllOfFiles, Files, IsOfFile, PlacedFile, file_in, outline_at, placed_file, placed_files, slots_in, trees_of}
@@ -45,6 +49,24 @@ definitions_are p h = h.4.definitions ∙ ap (λ ss. (outline ss).definitions) (
 
 pub blocks_are : (p : Program) → IsOfFile p → p.blocks ≡ (outline p.statements.now).blocks
 blocks_are p h = h.4.blocks ∙ ap (λ ss. (outline ss).blocks) (sym h.4.statements)
+
+-- a name stands among names where it stands among these, each once
+here_or_later : (b c : Bool) → (b || (not b && c)) ≡ (b || c)
+here_or_later true c = refl
+here_or_later false c = refl
+
+same_once : (name : List ℕ) (ns : Names) → has_name (once ns) name ≡ has_name ns name
+same_once name [] = refl
+same_once name (n ∷ ns) =
+    ap (λ b. same_name name n || b) (any-filter_same (same_name name) (λ m. not (same_name m n)) (not (same_name name n)) (λ m e. ap (λ a. not (same_name a n)) (sym ((bytes_eq-Decides name m).0 e))) (once ns))
+    ∙ here_or_later (same_name name n) (has_name (once ns) name)
+    ∙ ap (λ b. same_name name n || b) (same_once name ns)
+
+pub loaded_are : (p : Program) (name : List ℕ) → IsOfFile p → is_some (slot_of name p.loaded) ≡ has_name (outline p.statements.now).loaded name
+loaded_are p name h =
+    position_any (same_name name) p.loaded
+    ∙ ap (λ ns. has_name ns name) (h.4.loaded ∙ ap (λ ss. once (outline ss).loaded) (sym h.4.statements))
+    ∙ same_once name (outline p.statements.now).loaded
 
 -- the outline of a file among those of all
 flat_outline : (o : Option (Option PlacedFile)) → option_flatten (option_map (option_map outline) (option_map (option_map (λ f. f.statements)) o)) ≡ option_map (λ f. outline f.statements) (option_flatten o)

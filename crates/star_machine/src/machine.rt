@@ -389,6 +389,21 @@ impl Machine {
         self.arena.close_iter(value);
     }
 
+    /// What stays of a run that has ended: its store, and the lines printed.
+    pub fn into_parts(self) -> (Arena, Vec<Text>)
+        ensures store { result.0 ≡ self.store }
+        ensures lines { result.1.items ≡ self.lines }
+    {
+        let Machine {
+            alloc: _,
+            arena,
+            active: _,
+            steps: _,
+            lines,
+        } = self;
+        (arena, lines)
+    }
+
     /// The allocator of this run.
     pub fn alloc(&self) -> Global {
         self.alloc

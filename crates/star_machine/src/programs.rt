@@ -3,7 +3,9 @@
 ghost use Rattle.std.specs.Prelude.{◌≡◌, ◌∷◌, ◌++◌, [], ⊤, MatchOption, OnErr, OnOk, slice_get};
 ghost use Rattle.std.specs.Option.{option_and_then, option_copied, option_flatten, option_map, unwrap_or};
 ghost use Rattle.star_scope.specs.Definitions.{definition_in, definition_of};
+ghost use Rattle.star_scope.specs.Names.{has_name};
 ghost use Rattle.star_scope.specs.Outlines.{names_in};
+ghost use Rattle.star_meaning.specs.Module.{loaded_names};
 ghost use Rattle.star_meaning.specs.Program.{blocks_in};
 ghost use Rattle.star_meaning.specs.Programs.{IsOfFile, file_in, outline_at, placed_file, tables_of};
 
@@ -94,6 +96,17 @@ impl<'a, 't> Programs<'a, 't> {
         match self.program(file) {
             Some(program) => program.definition(number),
             None => None,
+        }
+    }
+
+    /// Whether a file loads this local name.
+    #[tactic(auto, using(crate::proofs::ProgramRows::loaded_are))]
+    pub fn is_loaded(&self, file: usize, name: &str) -> bool
+        ensures { result ≡ has_name (loaded_names (outline_at self.now file)) name.now }
+    {
+        match self.program(file) {
+            Some(program) => program.is_loaded(name),
+            None => false,
         }
     }
 

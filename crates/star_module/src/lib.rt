@@ -1,0 +1,9 @@
+//! The run of a whole file.
+#![tactic(auto)]
+
+mod globals;
+pub mod module;
+#[cfg(test)]
+mod tests;
+
+pub use module::{MOST_LEVELS, MOST_STEPS, Outcome, run_body};

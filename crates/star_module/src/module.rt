@@ -1,0 +1,159 @@
+//! The run of a whole file, and how it ends.
+
+ghost use Rattle.std.specs.Prelude.{◌≡◌, ◌≤◌, ◌<◌, ◌+◌, ◌^◌, IfOk, length, string_bytes};
+ghost use Rattle.star_machine.specs.Gives.{Gives, GivesBy};
+ghost use Rattle.star_meaning.specs.Module as spec;
+ghost use Rattle.star_meaning.specs.Places.{FitBehind, Stands};
+ghost use Rattle.star_meaning.specs.Programs.{trees_of};
+ghost use Rattle.star_meaning.specs.Run.{each};
+ghost use Rattle.star_meaning.specs.Variables.{by_names};
+ghost use Rattle.star_eval.specs.World.{variables};
+
+use crate::globals::globals_of;
+use star_eval::context::Context;
+use star_eval::execute::execute_each;
+use star_eval::variables::new_frame;
+use star_eval::world::World;
+use star_machine::fault::Stop;
+use star_machine::machine::Machine;
+use star_meaning::fault::Code;
+use star_meaning::place::Place;
+use star_scope::program::Program;
+use star_store::arena::{Frozen, freeze};
+use star_store::values::Value;
+use star_syntax::tree::Statement;
+use star_text::Text;
+use std::alloc::{AllocError, Global};
+
+/// How many levels may be open at a time.
+pub const MOST_LEVELS: u32 = 400;
+
+/// How many steps a run may have.
+pub const MOST_STEPS: u32 = 100_000_000;
+
+/// What a module has at its end: its globals in byte order of their names, and the text of each.
+#[derive(Drop)]
+struct Ended {
+    globals: Vec<(String, Value)>,
+    texts: Vec<(String, Text)>,
+}
+
+/// How the run of a file ends, with the lines that it has printed.
+#[derive(Drop)]
+pub enum Outcome {
+    /// It ran to its end: its store, and each global with its text, in byte order of the names.
+    Good {
+        frozen: Frozen,
+        shown: Vec<(String, Text)>,
+        lines: Vec<Text>,
+    },
+    /// It stopped, for this reason, at this line.
+    Fault {
+        code: Code,
+        line: usize,
+        lines: Vec<Text>,
+    },
+}
+
+/// The line of the last statement, 1 where there is none.
+fn last_line(statements: &[Statement]) -> usize {
+    match statements.last() {
+        Some(statement) => statement.position.line,
+        None => 1,
+    }
+}
+
+/// The name of a global with its text, which is visited and paid as a new string is.
+fn text_of(
+    machine: &mut Machine,
+    world: &World,
+    levels: u32,
+    line: usize,
+    global: &(String, Value),
+) -> Result<(String, Text), Stop> {
+    let text = machine.repr(world.setting(), levels, line, global.1)?;
+    machine.pay(line, 1 + text.as_str().len() as u128)?;
+    let name = String::from_str(machine.alloc(), global.0.as_str())?;
+    Ok((name, text))
+}
+
+/// The names of globals with their texts, in order.
+fn texts_of(
+    machine: &mut Machine,
+    world: &World,
+    levels: u32,
+    line: usize,
+    globals: &[(String, Value)],
+) -> Result<Vec<(String, Text)>, Stop> {
+    let mut texts = Vec::new(machine.alloc());
+    for global in globals {
+        texts.push(text_of(machine, world, levels, line, global)?)?;
+    }
+    Ok(texts)
+}
+
+/// What a module has at its end. The texts have the line of the last statement.
+fn end(
+    machine: &mut Machine,
+    world: &World,
+    levels: u32,
+    line: usize,
+    frame: Value,
+) -> Result<Ended, Stop> {
+    let globals = globals_of(machine, world, frame)?;
+    let texts = texts_of(machine, world, levels, line, globals.as_slice())?;
+    Ok(Ended { globals, texts })
+}
+
+/// The run of a file: its own frame, which is the first cell, its statements, and the texts of its globals.
+fn run_file(
+    machine: &mut Machine,
+    world: &World,
+    statements: &[Statement],
+    levels: u32,
+) -> Result<Ended, Stop>
+    requires { length machine.old.store.cells + machine.old.steps + 1 < 2 ^ 32 }
+{
+    let file = world.setting().home();
+    let frame = new_frame(machine, world, file, 0, None)?;
+    let place = Place {
+        file,
+        frame,
+        line: 1,
+    };
+    let _flow = execute_each(machine, world, Context { levels, place }, statements)?;
+    end(machine, world, levels, last_line(statements), frame)
+}
+
+/// How a run has ended on this machine. The only error is want of memory.
+fn outcome_of(machine: Machine, ended: Result<Ended, Stop>) -> Result<Outcome, AllocError> {
+    let (arena, lines) = machine.into_parts();
+    match ended {
+        Ok(Ended { globals, texts }) => Ok(Outcome::Good {
+            frozen: freeze(arena, globals),
+            shown: texts,
+            lines,
+        }),
+        Err(Stop::Faulted(fault)) => Ok(Outcome::Fault {
+            code: fault.code,
+            line: fault.line,
+            lines,
+        }),
+        Err(Stop::Memory) => Err(AllocError),
+    }
+}
+
+/// Runs the body of the file whose program this is, with so many steps. The only error is want of memory.
+pub fn run_body(
+    alloc: Global,
+    world: &World,
+    program: &Program,
+    steps: u32,
+) -> Result<Outcome, AllocError>
+    requires running { Stands (trees_of world.now.files) world.now.setting.home program.now.statements.now }
+    requires steps { steps ≤ MOST_STEPS }
+{
+    let mut machine = Machine::new(alloc, world.setting().home(), steps);
+    let ended = run_file(&mut machine, world, program.body(), MOST_LEVELS);
+    outcome_of(machine, ended)
+}
