@@ -1,1 +1,2 @@
-pub mod Ended
+pub mod Globals
+pub mod Outcomes

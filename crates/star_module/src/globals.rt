@@ -1,32 +1,44 @@
 //! The globals of a file: the names that its own block binds, without those that it loads, in byte order.
 
-ghost use Rattle.std.specs.Prelude.{◌≡◌, IfOk, OnOk, map, string_bytes};
-ghost use Rattle.star_meaning.specs.Module.{bound_names, by_name, globals_of, loaded_names, slots_of, without_loaded};
-ghost use Rattle.star_meaning.specs.Program.{names_of, outline_of, seen};
+ghost use Rattle.std.specs.Prelude.{◌≡◌, [], slice_get, IfOk, OnOk};
+ghost use Rattle.std.specs.Option.{option_copied, unwrap_or};
+ghost use Rattle.star_meaning.specs.Module.{by_name, globals_of, slots_of};
+ghost use Rattle.star_meaning.specs.Program.{names_of, seen};
 ghost use Rattle.star_meaning.specs.Variables.{frame_of};
-ghost use Rattle.star_module.specs.Ended.{named, seen_names};
+ghost use Rattle.star_module.specs.Globals.{all_now, borrowed, in_slots, own_loads, own_value, owned};
 
 use star_eval::world::World;
 use star_machine::machine::Machine;
 use star_store::values::{Cell, Slots, Value};
 use std::alloc::{AllocError, Global};
 
-/// The names of the running file's own block that are bound and not loaded, each with its value, by their slots.
-fn unsorted<'t>(
+/// What a slot of the running file's own frame gives the globals under its name: nothing where its variable is unbound, and where
+/// the file loads the name.
+fn own_value(world: &World, slots: &Slots, slot: usize, name: &str) -> Option<Value>
+    ensures { result ≡ own_value (own_loads world.now.setting) name.now (slice_get slots.now slot) }
+{
+    if world.is_loaded(world.setting().home(), name) {
+        return None;
+    }
+    match slots.get(slot) {
+        Some(value) => value,
+        None => None,
+    }
+}
+
+/// The globals under names with slots, in order of the slots.
+fn in_slots<'t>(
     alloc: Global,
     world: &World,
     slots: &Slots,
     names: &[&'t str],
 ) -> Result<Vec<(&'t str, Value)>, AllocError>
-    ensures { IfOk result (λ found. seen_names found.items ≡ without_loaded (loaded_names (outline_of world.now.setting world.now.setting.home)) (bound_names (map (λ n. n.now) names.now) slots.now)) }
+    ensures { IfOk result (λ found. borrowed found.items ≡ in_slots world.now.setting (all_now names.now) slots.now) }
 {
-    let home = world.setting().home();
     let mut found = Vec::new(alloc);
     for (slot, name) in names.iter().enumerate() {
-        if let Some(Some(value)) = slots.get(slot) {
-            if !world.is_loaded(home, *name) {
-                found.push((*name, value))?;
-            }
+        if let Some(value) = own_value(world, slots, slot, *name) {
+            found.push((*name, value))?;
         }
     }
     Ok(found)
@@ -34,15 +46,15 @@ fn unsorted<'t>(
 
 /// Sorts names with values by the bytes of the names.
 fn sort_by_name(named: &mut Vec<(&str, Value)>) -> Result<(), AllocError>
-    ensures { OnOk result (seen_names named.new.items ≡ by_name (seen_names named.old.items)) }
+    ensures { OnOk result (borrowed named.new.items ≡ by_name (borrowed named.old.items)) }
 {
     named.sort_by_key(|one| one.0)?;
     Ok(())
 }
 
-/// The same names with values, with copies of the names.
+/// The same names with values, with names of their own.
 fn copied(alloc: Global, named: &[(&str, Value)]) -> Result<Vec<(String, Value)>, AllocError>
-    ensures { IfOk result (λ copies. named copies.items ≡ seen_names named.now) }
+    ensures { IfOk result (λ copies. owned copies.items ≡ borrowed named.now) }
 {
     let mut copies = Vec::new(alloc);
     for (name, value) in named {
@@ -51,33 +63,43 @@ fn copied(alloc: Global, named: &[(&str, Value)]) -> Result<Vec<(String, Value)>
     Ok(copies)
 }
 
-/// The bound names of the running file's block with these slots, without those that it loads, in byte order.
+/// The globals that the running file's own frame has, where these are its slots.
 fn globals_in(
     alloc: Global,
     world: &World,
     slots: &Slots,
 ) -> Result<Vec<(String, Value)>, AllocError>
-    ensures { IfOk result (λ found. named found.items ≡ by_name (without_loaded (loaded_names (outline_of world.now.setting world.now.setting.home)) (bound_names (names_of world.now.setting world.now.setting.home 0) slots.now))) }
+    ensures { let w = world.now.setting in IfOk result (λ gs. owned gs.items ≡ by_name (in_slots w (names_of w w.home 0) slots.now)) }
 {
     let Some(names) = world.names(world.setting().home(), 0) else {
         return Ok(Vec::new(alloc));
     };
-    let mut found = unsorted(alloc, world, slots, names.as_slice())?;
+    let mut found = in_slots(alloc, world, slots, names.as_slice())?;
     sort_by_name(&mut found)?;
     copied(alloc, found.as_slice())
 }
 
-/// The globals of the running file, whose own frame this is.
+/// The slots of the frame to which a value leads: none for another value.
+fn slots_at<'w>(machine: &'w Machine, world: &'w World, frame: Value) -> Option<&'w Slots>
+    ensures { unwrap_or (option_copied result) [] ≡ slots_of (frame_of (seen world.now.setting machine.now frame)) }
+{
+    match machine.read(world.setting(), frame) {
+        Some(Cell::Frame(found)) => Some(&found.slots),
+        _ => None,
+    }
+}
+
+/// The globals of the running file, whose own frame this is, in byte order of their names.
 pub(crate) fn globals_of(
     machine: &Machine,
     world: &World,
     frame: Value,
 ) -> Result<Vec<(String, Value)>, AllocError>
-    ensures { IfOk result (λ found. named found.items ≡ globals_of world.now.setting machine.now frame) }
+    ensures { IfOk result (λ gs. owned gs.items ≡ globals_of world.now.setting machine.now frame) }
 {
     let alloc = machine.alloc();
-    match machine.read(world.setting(), frame) {
-        Some(Cell::Frame(found)) => globals_in(alloc, world, &found.slots),
-        _ => Ok(Vec::new(alloc)),
+    match slots_at(machine, world, frame) {
+        Some(slots) => globals_in(alloc, world, slots),
+        None => Ok(Vec::new(alloc)),
     }
 }

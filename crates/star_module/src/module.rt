@@ -1,13 +1,14 @@
 //! The run of a whole file, and how it ends.
 
-ghost use Rattle.std.specs.Prelude.{◌≡◌, ◌≤◌, ◌<◌, ◌+◌, ◌^◌, IfOk, length, string_bytes};
-ghost use Rattle.star_machine.specs.Gives.{Gives, GivesBy};
+ghost use Rattle.std.specs.Prelude.{◌≡◌, ◌≤◌, ◌<◌, ◌+◌, ◌^◌, length, string_bytes, IfOk};
+ghost use Rattle.star_machine.specs.Gives.{GivesBy};
 ghost use Rattle.star_meaning.specs.Module as spec;
 ghost use Rattle.star_meaning.specs.Places.{FitBehind, Stands};
 ghost use Rattle.star_meaning.specs.Programs.{trees_of};
-ghost use Rattle.star_meaning.specs.Run.{each};
-ghost use Rattle.star_meaning.specs.Variables.{by_names};
+ghost use Rattle.star_meaning.specs.Run as run;
 ghost use Rattle.star_eval.specs.World.{variables};
+ghost use Rattle.star_module.specs.Globals.{owned};
+ghost use Rattle.star_module.specs.Outcomes.{AreReady, IsOutcome, meant, run_by_names, run_by_places, shown};
 
 use crate::globals::globals_of;
 use star_eval::context::Context;
@@ -16,7 +17,7 @@ use star_eval::variables::new_frame;
 use star_eval::world::World;
 use star_machine::fault::Stop;
 use star_machine::machine::Machine;
-use star_meaning::fault::Code;
+use star_meaning::fault::{Code, Fault};
 use star_meaning::place::Place;
 use star_scope::program::Program;
 use star_store::arena::{Frozen, freeze};
@@ -56,7 +57,10 @@ pub enum Outcome {
 }
 
 /// The line of the last statement, 1 where there is none.
-fn last_line(statements: &[Statement]) -> usize {
+#[tactic(auto, using(crate::proofs::Last::last_is, crate::proofs::Last::none_last))]
+fn last_line(statements: &[Statement]) -> usize
+    ensures { result ≡ spec.last_line 1 statements.now }
+{
     match statements.last() {
         Some(statement) => statement.position.line,
         None => 1,
@@ -70,7 +74,9 @@ fn text_of(
     levels: u32,
     line: usize,
     global: &(String, Value),
-) -> Result<(String, Text), Stop> {
+) -> Result<(String, Text), Stop>
+    ensures { GivesBy (λ g. (string_bytes g.0, g.1)) (spec.global_text world.now.setting levels line (string_bytes global.now.0, global.now.1) machine.old) result machine.new }
+{
     let text = machine.repr(world.setting(), levels, line, global.1)?;
     machine.pay(line, 1 + text.as_str().len() as u128)?;
     let name = String::from_str(machine.alloc(), global.0.as_str())?;
@@ -84,7 +90,9 @@ fn texts_of(
     levels: u32,
     line: usize,
     globals: &[(String, Value)],
-) -> Result<Vec<(String, Text)>, Stop> {
+) -> Result<Vec<(String, Text)>, Stop>
+    ensures { GivesBy (λ ts. owned ts.items) (run.each (spec.global_text world.now.setting levels line) (owned globals.now) machine.old) result machine.new }
+{
     let mut texts = Vec::new(machine.alloc());
     for global in globals {
         texts.push(text_of(machine, world, levels, line, global)?)?;
@@ -99,7 +107,9 @@ fn end(
     levels: u32,
     line: usize,
     frame: Value,
-) -> Result<Ended, Stop> {
+) -> Result<Ended, Stop>
+    ensures { GivesBy shown (spec.end world.now.setting levels line frame machine.old) result machine.new }
+{
     let globals = globals_of(machine, world, frame)?;
     let texts = texts_of(machine, world, levels, line, globals.as_slice())?;
     Ok(Ended { globals, texts })
@@ -113,6 +123,7 @@ fn run_file(
     levels: u32,
 ) -> Result<Ended, Stop>
     requires { length machine.old.store.cells + machine.old.steps + 1 < 2 ^ 32 }
+    ensures { GivesBy shown (spec.run_file (variables world.now) world.now.setting levels statements.now machine.old) result machine.new }
 {
     let file = world.setting().home();
     let frame = new_frame(machine, world, file, 0, None)?;
@@ -126,7 +137,9 @@ fn run_file(
 }
 
 /// How a run has ended on this machine. The only error is want of memory.
-fn outcome_of(machine: Machine, ended: Result<Ended, Stop>) -> Result<Outcome, AllocError> {
+fn outcome_of(machine: Machine, ended: Result<Ended, Stop>) -> Result<Outcome, AllocError>
+    ensures { (o : run.Outcome spec.Ended) → GivesBy shown o ended machine → IfOk result (λ out. IsOutcome o out) }
+{
     let (arena, lines) = machine.into_parts();
     match ended {
         Ok(Ended { globals, texts }) => Ok(Outcome::Good {
@@ -134,16 +147,14 @@ fn outcome_of(machine: Machine, ended: Result<Ended, Stop>) -> Result<Outcome, A
             shown: texts,
             lines,
         }),
-        Err(Stop::Faulted(fault)) => Ok(Outcome::Fault {
-            code: fault.code,
-            line: fault.line,
-            lines,
-        }),
+        Err(Stop::Faulted(Fault { code, line })) => Ok(Outcome::Fault { code, line, lines }),
         Err(Stop::Memory) => Err(AllocError),
     }
 }
 
-/// Runs the body of the file whose program this is, with so many steps. The only error is want of memory.
+/// Runs the body of a file with so many steps: its own frame, its statements, and the texts of its globals, which is the local
+/// meaning of the file by the names of variables, wherever the file is ready to run; then all functions fit after a good run too.
+/// The program is that of the running file. The only error is want of memory. (`docs/LANGUAGE.md`, "The end of a file".)
 pub fn run_body(
     alloc: Global,
     world: &World,
@@ -152,7 +163,12 @@ pub fn run_body(
 ) -> Result<Outcome, AllocError>
     requires running { Stands (trees_of world.now.files) world.now.setting.home program.now.statements.now }
     requires steps { steps ≤ MOST_STEPS }
+    ensures run { IfOk result (λ o. IsOutcome (run_by_places world.now steps program.now.statements.now) o) }
+    ensures places { let w = world.now in IfOk result (λ o. meant w.setting o ≡ spec.local_of w.setting (run_by_places w steps program.now.statements.now)) }
+    ensures names { let w = world.now in AreReady w steps → IfOk result (λ o. meant w.setting o ≡ spec.local w.setting steps program.now.statements.now) }
+    ensures fit { let w = world.now in AreReady w steps → FitBehind (trees_of w.files) w.setting (run_by_names w.setting steps program.now.statements.now) }
 {
+    world.are_outlined();
     let mut machine = Machine::new(alloc, world.setting().home(), steps);
     let ended = run_file(&mut machine, world, program.body(), MOST_LEVELS);
     outcome_of(machine, ended)

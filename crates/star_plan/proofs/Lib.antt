@@ -1,0 +1,26 @@
+pub mod Options
+pub mod Rows
+pub mod Stay
+pub mod Outcomes
+pub mod Walks
+pub mod Goodness
+pub mod Causes
+pub mod Follow
+pub mod Reports
+pub mod Plans
+pub mod Texts
+mod TextRows
+pub mod Shelves
+pub mod Union
+pub mod Homes
+pub mod Seen
+pub mod Fit
+pub mod Tables
+pub mod ByPlaces
+pub mod Tight
+pub mod Needs
+pub mod Counts
+pub mod Settled
+pub mod Chase
+pub mod Exists
+pub mod Ready

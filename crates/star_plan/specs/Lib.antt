@@ -1,0 +1,10 @@
+pub mod Plan
+pub mod Reading
+pub mod Results
+pub mod Reached
+pub mod Shelves
+pub mod Causes
+pub mod Report
+pub mod Text
+pub mod Runs
+pub mod Laws

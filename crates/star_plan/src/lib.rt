@@ -1,0 +1,13 @@
+//! Which files are loaded, how each ends, and which report stands for them: definitions and laws (`docs/OUTCOMES.md`).
+#![tactic(auto)]
+
+mod law;
+
+pub use law::{
+    causes_follow, cycle_is_cause, cycles_turn, each_has_outcome, each_has_report, fault_is_cause,
+    files_may_run, given_holds_needs, good_files_have_outcomes, good_loads_have_prelude,
+    needs_of_loads, no_cycle_is_good, one_cause, one_module, one_outcome, one_plan, one_report,
+    one_shelf, one_text, outcomes_tell, plans_are_ready, plans_fit, plans_place_names,
+    plans_run_by_places, puts_stay_tight, reached_by_walks, reached_is_least, readings_make_plans,
+    results_agree, results_stay, runs_leave_own, runs_over_loads, shelves_hold_results,
+};
