@@ -1,6 +1,8 @@
-//! Tests of the evaluator, over the texts of files.
+//! Tests of the evaluator and of the run of a whole file, over the texts of files.
 #![tactic(auto)]
 
+#[cfg(test)]
+mod modules;
 #[cfg(test)]
 mod programs;
 #[cfg(test)]

@@ -3,7 +3,5 @@
 
 mod globals;
 pub mod module;
-#[cfg(test)]
-mod tests;
 
 pub use module::{MOST_LEVELS, MOST_STEPS, Outcome, run_body};

@@ -3,12 +3,12 @@
 ghost use Rattle.std.specs.Prelude.{◌≤◌};
 ghost use Rattle.star_meaning.specs.Programs.{IsOfFile};
 
-use crate::module::{MOST_STEPS, Outcome, run_body};
 use star_eval::files::{Files, program_of};
 use star_eval::world::World;
 use star_label::files::Files as Labels;
 use star_label::label::Label;
 use star_meaning::fault::Code;
+use star_module::module::{MOST_STEPS, Outcome, run_body};
 use star_parser::parse;
 use star_scope::program::Program;
 use star_store::arena::{Arena, Frozen, Homes, freeze};
