@@ -1,7 +1,8 @@
 // How the body of a file ends.
 
 ghost use Rattle.std.specs.Prelude.{◌≤◌};
-ghost use Rattle.star_meaning.specs.Programs.{IsOfFile};
+ghost use Rattle.star_meaning.specs.Places.{Stands};
+ghost use Rattle.star_meaning.specs.Programs.{IsOfFile, trees_of};
 
 use star_eval::files::{Files, program_of};
 use star_eval::world::World;
@@ -35,7 +36,21 @@ fn published(alloc: Global) -> Result<Frozen, AllocError> {
     Ok(freeze(Arena::new(alloc, 1), globals))
 }
 
-fn outcome_of_program(alloc: Global, program: &Program, steps: u32) -> Result<Outcome, Fail>
+fn outcome_over(
+    alloc: Global,
+    files: &Files,
+    homes: &Homes,
+    program: &Program,
+    steps: u32,
+) -> Result<Outcome, AllocError>
+    requires running { Stands (trees_of files.now) 0 program.now.statements.now }
+    requires steps { steps ≤ MOST_STEPS }
+{
+    let world = World::new(0, homes, files, program.loads(), None);
+    run_body(alloc, &world, program, steps)
+}
+
+fn outcome_of_program(alloc: Global, program: &Program, steps: u32) -> Result<Outcome, AllocError>
     requires program { IsOfFile program.now }
     requires steps { steps ≤ MOST_STEPS }
 {
@@ -44,8 +59,7 @@ fn outcome_of_program(alloc: Global, program: &Program, steps: u32) -> Result<Ou
     let store = published(alloc)?;
     let mut homes = Homes::new(alloc);
     homes.add(1, &store)?;
-    let world = World::new(0, &homes, &files, program.loads(), None);
-    Ok(run_body(alloc, &world, program, steps)?)
+    outcome_over(alloc, &files, &homes, program, steps)
 }
 
 /// How the body of a text ends with so many steps.
@@ -55,7 +69,7 @@ fn outcome_of(rt: &impl Abort, alloc: Global, source: &str, steps: u32) -> Resul
     assert!(rt; 0 < labels.len());
     assert!(rt; steps <= MOST_STEPS);
     let program = program_of(alloc, &labels, 0, &tree, None)?;
-    outcome_of_program(alloc, &program, steps)
+    Ok(outcome_of_program(alloc, &program, steps)?)
 }
 
 /// Asserts the lines that were printed.
