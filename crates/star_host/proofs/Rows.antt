@@ -1,0 +1,33 @@
+-- The rows of what was read, and what a plan has of them.
+use Rattle.std.proofs.Common.{◌≡◌, ◌<◌, ℕ, zero, suc, List, [], ◌∷◌, ◌++◌, map, length, Option, Some, None, refl, ap, sym, ◌∙◌, subst, arith}
+use Rattle.std.specs.Prelude.{All, Contains, slice_get, slice_index_or, Ok}
+use Rattle.std.specs.List.{flat_map}
+use Rattle.std.specs.Option.{option_map, option_flatten}
+use Rattle.std.proofs.lemmas.Option.{slice_get-map, slice_get_within, get_or_from_slice_get}
+use Rattle.star_cache.specs.State.{Loads}
+use Rattle.star_scope.specs.declared.loads.Load.{Load}
+use Rattle.star_plan.specs.Plan.{Plan, Reading, loaded, loads_of, read_of, loads_in}
+use Rattle.star_host.specs.Readings.{Row, loads_at, read_at, reading_of, readings}
+
+flat-map : {A B : Type 0} (f : A → B) (o : Option (Option A)) → option_flatten (option_map (option_map f) o) ≡ option_map f (option_flatten o)
+flat-map f None = refl
+flat-map f (Some o) = refl
+
+-- what a plan has of a file is what the row has
+pub read_is : (plan : Plan) (row : Row) (n : ℕ) → readings row ≡ plan.reads → read_of plan n ≡ option_map reading_of (read_at row n)
+read_is plan row n e =
+    ap (λ rs. option_flatten (slice_get rs n)) (sym e)
+    ∙ ap option_flatten (slice_get-map (option_map reading_of) row n)
+    ∙ flat-map reading_of (slice_get row n)
+
+pub loads_are : (plan : Plan) (row : Row) (n : ℕ) → readings row ≡ plan.reads → loads_of plan n ≡ loads_at row n
+loads_are plan row n e = ap loads_in (read_is plan row n e)
+
+-- a load at a place is a load
+pub place_loads : (plan : Plan) (n i : ℕ) (l : Load) → slice_get (loads_of plan n) i ≡ Some l → Loads (loaded plan) n l.file
+place_loads plan n i l there =
+    let at : slice_get (loaded plan n) i ≡ Some l.file = slice_get-map (λ l. l.file) (loads_of plan n) i ∙ ap (option_map (λ l. l.file)) there in
+    (i, slice_get_within (loaded plan n) i l.file at, get_or_from_slice_get (loaded plan n) i l.file l.file at)
+
+pub place_file : (plan : Plan) (n i : ℕ) (l : Load) → slice_get (loads_of plan n) i ≡ Some l → slice_get (loaded plan n) i ≡ Some l.file
+place_file plan n i l there = slice_get-map (λ l. l.file) (loads_of plan n) i ∙ ap (option_map (λ l. l.file)) there

@@ -1,0 +1,31 @@
+-- Seats that came back from the loaders.
+use Rattle.std.proofs.Common.{◌≡◌, ◌<◌, ℕ, List, length, map, get_or, ap, arith, sym, ◌∙◌}
+use Rattle.std.proofs.lemmas.List.{get_or_default, get_or-map, length-map}
+use Rattle.star_cache.specs.Seats.{SeatState, AreAll, AreNew}
+
+-- seats that came back from the loaders, each in its place, are all the seats
+pub seats_back : {W : Type 0} (n : ℕ) (before : List SeatState) (ws : List W) (f : W → SeatState) (w : W) → AreNew n before → length ws ≡ n → ((i : ℕ) (d : W) (e : SeatState) → i < n → (f (get_or ws i d)).number ≡ (get_or before i e).number) → AreAll n (map f ws)
+seats_back n before ws f w row len each =
+    let s : SeatState = record { number = 0; begun = 0 } in
+    let m : length (map f ws) ≡ n = length-map ws f ∙ len in (
+      m,
+      λ k h.
+          let inside : k < length (map f ws) = omega (arith, h, m) in
+          let there : k < length ws = omega (arith, h, len) in (
+            k,
+            get_or (map f ws) k s,
+            inside,
+            get_or_default (map f ws) k (get_or (map f ws) k s) s inside,
+            ap (λ (t : SeatState). t.number) (get_or-map f ws k w s there) ∙ (each k w s h ∙ (row.1 k s h).0),
+          ),
+    )
+
+-- so are they where each has the number that the seat had which went there
+pub all_back : {W : Type 0} (n : ℕ) (before : List SeatState) (ws : List W) (f : W → SeatState) (w : W) → AreNew n before → map (λ x. (f x).number) ws ≡ map (λ (s : SeatState). s.number) before → AreAll n (map f ws)
+all_back n before ws f w row same =
+    let len : length ws ≡ length before = sym (length-map ws (λ x. (f x).number)) ∙ ap length same ∙ length-map before (λ (s : SeatState). s.number) in
+    let all : length ws ≡ n = len ∙ row.0 in
+    seats_back n before ws f w row all (λ i d e h.
+    let here : i < length ws = omega (arith, h, all) in
+    let there : i < length before = omega (arith, h, row.0) in
+    sym (get_or-map (λ x. (f x).number) ws i d 0 here) ∙ ap (λ ns. get_or ns i 0) same ∙ get_or-map (λ (s : SeatState). s.number) before i e 0 there)

@@ -1,0 +1,48 @@
+-- A file whose loads are asked for, and what lies under a turn of it.
+use Rattle.std.specs.Prelude.{◌≡◌, ◌+◌, ◌^◌, ◌<◌, ◌≤◌, ℕ, List, Option, IfSome, length}
+use Rattle.star_cache.specs.State.{Loads}
+use Rattle.star_cache.specs.Walk.{IsOnCycle}
+use Rattle.star_label.specs.Files.{File}
+use Rattle.star_meaning.specs.Programs.{Files}
+use Rattle.star_scope.specs.declared.loads.Load.{Load}
+use Rattle.star_plan.specs.Plan.{Plan, loaded, loads_of}
+use Rattle.star_host.specs.Fits.{IsAsked}
+use Rattle.star_host.specs.Readings.{Row, readings, table_of}
+use Rattle.star_host.specs.Refusals.{IsRefusal}
+use Rattle.star_host.specs.declared.loading.Turn.{Turn}
+use Rattle.star_host.specs.declared.loading.Turn.TheVariants.{Again, Enter, Ended}
+
+pub record FrameView : Type 0 where
+  pub n : ℕ
+  pub told : ℕ
+  pub failed : Option ℕ
+
+-- a file that may be asked for, of whose loads the first were told
+pub record IsOpen (files : List File) (plan : Plan) (f : FrameView) : Type 0 where
+  pub asked : IsAsked files plan f.n
+  pub told : f.told ≤ length (loads_of plan f.n)
+  pub failed : IfSome f.failed (λ i. i < f.told)
+
+-- what loaders share is that of the cache: its files, what was read of them, their programs, and its shelf
+pub record IsWorld (files : List File) (plan : Plan) (shelf : List ℕ) (fs : List File) (row : Row) (table : Files) (cells : List ℕ) (prelude : Option ℕ) (steps : ℕ) : Type 0 where
+  pub files_are : fs ≡ files
+  pub row_is : readings row ≡ plan.reads
+  pub row_fits : length row ≡ length files
+  pub table_is : table ≡ table_of row
+  pub cells_are : cells ≡ shelf
+  pub cells_fit : length shelf ≡ length files
+  pub prelude_fits : IfSome prelude (λ p. p < length files)
+  pub steps_fit : (1 ≤ steps) × (steps ≤ 100000000)
+
+abbrev pub IsTurn : List File → Plan → Turn → Type 0
+IsTurn files plan Again = Unit {0}
+IsTurn files plan (Enter m) = IsAsked files plan m
+IsTurn files plan Ended = Unit {0}
+
+-- the load at place i of the file n, which is asked for next
+pub record IsNextLoad (files : List File) (plan : Plan) (n i : ℕ) (l : Load) : Type 0 where
+  pub within : i < length (loads_of plan n)
+  pub fits : i + 1 < 2 ^ 64
+  pub loads : Loads (loaded plan) n l.file
+  pub asked : IsAsked files plan l.file
+  pub refused : IsOnCycle (Loads (loaded plan)) n l.file → IsRefusal plan n i

@@ -1,0 +1,39 @@
+-- The modules of a run, and the notes that know them.
+use Rattle.std.specs.Prelude.{◌≡◌, ◌<◌, ◌≤◌, ℕ, List, Option, Some, All, length, slice_index, slice_index_or}
+use Rattle.star_host.specs.declared.module.Ended.{Ended}
+use Rattle.star_host.specs.declared.module.Ended.TheVariants.{Static, Load as Unloaded, Ran}
+use Rattle.star_host.specs.declared.module.Module.{Module}
+
+pub record KeptView : Type 0 where
+  pub number : ℕ
+  pub cell : ℕ
+  pub known : Option Module
+
+pub record RunView : Type 0 where
+  pub cells : List ℕ
+  pub kept : List KeptView
+  pub begun : ℕ
+  pub per_loader : List ℕ
+
+-- the load that is not good is one of so many
+abbrev pub IsLoadBelow : ℕ → Ended → Type 0
+IsLoadBelow count (Static f) = Unit {0}
+IsLoadBelow count (Unloaded index line) = index < count
+IsLoadBelow count (Ran body) = Unit {0}
+
+-- a module of the file n, whose loads are among so many files
+pub record IsSound (count n : ℕ) (m : Module) : Type 0 where
+  pub number : m.number ≡ n
+  pub loads : All (λ k. k < count) m.loads.items
+  pub ended : IsLoadBelow (length m.loads.items) m.ended
+
+-- a note of its file's cell, which knows a module of the file
+pub record IsKept (cells : List ℕ) (k : KeptView) : Type 0 where
+  pub file : k.number < length cells
+  pub cell : k.cell ≡ slice_index cells k.number
+  pub found : Module
+  pub known : k.known ≡ Some found
+  pub sound : IsSound (length cells) k.number found
+
+abbrev pub AllKept : List ℕ → List KeptView → Type 0
+AllKept cells ks = (i : ℕ) (d : KeptView) → i < length ks → IsKept cells (slice_index_or ks i d)

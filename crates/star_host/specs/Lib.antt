@@ -1,0 +1,9 @@
+pub mod Codes
+pub mod Readings
+pub mod Found
+pub mod Fits
+pub mod Views
+pub mod Refusals
+pub mod Frames
+pub mod Kept
+pub mod Leads

@@ -1,0 +1,29 @@
+//! Loading by several loaders: the modules of all files that roots reach, and the report.
+#![tactic(auto)]
+
+pub mod code;
+mod frame;
+pub mod gate;
+mod lead;
+mod loading;
+pub mod module;
+mod naming;
+mod order;
+mod outcome;
+mod reading;
+pub mod report;
+mod running;
+mod shelf;
+mod table;
+mod told;
+mod trace;
+mod work;
+
+pub use loading::{LoadError, load};
+pub use naming::Naming;
+pub use outcome::Run;
+pub use running::{RunError, run};
+pub use shelf::Shelf;
+pub use told::Told;
+pub use trace::{OnCycle, Refused, Token, Trace};
+pub use work::Common;

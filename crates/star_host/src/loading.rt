@@ -1,0 +1,264 @@
+//! The loading of a root by one loader.
+
+ghost use Rattle.std.specs.Prelude.{◌≡◌, ◌<◌, IfOk, IfSome, MatchOption, length, map};
+ghost use Rattle.star_plan.specs.Plan.{loads_of};
+ghost use Rattle.star_host.specs.Fits.{IsAsked};
+ghost use Rattle.star_host.specs.Frames.{IsNextLoad, IsTurn, IsWorld};
+ghost use Rattle.star_host.specs.Readings.{readings};
+ghost use Rattle.star_host.specs.Views.{IsEnd, IsModule, IsTold};
+
+use crate::frame::Frame;
+use crate::gate::Gate;
+use crate::module::{Ended, Module};
+use crate::naming::Naming;
+use crate::table::{fault_at, program_at};
+use crate::told::Told;
+use crate::trace::{Refused, Trace};
+use crate::work::Common;
+use star_cache::{LoadCache, Reply, Seat};
+use star_scope::loads::Load;
+use std::alloc::{AllocError, Global};
+use std::sync::Wait;
+
+/// Why nothing is told of a root.
+#[derive(Clone, Copy, Debug, PartialEq, Eq)]
+pub enum LoadError {
+    /// A growth was refused.
+    Memory,
+    /// An entry that was met is spoiled.
+    Spoiled,
+    /// A cell did not take what was made.
+    Unpublished,
+}
+
+impl From<AllocError> for LoadError {
+    fn from(_error: AllocError) -> LoadError {
+        LoadError::Memory
+    }
+}
+
+/// What a turn did: a load was told, a load was begun, or the file has ended.
+pub(crate) enum Turn {
+    Again,
+    Enter(usize),
+    Ended,
+}
+
+/// The numbers of the files that loads lead to.
+fn numbers(alloc: Global, loads: &[Load]) -> Result<Vec<usize>, AllocError>
+    ensures { IfOk result (λ v. v.items ≡ map (λ l. l.file) loads.now) }
+{
+    loads.iter().map(|load| load.file).collect(alloc)
+}
+
+/// How a file ends whose loads have all been told, of which this is the first that is not good.
+fn ended<'s, 'r, 'p, 't, J: Naming, G: Gate>(
+    common: &Common<'s, 'r, 'p, 't>,
+    gate: &G,
+    loader: usize,
+    n: usize,
+    failed: Option<usize>,
+) -> Result<Ended, AllocError>
+    requires world { IsWorld J.files J.plan J.shelf common.now.files.now common.now.reads.now common.now.programs.now common.now.modules.now common.now.prelude common.now.steps }
+    requires asked { IsAsked J.files J.plan n }
+    requires failed { IfSome failed (λ i. i < length (loads_of J.plan n)) }
+    ensures { IfOk result (IsEnd J.plan n) }
+{
+    let Some(program) = program_at(common.reads, n) else {
+        let Some(fault) = fault_at(common.reads, n) else {
+            unreachable!()
+        };
+        return Ok(Ended::Static(fault));
+    };
+    match failed {
+        Some(index) => {
+            let Some(load) = common.load(n, index) else {
+                unreachable!()
+            };
+            Ok(Ended::Load {
+                index,
+                line: load.line,
+            })
+        }
+        None => Ok(Ended::Ran(common.run(gate, loader, n, program)?)),
+    }
+}
+
+/// The module of a file that ended so.
+fn module_of<'s, 'r, 'p, 't, J: Naming>(
+    common: &Common<'s, 'r, 'p, 't>,
+    n: usize,
+    ended: Ended,
+) -> Result<Module, AllocError>
+    requires row { readings common.now.reads.now ≡ J.plan.reads }
+    requires end { IsEnd J.plan n ended }
+    ensures { IfOk result (IsModule J.plan n) }
+{
+    let loads = numbers(common.alloc, common.loads(n))?;
+    Ok(Module {
+        number: n,
+        loads,
+        ended,
+    })
+}
+
+/// A module in a block of its own.
+fn boxed(alloc: Global, made: Module) -> Result<Box<Module>, AllocError>
+    ensures { IfOk result (λ b. b.value ≡ made) }
+{
+    Box::new(alloc, made).map_err(AllocError::from)
+}
+
+/// Publishes how a file ended, and then says that it is done.
+fn end<'s, 'r, 'p, 't, J: Naming, R: Wait, G: Gate>(
+    rt: &R,
+    common: &Common<'s, 'r, 'p, 't>,
+    gate: &G,
+    cache: &LoadCache<Told<J>>,
+    seat: &mut Seat<Told<J>>,
+    frame: &Frame<J>,
+) -> Result<(), LoadError>
+    requires world { IsWorld J.files J.plan J.shelf common.now.files.now common.now.reads.now common.now.programs.now common.now.modules.now common.now.prelude common.now.steps }
+    ensures { seat.new ≡ seat.old }
+{
+    let n = frame.number();
+    let ended = ended::<J, G>(common, gate, seat.number(), n, frame.failed())?;
+    let made = module_of::<J>(common, n, ended)?;
+    let good = made.is_good();
+    let module = boxed(common.alloc, made)?;
+    let Ok(note) = common.modules.publish(n, module) else {
+        return Err(LoadError::Unpublished);
+    };
+    match cache.finish(rt, seat, n, Told::new(n, good, note)) {
+        Ok(()) => Ok(()),
+        Err(_) => Err(LoadError::Spoiled),
+    }
+}
+
+/// The next load of a file that is to be asked for.
+fn next_load<'s, 'r, 'p, 't, J: Naming>(
+    common: &Common<'s, 'r, 'p, 't>,
+    frame: &Frame<J>,
+) -> Option<Load>
+    requires world { IsWorld J.files J.plan J.shelf common.now.files.now common.now.reads.now common.now.programs.now common.now.modules.now common.now.prelude common.now.steps }
+    ensures { IfSome result (IsNextLoad J.files J.plan frame.now.n frame.now.told) }
+{
+    common.load(frame.number(), frame.told())
+}
+
+/// One turn of the file on top.
+fn take_turn<'s, 'r, 'p, 't, J: Naming, R: Wait, G: Gate>(
+    rt: &R,
+    common: &Common<'s, 'r, 'p, 't>,
+    gate: &G,
+    cache: &LoadCache<Told<J>>,
+    seat: &mut Seat<Told<J>>,
+    top: &mut Frame<J>,
+    trace: &Trace<J>,
+) -> Result<Turn, LoadError>
+    requires world { IsWorld J.files J.plan J.shelf common.now.files.now common.now.reads.now common.now.programs.now common.now.modules.now common.now.prelude common.now.steps }
+    ensures turn { IfOk result (IsTurn J.files J.plan) }
+    ensures number { seat.new.number ≡ seat.old.number }
+{
+    let file = top.number();
+    let index = top.told();
+    let Some(load) = next_load(common, top) else {
+        end(rt, common, gate, cache, seat, top)?;
+        return Ok(Turn::Ended);
+    };
+    match cache.ask(rt, seat, Some(file), load.file) {
+        Ok(Reply::Begun) => return Ok(Turn::Enter(load.file)),
+        Ok(Reply::Ready(told)) => top.tell(told.went_well()),
+        Ok(Reply::Failed(told)) => top.tell(told.went_well()),
+        Ok(Reply::Cycle) => {
+            // A line of the trace that gets no memory is left out.
+            let _ = trace.push(rt, Refused { file, index });
+            top.tell(false);
+        }
+        Ok(Reply::Spoiled) => return Err(LoadError::Spoiled),
+        Ok(Reply::Wait) => unreachable!(),
+        Err(_) => return Err(LoadError::Spoiled),
+    }
+    Ok(Turn::Again)
+}
+
+/// Asks for a root: what is told of it, or nothing where it was begun.
+fn ask_root<J: Naming, R: Wait>(
+    rt: &R,
+    cache: &LoadCache<Told<J>>,
+    seat: &mut Seat<Told<J>>,
+    root: usize,
+) -> Result<Option<Told<J>>, LoadError>
+    requires { IsAsked J.files J.plan root }
+    ensures told { IfOk result (λ r. IfSome r (IsTold J.files J.plan root)) }
+    ensures number { seat.new.number ≡ seat.old.number }
+{
+    match cache.ask(rt, seat, None, root) {
+        Ok(Reply::Begun) => Ok(None),
+        Ok(Reply::Ready(told)) => Ok(Some(told)),
+        Ok(Reply::Failed(told)) => Ok(Some(told)),
+        Ok(Reply::Cycle) => unreachable!(),
+        Ok(Reply::Wait) => unreachable!(),
+        Ok(Reply::Spoiled) => Err(LoadError::Spoiled),
+        Err(_) => Err(LoadError::Spoiled),
+    }
+}
+
+/// The turns of a load, until its root is told. A file whose load was begun asks for it again once it has ended.
+fn turns<'s, 'r, 'p, 't, J: Naming, R: Wait, G: Gate>(
+    rt: &R,
+    common: &Common<'s, 'r, 'p, 't>,
+    gate: &G,
+    cache: &LoadCache<Told<J>>,
+    seat: &mut Seat<Told<J>>,
+    root: usize,
+    trace: &Trace<J>,
+) -> Result<Told<J>, LoadError>
+    requires world { IsWorld J.files J.plan J.shelf common.now.files.now common.now.reads.now common.now.programs.now common.now.modules.now common.now.prelude common.now.steps }
+    requires root { IsAsked J.files J.plan root }
+    ensures told { IfOk result (IsTold J.files J.plan root) }
+    ensures number { seat.new.number ≡ seat.old.number }
+{
+    let mut stack: Vec<Frame<J>> = Vec::new(common.alloc);
+    for _ in rt.forever() {
+        let Some(top) = stack.last_mut() else {
+            match ask_root(rt, cache, seat, root)? {
+                Some(told) => return Ok(told),
+                None => stack.push(Frame::new(root)).map_err(AllocError::from)?,
+            }
+            continue;
+        };
+        match take_turn(rt, common, gate, cache, seat, top, trace)? {
+            Turn::Again => {}
+            Turn::Enter(m) => stack.push(Frame::new(m)).map_err(AllocError::from)?,
+            Turn::Ended => {
+                let _ = stack.pop();
+            }
+        }
+    }
+    unreachable!()
+}
+
+/// Loads a file, and gives what is told of it: its module, which has its number, its loads, and how it ended. All loads of a file are
+/// asked for, also after one that is not good. `Memory` where a growth was refused, `Spoiled` where an entry that was met is spoiled,
+/// `Unpublished` where a cell of the shelf had something already. At `Err` the loader's stack was abandoned.
+pub fn load<'s, 'r, 'p, 't, J: Naming, R: Wait, G: Gate>(
+    rt: &R,
+    common: &Common<'s, 'r, 'p, 't>,
+    gate: &G,
+    cache: &LoadCache<Told<J>>,
+    seat: &mut Seat<Told<J>>,
+    root: usize,
+    trace: &Trace<J>,
+) -> Result<Told<J>, LoadError>
+    requires world { IsWorld J.files J.plan J.shelf common.now.files.now common.now.reads.now common.now.programs.now common.now.modules.now common.now.prelude common.now.steps }
+    requires root { IsAsked J.files J.plan root }
+    ensures told { IfOk result (IsTold J.files J.plan root) }
+    ensures number { seat.new.number ≡ seat.old.number }
+{
+    let told = turns(rt, common, gate, cache, seat, root, trace);
+    if told.is_err() {
+        let _ = cache.abandon(rt, seat);
+    }
+    told
+}

@@ -1,0 +1,114 @@
+//! What a run answers.
+
+ghost use Rattle.std.specs.Prelude.{◌≡◌, ◌<◌, length, slice_index_or, Some};
+ghost use Rattle.star_host.specs.Kept.{IsSound, KeptView};
+
+use crate::module::Module;
+use crate::shelf::Shelf;
+use crate::trace::Refused;
+use once_cell::race::Note;
+use std::marker::Model;
+
+/// A file's number, and a note of its cell.
+#[derive(Drop)]
+pub(crate) struct Kept {
+    pub number: usize,
+    pub note: Note<Module>,
+}
+
+impl Model for Kept {
+    ghost use Rattle.star_host.specs.Kept.{KeptView};
+
+    ghost Value = { KeptView };
+
+    ghost view = { λ k. record { number = k.number; cell = k.note.cell; known = k.note.known } };
+}
+
+impl Kept {
+    fn number(&self) -> usize
+        ensures { result ≡ self.now.number }
+    {
+        self.number
+    }
+
+    fn note(&mut self) -> Note<Module>
+        ensures same { self.new ≡ self.old }
+        ensures note { (result.cell ≡ self.old.cell) × (result.known ≡ self.old.known) }
+    {
+        self.note.again()
+    }
+}
+
+/// The modules of all reached files in order of their numbers, how many files were begun, and by each loader; and the refused loads.
+#[derive(Drop)]
+pub struct Run {
+    pub(crate) shelf: Shelf<Module>,
+    pub(crate) kept: Vec<Kept>,
+    pub(crate) begun: u32,
+    pub(crate) per_loader: [u32; 64],
+    pub(crate) refused: Vec<Refused>,
+}
+
+impl Model for Run {
+    ghost use Rattle.star_host.specs.Kept.{RunView, AllKept};
+
+    ghost Value = { RunView };
+
+    ghost view = { λ r. record { cells = r.shelf; kept = r.kept.items; begun = r.begun; per_loader = r.per_loader } };
+
+    ghost invariant = { λ r. AllKept r.shelf r.kept.items };
+}
+
+impl Run {
+    /// How many files were reached.
+    pub fn len(&self) -> usize
+        ensures { result ≡ length self.now.kept }
+    {
+        self.kept.len()
+    }
+
+    /// Whether no file was reached.
+    pub fn is_empty(&self) -> bool {
+        self.kept.is_empty()
+    }
+
+    /// How many files were begun.
+    pub fn begun(&self) -> u32
+        ensures { result ≡ self.now.begun }
+    {
+        self.begun
+    }
+
+    /// How many files each loader has begun, 0 after the last loader.
+    pub fn per_loader(&self) -> [u32; 64]
+        ensures { result ≡ self.now.per_loader }
+    {
+        self.per_loader
+    }
+
+    /// The loads that were refused since they lie on a load cycle.
+    pub fn refused(&self) -> &[Refused] {
+        self.refused.as_slice()
+    }
+
+    /// A note that knows the i-th module.
+    pub fn note(&mut self, i: usize) -> Note<Module>
+        requires { i < length self.old.kept }
+        ensures same { self.new ≡ self.old }
+        ensures note { (d : KeptView) → (result.cell ≡ (slice_index_or self.old.kept i d).cell) × (result.known ≡ (slice_index_or self.old.kept i d).known) }
+    {
+        self.kept[i].note()
+    }
+
+    /// The i-th module, by its note.
+    pub fn module(&self, i: usize, note: Note<Module>) -> &Module
+        requires i { i < length self.now.kept }
+        requires note { (d : KeptView) → (note.cell ≡ (slice_index_or self.now.kept i d).cell) × (note.known ≡ (slice_index_or self.now.kept i d).known) }
+        ensures known { note.known ≡ Some result.now }
+        ensures sound { IsSound (length self.now.cells) result.now.number result.now }
+        ensures file { result.now.number < length self.now.cells }
+    {
+        let n = self.kept[i].number();
+        self.shelf.seen(n, note)
+    }
+}

@@ -1,0 +1,190 @@
+//! The report.
+
+ghost use Rattle.std.specs.Prelude.{◌≡◌, ◌<◌, ◌≤◌, ℕ, All, Contains, Option, Some, IfOk, IfSome, OnOk, length, vec_len};
+ghost use Rattle.star_host.specs.Kept.{IsLoadBelow};
+ghost use Rattle.star_host.specs.Leads.{AreNexts, IsLead};
+
+use crate::code::code_text;
+use crate::lead::{Lead, Leads};
+use crate::module::{Ended, Module};
+use crate::outcome::Run;
+use serde_json::{Map, Value, json};
+use star_label::files::Files as Labels;
+use star_module::Outcome;
+use star_text::Text;
+use std::alloc::{AllocError, Global};
+
+/// Each global's name with its text.
+fn global_texts(alloc: Global, shown: &[(String, Text)]) -> Result<Map<String, Value>, AllocError> {
+    let mut members = Map::new(alloc);
+    for global in shown {
+        let text = Value::try_from_str(alloc, global.1.as_str())?;
+        serde_json::put(&mut members, alloc, global.0.as_str(), text)?;
+    }
+    Ok(members)
+}
+
+/// Lines as strings.
+fn texts(alloc: Global, lines: &[Text]) -> Result<Value, AllocError> {
+    let mut items = Vec::new(alloc);
+    for line in lines {
+        items.push(Value::try_from_str(alloc, line.as_str())?)?;
+    }
+    Ok(Value::Array(items))
+}
+
+/// A module that failed by itself.
+fn failed_module(
+    alloc: Global,
+    label: &str,
+    code: &str,
+    line: usize,
+    lines: &[Text],
+    status: &str,
+) -> Result<Value, AllocError> {
+    let lines = texts(alloc, lines)?;
+    json!(in alloc; {"fault": code, "label": label, "line": line as u64, "lines": lines, "status": status})
+}
+
+/// A module that ran to its end.
+fn good_module(
+    alloc: Global,
+    label: &str,
+    shown: &[(String, Text)],
+    lines: &[Text],
+) -> Result<Value, AllocError> {
+    let globals = Value::Object(global_texts(alloc, shown)?);
+    let lines = texts(alloc, lines)?;
+    json!(in alloc; {"globals": globals, "label": label, "lines": lines, "status": "ok"})
+}
+
+/// The file of a module's first load that is not good: none where it ended otherwise.
+fn next_of(it: &Module) -> Option<usize>
+    requires { IsLoadBelow (length it.now.loads.items) it.now.ended }
+    ensures { IfSome result (λ n. Contains it.now.loads.items n) }
+{
+    match &it.ended {
+        Ended::Load { index, .. } => Some(it.loads[*index]),
+        _ => None,
+    }
+}
+
+/// For each file the file of its first load that is not good.
+fn nexts_of(alloc: Global, files: usize, run: &mut Run) -> Result<Vec<Option<usize>>, AllocError>
+    requires { files ≡ length run.old.cells }
+    ensures same { run.new ≡ run.old }
+    ensures nexts { IfOk result (λ v. (vec_len v ≡ files) × AreNexts files v.items) }
+{
+    let mut nexts = vec![in alloc; None; files]?;
+    for i in 0..run.len() {
+        let note = run.note(i);
+        let module = run.module(i, note);
+        nexts[module.number] = next_of(module);
+    }
+    Ok(nexts)
+}
+
+/// The labels of files.
+fn labels_of(alloc: Global, files: &Labels, numbers: &[usize]) -> Result<Value, AllocError>
+    requires { All (λ n. n < length files.now) numbers.now }
+{
+    let mut labels = Vec::new(alloc);
+    for n in numbers {
+        labels.push(Value::try_from_str(alloc, files.label(*n).text())?)?;
+    }
+    Ok(Value::Array(labels))
+}
+
+/// A module that failed since a load of it did.
+fn load_module(
+    alloc: Global,
+    files: &Labels,
+    leads: &mut Leads,
+    n: usize,
+    line: usize,
+) -> Result<Value, AllocError>
+    requires files { vec_len leads.old.nexts ≡ length files.now }
+    requires there { n < length files.now }
+    ensures { leads.new.nexts ≡ leads.old.nexts }
+{
+    let label = files.label(n).text();
+    let lines = Value::Array(Vec::new(alloc));
+    match leads.lead(n) {
+        Lead::Cause(n) => {
+            let cause = files.label(n).text();
+            json!(in alloc; {"cause": cause, "label": label, "line": line as u64, "lines": lines, "status": "load"})
+        }
+        Lead::Cycle(n) => {
+            let cycle = leads.cycle_from(alloc, n)?;
+            let cycle = labels_of(alloc, files, &cycle)?;
+            json!(in alloc; {"cycle": cycle, "label": label, "line": line as u64, "lines": lines, "status": "load"})
+        }
+    }
+}
+
+/// A module, with its label and how it ended.
+fn module_value(
+    alloc: Global,
+    files: &Labels,
+    leads: &mut Leads,
+    it: &Module,
+) -> Result<Value, AllocError>
+    requires files { vec_len leads.old.nexts ≡ length files.now }
+    requires there { it.now.number < length files.now }
+    ensures { leads.new.nexts ≡ leads.old.nexts }
+{
+    let label = files.label(it.number).text();
+    match &it.ended {
+        Ended::Static(fault) => {
+            failed_module(alloc, label, fault.code.text(), fault.line, &[], "static")
+        }
+        Ended::Load { line, .. } => load_module(alloc, files, leads, it.number, *line),
+        Ended::Ran(body) => match &body.outcome {
+            Outcome::Good { shown, lines, .. } => good_module(alloc, label, &shown, &lines),
+            Outcome::Fault { code, line, lines } => {
+                failed_module(alloc, label, code_text(*code), *line, &lines, "fault")
+            }
+        },
+    }
+}
+
+/// The modules, in order of their labels.
+fn module_values(alloc: Global, files: &Labels, run: &mut Run) -> Result<Vec<Value>, AllocError>
+    requires { length run.old.cells ≡ length files.now }
+    ensures { run.new ≡ run.old }
+{
+    let nexts = nexts_of(alloc, files.len(), run)?;
+    let mut leads = Leads::new(alloc, nexts)?;
+    let mut values = Vec::new(alloc);
+    for i in 0..run.len() {
+        let note = run.note(i);
+        let module = run.module(i, note);
+        values.push(module_value(alloc, files, &mut leads, module)?)?;
+    }
+    Ok(values)
+}
+
+/// The report of a run over these files as its text, with its line end.
+pub fn report(alloc: Global, files: &Labels, run: &mut Run) -> Result<String, AllocError>
+    requires { length run.old.cells ≡ length files.now }
+    ensures { run.new ≡ run.old }
+{
+    let modules = Value::Array(module_values(alloc, files, run)?);
+    let value = json!(in alloc; {"begun": u64::from(run.begun()), "modules": modules})?;
+    let mut text = value.to_string(alloc)?;
+    text.push('\n')?;
+    Ok(text)
+}
+
+/// Whether all modules of a run are good.
+pub fn all_good(run: &mut Run) -> bool
+    ensures { run.new ≡ run.old }
+{
+    for i in 0..run.len() {
+        let note = run.note(i);
+        if !run.module(i, note).is_good() {
+            return false;
+        }
+    }
+    true
+}

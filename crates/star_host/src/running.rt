@@ -1,0 +1,394 @@
+//! The run: each loader asks for all roots.
+
+ghost use Rattle.std.specs.Prelude.{◌≡◌, ◌+◌, ◌<◌, ◌≤◌, ℕ, List, Option, length, map, sum, slice_index_or, IfOk, IfSome, OnOk, vec_len};
+ghost use Rattle.star_cache.specs.Seats.{AreAll};
+ghost use Rattle.star_host.specs.Fits.{IsAsked, IsWithin};
+ghost use Rattle.star_host.specs.Found.{IsClosed, Within};
+ghost use Rattle.star_host.specs.Frames.{IsWorld};
+ghost use Rattle.star_host.specs.Kept.{AllKept};
+ghost use Rattle.star_host.specs.Readings.{table_of};
+ghost use Rattle.star_cache.specs.State.{begun_count};
+
+use crate::gate::Gate;
+use crate::loading::{LoadError, load};
+use crate::module::Module;
+use crate::naming::Naming;
+use crate::order::{first_place, place};
+use crate::outcome::{Kept, Run};
+use crate::reading::{Read, Reader, tree_of};
+use crate::shelf::Shelf;
+use crate::table::{is_closed, table};
+use crate::told::Told;
+use crate::trace::{Refused, Trace};
+use crate::work::Common;
+use star_cache::{Book, Entry, LoadCache, Product, Seat};
+use star_eval::files::Files;
+use star_label::files::Files as Labels;
+use star_scope::error::ScopeFault;
+use star_scope::program::Prelude;
+use star_syntax::tree::Tree;
+use std::alloc::{AllocError, Global};
+use std::marker::Brand;
+use std::sync::Wait;
+use std::sync::ledger::Blank;
+use std::thread::Threads;
+
+/// Why there is no run.
+#[derive(Clone, Copy, Debug, PartialEq, Eq)]
+pub enum RunError {
+    /// A growth was refused.
+    Memory,
+    /// A cell of the shelf did not take its module.
+    Unpublished,
+    /// A file that a root reaches was not read.
+    Unread,
+}
+
+impl From<AllocError> for RunError {
+    fn from(_error: AllocError) -> RunError {
+        RunError::Memory
+    }
+}
+
+impl From<ScopeFault> for RunError {
+    fn from(_fault: ScopeFault) -> RunError {
+        RunError::Memory
+    }
+}
+
+impl From<LoadError> for RunError {
+    fn from(error: LoadError) -> RunError {
+        match error {
+            LoadError::Memory => RunError::Memory,
+            LoadError::Spoiled => RunError::Memory,
+            LoadError::Unpublished => RunError::Unpublished,
+        }
+    }
+}
+
+/// What a loader hands back.
+#[derive(Drop)]
+pub(crate) struct Worked<J: Naming> {
+    seat: Seat<Told<J>>,
+    error: Option<LoadError>,
+}
+
+/// A root may be asked for.
+fn root_at<J: Naming>(roots: &[usize], i: usize) -> usize
+    requires i { i < length roots.now }
+    requires roots { roots.now ≡ J.plan.roots }
+    requires within { IsWithin J.files J.plan }
+    ensures { IsAsked J.files J.plan result }
+{
+    roots[i]
+}
+
+/// One loader asks for each root.
+fn work<'s, 'r, 'p, 't, J: Naming, R: Wait, G: Gate>(
+    rt: &R,
+    common: &Common<'s, 'r, 'p, 't>,
+    gate: &G,
+    cache: &LoadCache<Told<J>>,
+    seat: Seat<Told<J>>,
+    loaders: usize,
+    roots: &[usize],
+    trace: &Trace<J>,
+) -> Worked<J>
+    requires world { IsWorld J.files J.plan J.shelf common.now.files.now common.now.reads.now common.now.programs.now common.now.modules.now common.now.prelude common.now.steps }
+    requires within { IsWithin J.files J.plan }
+    requires roots { roots.now ≡ J.plan.roots }
+    requires loaders { (1 ≤ loaders) × (loaders ≤ 64) }
+    ensures { result.seat.number ≡ seat.number }
+{
+    let mut seat = seat;
+    let mut error = None;
+    let count = roots.len();
+    if count == 0 {
+        return Worked { seat, error };
+    }
+    let first = first_place(seat.number(), loaders, count);
+    for i in 0..count {
+        let root = root_at::<J>(roots, place(first, i, count));
+        if let Err(why) = load(rt, common, gate, cache, &mut seat, root, trace) {
+            error = Some(why);
+        }
+    }
+    Worked { seat, error }
+}
+
+/// Each seat goes to a loader, one loader after another, and comes back.
+fn spread<'s, 'r, 'p, 't, J: Naming, R: Wait, G: Gate>(
+    rt: &R,
+    common: &Common<'s, 'r, 'p, 't>,
+    gate: &G,
+    cache: &LoadCache<Told<J>>,
+    seats: Vec<Seat<Told<J>>>,
+    loaders: usize,
+    roots: &[usize],
+    trace: &Trace<J>,
+) -> Result<Vec<Worked<J>>, AllocError>
+    requires world { IsWorld J.files J.plan J.shelf common.now.files.now common.now.reads.now common.now.programs.now common.now.modules.now common.now.prelude common.now.steps }
+    requires within { IsWithin J.files J.plan }
+    requires roots { roots.now ≡ J.plan.roots }
+    requires loaders { (1 ≤ loaders) × (loaders ≤ 64) }
+    ensures { IfOk result (λ v. map (λ w. w.seat.number) v.items ≡ map (λ s. s.number) seats.items) }
+{
+    let mut worked = Vec::new(common.alloc);
+    for seat in seats {
+        let back = work(rt, common, gate, cache, seat, loaders, roots, trace);
+        worked.push(back)?;
+    }
+    Ok(worked)
+}
+
+/// The seats of the loaders, in order, and the last of their errors.
+fn taken<J: Naming>(
+    alloc: Global,
+    worked: Vec<Worked<J>>,
+) -> Result<(Vec<Seat<Told<J>>>, Option<LoadError>), AllocError>
+    ensures { IfOk result (λ r. r.0.items ≡ map (λ w. w.seat) worked.items) }
+{
+    let mut seats = Vec::new(alloc);
+    let mut last = None;
+    for each in worked {
+        let Worked { seat, error } = each;
+        seats.push(seat)?;
+        if error.is_some() {
+            last = error;
+        }
+    }
+    Ok((seats, last))
+}
+
+/// One more note.
+fn keep<J: Naming>(kept: &mut Vec<Kept>, told: Told<J>) -> Result<(), AllocError>
+    requires { length J.shelf ≡ length J.files }
+    ensures { OnOk result (AllKept J.shelf kept.old.items → AllKept J.shelf kept.new.items) }
+{
+    let one = told.into_kept();
+    kept.push(one)?;
+    Ok(())
+}
+
+/// The notes of all files that are done. `Memory` where a file is spoiled.
+fn kept_of<J: Naming>(alloc: Global, book: Book<Told<J>>) -> Result<Vec<Kept>, RunError>
+    requires { length J.shelf ≡ length J.files }
+    ensures { IfOk result (λ kept. AllKept J.shelf kept.items) }
+{
+    let mut kept = Vec::new(alloc);
+    for entry in book.into_entries() {
+        match entry {
+            Entry::Done(told) => keep(&mut kept, told)?,
+            Entry::Spoiled => return Err(RunError::Memory),
+            Entry::Fresh | Entry::Running => {}
+        }
+    }
+    Ok(kept)
+}
+
+/// What a closed cache tells, without the shelf.
+#[derive(Drop)]
+pub(crate) struct Closed {
+    kept: Vec<Kept>,
+    begun: u32,
+    per_loader: [u32; 64],
+    refused: Vec<Refused>,
+}
+
+fn run_named<'s, 'r, 'p, 't, J: Naming + Send + Sync, R: Threads + Wait + Sync, G: Gate + Sync>(
+    rt: &R,
+    common: &Common<'s, 'r, 'p, 't>,
+    gate: &G,
+    roots: &[usize],
+    loaders: usize,
+    blank: Blank,
+) -> Result<Closed, RunError>
+    requires name { blank.name ≡ J.name }
+    requires parts { (blank.parts ≡ J.parts) × (blank.parts ≡ loaders) }
+    requires loaders { (1 ≤ loaders) × (loaders ≤ 64) }
+    requires world { IsWorld J.files J.plan J.shelf common.now.files.now common.now.reads.now common.now.programs.now common.now.modules.now common.now.prelude common.now.steps }
+    requires within { IsWithin J.files J.plan }
+    requires roots { roots.now ≡ J.plan.roots }
+    ensures kept { IfOk result (λ c. AllKept common.now.modules.now c.kept.items) }
+    ensures sum { IfOk result (λ c. sum c.per_loader ≡ c.begun) }
+{
+    let alloc = common.alloc;
+    let trace = Trace::<J>::new(alloc)?;
+    let (cache, seats) = LoadCache::<Told<J>>::new(alloc, blank, common.files.len(), loaders)?;
+    let worked = spread(rt, common, gate, &cache, seats, loaders, roots, &trace)?;
+    let (seats, error) = taken(alloc, worked)?;
+    let Ok(closed) = cache.close(seats) else {
+        unreachable!()
+    };
+    if let Some(error) = error {
+        return Err(RunError::from(error));
+    }
+    closed_of(alloc, closed, &trace)
+}
+
+/// What a cache tells that is closed.
+fn closed_of<J: Naming>(
+    alloc: Global,
+    closed: (Book<Told<J>>, [u32; 64]),
+    trace: &Trace<J>,
+) -> Result<Closed, RunError>
+    requires sum { sum closed.1 ≡ begun_count closed.0 }
+    requires cells { length J.shelf ≡ length J.files }
+    ensures kept { IfOk result (λ c. AllKept J.shelf c.kept.items) }
+    ensures sum { IfOk result (λ c. sum c.per_loader ≡ c.begun) }
+{
+    let (book, per_loader) = closed;
+    let begun = book.begun();
+    let kept = kept_of(alloc, book)?;
+    let refused = trace.all(alloc)?;
+    Ok(Closed {
+        kept,
+        begun,
+        per_loader,
+        refused,
+    })
+}
+
+/// The prelude: its names are those of its tree, which is kept with the other trees; it has none where its text does not parse.
+fn prelude_of<'t, R: Wait>(
+    rt: &R,
+    alloc: Global,
+    files: &Labels,
+    trees: &'t boxcar::Vec<Tree>,
+    n: usize,
+) -> Result<Prelude<'t>, RunError>
+    requires { n < length files.now }
+    ensures { IfOk result (λ p. p.file ≡ n) }
+{
+    let tree = tree_of(rt, alloc, trees, files.text(n))?.ok();
+    Ok(Prelude::new(alloc, n, tree)?)
+}
+
+/// The run over a shelf for the modules and a place for the trees.
+fn run_over<'s, 't, R: Threads + Wait + Sync, G: Gate + Sync>(
+    rt: &R,
+    alloc: Global,
+    files: &'s Labels,
+    trees: &'t boxcar::Vec<Tree>,
+    modules: &'s Shelf<Module>,
+    roots: &[usize],
+    prelude: Option<&'s Prelude<'t>>,
+    loaders: usize,
+    steps: u32,
+    gate: &'s G,
+) -> Result<Closed, RunError>
+    requires prelude { IfSome prelude (λ p. p.now.file < length files.now) }
+    requires loaders { (1 ≤ loaders) × (loaders ≤ 64) }
+    requires steps { (1 ≤ steps) × (steps ≤ 100000000) }
+    requires cells { length modules.now ≡ length files.now }
+    ensures kept { IfOk result (λ c. AllKept modules.now c.kept.items) }
+    ensures sum { IfOk result (λ c. sum c.per_loader ≡ c.begun) }
+{
+    let reader = Reader {
+        alloc,
+        files,
+        trees,
+        prelude,
+    };
+    let reads = reader.read_all(rt, roots)?;
+    if !is_closed(&reads, roots) {
+        return Err(RunError::Unread);
+    }
+    let programs = table(alloc, &reads)?;
+    let prelude = match prelude {
+        Some(block) => Some(block.file),
+        None => None,
+    };
+    run_read(
+        rt, alloc, files, &reads, &programs, modules, roots, prelude, loaders, steps, gate,
+    )
+}
+
+/// The run over what was read.
+fn run_read<'s, 'r, 'p, 't, R: Threads + Wait + Sync, G: Gate + Sync>(
+    rt: &R,
+    alloc: Global,
+    files: &'s Labels,
+    reads: &'r [Option<Read<'t>>],
+    programs: &'p Files<'r, 't>,
+    modules: &'s Shelf<Module>,
+    roots: &[usize],
+    prelude: Option<usize>,
+    loaders: usize,
+    steps: u32,
+    gate: &'s G,
+) -> Result<Closed, RunError>
+    requires prelude { IfSome prelude (λ p. p < length files.now) }
+    requires loaders { (1 ≤ loaders) × (loaders ≤ 64) }
+    requires steps { (1 ≤ steps) × (steps ≤ 100000000) }
+    requires cells { length modules.now ≡ length files.now }
+    requires row { length reads.now ≡ length files.now }
+    requires closed { IsClosed reads.now roots.now }
+    requires table { programs.now ≡ table_of reads.now }
+    ensures kept { IfOk result (λ c. AllKept modules.now c.kept.items) }
+    ensures sum { IfOk result (λ c. sum c.per_loader ≡ c.begun) }
+{
+    let common = Common {
+        alloc,
+        files,
+        reads,
+        programs,
+        modules,
+        prelude,
+        steps,
+    };
+    let blank = Blank::new(loaders as u64);
+    run_named::<Brand, R, G>(rt, &common, gate, roots, loaders, blank)
+}
+
+/// Loads the roots by so many loaders. `steps` is what each body may take; the roots and the prelude are numbers of files. `Memory`
+/// where a growth was refused.
+pub fn run<R: Threads + Wait + Sync, G: Gate + Sync>(
+    rt: &R,
+    alloc: Global,
+    files: &Labels,
+    roots: &[usize],
+    prelude: Option<usize>,
+    loaders: usize,
+    steps: u32,
+    gate: &G,
+) -> Result<Run, RunError>
+    requires roots { Within files.now roots.now }
+    requires prelude { IfSome prelude (λ n. n < length files.now) }
+    requires loaders { (1 ≤ loaders) × (loaders ≤ 64) }
+    requires steps { (1 ≤ steps) × (steps ≤ 100000000) }
+    ensures files { IfOk result (λ r. length r.cells ≡ length files.now) }
+    ensures sum { IfOk result (λ r. sum r.per_loader ≡ r.begun) }
+{
+    let modules = Shelf::new(alloc, files.len())?;
+    let trees = boxcar::Vec::new(alloc)?;
+    let block = match prelude {
+        Some(n) => Some(prelude_of(rt, alloc, files, &trees, n)?),
+        None => None,
+    };
+    let told = run_over(
+        rt,
+        alloc,
+        files,
+        &trees,
+        &modules,
+        roots,
+        block.as_ref(),
+        loaders,
+        steps,
+        gate,
+    )?;
+    let Closed {
+        kept,
+        begun,
+        per_loader,
+        refused,
+    } = told;
+    Ok(Run {
+        shelf: modules,
+        kept,
+        begun,
+        per_loader,
+        refused,
+    })
+}

@@ -1,0 +1,63 @@
+//! What is published for each file, once.
+
+ghost use Rattle.std.specs.Prelude.{◌≡◌, ◌<◌, ℕ, length, slice_index, Some, IsSome, IfOk};
+
+use once_cell::race::{Note, OnceBox};
+use std::alloc::{AllocError, Global};
+use std::marker::Model;
+
+/// A cell for each file, seen as the cells' names.
+#[derive(Drop)]
+pub struct Shelf<T: Drop> {
+    cells: Vec<OnceBox<T>>,
+}
+
+impl<T: Drop> Model for Shelf<T> {
+    ghost use Rattle.std.specs.Prelude.{List, ℕ, map};
+    ghost use Rattle.once_cell.specs.Once.{cell_name};
+
+    ghost Value = { List ℕ };
+
+    ghost view = { λ s. map cell_name s.cells.items };
+}
+
+impl<T: Drop> Shelf<T> {
+    /// So many cells, with nothing in them.
+    pub fn new(alloc: Global, n: usize) -> Result<Shelf<T>, AllocError>
+        ensures { IfOk result (λ s. length s ≡ n) }
+    {
+        let mut cells = Vec::new(alloc);
+        for _ in 0..n {
+            cells.push(OnceBox::new(alloc))?;
+        }
+        Ok(Shelf { cells })
+    }
+
+    /// What a note knows. It takes no lock and waits for nobody.
+    pub fn seen(&self, n: usize, mut note: Note<T>) -> &T
+        requires number { n < length self.now }
+        requires cell { note.cell ≡ slice_index self.now n }
+        requires knows { IsSome note.known }
+        ensures { note.known ≡ Some result.now }
+    {
+        match self.cells[n].get_as(&mut note) {
+            Some(there) => there,
+            None => unreachable!(),
+        }
+    }
+
+    /// What stands in a cell by now. It takes no lock and waits for nobody.
+    pub fn get(&self, n: usize) -> Option<&T> {
+        self.cells.get(n)?.get()
+    }
+
+    /// Sets a cell, and gives a note that knows it. Where the cell has something already, what was to be set comes back.
+    pub fn publish(&self, n: usize, there: Box<T>) -> Result<Note<T>, Box<T>>
+        requires { n < length self.now }
+        ensures { IfOk result (λ note. (note.cell ≡ slice_index self.now n) × (note.known ≡ Some there.value)) }
+    {
+        let mut note = self.cells[n].note();
+        self.cells[n].set_as(there, &mut note)?;
+        Ok(note)
+    }
+}

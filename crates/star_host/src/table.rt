@@ -1,0 +1,124 @@
+//! The rows of what was read: the programs of all files, the loads of each, and whether a row has all that it needs.
+
+ghost use Rattle.std.specs.Prelude.{◌≡◌, All, IfOk, IsSome, IsTrue, MatchOption, Some, ⊤};
+ghost use Rattle.std.specs.Option.{option_map};
+ghost use Rattle.star_meaning.specs.Programs.{IsOfFile, placed_file};
+ghost use Rattle.star_scope.specs.declared.program.Program.{Program as ProgramView};
+ghost use Rattle.star_host.specs.declared.code.StaticFault.{StaticFault as FaultView};
+ghost use Rattle.star_host.specs.declared.reading.Read.TheVariants as read;
+ghost use Rattle.star_host.specs.Readings.{IsPlaceable, loads_at, placed_in, read_at, table_of};
+ghost use Rattle.star_host.specs.Found.{AreRead, IsClosed};
+
+use crate::code::StaticFault;
+use crate::reading::Read;
+use star_eval::files::Files;
+use star_scope::loads::Load;
+use star_scope::program::Program;
+use std::alloc::{AllocError, Global};
+
+/// The program of what was read.
+fn program_in<'s, 't>(read: &'s Option<Read<'t>>) -> Option<&'s Program<'t>>
+    requires { IsPlaceable read.now }
+    ensures of_file { MatchOption result ⊤ (λ p. IsOfFile p.now) }
+    ensures placed { option_map (λ p. placed_file p.now) result ≡ placed_in read.now }
+{
+    match read {
+        Some(Read::Program(program)) => Some(program),
+        _ => None,
+    }
+}
+
+/// The programs of what was read, by the files' numbers.
+pub(crate) fn table<'s, 't>(
+    alloc: Global,
+    reads: &'s [Option<Read<'t>>],
+) -> Result<Files<'s, 't>, AllocError>
+    requires { All IsPlaceable reads.now }
+    ensures { IfOk result (λ table. table ≡ table_of reads.now) }
+{
+    let mut table = Files::new(alloc);
+    for read in reads {
+        table.push(program_in(read))?;
+    }
+    Ok(table)
+}
+
+/// The program of a file.
+pub(crate) fn program_at<'s, 't>(reads: &'s [Option<Read<'t>>], n: usize) -> Option<&'s Program<'t>>
+    ensures { MatchOption result
+        ((p : ProgramView) → read_at reads.now n ≡ Some (read.Program p) → ⊥)
+        (λ p. read_at reads.now n ≡ Some (read.Program p.now)) }
+{
+    match reads.get(n) {
+        Some(Some(Read::Program(program))) => Some(program),
+        _ => None,
+    }
+}
+
+/// The static fault of a file.
+pub(crate) fn fault_at(reads: &[Option<Read>], n: usize) -> Option<StaticFault>
+    ensures { MatchOption result
+        ((f : FaultView) → read_at reads.now n ≡ Some (read.Fault f) → ⊥)
+        (λ f. read_at reads.now n ≡ Some (read.Fault f)) }
+{
+    match reads.get(n) {
+        Some(Some(Read::Fault(fault))) => Some(*fault),
+        _ => None,
+    }
+}
+
+/// The loads of a file: none where it has a static fault.
+pub(crate) fn loads_in<'s, 't>(reads: &'s [Option<Read<'t>>], n: usize) -> &'s [Load]
+    ensures { result.now ≡ loads_at reads.now n }
+{
+    match reads.get(n) {
+        Some(Some(Read::Program(program))) => program.loads(),
+        _ => &[],
+    }
+}
+
+/// Whether a file was read.
+fn is_read(reads: &[Option<Read>], n: usize) -> bool
+    ensures { IsTrue result → IsSome (read_at reads.now n) }
+{
+    match reads.get(n) {
+        Some(read) => read.is_some(),
+        None => false,
+    }
+}
+
+/// Whether files were read.
+fn are_read(reads: &[Option<Read>], numbers: &[usize]) -> bool
+    ensures { IsTrue result → AreRead reads.now numbers.now }
+{
+    for n in numbers {
+        if !is_read(reads, *n) {
+            return false;
+        }
+    }
+    true
+}
+
+/// Whether the files of loads were read.
+fn loads_read(reads: &[Option<Read>], loads: &[Load]) -> bool
+    ensures { IsTrue result → All (λ l. IsSome (read_at reads.now l.file)) loads.now }
+{
+    for load in loads {
+        if !is_read(reads, load.file) {
+            return false;
+        }
+    }
+    true
+}
+
+/// Whether the roots were read, and the loads of all that was read.
+pub(crate) fn is_closed(reads: &[Option<Read>], roots: &[usize]) -> bool
+    ensures { IsTrue result → IsClosed reads.now roots.now }
+{
+    for n in 0..reads.len() {
+        if !loads_read(reads, loads_in(reads, n)) {
+            return false;
+        }
+    }
+    are_read(reads, roots)
+}
