@@ -1,0 +1,90 @@
+//! Why there is no report, and the exit status.
+
+ghost use Rattle.std.specs.Prelude.{◌≡◌};
+ghost use Rattle.star_bundle.specs.Refusal.{text_of, status_of};
+ghost use Rattle.star_bundle.specs.declared.error.ServeError.TheVariants.{Memory};
+
+use std::alloc::{AllocError, AllocFailed};
+use thiserror::Error;
+
+/// Why there is no report, by `docs/REPORT.md`, "Refusals".
+#[derive(Clone, Copy, Debug, PartialEq, Eq, Error)]
+#[error("{text}", text = self.text())]
+pub enum ServeError {
+    /// A read failed.
+    Read,
+    /// More than 268,435,456 bytes were read.
+    TooBig,
+    /// The input is no JSON object of texts.
+    BadBundle,
+    /// A key of the bundle is no label in normal form.
+    BadKey,
+    /// There are more than 10,000 files.
+    TooMany,
+    /// A text has more than 1,048,576 bytes.
+    TooLong,
+    /// A root is no label in normal form.
+    BadRoot,
+    /// A root is the label of no file.
+    NoRoot,
+    /// The prelude is no label in normal form.
+    BadPrelude,
+    /// The prelude is the label of no file.
+    NoPrelude,
+    /// A growth was refused. It may come at any point.
+    Memory,
+    /// A write failed; the output may be partial.
+    Write,
+    /// A cell did not take a module.
+    Unpublished,
+}
+
+impl ServeError {
+    /// What the program says of it on standard error.
+    pub fn text(&self) -> &'static str
+        ensures { result.now ≡ text_of self.now }
+    {
+        match self {
+            ServeError::Read => "cannot read the bundle",
+            ServeError::TooBig => "bundle too big",
+            ServeError::BadBundle => "not a JSON object of texts",
+            ServeError::BadKey => "bad label in the bundle",
+            ServeError::TooMany => "too many files",
+            ServeError::TooLong => "file too long",
+            ServeError::BadRoot => "bad root",
+            ServeError::NoRoot => "no such root",
+            ServeError::BadPrelude => "bad prelude",
+            ServeError::NoPrelude => "no such prelude",
+            ServeError::Memory => "out of memory",
+            ServeError::Write => "cannot write the report",
+            ServeError::Unpublished => "module not published",
+        }
+    }
+}
+
+impl From<AllocError> for ServeError {
+    ghost from_gives = { λ _ e. e ≡ Memory };
+
+    fn from(_error: AllocError) -> ServeError {
+        ServeError::Memory
+    }
+}
+
+impl<T: Drop> From<AllocFailed<T>> for ServeError {
+    ghost from_gives = { λ _ e. e ≡ Memory };
+
+    fn from(_error: AllocFailed<T>) -> ServeError {
+        ServeError::Memory
+    }
+}
+
+/// The exit status of the program, by `docs/REPORT.md`, "Statuses".
+pub fn status(outcome: &Result<bool, ServeError>) -> u8
+    ensures { result ≡ status_of outcome.now }
+{
+    match outcome {
+        Ok(true) => 0,
+        Ok(false) => 1,
+        Err(_) => 2,
+    }
+}
