@@ -1,12 +1,3 @@
-pub mod Refusal
 pub mod Stream
-pub mod Bundle
-pub mod Value
-pub mod Small
-pub mod Names
-pub mod Eval
-pub mod Run
-pub mod Meaning
-pub mod View
-pub mod Report
+pub mod Options
 pub mod Serve

@@ -1,72 +1,24 @@
-//! Loads the one Starlark file of a bundle and writes the report.
+//! Loads the Starlark files of a bundle and writes the report.
 //!
 //! The bundle is read on standard input and the report written on standard output, by `serve`; `docs/REPORT.md` has the
 //! rules. The statuses are those of `status`; what goes wrong before is said on standard error, with status 2.
 #![tactic(auto)]
 
-mod bundle;
+mod command;
 mod ends;
-mod error;
-mod eval;
-mod meaning;
-mod names;
 mod read;
-mod report;
-mod run;
 mod serve;
-mod small;
 mod stream;
 #[cfg(test)]
 mod tests;
-mod value;
 
 use clap::error::ErrorKind;
-use clap::{Arg, ArgAction, ArgMatches, Command, value_parser};
+use command::{command, options};
 use ends::{CountedReader, CountedWriter};
-use error::{ServeError, status};
-use serve::{Options, serve};
-use std::alloc::Global;
+use star_bundle::error::{ServeError, status};
+use serve::serve;
 use std::process::ExitCode;
 use std::{env, io};
-
-/// The command line.
-fn command<'a>(alloc: Global) -> Result<Command<'a>, clap::Error> {
-    let loaders = Arg::new(alloc, "loaders")
-        .long("loaders")
-        .value_name("N")
-        .value_parser(value_parser!(u8).range(1..=64))
-        .default_value("4");
-    let steps = Arg::new(alloc, "steps")
-        .long("steps")
-        .value_name("N")
-        .value_parser(value_parser!(u32).range(1..=100_000_000))
-        .default_value("1000000");
-    let roots = Arg::new(alloc, "ROOT")
-        .action(ArgAction::Append)
-        .required(true);
-    Ok(
-        Command::new(alloc, "starload")
-            .arg(loaders)?
-            .arg(steps)?
-            .arg(roots)?,
-    )
-}
-
-fn options(alloc: Global, matches: &ArgMatches<'_>) -> Result<Options, ServeError> {
-    let loaders = matches.get_one::<u8>("loaders").unwrap_or(4) as usize;
-    let steps = u64::from(matches.get_one::<u32>("steps").unwrap_or(1_000_000));
-    let mut roots = Vec::new(alloc);
-    if let Some(words) = matches.get_strs("ROOT") {
-        for word in words {
-            roots.push(String::from_str(alloc, *word)?)?;
-        }
-    }
-    Ok(Options {
-        loaders,
-        steps,
-        roots,
-    })
-}
 
 /// Says why there is no report.
 fn refuse(rt: &HostRuntime, text: &str) -> ExitCode {
@@ -118,11 +70,12 @@ fn main(rt: HostRuntime) -> ExitCode {
     };
     let options = match options(alloc, &matches) {
         Ok(options) => options,
-        Err(error) => return refuse(&rt, error.text()),
+        Err(_) => return refuse(&rt, ServeError::Memory.text()),
     };
     let mut reader = CountedReader::new(rt.stdin());
     let mut writer = CountedWriter::new(rt.stdout());
-    let outcome = serve(alloc, &mut reader, &mut writer, &options);
+    let mut errors = CountedWriter::new(rt.stderr());
+    let outcome = serve(&rt, alloc, &mut reader, &mut writer, &mut errors, &options);
     if let Err(error) = &outcome {
         let _ = eprintln!(rt; "starload: {}", error.text());
     }

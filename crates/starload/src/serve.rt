@@ -1,72 +1,175 @@
 //! From the bundle's bytes to the report's bytes.
 
-ghost use Rattle.std.specs.Prelude.{◌≡◌, ◌+◌, ◌<◌, ◌≤◌, ℕ, List, map, length, string_bytes, IfOk, IfErr, Ok};
-ghost use Rattle.starload.specs.Bundle.{rooted_file};
-ghost use Rattle.starload.specs.Bundle as bundle;
-ghost use Rattle.starload.specs.Meaning.{EndsAs};
-ghost use Rattle.starload.specs.Refusal.{OrMemory, reads_failed, writes_failed};
-ghost use Rattle.starload.specs.Report.{report_of, is_ok_module};
-ghost use Rattle.starload.specs.Run as run;
-ghost use Rattle.starload.specs.Serve.{ReadsAll, Refused, input_limit};
+ghost use Rattle.std.specs.Prelude.{◌≡◌, ◌+◌, ◌<◌, ◌≤◌, ◌⊎◌, ℕ, List, All, map, length, option_map, string_bytes, IfOk, IfErr, IfSome, Ok};
+ghost use Rattle.std.specs.Option.{option_copied};
+ghost use Rattle.star_bundle.specs.Bundle as bundle;
+ghost use Rattle.star_bundle.specs.Refusal.{reads_failed, writes_failed};
+ghost use Rattle.starload.specs.Serve.{IsRefused, ReadsAll, input_limit};
 ghost use Rattle.starload.specs.Stream.{Adds};
 
-use crate::bundle::{File, rooted_file};
-use crate::error::ServeError;
-use crate::meaning::end_of;
+use star_bundle::bundle::{AskedFor, asked_for};
+use star_bundle::error::ServeError;
 use crate::read::read_all;
-use crate::report::report;
 use crate::stream::{Sink, Source};
+use star_host::gate::Open;
+use star_host::report::{all_good, report};
+use star_host::{Refused, Run, RunError, run};
+use star_label::files::Files;
+use star_label::label::Label;
 use std::alloc::Global;
+use std::sync::Wait;
+use std::thread::Threads;
 
 /// What the program is asked for.
 #[derive(Debug, Drop)]
 pub struct Options {
-    /// How many loaders run, from 1 to 64. The one file is run by one, whatever this is.
+    /// How many loaders run, from 1 to 64.
     pub loaders: usize,
-    /// How many steps a file may take, from 1 to 100,000,000. They are not counted yet.
-    pub steps: u64,
+    /// How many steps a file may take, from 1 to 100,000,000.
+    pub steps: u32,
     /// The labels that are asked for, each word as it stands.
     pub roots: Vec<String>,
+    /// The label of the prelude: the file whose names every other file sees.
+    pub prelude: Option<String>,
+    /// Whether the refused loads are written after the report.
+    pub trace: bool,
 }
 
-/// The report of a file, and whether it ran to its end. The only error is `Memory`.
-fn answer(alloc: Global, file: &File) -> Result<(String, bool), ServeError>
-    ensures { OrMemory result (λ a. (outcome : run.Outcome) × EndsAs (string_bytes file.now.text) outcome
-        × (string_bytes a.0 ≡ report_of (string_bytes file.now.label) outcome)
-        × (a.1 ≡ is_ok_module outcome)) }
+/// A run, its report, and whether every module of it is ok.
+#[derive(Drop)]
+struct Answer {
+    run: Run,
+    text: String,
+    all_ok: bool,
+}
+
+/// Runs what is asked for. `Memory`, or `Unpublished` where a cell did not take its module.
+fn answered<H: Threads + Wait + Sync>(
+    rt: &H,
+    alloc: Global,
+    asked: &AskedFor,
+    loaders: usize,
+    steps: u32,
+) -> Result<Answer, ServeError>
+    requires roots { All (λ n. n < length asked.now.files) asked.now.roots.items }
+    requires prelude { IfSome asked.now.prelude (λ n. n < length asked.now.files) }
+    requires loaders { (1 ≤ loaders) × (loaders ≤ 64) }
+    requires steps { (1 ≤ steps) × (steps ≤ 100000000) }
+    ensures kinds { IfErr result (λ e. (e ≡ ServeError.Memory) ⊎ (e ≡ ServeError.Unpublished)) }
+    ensures cells { IfOk result (λ a. length a.run.cells ≡ length asked.now.files) }
 {
-    let outcome = match end_of(alloc, file.text.as_str()) {
-        Ok(outcome) => outcome,
-        Err(error) => return Err(error),
+    let files = &asked.files;
+    let roots = asked.roots.as_slice();
+    let mut run = match run(
+        rt,
+        alloc,
+        files,
+        roots,
+        asked.prelude,
+        loaders,
+        steps,
+        &Open,
+    ) {
+        Ok(run) => run,
+        Err(RunError::Memory) => return Err(ServeError::Memory),
+        Err(RunError::Unpublished | RunError::Unread) => return Err(ServeError::Unpublished),
     };
-    let all_ok = outcome.is_ok();
-    match report(alloc, file.label.as_str(), &outcome) {
-        Ok(text) => Ok((text, all_ok)),
-        Err(_) => Err(ServeError::Memory),
+    let text = report(alloc, files, &mut run)?;
+    let all_ok = all_good(&mut run);
+    Ok(Answer { run, text, all_ok })
+}
+
+/// Where the module of a file stands among those of a run: none where the file was not reached.
+fn place_of(run: &mut Run, n: usize) -> Option<usize>
+    ensures same { run.new ≡ run.old }
+    ensures within { IfSome result (λ i. i < length run.old.kept.items) }
+{
+    let (mut low, mut high) = (0, run.len());
+    while low < high {
+        let middle = low + (high - low) / 2;
+        let note = run.note(middle);
+        let number = run.module(middle, note).number;
+        if number == n {
+            return Some(middle);
+        }
+        if number < n {
+            low = middle + 1;
+        } else {
+            high = middle;
+        }
+    }
+    None
+}
+
+/// The labels of a refused load's file and of the file that it loads.
+fn refused_labels<'a>(
+    files: &'a Files,
+    run: &mut Run,
+    refused: Refused,
+) -> Option<(&'a Label, &'a Label)>
+    requires { length run.old.cells.items ≡ length files.now }
+    ensures { run.new ≡ run.old }
+{
+    let place = place_of(run, refused.file)?;
+    let note = run.note(place);
+    let module = run.module(place, note);
+    let loads = module.loads.as_slice();
+    if refused.index < loads.len() {
+        let loaded = loads[refused.index];
+        Some((files.label(module.number), files.label(loaded)))
+    } else {
+        None
     }
 }
 
-/// Reads a bundle, runs its file and writes the report. It answers whether every module of the report is ok.
+/// Writes a line for each refused load, up to the first that cannot be written.
+fn write_trace<W: Sink>(alloc: Global, writer: &mut W, files: &Files, run: &mut Run)
+    requires { length run.old.cells.items ≡ length files.now }
+{
+    for i in 0..run.refused().len() {
+        let Some(refused) = run.refused().get(i).copied() else {
+            return;
+        };
+        let Some((loader, loaded)) = refused_labels(files, run, refused) else {
+            continue;
+        };
+        let (loader, loaded) = (loader.text(), loaded.text());
+        let Ok(line) = format!(in alloc; "starload: cycle: {loader} loads {loaded}\n") else {
+            return;
+        };
+        if writer.write(line.as_bytes()).is_err() {
+            return;
+        }
+    }
+}
+
+/// Reads a bundle, loads the roots and writes the report, and the trace to `errors` where that is wanted. It answers whether every
+/// module of the report is ok.
 ///
-/// The rules are those of `docs/REPORT.md`: what a bundle is, the refusals in their order, and the report to the byte.
-pub fn serve<R: Source, W: Sink>(
+/// The rules are those of `docs/REPORT.md`: what a bundle is, the refusals in their order, and the report.
+pub fn serve<H: Threads + Wait + Sync, R: Source, W: Sink, E: Sink>(
+    rt: &H,
     alloc: Global,
     reader: &mut R,
     writer: &mut W,
+    errors: &mut E,
     options: &Options,
 ) -> Result<bool, ServeError>
-    // All was read, each root names the one file, and the report of how that file ends was written, and nothing else.
+    requires loaders { (1 ≤ options.now.loaders) × (options.now.loaders ≤ 64) }
+    requires steps { (1 ≤ options.now.steps) × (options.now.steps ≤ 100000000) }
+
+    // All was read, it is a bundle that has each root and the prelude, and one text was written, and nothing else.
     ensures ok { IfOk result (λ all_ok. (input : List ℕ)
         × ReadsAll (R.given reader.old) (R.given reader.new) (R.ended reader.new) input
-        × (file : bundle.File) × (rooted_file (map string_bytes options.now.roots.items) input ≡ Ok file)
-        × (outcome : run.Outcome) × EndsAs file.1 outcome × (all_ok ≡ is_ok_module outcome)
-        × Adds (W.taken writer.old) (W.taken writer.new) (report_of file.0 outcome)) }
+        × (asked : bundle.Asked)
+        × (bundle.asked_of (map string_bytes options.now.roots.items) (option_map string_bytes options.now.prelude) input ≡ Ok asked)
+        × (text : List ℕ) × Adds (W.taken writer.old) (W.taken writer.new) text) }
 
     // What was read is refused so, and nothing was written.
-    ensures refused { IfErr result (Refused
+    ensures refused { IfErr result (IsRefused
         (λ given. (input : List ℕ)
         × ReadsAll (R.given reader.old) (R.given reader.new) (R.ended reader.new) input
-        × (rooted_file (map string_bytes options.now.roots.items) input ≡ given))
+        × (bundle.asked_of (map string_bytes options.now.roots.items) (option_map string_bytes options.now.prelude) input ≡ given))
         ((input : List ℕ) × Adds (R.given reader.old) (R.given reader.new) input
         × (length input ≤ input_limit))
         ((input : List ℕ) × Adds (R.given reader.old) (R.given reader.new) input
@@ -81,16 +184,28 @@ pub fn serve<R: Source, W: Sink>(
         Ok(bytes) => bytes,
         Err(error) => return Err(error),
     };
-    let file = match rooted_file(alloc, bytes.as_slice(), options.roots.as_slice()) {
-        Ok(file) => file,
+    let asked = match asked_for(
+        alloc,
+        bytes.as_slice(),
+        options.roots.as_slice(),
+        options.prelude.as_ref(),
+    ) {
+        Ok(asked) => asked,
         Err(error) => return Err(error),
     };
-    let (text, all_ok) = match answer(alloc, &file) {
+    let Answer {
+        mut run,
+        text,
+        all_ok,
+    } = match answered(rt, alloc, &asked, options.loaders, options.steps) {
         Ok(answer) => answer,
         Err(error) => return Err(error),
     };
-    match writer.write(text.as_bytes()) {
-        Ok(()) => Ok(all_ok),
-        Err(_) => Err(ServeError::Write),
+    if writer.write(text.as_bytes()).is_err() {
+        return Err(ServeError::Write);
     }
+    if options.trace {
+        write_trace(alloc, errors, &asked.files, &mut run);
+    }
+    Ok(all_ok)
 }

@@ -1,13 +1,15 @@
 //! Bundles from bytes to bytes, over scripted streams that say their bytes.
 
-ghost use Rattle.std.specs.Prelude.{None, Some, false, ◌==◌, if◌then◌else◌};
+ghost use Rattle.std.specs.Prelude.{◌≤◌, None, Some, false, ◌==◌, if◌then◌else◌};
 
-use crate::error::{ServeError, status};
+use star_bundle::error::{ServeError, status};
 use crate::serve::{Options, serve};
 use crate::stream::{Failed, Sink, Source};
 use std::alloc::{AllocError, Global};
 use std::process::Abort;
+use std::sync::Wait;
 use std::test::Fail;
+use std::thread::Threads;
 
 /// Gives bytes, at most so many at a time; a read fails where so many were given.
 #[derive(Drop)]
@@ -107,48 +109,67 @@ fn scripted<'a>(
     }
 }
 
-/// What `serve` answers for the root `//:a.star`, and what it wrote.
-fn served<R: Source>(
+/// What `serve` answers for the root `//:a.star` with so many loaders, and what it wrote.
+fn served<H: Threads + Wait + Sync, R: Source>(
+    rt: &H,
     alloc: Global,
     reader: &mut R,
     fails: bool,
-) -> Result<(Result<bool, ServeError>, Vec<u8>), AllocError> {
-    let mut writer = Kept {
-        bytes: Vec::new(alloc),
-        fails,
-        failed: 0,
-    };
+    loaders: usize,
+) -> Result<(Result<bool, ServeError>, Vec<u8>), AllocError>
+    requires { (1 ≤ loaders) × (loaders ≤ 64) }
+{
+    let mut writer = kept(alloc, fails);
+    let mut errors = kept(alloc, false);
     let mut roots = Vec::new(alloc);
     roots.push(String::from_str(alloc, "//:a.star")?)?;
     let options = Options {
-        loaders: 1,
-        steps: 100,
+        loaders,
+        steps: 10_000,
         roots,
+        prelude: None,
+        trace: true,
     };
-    let outcome = serve(alloc, reader, &mut writer, &options);
+    let outcome = serve(rt, alloc, reader, &mut writer, &mut errors, &options);
     let Kept { bytes, .. } = writer;
     Ok((outcome, bytes))
 }
 
+fn kept(alloc: Global, fails: bool) -> Kept {
+    Kept {
+        bytes: Vec::new(alloc),
+        fails,
+        failed: 0,
+    }
+}
+
 /// The input is refused so, and nothing is written.
-fn refuses(rt: &impl Abort, alloc: Global, input: &[u8], want: ServeError) -> Result<(), Fail> {
-    let (outcome, written) = served(alloc, &mut scripted(alloc, input, 7, None), false)?;
+fn refuses<H: Abort + Threads + Wait + Sync>(
+    rt: &H,
+    alloc: Global,
+    input: &[u8],
+    want: ServeError,
+) -> Result<(), Fail> {
+    let (outcome, written) = served(rt, alloc, &mut scripted(alloc, input, 7, None), false, 1)?;
     assert_eq!(rt; outcome, Err(want));
     assert!(rt; written.is_empty());
     Ok(())
 }
 
-/// The one file `//:a.star` of this text, as a JSON string without its quotes, ends with this report.
-fn reports(rt: &impl Abort, alloc: Global, text: &str, want: &str) -> Result<(), Fail> {
-    let input = format!(in alloc; "{{\"//:a.star\":\"{text}\"}}")?;
-    let (outcome, written) = served(
-        alloc,
-        &mut scripted(alloc, input.as_bytes(), 3, None),
-        false,
-    )?;
-    assert_eq!(rt; outcome, Ok(want.contains("\"status\":\"ok\"")));
-    let whole = format!(in alloc; "{{\"begun\":1,\"modules\":[{{{want}}}]}}\n")?;
-    assert_eq!(rt; written.as_slice(), whole.as_bytes());
+/// This bundle has this report, with 1 loader and with 3.
+fn reports<H: Abort + Threads + Wait + Sync>(
+    rt: &H,
+    alloc: Global,
+    input: &str,
+    all_ok: bool,
+    want: &str,
+) -> Result<(), Fail> {
+    for loaders in [1, 3] {
+        let mut reader = scripted(alloc, input.as_bytes(), 3, None);
+        let (outcome, written) = served(rt, alloc, &mut reader, false, loaders)?;
+        assert_eq!(rt; outcome, Ok(all_ok));
+        assert_eq!(rt; written.as_slice(), want.as_bytes());
+    }
     Ok(())
 }
 
@@ -158,25 +179,22 @@ fn what_is_no_bundle(rt: HostRuntime) -> Result<(), Fail> {
         "",
         "{\"//:a.star\":\"x",
         "[]",
-        "{}",
         "{\"//:a.star\":1}",
-        "{\"//:a.star\":\"\",\"//:b.star\":\"\"}",
         "{\"//:a.star\":\"\\ud800\"}",
         "{\"//:a.star\":\"\"} x",
     ] {
         refuses(&rt, rt.alloc(), input.as_bytes(), ServeError::BadBundle)?;
     }
-    Ok(())
-}
-
-#[test]
-fn what_is_not_utf8(rt: HostRuntime) -> Result<(), Fail> {
     refuses(
         &rt,
         rt.alloc(),
         b"{\"//:a.star\":\"\xff\"}",
         ServeError::BadBundle,
-    )
+    )?;
+    refuses(&rt, rt.alloc(), b"{\"a\":\"\"}", ServeError::BadKey)?;
+    refuses(&rt, rt.alloc(), b"{\":a\":\"\"}", ServeError::BadKey)?;
+    refuses(&rt, rt.alloc(), b"{\"a\":1}", ServeError::BadBundle)?;
+    refuses(&rt, rt.alloc(), b"{\"//:b.star\":\"\"}", ServeError::NoRoot)
 }
 
 #[test]
@@ -189,8 +207,11 @@ fn two_hundred_arrays(rt: HostRuntime) -> Result<(), Fail> {
 }
 
 #[test]
-fn a_root_that_is_not_the_key(rt: HostRuntime) -> Result<(), Fail> {
-    refuses(&rt, rt.alloc(), b"{\"//:b.star\":\"\"}", ServeError::NoRoot)
+fn a_text_that_is_too_long(rt: HostRuntime) -> Result<(), Fail> {
+    let alloc = rt.alloc();
+    let text = " ".repeat(alloc, 1_048_577)?;
+    let input = format!(in alloc; "{{\"//:a.star\":\"{text}\"}}")?;
+    refuses(&rt, rt.alloc(), input.as_bytes(), ServeError::TooLong)
 }
 
 #[test]
@@ -198,7 +219,7 @@ fn a_reader_that_fails(rt: HostRuntime) -> Result<(), Fail> {
     let alloc = rt.alloc();
     for breaks_at in [0, 6] {
         let mut reader = scripted(alloc, b"{\"//:a.star\":\"\"}", 3, Some(breaks_at));
-        let (outcome, written) = served(alloc, &mut reader, false)?;
+        let (outcome, written) = served(&rt, alloc, &mut reader, false, 1)?;
         assert_eq!(rt; outcome, Err(ServeError::Read));
         assert!(rt; written.is_empty());
         assert_eq!(rt; reader.failed, 1);
@@ -208,7 +229,7 @@ fn a_reader_that_fails(rt: HostRuntime) -> Result<(), Fail> {
 
 #[test]
 fn a_reader_that_never_ends(rt: HostRuntime) -> Result<(), Fail> {
-    let (outcome, written) = served(rt.alloc(), &mut Spaces, false)?;
+    let (outcome, written) = served(&rt, rt.alloc(), &mut Spaces, false, 1)?;
     assert_eq!(rt; outcome, Err(ServeError::TooBig));
     assert!(rt; written.is_empty());
     Ok(())
@@ -218,7 +239,7 @@ fn a_reader_that_never_ends(rt: HostRuntime) -> Result<(), Fail> {
 fn a_writer_that_fails(rt: HostRuntime) -> Result<(), Fail> {
     let alloc = rt.alloc();
     let mut reader = scripted(alloc, b"{\"//:a.star\":\"\"}", 9, None);
-    let (outcome, _) = served(alloc, &mut reader, true)?;
+    let (outcome, _) = served(&rt, alloc, &mut reader, true, 2)?;
     assert_eq!(rt; outcome, Err(ServeError::Write));
     Ok(())
 }
@@ -233,67 +254,26 @@ fn statuses(rt: HostRuntime) -> Result<(), Fail> {
 }
 
 #[test]
-fn files_that_run(rt: HostRuntime) -> Result<(), Fail> {
+fn files_that_load_one_another(rt: HostRuntime) -> Result<(), Fail> {
     reports(
         &rt,
         rt.alloc(),
-        "x = 1 + 2\\nprint(\\\"hi\\\", x)",
-        "\"globals\":{\"x\":\"3\"},\"label\":\"//:a.star\",\"lines\":[\"hi 3\"],\"status\":\"ok\"",
+        "{\"//:a.star\":\"load('//:b.star', 'f')\\nx = [f(i) for i in range(3)]\",\"//:b.star\":\"def f(i): return i * i\"}",
+        true,
+        "{\"begun\":2,\"modules\":[{\"globals\":{\"x\":\"[0, 1, 4]\"},\"label\":\"//:a.star\",\"lines\":[],\"status\":\"ok\"},{\"globals\":{\"f\":\"<function f>\"},\"label\":\"//:b.star\",\"lines\":[],\"status\":\"ok\"}]}\n",
     )?;
     reports(
         &rt,
         rt.alloc(),
-        "",
-        "\"globals\":{},\"label\":\"//:a.star\",\"lines\":[],\"status\":\"ok\"",
+        "{\"//:a.star\":\"load(':b.star', 'y')\",\"//:b.star\":\"load(':a.star', 'x')\"}",
+        false,
+        "{\"begun\":2,\"modules\":[{\"cycle\":[\"//:a.star\",\"//:b.star\"],\"label\":\"//:a.star\",\"line\":1,\"lines\":[],\"status\":\"load\"},{\"cycle\":[\"//:b.star\",\"//:a.star\"],\"label\":\"//:b.star\",\"line\":1,\"lines\":[],\"status\":\"load\"}]}\n",
     )?;
     reports(
         &rt,
         rt.alloc(),
-        "b = (1 + 2) + 3\\na = \\\"x\\\" + \\\"y\\\"\\nb = b + b\\nprint()",
-        "\"globals\":{\"a\":\"\\\"xy\\\"\",\"b\":\"12\"},\"label\":\"//:a.star\",\"lines\":[\"\"],\"status\":\"ok\"",
-    )
-}
-
-#[test]
-fn files_that_fault(rt: HostRuntime) -> Result<(), Fail> {
-    reports(
-        &rt,
-        rt.alloc(),
-        "print(\\\"a\\\")\\nx = 1 + \\\"b\\\"",
-        "\"fault\":\"type\",\"label\":\"//:a.star\",\"line\":2,\"lines\":[\"a\"],\"status\":\"fault\"",
-    )?;
-    reports(
-        &rt,
-        rt.alloc(),
-        "x = y\\ny = 1",
-        "\"fault\":\"unbound\",\"label\":\"//:a.star\",\"line\":1,\"lines\":[],\"status\":\"fault\"",
-    )?;
-    reports(
-        &rt,
-        rt.alloc(),
-        "\\n\\nx = 9223372036854775807 + 1",
-        "\"fault\":\"overflow\",\"label\":\"//:a.star\",\"line\":3,\"lines\":[],\"status\":\"fault\"",
-    )
-}
-
-#[test]
-fn files_that_do_not_run(rt: HostRuntime) -> Result<(), Fail> {
-    reports(
-        &rt,
-        rt.alloc(),
-        "x = (1 +\\n y)",
-        "\"fault\":\"undefined\",\"label\":\"//:a.star\",\"line\":2,\"lines\":[],\"status\":\"static\"",
-    )?;
-    reports(
-        &rt,
-        rt.alloc(),
-        "x = \\\"ab",
-        "\"fault\":\"bad_token\",\"label\":\"//:a.star\",\"line\":1,\"lines\":[],\"status\":\"static\"",
-    )?;
-    reports(
-        &rt,
-        rt.alloc(),
-        "x = [1]",
-        "\"fault\":\"syntax\",\"label\":\"//:a.star\",\"line\":0,\"lines\":[],\"status\":\"static\"",
+        "{\"//:a.star\":\"print('a')\\nx = 1 // 0\"}",
+        false,
+        "{\"begun\":1,\"modules\":[{\"fault\":\"zero\",\"label\":\"//:a.star\",\"line\":2,\"lines\":[\"a\"],\"status\":\"fault\"}]}\n",
     )
 }

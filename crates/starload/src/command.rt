@@ -1,0 +1,131 @@
+//! The command line.
+
+ghost use Rattle.std.specs.Prelude.{◌≡◌, ◌≤◌, true, false, Some, IfOk, codes, map, option_map, string_bytes};
+ghost use Rattle.clap.specs.Matches.{first_value, found_of, one_text};
+ghost use Rattle.starload.specs.Options as spec;
+
+use crate::serve::Options;
+use clap::{Arg, ArgAction, ArgMatches, Command, value_parser};
+use std::alloc::{AllocError, Global};
+
+/// What stands after the options in the help.
+const EXAMPLE: &str =
+    "The bundle is a JSON object from labels to the texts of files, on standard input. For example:
+
+    echo '{\"//:a.star\": \"x = 1 + 2\"}' | starload //:a.star
+
+The report is one line of JSON on standard output. The exit status is 0 where every file is ok, 1 where some
+file is not, and 2 where there is no report; then standard error says why.";
+
+fn loaders_arg<'a>(alloc: Global) -> Arg<'a> {
+    Arg::new(alloc, "loaders")
+        .long("loaders")
+        .value_name("N")
+        .help("How many files are loaded at once, from 1 to 64; the report does not depend on it")
+        .value_parser(value_parser!(u8).range(1..=64))
+        .default_value("4")
+}
+
+fn steps_arg<'a>(alloc: Global) -> Arg<'a> {
+    Arg::new(alloc, "steps")
+        .long("steps")
+        .value_name("N")
+        .help("How many steps each file may take, from 1 to 100000000")
+        .value_parser(value_parser!(u32).range(1..=100_000_000))
+        .default_value("1000000")
+}
+
+fn prelude_arg<'a>(alloc: Global) -> Arg<'a> {
+    Arg::new(alloc, "prelude")
+        .long("prelude")
+        .value_name("LABEL")
+        .help("The file whose names every other file sees without loading it")
+}
+
+fn trace_arg<'a>(alloc: Global) -> Arg<'a> {
+    Arg::new(alloc, "trace")
+        .long("trace")
+        .help("Says on standard error which loads were refused since they lie on a cycle")
+        .action(ArgAction::SetTrue)
+}
+
+fn roots_arg<'a>(alloc: Global) -> Arg<'a> {
+    Arg::new(alloc, "ROOT")
+        .help("The labels of the files to load, such as //app:main.star")
+        .action(ArgAction::Append)
+        .required(true)
+}
+
+/// The command line.
+pub fn command<'a>(alloc: Global) -> Result<Command<'a>, clap::Error> {
+    Ok(
+        Command::new(alloc, "starload")
+            .about(
+                "Loads Starlark files and reports the globals, the printed lines or the fault of each",
+            )
+            .after_help(EXAMPLE)
+            .arg(loaders_arg(alloc))?
+            .arg(steps_arg(alloc))?
+            .arg(prelude_arg(alloc))?
+            .arg(trace_arg(alloc))?
+            .arg(roots_arg(alloc))?,
+    )
+}
+
+/// Words as texts of their own.
+fn texts(alloc: Global, words: &[&str]) -> Result<Vec<String>, AllocError>
+    ensures { IfOk result (λ v. map string_bytes v.items ≡ map (λ w. w.now) words.now) }
+{
+    let mut texts = Vec::new(alloc);
+    for word in words {
+        texts.push(String::from_str(alloc, *word)?)?;
+    }
+    Ok(texts)
+}
+
+/// The values of an argument, in their order.
+fn values_of(alloc: Global, matches: &ArgMatches<'_>, id: &str) -> Result<Vec<String>, AllocError>
+    ensures { IfOk result (λ v. map string_bytes v.items ≡ spec.values_of matches.now id.now) }
+{
+    match matches.get_strs(id) {
+        Some(words) => texts(alloc, words),
+        None => Ok(Vec::new(alloc)),
+    }
+}
+
+/// The first value of an argument, where it has one.
+fn value_of(
+    alloc: Global,
+    matches: &ArgMatches<'_>,
+    id: &str,
+) -> Result<Option<String>, AllocError>
+    ensures { IfOk result (λ v. option_map string_bytes v ≡ first_value (found_of matches.now) id.now) }
+{
+    match matches.get_str(id) {
+        Some(word) => Ok(Some(String::from_str(alloc, word)?)),
+        None => Ok(None),
+    }
+}
+
+/// The options that the words of the command line give: the roots in their order. `Memory` where a growth was refused.
+pub fn options(alloc: Global, matches: &ArgMatches<'_>) -> Result<Options, AllocError>
+    ensures loaders { IfOk result (λ o. (1 ≤ o.loaders) × (o.loaders ≤ 64)) }
+    ensures steps { IfOk result (λ o. (1 ≤ o.steps) × (o.steps ≤ 100000000)) }
+    ensures roots { IfOk result (λ o. map string_bytes o.roots.items ≡ spec.values_of matches.now (codes "ROOT")) }
+    ensures prelude { IfOk result (λ o. option_map string_bytes o.prelude
+        ≡ first_value (found_of matches.now) (codes "prelude")) }
+    ensures trace { IfOk result (λ o. (one_text (found_of matches.now) (codes "trace") ≡ Some (codes "true"))
+        → (o.trace ≡ true)) }
+    ensures no_trace { IfOk result (λ o. (one_text (found_of matches.now) (codes "trace") ≡ Some (codes "false"))
+        → (o.trace ≡ false)) }
+{
+    let loaders = usize::from(matches.get_one::<u8>("loaders").unwrap_or(4));
+    let steps = matches.get_one::<u32>("steps").unwrap_or(1_000_000);
+    Ok(Options {
+        loaders: loaders.clamp(1, 64),
+        steps: steps.clamp(1, 100_000_000),
+        roots: values_of(alloc, matches, "ROOT")?,
+        prelude: value_of(alloc, matches, "prelude")?,
+        trace: matches.get_flag("trace"),
+    })
+}
