@@ -3,3 +3,5 @@
 
 pub mod bundle;
 pub mod error;
+#[cfg(test)]
+mod tests;
