@@ -82,7 +82,7 @@ fn answered<H: Threads + Wait + Sync>(
 /// Where the module of a file stands among those of a run: none where the file was not reached.
 fn place_of(run: &mut Run, n: usize) -> Option<usize>
     ensures same { run.new ≡ run.old }
-    ensures within { IfSome result (λ i. i < length run.old.kept.items) }
+    ensures within { IfSome result (λ i. i < length run.old.kept) }
 {
     let (mut low, mut high) = (0, run.len());
     while low < high {
@@ -107,7 +107,7 @@ fn refused_labels<'a>(
     run: &mut Run,
     refused: Refused,
 ) -> Option<(&'a Label, &'a Label)>
-    requires { length run.old.cells.items ≡ length files.now }
+    requires { length run.old.cells ≡ length files.now }
     ensures { run.new ≡ run.old }
 {
     let place = place_of(run, refused.file)?;
@@ -124,7 +124,7 @@ fn refused_labels<'a>(
 
 /// Writes a line for each refused load, up to the first that cannot be written.
 fn write_trace<W: Sink>(alloc: Global, writer: &mut W, files: &Files, run: &mut Run)
-    requires { length run.old.cells.items ≡ length files.now }
+    requires { length run.old.cells ≡ length files.now }
 {
     for i in 0..run.refused().len() {
         let Some(refused) = run.refused().get(i).copied() else {
