@@ -94,11 +94,7 @@ fn values_of(alloc: Global, matches: &ArgMatches<'_>, id: &str) -> Result<Vec<St
 }
 
 /// The first value of an argument, where it has one.
-fn value_of(
-    alloc: Global,
-    matches: &ArgMatches<'_>,
-    id: &str,
-) -> Result<Option<String>, AllocError>
+fn value_of(alloc: Global, matches: &ArgMatches<'_>, id: &str) -> Result<Option<String>, AllocError>
     ensures { IfOk result (λ v. option_map string_bytes v ≡ first_value (found_of matches.now) id.now) }
 {
     match matches.get_str(id) {

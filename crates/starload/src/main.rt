@@ -15,8 +15,8 @@ mod tests;
 use clap::error::ErrorKind;
 use command::{command, options};
 use ends::{CountedReader, CountedWriter};
-use star_bundle::error::{ServeError, status};
 use serve::serve;
+use star_bundle::error::{ServeError, status};
 use std::process::ExitCode;
 use std::{env, io};
 

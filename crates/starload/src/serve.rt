@@ -7,10 +7,10 @@ ghost use Rattle.star_bundle.specs.Refusal.{reads_failed, writes_failed};
 ghost use Rattle.starload.specs.Serve.{IsRefused, ReadsAll, input_limit};
 ghost use Rattle.starload.specs.Stream.{Adds};
 
-use star_bundle::bundle::{AskedFor, asked_for};
-use star_bundle::error::ServeError;
 use crate::read::read_all;
 use crate::stream::{Sink, Source};
+use star_bundle::bundle::{AskedFor, asked_for};
+use star_bundle::error::ServeError;
 use star_host::gate::Open;
 use star_host::report::{all_good, report};
 use star_host::{Refused, Run, RunError, run};

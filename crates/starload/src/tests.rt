@@ -2,9 +2,9 @@
 
 ghost use Rattle.std.specs.Prelude.{◌≤◌, None, Some, false, ◌==◌, if◌then◌else◌};
 
-use star_bundle::error::{ServeError, status};
 use crate::serve::{Options, serve};
 use crate::stream::{Failed, Sink, Source};
+use star_bundle::error::{ServeError, status};
 use std::alloc::{AllocError, Global};
 use std::process::Abort;
 use std::sync::Wait;
@@ -119,8 +119,8 @@ fn served<H: Threads + Wait + Sync, R: Source>(
 ) -> Result<(Result<bool, ServeError>, Vec<u8>), AllocError>
     requires { (1 ≤ loaders) × (loaders ≤ 64) }
 {
-    let mut writer = kept(alloc, fails);
-    let mut errors = kept(alloc, false);
+    let mut writer = writer_of(alloc, fails);
+    let mut errors = writer_of(alloc, false);
     let mut roots = Vec::new(alloc);
     roots.push(String::from_str(alloc, "//:a.star")?)?;
     let options = Options {
@@ -135,7 +135,7 @@ fn served<H: Threads + Wait + Sync, R: Source>(
     Ok((outcome, bytes))
 }
 
-fn kept(alloc: Global, fails: bool) -> Kept {
+fn writer_of(alloc: Global, fails: bool) -> Kept {
     Kept {
         bytes: Vec::new(alloc),
         fails,
