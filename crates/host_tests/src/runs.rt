@@ -2,9 +2,9 @@
 
 ghost use Rattle.std.specs.Prelude.{◌≡◌, ◌<◌, ◌≤◌, All, IfOk, length};
 
-use star_host::gate::Open;
+use star_host::gate::{Gate, Open};
 use star_host::report::report;
-use star_host::run;
+use star_host::{Run, run};
 use star_label::files::Files;
 use star_label::label::Label;
 use std::alloc::{AllocError, Global};
@@ -23,6 +23,27 @@ pub fn files_of(alloc: Global, bundle: &[(&str, &str)]) -> Result<Files, Fail> {
     Ok(Files::new(alloc, files)?)
 }
 
+/// So many files, of which each loads the next two, and has the sum of their numbers; the last two have 1.
+pub fn sums(alloc: Global, count: u32) -> Result<Files, Fail>
+    requires { count ≤ 100 }
+{
+    let mut files = BTreeMap::new(alloc);
+    for n in 0..count {
+        let label = format!(in alloc; "//:f{}.star", 100 + n)?;
+        let text = if n + 2 < count {
+            format!(in alloc;
+                "load(\":f{}.star\", a = \"x\")\nload(\":f{}.star\", b = \"x\")\nx = a + b",
+                101 + n,
+                102 + n
+            )?
+        } else {
+            String::from_str(alloc, "x = 1")?
+        };
+        files.insert(Label::read(alloc, label.as_str(), "")?, text)?;
+    }
+    Ok(Files::new(alloc, files)?)
+}
+
 /// The numbers of all files.
 pub fn all_roots(alloc: Global, files: &Files) -> Result<Vec<usize>, AllocError>
     ensures { IfOk result (λ v. All (λ n. n < length files.now) v.items) }
@@ -32,6 +53,21 @@ pub fn all_roots(alloc: Global, files: &Files) -> Result<Vec<usize>, AllocError>
         roots.push(n)?;
     }
     Ok(roots)
+}
+
+/// The run of files all of which are roots, where each body may take 100,000 steps.
+pub fn run_all<R: Threads + Wait + Sync, G: Gate + Sync>(
+    rt: &R,
+    alloc: Global,
+    files: &Files,
+    loaders: usize,
+    gate: &G,
+) -> Result<Run, Fail>
+    requires { (1 ≤ loaders) × (loaders ≤ 64) }
+    ensures { IfOk result (λ r. length r.cells ≡ length files.now) }
+{
+    let roots = all_roots(alloc, files)?;
+    Ok(run(rt, alloc, files, &roots, None, loaders, 100_000, gate)?)
 }
 
 /// The report of a bundle all of whose files are roots, where each body may take 100,000 steps.
@@ -44,7 +80,6 @@ pub fn report_of<R: Threads + Wait + Sync>(
     requires { (1 ≤ loaders) × (loaders ≤ 64) }
 {
     let files = files_of(alloc, bundle)?;
-    let roots = all_roots(alloc, &files)?;
-    let mut run = run(rt, alloc, &files, &roots, None, loaders, 100_000, &Open)?;
+    let mut run = run_all(rt, alloc, &files, loaders, &Open)?;
     Ok(report(alloc, &files, &mut run)?)
 }

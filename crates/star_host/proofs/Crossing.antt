@@ -4,14 +4,13 @@ use denote.Param.Send.{IsSync, sendable}
 use Rattle.std.proofs.Crossing.{crosses}
 use Rattle.std.proofs.MapsCrossing as maps
 use Rattle.star_scope.specs.contracts.program.Program as program
-use Rattle.star_scope.specs.contracts.blocks.Blocks as blocks
-use Rattle.star_scope.specs.contracts.blocks.Block as block
-use Rattle.star_scope.specs.contracts.blocks.BlockNames as names
 use Rattle.star_scope.specs.contracts.outline.Body as body
 use Rattle.star_scope.specs.contracts.outline.Definition as definition
 use Rattle.star_scope.specs.contracts.outline.Definitions as definitions
-use Rattle.star_scope.specs.contracts.spots.Spots as spots
-use Rattle.star_scope.specs.contracts.loads.Load as load
+use Rattle.star_scope.proofs.blocks.Blocks.TheSendSync as of_blocks
+use Rattle.star_scope.proofs.blocks.BlockNames.TheSendSync as of_names
+use Rattle.star_scope.proofs.spots.Spots.TheSendSync as of_spots
+use Rattle.star_scope.proofs.loads.Load.TheSendSync as of_load
 use Rattle.star_syntax.specs.contracts.tree.Expression as expression
 use Rattle.star_syntax.specs.contracts.tree.Parameter as parameter
 use Rattle.star_syntax.specs.contracts.tree.Statement as statement
@@ -29,38 +28,25 @@ use Rattle.star_text.proofs.Text.TheSendSync as of_text
 use Rattle.sqlite_items.proofs.items.Items.TheSendSync as of_items
 use Rattle.sqlite_items.proofs.boxed.Boxed.TheSendSync as of_boxed
 
+ruleset leaves = (of_name.the_field_sync, of_position.the_field_sync, of_unary.the_field_sync, of_binary.the_field_sync, of_comparator.the_field_sync, of_text.the_sync, of_items.the_sync, of_boxed.the_sync)
+
 expression_sync : IsSync expression.the_row
-expression_sync = search (sendable, crosses, of_expressions.crosses, of_name.the_field_sync, of_position.the_field_sync, of_unary.the_field_sync, of_binary.the_field_sync, of_comparator.the_field_sync, of_text.the_sync, of_items.the_sync, of_boxed.the_sync) depth 60
+expression_sync = search (sendable, crosses, of_expressions.crosses, leaves) depth 60
 
 expression_field : IsSync (expression.the_field).row
-expression_field = search (sendable, crosses, of_expressions.crosses, of_name.the_field_sync, of_position.the_field_sync, of_unary.the_field_sync, of_binary.the_field_sync, of_comparator.the_field_sync, of_text.the_sync, of_items.the_sync, of_boxed.the_sync) depth 60
+expression_field = search (sendable, crosses, of_expressions.crosses, leaves) depth 60
 
 target_field : IsSync (target.the_field).row
-target_field = search (sendable, crosses, of_expressions.crosses, of_name.the_field_sync, of_position.the_field_sync, of_unary.the_field_sync, of_binary.the_field_sync, of_comparator.the_field_sync, of_text.the_sync, of_items.the_sync, of_boxed.the_sync) depth 60
+target_field = search (sendable, crosses, of_expressions.crosses, leaves) depth 60
 
 parameter_field : IsSync (parameter.the_field).row
-parameter_field = search (sendable, crosses, of_expressions.crosses, of_name.the_field_sync, of_position.the_field_sync, of_unary.the_field_sync, of_binary.the_field_sync, of_comparator.the_field_sync, of_text.the_sync, of_items.the_sync, of_boxed.the_sync) depth 60
+parameter_field = search (sendable, crosses, of_expressions.crosses, leaves) depth 60
 
 parameter_sync : IsSync parameter.the_row
-parameter_sync = search (sendable, crosses, of_expressions.crosses, of_name.the_field_sync, of_position.the_field_sync, of_unary.the_field_sync, of_binary.the_field_sync, of_comparator.the_field_sync, of_text.the_sync, of_items.the_sync, of_boxed.the_sync) depth 60
+parameter_sync = search (sendable, crosses, of_expressions.crosses, leaves) depth 60
 
-statement_sync : IsSync statement.the_row
-statement_sync = search (sendable, crosses, of_statements.crosses, expression_field, target_field, parameter_field, of_literal.the_field_sync, of_loaded.the_field_sync, of_name.the_field_sync, of_position.the_field_sync, of_unary.the_field_sync, of_binary.the_field_sync, of_comparator.the_field_sync, of_text.the_sync, of_items.the_sync, of_boxed.the_sync) depth 60 fits 100000
-
-load_sync : IsSync load.the_row
-load_sync = search sendable depth 20
-
-spots_sync : IsSync spots.the_row
-spots_sync = search (sendable, crosses) depth 40
-
-names_sync : (κ : NamedLft) → IsSync (names.the_row κ)
-names_sync κ = search (sendable, crosses, maps.crosses) depth 40
-
-block_sync : (κ : NamedLft) → IsSync (block.the_row κ)
-block_sync κ = let n = names_sync κ in search (sendable, crosses) depth 20
-
-blocks_sync : (κ : NamedLft) → IsSync (blocks.the_row κ)
-blocks_sync κ = let n = block_sync κ in search (sendable, crosses, maps.crosses) depth 40
+pub statement_sync : IsSync statement.the_row
+statement_sync = search (sendable, crosses, of_statements.crosses, expression_field, target_field, parameter_field, of_literal.the_field_sync, of_loaded.the_field_sync, leaves) depth 60 fits 100000
 
 module _ (s : IsSync statement.the_row) (p : IsSync parameter.the_row) (e : IsSync expression.the_row) (κ : NamedLft) where
   body_sync : IsSync (body.the_row κ)
@@ -74,11 +60,11 @@ module _ (s : IsSync statement.the_row) (p : IsSync parameter.the_row) (e : IsSy
 
   the_program : IsSync (program.the_row κ)
   the_program =
-      let l = load_sync in
+      let l = of_load.the_sync in
       let d = definitions_sync in
-      let b = blocks_sync κ in
-      let n = names_sync κ in
-      let t = spots_sync in
+      let b = of_blocks.the_sync κ in
+      let n = of_names.the_sync κ in
+      let t = of_spots.the_sync in
       search (sendable, crosses) depth 40
 
 pub program_sync : (κ : NamedLft) → IsSync (program.the_row κ)

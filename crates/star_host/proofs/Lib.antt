@@ -6,3 +6,4 @@ pub mod KeptNotes
 pub mod Ends
 pub mod NextLoads
 pub mod Crossing
+pub mod Sharing

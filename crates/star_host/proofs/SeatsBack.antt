@@ -1,5 +1,5 @@
 -- Seats that came back from the loaders.
-use Rattle.std.proofs.Common.{◌≡◌, ◌<◌, ℕ, List, length, map, get_or, ap, arith, sym, ◌∙◌}
+use Rattle.std.proofs.Common.{◌≡◌, ◌<◌, ℕ, List, [], ◌∷◌, length, map, get_or, slice_index_or, ap, arith, refl, suc, sym, ◌∙◌}
 use Rattle.std.proofs.lemmas.List.{get_or_default, get_or-map, length-map}
 use Rattle.star_cache.specs.Seats.{SeatState, AreAll, AreNew}
 
@@ -29,3 +29,13 @@ all_back n before ws f w row same =
     let here : i < length ws = omega (arith, h, all) in
     let there : i < length before = omega (arith, h, row.0) in
     sym (get_or-map (λ x. (f x).number) ws i d 0 here) ∙ ap (λ ns. get_or ns i 0) same ∙ get_or-map (λ (s : SeatState). s.number) before i e 0 there)
+
+-- rows have the same numbers where each place has
+pub numbers_back : {A B : Type 0} (f : A → ℕ) (h : B → ℕ) (xs : List A) (ys : List B) → length ys ≡ length xs → ((i : ℕ) (d : B) (e : A) → i < length xs → h (slice_index_or ys i d) ≡ f (slice_index_or xs i e)) → map h ys ≡ map f xs
+numbers_back f h [] [] len each = refl
+numbers_back f h [] (y ∷ ys) len each = absurd (omega arith)
+numbers_back f h (x ∷ xs) [] len each = absurd (omega arith)
+numbers_back f h (x ∷ xs) (y ∷ ys) len each =
+    let here : h y ≡ f x = each 0 y x (omega arith) in
+    let rest : map h ys ≡ map f xs = numbers_back f h xs ys (omega arith) (λ i d e k. each (suc i) d e (omega arith)) in
+    cc

@@ -31,6 +31,7 @@ use std::alloc::{AllocError, Global};
 use std::marker::Brand;
 use std::sync::Wait;
 use std::sync::ledger::Blank;
+use std::thread;
 use std::thread::Threads;
 
 /// Why there is no run.
@@ -116,8 +117,9 @@ fn work<'s, 'r, 'p, 't, J: Naming, R: Wait, G: Gate>(
     Worked { seat, error }
 }
 
-/// Each seat goes to a loader, one loader after another, and comes back.
-fn spread<'s, 'r, 'p, 't, J: Naming, R: Wait, G: Gate>(
+/// Each seat goes to a loader in a thread of its own, and comes back.
+#[tactic(auto, using(crate::proofs::SeatsBack::numbers_back))]
+fn spread<'s, 'r, 'p, 't, J: Naming + Send + Sync, R: Threads + Wait + Sync, G: Gate + Sync>(
     rt: &R,
     common: &Common<'s, 'r, 'p, 't>,
     gate: &G,
@@ -133,12 +135,14 @@ fn spread<'s, 'r, 'p, 't, J: Naming, R: Wait, G: Gate>(
     requires loaders { (1 ≤ loaders) × (loaders ≤ 64) }
     ensures { IfOk result (λ v. map (λ w. w.seat.number) v.items ≡ map (λ s. s.number) seats.items) }
 {
-    let mut worked = Vec::new(common.alloc);
-    for seat in seats {
-        let back = work(rt, common, gate, cache, seat, loaders, roots, trace);
-        worked.push(back)?;
-    }
-    Ok(worked)
+    thread::map_vec(
+        rt,
+        seats,
+        &|seat: Seat<Told<J>>| -> Worked<J>
+            requires { IsWorld J.files J.plan J.shelf common.now.files.now common.now.reads.now common.now.programs.now common.now.modules.now common.now.prelude common.now.steps × IsWithin J.files J.plan × (roots.now ≡ J.plan.roots) × ((1 ≤ loaders) × (loaders ≤ 64)) }
+            ensures { result.seat.number ≡ seat.number }
+        { work(rt, common, gate, cache, seat, loaders, roots, trace) },
+    )
 }
 
 /// The seats of the loaders, in order, and the last of their errors.

@@ -1,0 +1,70 @@
+//! A gate at which bodies wait for one another.
+
+use star_host::gate::Gate;
+use std::sync::atomic::{AtomicU64, Ordering};
+use std::thread;
+
+/// Holds the body of a file until the bodies of all files that it waits for have come.
+#[derive(Drop)]
+pub struct Meeting {
+    /// For each of the first files, a bit for each file that its body waits for.
+    awaited: [u64; 4],
+    /// How often a body looks for those that it waits for, before it goes on without them.
+    looks: u32,
+    /// A bit for each file whose body has come.
+    come: AtomicU64,
+    /// How many bodies have come.
+    bodies: AtomicU64,
+    /// How many bodies went on without one that they waited for.
+    alone: AtomicU64,
+}
+
+/// The bit of a file.
+fn bit(n: usize) -> u64 {
+    if n < 64 { 1 << n } else { 0 }
+}
+
+impl Meeting {
+    /// No body has come yet.
+    pub fn new(awaited: [u64; 4], looks: u32) -> Meeting {
+        Meeting {
+            awaited,
+            looks,
+            come: AtomicU64::new(0),
+            bodies: AtomicU64::new(0),
+            alone: AtomicU64::new(0),
+        }
+    }
+
+    /// How many bodies have come.
+    pub fn bodies(&self) -> u64 {
+        self.bodies.load(Ordering::SeqCst)
+    }
+
+    /// How many bodies went on without one that they waited for.
+    pub fn alone(&self) -> u64 {
+        self.alone.load(Ordering::SeqCst)
+    }
+
+    /// Whether all these have come, after some time.
+    fn have_come(&self, awaited: u64) -> bool {
+        for _ in 0..self.looks {
+            if self.come.load(Ordering::SeqCst) & awaited == awaited {
+                return true;
+            }
+            thread::yield_now();
+        }
+        false
+    }
+}
+
+impl Gate for Meeting {
+    fn before_body(&self, _loader: usize, n: usize) {
+        self.bodies.fetch_add(1, Ordering::SeqCst);
+        self.come.fetch_or(bit(n), Ordering::SeqCst);
+        let awaited = if n < 4 { self.awaited[n] } else { 0 };
+        if !self.have_come(awaited) {
+            self.alone.fetch_add(1, Ordering::SeqCst);
+        }
+    }
+}

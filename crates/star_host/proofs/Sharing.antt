@@ -1,0 +1,70 @@
+-- That several threads may use what loaders share.
+use Rattle.std.proofs.Common.{ℕ, List, [], ◌∷◌}
+use denote.Builtin.{usize}
+use denote.Hole.{shared_at}
+use denote.Ref.{NamedLft}
+use denote.RattleType.{RattleType}
+use denote.Slice.{ShrSlice}
+use denote.Struct.Field.{row_field}
+use denote.Struct.Tuple.{TupleAt, type_at, parts}
+use denote.Param.Send.{AllSync, IsSync, sendable}
+use denote.Param.SendFields.{FieldsHave, declared_sync, variants_sync, as_row_sync}
+use Rattle.std.proofs.Crossing.{crosses}
+use Rattle.std.specs.declared.sync.ledger.Ledger
+use Rattle.star_cache.specs.contracts.cache.LoadCache as cache
+use Rattle.star_cache.proofs.cache.LoadCache.TheSendSync as of_cache
+use Rattle.star_eval.specs.contracts.files.Files as files
+use Rattle.star_label.proofs.files.Files.TheSendSync as of_labels
+use Rattle.star_machine.specs.contracts.programs.Programs as programs
+use Rattle.star_host.specs.contracts.reading.Read as read
+use Rattle.star_host.specs.contracts.told.Told as told
+use Rattle.star_host.specs.contracts.told.ToldProduct.TheImpl as product
+use Rattle.star_host.specs.contracts.trace.Trace as trace
+use Rattle.star_host.specs.contracts.work.Common as common
+use Rattle.star_host.specs.declared.naming.Naming
+use Rattle.star_host.proofs.Crossing.{program_sync, statement_sync}
+use Rattle.star_host.proofs.code.StaticFault.TheSendSync as of_fault
+use Rattle.star_host.proofs.module.Module.TheSendSync as of_module
+use Rattle.star_host.proofs.shelf.Shelf.TheSendSync as of_shelf
+use Rattle.star_host.proofs.told.Told.TheSendSync as of_told
+use Rattle.star_host.proofs.trace.Trace.TheSendSync as of_trace
+
+read_sync : (κ : NamedLft) → IsSync (read.the_row κ)
+read_sync κ = variants_sync (read.enum κ) ((program_sync κ, tt), ((of_fault.the_sync, tt), tt))
+
+programs_sync : (κ ν : NamedLft) → IsSync (programs.the_row κ ν)
+programs_sync κ ν = let p = program_sync ν in search (sendable, crosses) depth 40
+
+files_sync : (κ ν : NamedLft) → IsSync (files.the_row κ ν)
+files_sync κ ν = let p = programs_sync κ ν in let s = statement_sync in search (sendable, crosses) depth 40
+
+common_sync : (κ ν μ ξ : NamedLft) → IsSync (common.the_row κ ν μ ξ)
+common_sync κ ν μ ξ =
+    let r = read_sync ξ in
+    let f = files_sync ν ξ in
+    let l = of_labels.the_sync in
+    let s = of_shelf.the_sync _ of_module.the_send of_module.the_sync in
+    search (sendable, crosses) depth 40
+
+parts_sync : (Ts : List RattleType) → AllSync Ts → FieldsHave IsSync (parts Ts)
+parts_sync [] s = tt
+parts_sync (T ∷ Ts) s = (as_row_sync (row_field T) s.0, parts_sync Ts s.1)
+
+-- a closure may be shared where all that it captures may be
+tuple_sync : (ν : List ℕ) (Ts : List RattleType) → AllSync Ts → IsSync (TupleAt ν Ts)
+tuple_sync ν Ts s = declared_sync (type_at ν Ts) (parts_sync Ts s)
+
+-- a loader's closure: it captures the runtime R, what all loaders share, the gate G, the cache, how many loaders there are, the roots
+-- and the trace
+module _ (J : RattleType) (n : Naming.Ghosts J.Denot) (l : Ledger.Ghosts J.Denot) (R G : RattleType) (α β γ δ ε ζ η θ ι κ ξ : NamedLft) where
+  abbrev the_cache : RattleType
+  the_cache = cache.the_row (told.the_row J n l) J (product.ghosts J n product.no_dict l product.no_dict) l
+
+  abbrev captured : List RattleType
+  captured = shared_at α R ∷ shared_at β (common.the_row γ δ ε ζ) ∷ shared_at η G ∷ shared_at θ the_cache ∷ shared_at ι usize ∷ ShrSlice κ.mir κ.lft usize ∷ shared_at ξ (trace.the_row J n l) ∷ []
+
+  captured_sync : IsSync R → IsSync G → AllSync captured
+  captured_sync r g = search (common_sync, of_cache.the_sync, of_told.the_send, of_trace.the_sync, sendable) depth 20
+
+  pub loader_sync : IsSync R → IsSync G → (ν : List ℕ) → IsSync (TupleAt ν captured)
+  loader_sync r g ν = tuple_sync ν captured (captured_sync r g)
