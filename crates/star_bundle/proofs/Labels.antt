@@ -6,7 +6,6 @@ use Rattle.star_label.specs.View.{text_of}
 use Rattle.star_bundle.specs.declared.error.ServeError.{ServeError}
 use Rattle.star_bundle.specs.View.{if_label}
 use Rattle.std.specs.Prelude.{◌⊎◌}
-use Rattle.std.specs.Str.{bytes_eq}
 use Rattle.std.proofs.lemmas.Slice.Eq.{bytes_eq-Decides}
 use Rattle.star_label.specs.Label.{Reads, is_package, is_segment, label_text, name_of, package_of}
 use Rattle.star_bundle.specs.Bundle.{is_label}

@@ -1,8 +1,6 @@
 -- The members of an object, one after another.
-use Rattle.std.proofs.Common.{◌≡◌, ℕ, List, [], ◌∷◌, ◌++◌, map, Option, Some, None, refl, ap, sym, ◌∙◌, String, append_assoc, length, ◌<◌, true, false, arith}
+use Rattle.std.proofs.Common.{◌≡◌, ℕ, List, [], ◌∷◌, ◌++◌, Option, Some, None, refl, ap, sym, append_assoc, length, ◌<◌, true, false, arith}
 use Rattle.std.specs.Prelude.{option_map}
-use Rattle.std.specs.Option.{option_and_then}
-use Rattle.std.specs.declared.alloc.Global.{Global}
 use Rattle.std.proofs.lemmas.List.{append-nil}
 use Rattle.serde_json.specs.Find.{as_str}
 use Rattle.serde_json.specs.Data.{Data, Members, member, no_members}

@@ -1,5 +1,5 @@
 -- The number of the file that a word names.
-use Rattle.std.proofs.Common.{◌≡◌, ℕ, ◌<◌, List, [], length, get_or, Bool, true, false, Option, Some, None, refl, sym, ap, ◌∙◌, ◌≤◌, arith}
+use Rattle.std.proofs.Common.{◌≡◌, ℕ, ◌<◌, List, [], length, get_or, Bool, true, false, Option, Some, None, refl, sym, ◌∙◌, ◌≤◌, arith}
 use Rattle.std.specs.Prelude.{IfSome}
 use Rattle.std.specs.List.{position}
 use Rattle.std.specs.Str.{bytes_eq}

@@ -1,6 +1,6 @@
-use Rattle.std.proofs.Common.{rules, ◌≡◌, ◌∷◌, [], ◌++◌, ◌<◌, length, get_or, map, refl, sym, ap, ◌∙◌, string_bytes, true, false, Bool, Option, Some, None, Ok, String}
+use Rattle.std.proofs.Common.{rules, ◌≡◌, ◌∷◌, [], length, map, refl, sym, ap, ◌∙◌, string_bytes, false, String}
 use Rattle.std.specs.declared.alloc.Global.{Global}
-use Rattle.std.specs.Prelude.{option_map, vec_len}
+use Rattle.std.specs.Prelude.{vec_len}
 use Rattle.std.specs.BTreeMap.{insert_entry}
 use Rattle.std.specs.Cmp.Lexicographic.{slice_cmp}
 use Rattle.std.specs.Ordering.{nat_cmp}
@@ -12,7 +12,7 @@ use Rattle.std.proofs.lemmas.Iterator.Consumers.{YieldsList-turn}
 use Rattle.star_label.specs.Files.{file_of}
 use Rattle.star_label.specs.View.{text_of}
 use Rattle.star_bundle.specs.Bundle.{is_label, labelled, with_files}
-use Rattle.star_bundle.specs.View.{if_label, member_view}
+use Rattle.star_bundle.specs.View.{member_view}
 use Rattle.star_bundle.proofs.ByLabel.{all_more, inserted, none_of_all, one_more}
 use Rattle.star_bundle.proofs.Labels.{is_no_label, is_some_label}
 use Rattle.star_bundle.proofs.bundle.labelled.Goals as goal

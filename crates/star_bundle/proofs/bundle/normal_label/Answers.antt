@@ -1,4 +1,4 @@
-use Rattle.std.proofs.Common.{rules, ◌≡◌, refl, sym, ◌∙◌, true, false, ap, Err}
+use Rattle.std.proofs.Common.{◌≡◌, refl, sym, ◌∙◌, true, false, ap, Err}
 use Rattle.std.proofs.lemmas.Bool.Decides.{not_from_Decides}
 use Rattle.std.proofs.lemmas.Slice.Eq.{bytes_eq-Decides}
 use Rattle.star_label.specs.View.{text_of}

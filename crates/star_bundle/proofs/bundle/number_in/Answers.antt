@@ -1,8 +1,6 @@
-use Rattle.std.proofs.Common.{◌≡◌, ℕ, refl, sym, ap, ◌∙◌, subst, true, Some, None, List, Option}
+use Rattle.std.proofs.Common.{◌≡◌, refl, sym, ◌∙◌}
 use Rattle.std.specs.List.{position}
 use Rattle.std.specs.Str.{bytes_eq}
-use Rattle.star_label.specs.Files.{File}
-use Rattle.star_label.specs.View.{text_of}
 use Rattle.star_bundle.specs.Bundle.{number_of}
 use Rattle.star_bundle.proofs.Labels.{is_some_label}
 use Rattle.star_bundle.proofs.Numbers.{found_first}
