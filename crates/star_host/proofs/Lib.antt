@@ -1,6 +1,8 @@
 pub mod Rows
 pub mod SeatsBack
 pub mod PlacesRead
+pub mod LoadsWithin
+pub mod Finds
 pub mod Worlds
 pub mod KeptNotes
 pub mod Ends

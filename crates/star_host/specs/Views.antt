@@ -7,7 +7,6 @@ use Rattle.star_module.specs.declared.module.Outcome.TheVariants.{Good, Fault}
 use Rattle.star_label.specs.Files.{File}
 use Rattle.star_host.specs.Codes.{fault_of}
 use Rattle.star_host.specs.Fits.{IsAsked}
-use Rattle.star_host.specs.declared.module.Body.{Body}
 use Rattle.star_host.specs.declared.module.Ended.{Ended}
 use Rattle.star_host.specs.declared.module.Ended.TheVariants.{Static, Load as Unloaded, Ran}
 use Rattle.star_host.specs.declared.module.Module.{Module}

@@ -59,7 +59,7 @@ fn ended<'s, 'r, 'p, 't, J: Naming, G: Gate>(
     n: usize,
     failed: Option<usize>,
 ) -> Result<Ended, AllocError>
-    requires world { IsWorld J.files J.plan J.shelf common.now.files.now common.now.reads.now common.now.programs.now common.now.modules.now common.now.prelude common.now.steps }
+    requires world { IsWorld J.files J.plan J.shelf common.now }
     requires asked { IsAsked J.files J.plan n }
     requires failed { IfSome failed (λ i. i < length (loads_of J.plan n)) }
     ensures { IfOk result (IsEnd J.plan n) }
@@ -118,7 +118,7 @@ fn end<'s, 'r, 'p, 't, J: Naming, R: Wait, G: Gate>(
     seat: &mut Seat<Told<J>>,
     frame: &Frame<J>,
 ) -> Result<(), LoadError>
-    requires world { IsWorld J.files J.plan J.shelf common.now.files.now common.now.reads.now common.now.programs.now common.now.modules.now common.now.prelude common.now.steps }
+    requires world { IsWorld J.files J.plan J.shelf common.now }
     ensures { seat.new ≡ seat.old }
 {
     let n = frame.number();
@@ -140,7 +140,7 @@ fn next_load<'s, 'r, 'p, 't, J: Naming>(
     common: &Common<'s, 'r, 'p, 't>,
     frame: &Frame<J>,
 ) -> Option<Load>
-    requires world { IsWorld J.files J.plan J.shelf common.now.files.now common.now.reads.now common.now.programs.now common.now.modules.now common.now.prelude common.now.steps }
+    requires world { IsWorld J.files J.plan J.shelf common.now }
     ensures { IfSome result (IsNextLoad J.files J.plan frame.now.n frame.now.told) }
 {
     common.load(frame.number(), frame.told())
@@ -156,7 +156,7 @@ fn take_turn<'s, 'r, 'p, 't, J: Naming, R: Wait, G: Gate>(
     top: &mut Frame<J>,
     trace: &Trace<J>,
 ) -> Result<Turn, LoadError>
-    requires world { IsWorld J.files J.plan J.shelf common.now.files.now common.now.reads.now common.now.programs.now common.now.modules.now common.now.prelude common.now.steps }
+    requires world { IsWorld J.files J.plan J.shelf common.now }
     ensures turn { IfOk result (IsTurn J.files J.plan) }
     ensures number { seat.new.number ≡ seat.old.number }
 {
@@ -214,7 +214,7 @@ fn turns<'s, 'r, 'p, 't, J: Naming, R: Wait, G: Gate>(
     root: usize,
     trace: &Trace<J>,
 ) -> Result<Told<J>, LoadError>
-    requires world { IsWorld J.files J.plan J.shelf common.now.files.now common.now.reads.now common.now.programs.now common.now.modules.now common.now.prelude common.now.steps }
+    requires world { IsWorld J.files J.plan J.shelf common.now }
     requires root { IsAsked J.files J.plan root }
     ensures told { IfOk result (IsTold J.files J.plan root) }
     ensures number { seat.new.number ≡ seat.old.number }
@@ -251,7 +251,7 @@ pub fn load<'s, 'r, 'p, 't, J: Naming, R: Wait, G: Gate>(
     root: usize,
     trace: &Trace<J>,
 ) -> Result<Told<J>, LoadError>
-    requires world { IsWorld J.files J.plan J.shelf common.now.files.now common.now.reads.now common.now.programs.now common.now.modules.now common.now.prelude common.now.steps }
+    requires world { IsWorld J.files J.plan J.shelf common.now }
     requires root { IsAsked J.files J.plan root }
     ensures told { IfOk result (IsTold J.files J.plan root) }
     ensures number { seat.new.number ≡ seat.old.number }

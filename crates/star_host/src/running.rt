@@ -1,9 +1,11 @@
 //! The run: each loader asks for all roots.
 
-ghost use Rattle.std.specs.Prelude.{◌≡◌, ◌+◌, ◌<◌, ◌≤◌, ℕ, List, Option, length, map, sum, slice_index_or, IfOk, IfSome, OnOk, vec_len};
+ghost use Rattle.std.specs.Prelude.{◌≡◌, ◌<◌, ◌≤◌, Some, length, map, sum, IfOk, IfSome, OnOk};
+ghost use Rattle.std.specs.Option.{option_copied};
 ghost use Rattle.star_cache.specs.Seats.{AreAll};
+ghost use Rattle.star_plan.specs.Reading.{IsPrelude};
 ghost use Rattle.star_host.specs.Fits.{IsAsked, IsWithin};
-ghost use Rattle.star_host.specs.Found.{IsClosed, Within};
+ghost use Rattle.star_host.specs.Found.{IsReadOf, Within};
 ghost use Rattle.star_host.specs.Frames.{IsWorld};
 ghost use Rattle.star_host.specs.Kept.{AllKept};
 ghost use Rattle.star_host.specs.Readings.{table_of};
@@ -17,7 +19,7 @@ use crate::order::{first_place, place};
 use crate::outcome::{Kept, Run};
 use crate::reading::{Read, Reader, tree_of};
 use crate::shelf::Shelf;
-use crate::table::{is_closed, table};
+use crate::table::table;
 use crate::told::Told;
 use crate::trace::{Refused, Trace};
 use crate::work::Common;
@@ -40,8 +42,6 @@ pub enum RunError {
     Memory,
     /// A cell of the shelf did not take its module.
     Unpublished,
-    /// A file that a root reaches was not read.
-    Unread,
 }
 
 impl From<AllocError> for RunError {
@@ -94,7 +94,7 @@ fn work<'s, 'r, 'p, 't, J: Naming, R: Wait, G: Gate>(
     roots: &[usize],
     trace: &Trace<J>,
 ) -> Worked<J>
-    requires world { IsWorld J.files J.plan J.shelf common.now.files.now common.now.reads.now common.now.programs.now common.now.modules.now common.now.prelude common.now.steps }
+    requires world { IsWorld J.files J.plan J.shelf common.now }
     requires within { IsWithin J.files J.plan }
     requires roots { roots.now ≡ J.plan.roots }
     requires loaders { (1 ≤ loaders) × (loaders ≤ 64) }
@@ -127,7 +127,7 @@ fn spread<'s, 'r, 'p, 't, J: Naming, R: Wait, G: Gate>(
     roots: &[usize],
     trace: &Trace<J>,
 ) -> Result<Vec<Worked<J>>, AllocError>
-    requires world { IsWorld J.files J.plan J.shelf common.now.files.now common.now.reads.now common.now.programs.now common.now.modules.now common.now.prelude common.now.steps }
+    requires world { IsWorld J.files J.plan J.shelf common.now }
     requires within { IsWithin J.files J.plan }
     requires roots { roots.now ≡ J.plan.roots }
     requires loaders { (1 ≤ loaders) × (loaders ≤ 64) }
@@ -206,7 +206,7 @@ fn run_named<'s, 'r, 'p, 't, J: Naming + Send + Sync, R: Threads + Wait + Sync, 
     requires name { blank.name ≡ J.name }
     requires parts { (blank.parts ≡ J.parts) × (blank.parts ≡ loaders) }
     requires loaders { (1 ≤ loaders) × (loaders ≤ 64) }
-    requires world { IsWorld J.files J.plan J.shelf common.now.files.now common.now.reads.now common.now.programs.now common.now.modules.now common.now.prelude common.now.steps }
+    requires world { IsWorld J.files J.plan J.shelf common.now }
     requires within { IsWithin J.files J.plan }
     requires roots { roots.now ≡ J.plan.roots }
     ensures kept { IfOk result (λ c. AllKept common.now.modules.now c.kept.items) }
@@ -249,7 +249,8 @@ fn closed_of<J: Naming>(
     })
 }
 
-/// The prelude: its names are those of its tree, which is kept with the other trees; it has none where its text does not parse.
+/// The prelude: its names are those of its tree, which is kept with the other trees; it has none where its text does not
+/// parse.
 fn prelude_of<'t, R: Wait>(
     rt: &R,
     alloc: Global,
@@ -258,10 +259,31 @@ fn prelude_of<'t, R: Wait>(
     n: usize,
 ) -> Result<Prelude<'t>, RunError>
     requires { n < length files.now }
-    ensures { IfOk result (λ p. p.file ≡ n) }
+    ensures prelude { IfOk result (λ p. IsPrelude files.now (Some n) (Some p)) }
+    ensures file { IfOk result (λ p. p.file ≡ n) }
 {
-    let tree = tree_of(rt, alloc, trees, files.text(n))?.ok();
-    Ok(Prelude::new(alloc, n, tree)?)
+    match tree_of(rt, alloc, trees, files.text(n))? {
+        Ok(tree) => Ok(Prelude::new(alloc, n, Some(tree))?),
+        Err(_) => Ok(Prelude::new(alloc, n, None)?),
+    }
+}
+
+/// The prelude, where there is one.
+fn block_of<'t, R: Wait>(
+    rt: &R,
+    alloc: Global,
+    files: &Labels,
+    trees: &'t boxcar::Vec<Tree>,
+    prelude: Option<usize>,
+) -> Result<Option<Prelude<'t>>, RunError>
+    requires { IfSome prelude (λ n. n < length files.now) }
+    ensures prelude { IfOk result (IsPrelude files.now prelude) }
+    ensures file { IfOk result (λ block. IfSome block (λ p. p.file < length files.now)) }
+{
+    match prelude {
+        Some(n) => Ok(Some(prelude_of(rt, alloc, files, trees, n)?)),
+        None => Ok(None),
+    }
 }
 
 /// The run over a shelf for the modules and a place for the trees.
@@ -271,13 +293,17 @@ fn run_over<'s, 't, R: Threads + Wait + Sync, G: Gate + Sync>(
     files: &'s Labels,
     trees: &'t boxcar::Vec<Tree>,
     modules: &'s Shelf<Module>,
-    roots: &[usize],
-    prelude: Option<&'s Prelude<'t>>,
+    roots: &'s [usize],
+    prelude: Option<usize>,
+    block: Option<&'s Prelude<'t>>,
     loaders: usize,
     steps: u32,
     gate: &'s G,
 ) -> Result<Closed, RunError>
-    requires prelude { IfSome prelude (λ p. p.now.file < length files.now) }
+    requires roots { Within files.now roots.now }
+    requires prelude { IsPrelude files.now prelude (option_copied block) }
+    requires there { IfSome prelude (λ n. n < length files.now) }
+    requires file { IfSome block (λ p. p.now.file < length files.now) }
     requires loaders { (1 ≤ loaders) × (loaders ≤ 64) }
     requires steps { (1 ≤ steps) × (steps ≤ 100000000) }
     requires cells { length modules.now ≡ length files.now }
@@ -288,17 +314,11 @@ fn run_over<'s, 't, R: Threads + Wait + Sync, G: Gate + Sync>(
         alloc,
         files,
         trees,
-        prelude,
+        prelude: block,
+        roots,
     };
-    let reads = reader.read_all(rt, roots)?;
-    if !is_closed(&reads, roots) {
-        return Err(RunError::Unread);
-    }
+    let reads = reader.read_all(rt)?;
     let programs = table(alloc, &reads)?;
-    let prelude = match prelude {
-        Some(block) => Some(block.file),
-        None => None,
-    };
     run_read(
         rt, alloc, files, &reads, &programs, modules, roots, prelude, loaders, steps, gate,
     )
@@ -322,8 +342,7 @@ fn run_read<'s, 'r, 'p, 't, R: Threads + Wait + Sync, G: Gate + Sync>(
     requires loaders { (1 ≤ loaders) × (loaders ≤ 64) }
     requires steps { (1 ≤ steps) × (steps ≤ 100000000) }
     requires cells { length modules.now ≡ length files.now }
-    requires row { length reads.now ≡ length files.now }
-    requires closed { IsClosed reads.now roots.now }
+    requires read { IsReadOf files.now roots.now prelude reads.now }
     requires table { programs.now ≡ table_of reads.now }
     ensures kept { IfOk result (λ c. AllKept modules.now c.kept.items) }
     ensures sum { IfOk result (λ c. sum c.per_loader ≡ c.begun) }
@@ -362,10 +381,7 @@ pub fn run<R: Threads + Wait + Sync, G: Gate + Sync>(
 {
     let modules = Shelf::new(alloc, files.len())?;
     let trees = boxcar::Vec::new(alloc)?;
-    let block = match prelude {
-        Some(n) => Some(prelude_of(rt, alloc, files, &trees, n)?),
-        None => None,
-    };
+    let block = block_of(rt, alloc, files, &trees, prelude)?;
     let told = run_over(
         rt,
         alloc,
@@ -373,6 +389,7 @@ pub fn run<R: Threads + Wait + Sync, G: Gate + Sync>(
         &trees,
         &modules,
         roots,
+        prelude,
         block.as_ref(),
         loaders,
         steps,
