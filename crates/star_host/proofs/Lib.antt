@@ -6,5 +6,8 @@ pub mod Finds
 pub mod Worlds
 pub mod KeptNotes
 pub mod Ends
+pub mod Opens
+pub mod Stores
+pub mod Bodies
 pub mod NextLoads
 pub mod Crossing

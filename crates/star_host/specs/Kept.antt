@@ -1,7 +1,7 @@
 -- The modules of a run, and the notes that know them.
 use Rattle.std.specs.Prelude.{◌≡◌, ◌<◌, ℕ, List, Option, Some, All, length, slice_index, slice_index_or}
 use Rattle.star_host.specs.declared.module.Ended.{Ended}
-use Rattle.star_host.specs.declared.module.Ended.TheVariants.{Static, Load as Unloaded, Ran}
+use Rattle.star_host.specs.declared.module.Ended.TheVariants.{Static, Load as Unloaded, Stopped, Good}
 use Rattle.star_host.specs.declared.module.Module.{Module}
 
 pub record KeptView : Type 0 where
@@ -19,7 +19,8 @@ pub record RunView : Type 0 where
 abbrev pub IsLoadBelow : ℕ → Ended → Type 0
 IsLoadBelow count (Static f) = Unit {0}
 IsLoadBelow count (Unloaded index line) = index < count
-IsLoadBelow count (Ran body) = Unit {0}
+IsLoadBelow count (Stopped code line lines) = Unit {0}
+IsLoadBelow count (Good body) = Unit {0}
 
 -- a module of the file n, whose loads are among so many files
 pub record IsSound (count n : ℕ) (m : Module) : Type 0 where

@@ -3,6 +3,7 @@ pub mod Readings
 pub mod Found
 pub mod Fits
 pub mod Views
+pub mod Bodies
 pub mod Refusals
 pub mod Frames
 pub mod Kept

@@ -4,6 +4,7 @@
 pub mod code;
 mod frame;
 pub mod gate;
+mod given;
 mod lead;
 mod loading;
 pub mod module;

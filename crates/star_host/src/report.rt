@@ -10,7 +10,6 @@ use crate::module::{Ended, Module};
 use crate::outcome::Run;
 use serde_json::{Map, Value, json};
 use star_label::files::Files as Labels;
-use star_module::Outcome;
 use star_text::Text;
 use std::alloc::{AllocError, Global};
 
@@ -139,12 +138,10 @@ fn module_value(
             failed_module(alloc, label, fault.code.text(), fault.line, &[], "static")
         }
         Ended::Load { line, .. } => load_module(alloc, files, leads, it.number, *line),
-        Ended::Ran(body) => match &body.outcome {
-            Outcome::Good { shown, lines, .. } => good_module(alloc, label, &shown, &lines),
-            Outcome::Fault { code, line, lines } => {
-                failed_module(alloc, label, code_text(*code), *line, &lines, "fault")
-            }
-        },
+        Ended::Stopped { code, line, lines } => {
+            failed_module(alloc, label, code_text(*code), *line, &lines, "fault")
+        }
+        Ended::Good(body) => good_module(alloc, label, &body.shown, &body.lines),
     }
 }
 
