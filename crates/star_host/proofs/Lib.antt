@@ -10,4 +10,5 @@ pub mod Opens
 pub mod Stores
 pub mod Bodies
 pub mod NextLoads
+pub mod Settled
 pub mod Crossing

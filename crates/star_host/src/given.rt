@@ -87,7 +87,8 @@ impl<'s, J: Naming> Given<'s, J> {
         requires good { IsGoodModule J.plan it.now.number it.now }
         ensures file { self.new.file ≡ self.old.file }
         ensures stays { (k : ℕ) → HasStore self.old.shelf k → HasStore self.new.shelf k }
-        ensures there { OnOk result ((k : ℕ) → LeadsTo (Loads (loaded J.plan)) it.now.number k → HasStore self.new.shelf k) }
+        ensures there { OnOk result
+            ((k : ℕ) → LeadsTo (Loads (loaded J.plan)) it.now.number k → HasStore self.new.shelf k) }
     {
         match &it.ended {
             Ended::Good(body) => self.add_all(&body.stores),

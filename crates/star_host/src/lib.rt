@@ -14,6 +14,7 @@ mod outcome;
 mod reading;
 pub mod report;
 mod running;
+mod settle;
 mod shelf;
 mod table;
 mod told;

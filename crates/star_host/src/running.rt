@@ -7,7 +7,7 @@ ghost use Rattle.star_plan.specs.Reading.{IsPrelude};
 ghost use Rattle.star_host.specs.Fits.{IsAsked, IsWithin};
 ghost use Rattle.star_host.specs.Found.{IsReadOf, Within};
 ghost use Rattle.star_host.specs.Frames.{IsWorld};
-ghost use Rattle.star_host.specs.Kept.{AllKept};
+ghost use Rattle.star_host.specs.Kept.{AllKept, AreModules, AreModulesOf};
 ghost use Rattle.star_host.specs.Readings.{table_of};
 ghost use Rattle.star_cache.specs.State.{begun_count};
 
@@ -18,12 +18,13 @@ use crate::naming::Naming;
 use crate::order::{first_place, place};
 use crate::outcome::{Kept, Run};
 use crate::reading::{Read, Reader, tree_of};
+use crate::settle::settled;
 use crate::shelf::Shelf;
 use crate::table::table;
 use crate::told::Told;
 use crate::trace::{Refused, Trace};
 use crate::work::Common;
-use star_cache::{Book, Entry, LoadCache, Product, Seat};
+use star_cache::{Book, LoadCache, Seat};
 use star_eval::files::Files;
 use star_label::files::Files as Labels;
 use star_scope::error::ScopeFault;
@@ -160,32 +161,6 @@ fn taken<J: Naming>(
     Ok((seats, last))
 }
 
-/// One more note.
-fn keep<J: Naming>(kept: &mut Vec<Kept>, told: Told<J>) -> Result<(), AllocError>
-    requires { length J.shelf ≡ length J.files }
-    ensures { OnOk result (AllKept J.shelf kept.old.items → AllKept J.shelf kept.new.items) }
-{
-    let one = told.into_kept();
-    kept.push(one)?;
-    Ok(())
-}
-
-/// The notes of all files that are done. `Memory` where a file is spoiled.
-fn kept_of<J: Naming>(alloc: Global, book: Book<Told<J>>) -> Result<Vec<Kept>, RunError>
-    requires { length J.shelf ≡ length J.files }
-    ensures { IfOk result (λ kept. AllKept J.shelf kept.items) }
-{
-    let mut kept = Vec::new(alloc);
-    for entry in book.into_entries() {
-        match entry {
-            Entry::Done(told) => keep(&mut kept, told)?,
-            Entry::Spoiled => return Err(RunError::Memory),
-            Entry::Fresh | Entry::Running => {}
-        }
-    }
-    Ok(kept)
-}
-
 /// What a closed cache tells, without the shelf.
 #[derive(Drop)]
 pub(crate) struct Closed {
@@ -210,36 +185,35 @@ fn run_named<'s, 'r, 'p, 't, J: Naming + Send + Sync, R: Threads + Wait + Sync, 
     requires within { IsWithin J.files J.plan }
     requires roots { roots.now ≡ J.plan.roots }
     ensures kept { IfOk result (λ c. AllKept common.now.modules.now c.kept.items) }
+    ensures modules { IfOk result (λ c. AreModules J.plan c.kept.items) }
     ensures sum { IfOk result (λ c. sum c.per_loader ≡ c.begun) }
 {
     let alloc = common.alloc;
     let trace = Trace::<J>::new(alloc)?;
     let (cache, seats) = LoadCache::<Told<J>>::new(alloc, blank, common.files.len(), loaders)?;
     let worked = spread(rt, common, gate, &cache, seats, loaders, roots, &trace)?;
-    let (seats, error) = taken(alloc, worked)?;
+    let (mut seats, error) = taken(alloc, worked)?;
+    let settled = settled(rt, common, gate, &cache, &mut seats, error, &trace);
     let Ok(closed) = cache.close(seats) else {
         unreachable!()
     };
-    if let Some(error) = error {
-        return Err(RunError::from(error));
-    }
-    closed_of(alloc, closed, &trace)
+    let kept = settled?;
+    closed_of(alloc, closed, kept, &trace)
 }
 
-/// What a cache tells that is closed.
+/// What a cache tells that is closed, beside these notes.
 fn closed_of<J: Naming>(
     alloc: Global,
     closed: (Book<Told<J>>, [u32; 64]),
+    kept: Vec<Kept>,
     trace: &Trace<J>,
 ) -> Result<Closed, RunError>
     requires sum { sum closed.1 ≡ begun_count closed.0 }
-    requires cells { length J.shelf ≡ length J.files }
-    ensures kept { IfOk result (λ c. AllKept J.shelf c.kept.items) }
+    ensures kept { IfOk result (λ c. c.kept ≡ kept) }
     ensures sum { IfOk result (λ c. sum c.per_loader ≡ c.begun) }
 {
     let (book, per_loader) = closed;
     let begun = book.begun();
-    let kept = kept_of(alloc, book)?;
     let refused = trace.all(alloc)?;
     Ok(Closed {
         kept,
@@ -249,8 +223,8 @@ fn closed_of<J: Naming>(
     })
 }
 
-/// The prelude: its names are those of its tree, which is kept with the other trees; it has none where its text does not
-/// parse.
+/// The prelude: its names are those of its tree, which is kept with the other trees; it has none where its text does
+/// not parse.
 fn prelude_of<'t, R: Wait>(
     rt: &R,
     alloc: Global,
@@ -308,6 +282,7 @@ fn run_over<'s, 't, R: Threads + Wait + Sync, G: Gate + Sync>(
     requires steps { (1 ≤ steps) × (steps ≤ 100000000) }
     requires cells { length modules.now ≡ length files.now }
     ensures kept { IfOk result (λ c. AllKept modules.now c.kept.items) }
+    ensures modules { IfOk result (λ c. AreModulesOf files.now roots.now prelude steps c.kept.items) }
     ensures sum { IfOk result (λ c. sum c.per_loader ≡ c.begun) }
 {
     let reader = Reader {
@@ -345,6 +320,7 @@ fn run_read<'s, 'r, 'p, 't, R: Threads + Wait + Sync, G: Gate + Sync>(
     requires read { IsReadOf files.now roots.now prelude reads.now }
     requires table { programs.now ≡ table_of reads.now }
     ensures kept { IfOk result (λ c. AllKept modules.now c.kept.items) }
+    ensures modules { IfOk result (λ c. AreModulesOf files.now roots.now prelude steps c.kept.items) }
     ensures sum { IfOk result (λ c. sum c.per_loader ≡ c.begun) }
 {
     let common = Common {
@@ -360,8 +336,8 @@ fn run_read<'s, 'r, 'p, 't, R: Threads + Wait + Sync, G: Gate + Sync>(
     run_named::<Brand, R, G>(rt, &common, gate, roots, loaders, blank)
 }
 
-/// Loads the roots by so many loaders. `steps` is what each body may take; the roots and the prelude are numbers of files. `Memory`
-/// where a growth was refused.
+/// Loads the roots by so many loaders: the modules of exactly the reached files, in order, each with its outcome. `steps` is
+/// what each body may take; the roots and the prelude are numbers of files. `Memory` where a growth was refused.
 pub fn run<R: Threads + Wait + Sync, G: Gate + Sync>(
     rt: &R,
     alloc: Global,
@@ -377,6 +353,7 @@ pub fn run<R: Threads + Wait + Sync, G: Gate + Sync>(
     requires loaders { (1 ≤ loaders) × (loaders ≤ 64) }
     requires steps { (1 ≤ steps) × (steps ≤ 100000000) }
     ensures files { IfOk result (λ r. length r.cells ≡ length files.now) }
+    ensures modules { IfOk result (λ r. AreModulesOf files.now roots.now prelude steps r.kept) }
     ensures sum { IfOk result (λ r. sum r.per_loader ≡ r.begun) }
 {
     let modules = Shelf::new(alloc, files.len())?;

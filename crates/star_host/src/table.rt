@@ -1,6 +1,6 @@
 //! The rows of what was read: the programs of all files, and the loads of each.
 
-ghost use Rattle.std.specs.Prelude.{◌≡◌, All, IfOk, MatchOption, Some, ⊤};
+ghost use Rattle.std.specs.Prelude.{◌≡◌, All, IfOk, IsFalse, IsSome, IsTrue, MatchOption, None, Some, ⊤};
 ghost use Rattle.std.specs.Option.{option_map};
 ghost use Rattle.star_meaning.specs.Programs.{IsOfFile, placed_file};
 ghost use Rattle.star_scope.specs.declared.program.Program.{Program as ProgramView};
@@ -73,5 +73,16 @@ pub(crate) fn loads_in<'s, 't>(reads: &'s [Option<Read<'t>>], n: usize) -> &'s [
     match reads.get(n) {
         Some(Some(Read::Program(program))) => program.loads(),
         _ => &[],
+    }
+}
+
+/// Whether a file was read.
+pub(crate) fn is_read(reads: &[Option<Read>], n: usize) -> bool
+    ensures yes { IsTrue result → IsSome (read_at reads.now n) }
+    ensures no { IsFalse result → read_at reads.now n ≡ None }
+{
+    match reads.get(n) {
+        Some(Some(_)) => true,
+        _ => false,
     }
 }

@@ -60,7 +60,9 @@ impl<J: Naming> Told<J> {
     /// The number with the note, for those to whom the cache is closed.
     pub(crate) fn into_kept(self) -> Kept
         requires { length J.shelf ≡ length J.files }
-        ensures { IsKept J.shelf result }
+        ensures kept { IsKept J.shelf result }
+        ensures number { result.number ≡ self.number }
+        ensures known { result.known ≡ self.known }
     {
         let Told {
             number,

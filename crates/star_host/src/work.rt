@@ -29,8 +29,8 @@ use star_store::arena::{Frozen, Homes};
 use std::alloc::{AllocError, Global};
 use std::sync::Arc;
 
-/// What all loaders share: what was read of each reached file, the programs of all files, a shelf for the module of each file, the
-/// prelude's file, and the steps that a body may take, which are 1 to 100,000,000.
+/// What all loaders share: what was read of each reached file, the programs of all files, a shelf for the module of each
+/// file, the prelude's file, and the steps that a body may take, which are 1 to 100,000,000.
 #[derive(Drop)]
 pub struct Common<'s, 'r, 'p, 't> {
     pub alloc: Global,
@@ -150,7 +150,8 @@ fn ended_of<J: Naming>(
     }
 }
 
-/// Runs the body of a file all of whose loads are good, over their modules: how the file ends. The gate is told of it before.
+/// Runs the body of a file all of whose loads are good, over their modules: how the file ends. The gate is told of it
+/// before.
 pub(crate) fn run<'s, 'r, 'p, 't, J: Naming, G: Gate>(
     common: &Common<'s, 'r, 'p, 't>,
     gate: &G,
