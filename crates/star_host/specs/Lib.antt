@@ -8,3 +8,4 @@ pub mod Refusals
 pub mod Frames
 pub mod Kept
 pub mod Leads
+pub mod Shown

@@ -260,10 +260,10 @@ fn turns<'s, 'r, 'p, 't, J: Naming, R: Wait, G: Gate>(
     unreachable!()
 }
 
-/// Loads a file, and gives what is told of it: its module, which has its number, its loads, and its outcome. All loads of a
-/// file are asked for, also after one that is not good. `Memory` where a growth was refused, `Spoiled` where an entry that
-/// was met is spoiled or a share of a product got no memory, `Unpublished` where a cell of the shelf had something already.
-/// At `Err` the loader's stack was abandoned.
+/// Loads a file, and gives what is told of it: its module, which has its number, its loads, and its outcome. All loads
+/// of a file are asked for, also after one that is not good. `Memory` where a growth was refused, `Spoiled` where an
+/// entry that was met is spoiled, `Unpublished` where a cell of the shelf had something already. At `Err` the loader's
+/// stack was abandoned.
 pub fn load<'s, 'r, 'p, 't, J: Naming, R: Wait, G: Gate>(
     rt: &R,
     common: &Common<'s, 'r, 'p, 't>,

@@ -1,7 +1,8 @@
 //! The reading of all files that roots reach, before any body runs.
 
 ghost use Rattle.std.specs.Prelude.{◌≡◌, ◌<◌, ◌∷◌, ◌++◌, None, Some, Ok, [], All, IfOk, IfSome, IsTrue, IsFalse};
-ghost use Rattle.std.specs.Prelude.{IsSome, MatchOption, MatchResult, OnOk, false, length, map, replicate, slice_set, vec_len};
+ghost use Rattle.std.specs.Prelude.{IsSome, MatchOption, MatchResult, OnOk, false, length, map, replicate};
+ghost use Rattle.std.specs.Prelude.{slice_set, vec_len};
 ghost use Rattle.std.specs.Option.{option_copied};
 ghost use Rattle.star_parser.specs.Sources.{Parses};
 ghost use Rattle.star_host.specs.Found.{AreFound, Grew, IsMarked, IsRowOf, Within};
@@ -106,8 +107,8 @@ impl<'s, 't> Reader<'s, 't> {
         Ok(found)
     }
 
-    /// Reads all files that the roots reach: the roots, and the loads of all that is read. A file with a static fault has
-    /// no loads.
+    /// Reads all files that the roots reach: the roots, and the loads of all that is read. A file with a static fault
+    /// has no loads.
     pub(crate) fn read_all<R: Wait>(&self, rt: &R) -> Result<Vec<Option<Read<'t>>>, AllocError>
         requires roots { Within self.now.files.now self.now.roots.now }
         requires prelude { IfSome self.now.prelude (λ p. p.now.file < length self.now.files.now) }
@@ -136,8 +137,8 @@ fn loads_of<'a>(read: &'a Read) -> &'a [Load]
     }
 }
 
-/// The files that were found so far: what was read of them, whether each was found, and the numbers of those that wait to
-/// be read.
+/// The files that were found so far: what was read of them, whether each was found, and the numbers of those that wait
+/// to be read.
 #[derive(Drop)]
 pub(crate) struct Found<'t> {
     reads: Vec<Option<Read<'t>>>,

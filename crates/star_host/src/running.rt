@@ -336,8 +336,9 @@ fn run_read<'s, 'r, 'p, 't, R: Threads + Wait + Sync, G: Gate + Sync>(
     run_named::<Brand, R, G>(rt, &common, gate, roots, loaders, blank)
 }
 
-/// Loads the roots by so many loaders: the modules of exactly the reached files, in order, each with its outcome. `steps` is
-/// what each body may take; the roots and the prelude are numbers of files. `Memory` where a growth was refused.
+/// Loads the roots by so many loaders: the modules of exactly the reached files, in order, each with its outcome.
+/// `steps` is what each body may take; the roots and the prelude are numbers of files. `Memory` where a growth was
+/// refused.
 pub fn run<R: Threads + Wait + Sync, G: Gate + Sync>(
     rt: &R,
     alloc: Global,

@@ -29,8 +29,8 @@ use star_store::arena::{Frozen, Homes};
 use std::alloc::{AllocError, Global};
 use std::sync::Arc;
 
-/// What all loaders share: what was read of each reached file, the programs of all files, a shelf for the module of each
-/// file, the prelude's file, and the steps that a body may take, which are 1 to 100,000,000.
+/// What all loaders share: what was read of each reached file, the programs of all files, a shelf for the module of
+/// each file, the prelude's file, and the steps that a body may take, which are 1 to 100,000,000.
 #[derive(Drop)]
 pub struct Common<'s, 'r, 'p, 't> {
     pub alloc: Global,
