@@ -27,9 +27,19 @@ impl<'s, J: Naming> Model for Frame<'s, J> {
 
     ghost Value = { FrameView };
 
-    ghost view = { λ f. record { n = f.n; told = f.told; failed = f.failed; modules = map (λ m. m.now) f.modules.items } };
+    ghost view = { λ f. record {
+      n = f.n;
+      told = f.told;
+      failed = f.failed;
+      modules = map (λ m. m.now) f.modules.items;
+    } };
 
-    ghost invariant = { λ f. IsOpen J.files J.plan (record { n = f.n; told = f.told; failed = f.failed; modules = map (λ m. m.now) f.modules.items }) };
+    ghost invariant = { λ f. IsOpen J.files J.plan (record {
+      n = f.n;
+      told = f.told;
+      failed = f.failed;
+      modules = map (λ m. m.now) f.modules.items;
+    }) };
 }
 
 impl<'s, J: Naming> Frame<'s, J> {

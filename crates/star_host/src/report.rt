@@ -6,10 +6,11 @@ ghost use Rattle.serde_json.specs.Data.{no_members, string};
 ghost use Rattle.serde_json.specs.View.{members_view, view};
 ghost use Rattle.star_label.specs.Files.{label_at};
 ghost use Rattle.star_module.specs.Globals.{owned};
-ghost use Rattle.star_plan.specs.Text.{ill_data, static_line, static_word, well_data, with_global};
+ghost use Rattle.star_plan.specs.Causes.{Culprit, Cycle};
+ghost use Rattle.star_plan.specs.Text.{ill_data, load_data, static_line, static_word, well_data, with_global};
 ghost use Rattle.star_host.specs.Codes.{fault_of};
 ghost use Rattle.star_host.specs.Kept.{IsLoadBelow};
-ghost use Rattle.star_host.specs.Shown.{IsShown};
+ghost use Rattle.star_host.specs.Shown.{IsLoadShown, IsShown};
 ghost use Rattle.star_host.specs.Leads.{AreNexts, IsLead};
 
 use crate::code::{StaticFault, code_text};
@@ -114,14 +115,47 @@ fn nexts_of(alloc: Global, files: usize, run: &mut Run) -> Result<Vec<Option<usi
 }
 
 /// The labels of files.
-fn labels_of(alloc: Global, files: &Labels, numbers: &[usize]) -> Result<Value, AllocError>
+fn labels_of(alloc: Global, files: &Labels, numbers: &[usize]) -> Result<Vec<Value>, AllocError>
     requires { All (λ n. n < length files.now) numbers.now }
+    ensures { IfOk result (λ v. map view v.items ≡ map string (map (label_at files.now) numbers.now)) }
 {
     let mut labels = Vec::new(alloc);
     for n in numbers {
         labels.push(Value::try_from_str(alloc, files.label(*n).text())?)?;
     }
-    Ok(Value::Array(labels))
+    Ok(labels)
+}
+
+/// A module that failed since a load of it did, by this file.
+fn caused_module(
+    alloc: Global,
+    files: &Labels,
+    label: &str,
+    cause: usize,
+    line: usize,
+) -> Result<Value, AllocError>
+    requires { cause < length files.now }
+    ensures { IfOk result (λ v. view v ≡ load_data files.now label.now (Culprit cause) line) }
+{
+    let cause = files.label(cause).text();
+    let lines = Value::Array(Vec::new(alloc));
+    json!(in alloc; {"cause": cause, "label": label, "line": line as u64, "lines": lines, "status": "load"})
+}
+
+/// A module that failed since a load of it did, by this cycle of loads.
+fn cycle_module(
+    alloc: Global,
+    files: &Labels,
+    label: &str,
+    cycle: &[usize],
+    line: usize,
+) -> Result<Value, AllocError>
+    requires { All (λ n. n < length files.now) cycle.now }
+    ensures { IfOk result (λ v. view v ≡ load_data files.now label.now (Cycle cycle.now) line) }
+{
+    let cycle = Value::Array(labels_of(alloc, files, cycle)?);
+    let lines = Value::Array(Vec::new(alloc));
+    json!(in alloc; {"cycle": cycle, "label": label, "line": line as u64, "lines": lines, "status": "load"})
 }
 
 /// A module that failed since a load of it did.
@@ -134,19 +168,15 @@ fn load_module(
 ) -> Result<Value, AllocError>
     requires files { vec_len leads.old.nexts ≡ length files.now }
     requires there { n < length files.now }
-    ensures { leads.new.nexts ≡ leads.old.nexts }
+    ensures same { leads.new.nexts ≡ leads.old.nexts }
+    ensures shown { IfOk result (IsLoadShown files.now (label_at files.now n) line) }
 {
     let label = files.label(n).text();
-    let lines = Value::Array(Vec::new(alloc));
     match leads.lead(n) {
-        Lead::Cause(n) => {
-            let cause = files.label(n).text();
-            json!(in alloc; {"cause": cause, "label": label, "line": line as u64, "lines": lines, "status": "load"})
-        }
-        Lead::Cycle(n) => {
-            let cycle = leads.cycle_from(alloc, n)?;
-            let cycle = labels_of(alloc, files, &cycle)?;
-            json!(in alloc; {"cycle": cycle, "label": label, "line": line as u64, "lines": lines, "status": "load"})
+        Lead::Cause(cause) => caused_module(alloc, files, label, cause, line),
+        Lead::Cycle(first) => {
+            let cycle = leads.cycle_from(alloc, first)?;
+            cycle_module(alloc, files, label, &cycle, line)
         }
     }
 }
@@ -167,7 +197,7 @@ fn static_module(alloc: Global, label: &str, fault: StaticFault) -> Result<Value
     )
 }
 
-/// A module, with its label and how it ended. Where it fails by a load, the cause is that to which its first bad loads lead.
+/// A module, with its label and how it ended.
 fn module_value(
     alloc: Global,
     files: &Labels,
@@ -177,7 +207,7 @@ fn module_value(
     requires files { vec_len leads.old.nexts ≡ length files.now }
     requires there { it.now.number < length files.now }
     ensures same { leads.new.nexts ≡ leads.old.nexts }
-    ensures shown { IfOk result (IsShown (label_at files.now it.now.number) it.now.ended) }
+    ensures shown { IfOk result (IsShown files.now (label_at files.now it.now.number) it.now.ended) }
 {
     let label = files.label(it.number).text();
     match &it.ended {

@@ -59,8 +59,8 @@ fn settle_one<'s, 'r, 'p, 't, J: Naming, R: Wait, G: Gate>(
     Ok(())
 }
 
-/// Asks for each reached file once more, in order, and keeps what is told of it. All of them have ended when the loaders
-/// have, so nothing runs here that ran before.
+/// Asks for each reached file once more, in order, and keeps what is told of it. All of them have ended when the
+/// loaders have, so nothing runs here that ran before.
 pub(crate) fn settle<'s, 'r, 'p, 't, J: Naming, R: Wait, G: Gate>(
     rt: &R,
     common: &Common<'s, 'r, 'p, 't>,

@@ -29,7 +29,8 @@ impl<J: Naming> Model for Told<J> {
 
     ghost view = { λ t. record { number = t.number; good = t.good; known = t.note.known } };
 
-    ghost invariant = { λ t. (t.note.cell ≡ slice_index J.shelf t.number) × IsTold J.files J.plan t.number (record { number = t.number; good = t.good; known = t.note.known }) };
+    ghost invariant = { λ t. (t.note.cell ≡ slice_index J.shelf t.number)
+        × IsTold J.files J.plan t.number (record { number = t.number; good = t.good; known = t.note.known }) };
 }
 
 impl<J: Naming> Told<J> {
