@@ -1,14 +1,16 @@
 -- How a file ends, by what was read of it.
-use Rattle.std.proofs.Common.{◌≡◌, ◌<◌, ℕ, List, length, get_or, Option, Some, None, refl, ap, sym, ◌∙◌, subst}
+use Rattle.std.proofs.Common.{◌≡◌, ◌<◌, ℕ, List, length, get_or, Option, Some, None, refl, ap, sym, ◌∙◌, subst, arith}
 use Rattle.std.specs.Prelude.{IfSome, slice_get}
 use Rattle.std.specs.Option.{option_flatten, option_map}
-use Rattle.std.proofs.lemmas.Option.{slice_get-get_or, slice_get-map}
+use Rattle.std.proofs.lemmas.List.{length-map}
+use Rattle.std.proofs.lemmas.Option.{slice_get-get_or, slice_get-map, slice_get_within}
 use Rattle.star_label.specs.Files.{File}
 use Rattle.star_meaning.specs.Places.{Stands}
 use Rattle.star_meaning.specs.Programs.{Files, PlacedFile, file_in, placed_file, trees_of}
 use Rattle.star_scope.specs.declared.loads.Load.{Load}
 use Rattle.star_scope.specs.declared.program.Program.{Program}
-use Rattle.star_plan.specs.Plan.{Faulty, Plan, Reading, loads_of, read_of}
+use Rattle.star_plan.specs.Plan.{Faulty, Plan, Reading, loaded, loads_of, read_of}
+use Rattle.star_plan.specs.Results.{IsFirstBad}
 use Rattle.star_host.specs.Codes.{fault_of}
 use Rattle.star_host.specs.declared.code.StaticFault.{StaticFault}
 use Rattle.star_host.specs.declared.module.Ended.TheVariants.{Load as Unloaded}
@@ -54,10 +56,13 @@ pub stands_tree : (table : Files) (n : ℕ) (p : Program) → file_in table n �
 stands_tree table n p e =
     slice_get-map (option_map (λ (f : PlacedFile). f.statements)) table n ∙ ap (option_map (option_map (λ (f : PlacedFile). f.statements))) (flat_some (slice_get table n) (placed_file p) e)
 
--- the load at a place below the number of loads
-pub load_there : (plan : Plan) (row : Row) (n index : ℕ) (failed : Option ℕ) → readings row ≡ plan.reads → failed ≡ Some index → IfSome failed (λ i. i < length (loads_of plan n)) → slice_get (loads_at row n) index ≡ None → ⊥
+-- the first load that is not good is there
+pub load_there : (plan : Plan) (row : Row) (n index : ℕ) (failed : Option ℕ) → readings row ≡ plan.reads → failed ≡ Some index → IfSome failed (IsFirstBad plan (loaded plan n)) → slice_get (loads_at row n) index ≡ None → ⊥
 load_there plan row n index failed is same fits none =
-    let inside : index < length (loads_of plan n) = subst (λ o. IfSome o (λ i. i < length (loads_of plan n))) same fits in
+    let bad : IsFirstBad plan (loaded plan n) index = subst (λ o. IfSome o (IsFirstBad plan (loaded plan n))) same fits in
+    let within = slice_get_within (loaded plan n) index bad.file bad.there in
+    let long = length-map (loads_of plan n) (λ (l : Load). l.file) in
+    let inside : index < length (loads_of plan n) = omega (arith, within, long) in
     let here : index < length (loads_at row n) = subst (λ ls. index < length ls) (loads_are plan row n is) inside in
     let d : Load = record { file = 0; line = 0; token = None } in
     let there : slice_get (loads_at row n) index ≡ Some (get_or (loads_at row n) index d) = slice_get-get_or (loads_at row n) index d here in
@@ -65,8 +70,9 @@ load_there plan row n index failed is same fits none =
     let no : ⊥ = cc in
     no
 
-pub unloaded_at : (plan : Plan) (row : Row) (n index : ℕ) (l : Load) → readings row ≡ plan.reads → Some l ≡ slice_get (loads_at row n) index → IsEnd plan n (Unloaded index l.line)
-unloaded_at plan row n index l is e = (l, subst (λ ls. slice_get ls index ≡ Some l) (sym (loads_are plan row n is)) (sym e), refl)
+pub unloaded_at : (plan : Plan) (row : Row) (n index : ℕ) (failed : Option ℕ) (l : Load) → readings row ≡ plan.reads → failed ≡ Some index → IfSome failed (IsFirstBad plan (loaded plan n)) → Some l ≡ slice_get (loads_at row n) index → IsEnd plan n (Unloaded index l.line)
+unloaded_at plan row n index failed l is same fits e =
+    (subst (λ o. IfSome o (IsFirstBad plan (loaded plan n))) same fits, (l, subst (λ ls. slice_get ls index ≡ Some l) (sym (loads_are plan row n is)) (sym e), refl))
 
 pub told_is : (files : List File) (plan : Plan) (n : ℕ) (m : Module) (t : ToldView) → t.number ≡ n → IsAsked files plan n → t.known ≡ Some m → IsModule plan n m → t.good ≡ ended_well m.ended → IsTold files plan n t
 told_is files plan n m t number asked known right good = record { number = number; asked = asked; found = m; known = known; right = right; good = good }

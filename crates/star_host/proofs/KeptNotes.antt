@@ -1,24 +1,24 @@
 -- What is told of a file is a sound module, which a note keeps.
-use Rattle.std.proofs.Common.{◌≡◌, ◌<◌, ℕ, List, Bool, map, length, get_or, Option, Some, refl, ap, sym, ◌∙◌, subst, arith}
-use Rattle.std.specs.Prelude.{All, slice_get, slice_index, slice_set}
+use Rattle.std.proofs.Common.{◌≡◌, ◌<◌, ℕ, List, length, get_or, ap, sym, ◌∙◌, subst, arith}
+use Rattle.std.specs.Prelude.{All, slice_index, slice_set}
 use Rattle.std.proofs.lemmas.List.{get_or_default, length-map, set-get_or}
 use Rattle.std.proofs.lemmas.Option.{slice_get_within}
-use Rattle.star_cache.specs.State.{Loads}
 use Rattle.star_label.specs.Files.{File}
 use Rattle.star_scope.specs.declared.loads.Load.{Load}
 use Rattle.star_plan.specs.Plan.{Plan, loaded, loads_of}
 use Rattle.star_host.specs.declared.module.Ended.{Ended}
-use Rattle.star_host.specs.declared.module.Ended.TheVariants.{Static, Load as Unloaded, Ran}
+use Rattle.star_host.specs.declared.module.Ended.TheVariants.{Static, Load as Unloaded, Stopped, Good}
 use Rattle.star_host.specs.declared.module.Module.{Module}
 use Rattle.star_host.specs.Fits.{IsWithin, asked_below}
-use Rattle.star_host.specs.Kept.{IsKept, IsLoadBelow, IsSound, KeptView}
+use Rattle.star_host.specs.Kept.{IsKept, IsLoadBelow, IsSound}
 use Rattle.star_host.specs.Views.{IsEnd, IsModule, IsTold, ToldView}
 
 ends_below : (plan : Plan) (n : ℕ) (ls : List ℕ) (e : Ended) → ls ≡ loaded plan n → IsEnd plan n e → IsLoadBelow (length ls) e
 ends_below plan n ls (Static f) same is = tt
-ends_below plan n ls (Ran body) same is = tt
+ends_below plan n ls (Stopped code line lines) same is = tt
+ends_below plan n ls (Good body) same is = tt
 ends_below plan n ls (Unloaded index line) same is =
-    let inside : index < length (loads_of plan n) = slice_get_within (loads_of plan n) index is.0 is.1 in
+    let inside : index < length (loads_of plan n) = slice_get_within (loads_of plan n) index is.1.0 is.1.1 in
     let long = length-map (loads_of plan n) (λ (l : Load). l.file) in
     let size : length ls ≡ length (loaded plan n) = ap length same in
     omega (arith, inside, long, size)

@@ -1,9 +1,15 @@
 pub mod Rows
 pub mod SeatsBack
 pub mod PlacesRead
+pub mod LoadsWithin
+pub mod Finds
 pub mod Worlds
 pub mod KeptNotes
 pub mod Ends
+pub mod Opens
+pub mod Stores
+pub mod Bodies
 pub mod NextLoads
+pub mod Settled
 pub mod Crossing
 pub mod Sharing

@@ -1,12 +1,11 @@
 -- The rows of what was read, and what a plan has of them.
-use Rattle.std.proofs.Common.{◌≡◌, ◌<◌, ℕ, zero, suc, List, [], ◌∷◌, ◌++◌, map, length, Option, Some, None, refl, ap, sym, ◌∙◌, subst, arith}
-use Rattle.std.specs.Prelude.{All, Contains, slice_get, slice_index_or, Ok}
-use Rattle.std.specs.List.{flat_map}
+use Rattle.std.proofs.Common.{◌≡◌, ℕ, Option, Some, None, refl, ap, sym, ◌∙◌}
+use Rattle.std.specs.Prelude.{slice_get}
 use Rattle.std.specs.Option.{option_map, option_flatten}
 use Rattle.std.proofs.lemmas.Option.{slice_get-map, slice_get_within, get_or_from_slice_get}
 use Rattle.star_cache.specs.State.{Loads}
 use Rattle.star_scope.specs.declared.loads.Load.{Load}
-use Rattle.star_plan.specs.Plan.{Plan, Reading, loaded, loads_of, read_of, loads_in}
+use Rattle.star_plan.specs.Plan.{Plan, loaded, loads_of, read_of, loads_in}
 use Rattle.star_host.specs.Readings.{Row, loads_at, read_at, reading_of, readings}
 
 flat-map : {A B : Type 0} (f : A → B) (o : Option (Option A)) → option_flatten (option_map (option_map f) o) ≡ option_map f (option_flatten o)

@@ -1,5 +1,5 @@
 -- Static faults as the definitions have them.
-use Rattle.std.specs.Prelude.{ℕ}
+use Rattle.std.specs.Prelude.{ℕ, List, codes}
 use Rattle.star_lex.specs.declared.token.SyntaxFault.TheVariants as text
 use Rattle.star_scope.specs.declared.error.ScopeFault.TheVariants as names
 use Rattle.star_plan.specs.Plan.{StaticFault as PlanFault, OfText, OfNames}
@@ -22,3 +22,16 @@ fault_at BadLabel line = OfNames (names.BadLabel line)
 -- the fault that a code and its line stand for
 abbrev pub fault_of : StaticFault → PlanFault
 fault_of f = fault_at f.code f.line
+
+-- the word of a static fault in the report
+abbrev pub word_of : StaticCode → List ℕ
+word_of BadToken = codes "bad_token"
+word_of BadIndent = codes "bad_indent"
+word_of Nested = codes "nested"
+word_of Syntax = codes "syntax"
+word_of Undefined = codes "undefined"
+word_of BadPlace = codes "bad_place"
+word_of Conflict = codes "conflict"
+word_of Private = codes "private"
+word_of NoFile = codes "no_file"
+word_of BadLabel = codes "bad_label"

@@ -1,14 +1,19 @@
 -- A file whose loads are asked for, and what lies under a turn of it.
-use Rattle.std.specs.Prelude.{◌≡◌, ◌+◌, ◌^◌, ◌<◌, ◌≤◌, ℕ, List, Option, IfSome, length}
+use Rattle.std.specs.Prelude.{◌≡◌, ◌+◌, ◌^◌, ◌<◌, ◌≤◌, ℕ, List, Option, None, IfSome, Some, length, slice_get}
 use Rattle.star_cache.specs.State.{Loads}
 use Rattle.star_cache.specs.Walk.{IsOnCycle}
 use Rattle.star_label.specs.Files.{File}
-use Rattle.star_meaning.specs.Programs.{Files}
 use Rattle.star_scope.specs.declared.loads.Load.{Load}
 use Rattle.star_plan.specs.Plan.{Plan, loaded, loads_of}
+use Rattle.star_plan.specs.Reading.{IsPlanOf}
+use Rattle.star_plan.specs.Results.{IsFirstBad}
+use Rattle.star_plan.specs.Runs.{ArePlaced}
 use Rattle.star_host.specs.Fits.{IsAsked}
-use Rattle.star_host.specs.Readings.{Row, readings, table_of}
+use Rattle.star_host.specs.Readings.{readings, table_of}
 use Rattle.star_host.specs.Refusals.{IsRefusal}
+use Rattle.star_host.specs.Views.{AreGoodLoads}
+use Rattle.star_host.specs.declared.module.Module.{Module}
+use Rattle.star_host.specs.declared.work.Common.{Common}
 use Rattle.star_host.specs.declared.loading.Turn.{Turn}
 use Rattle.star_host.specs.declared.loading.Turn.TheVariants.{Again, Enter, Ended}
 
@@ -16,23 +21,28 @@ pub record FrameView : Type 0 where
   pub n : ℕ
   pub told : ℕ
   pub failed : Option ℕ
+  pub modules : List Module
 
--- a file that may be asked for, of whose loads the first were told
+-- a file that may be asked for, of whose loads the first were told: one of these is the first that is not good, or all are good and these are their modules
 pub record IsOpen (files : List File) (plan : Plan) (f : FrameView) : Type 0 where
   pub asked : IsAsked files plan f.n
   pub told : f.told ≤ length (loads_of plan f.n)
-  pub failed : IfSome f.failed (λ i. i < f.told)
+  pub bad : IfSome f.failed (IsFirstBad plan (loaded plan f.n))
+  pub good : f.failed ≡ None → AreGoodLoads plan f.n f.told f.modules
 
--- what loaders share is that of the cache: its files, what was read of them, their programs, and its shelf
-pub record IsWorld (files : List File) (plan : Plan) (shelf : List ℕ) (fs : List File) (row : Row) (table : Files) (cells : List ℕ) (prelude : Option ℕ) (steps : ℕ) : Type 0 where
-  pub files_are : fs ≡ files
-  pub row_is : readings row ≡ plan.reads
-  pub row_fits : length row ≡ length files
-  pub table_is : table ≡ table_of row
-  pub cells_are : cells ≡ shelf
+-- what loaders share is that of the cache: its files, what was read of them, their programs, its shelf, the prelude's file and the steps; and what was read is the plan of the files
+pub record IsWorld (files : List File) (plan : Plan) (shelf : List ℕ) (c : Common) : Type 0 where
+  pub files_are : c.files.now ≡ files
+  pub row_is : readings c.reads.now ≡ plan.reads
+  pub table_is : c.programs.now ≡ table_of c.reads.now
+  pub cells_are : c.modules.now ≡ shelf
   pub cells_fit : length shelf ≡ length files
-  pub prelude_fits : IfSome prelude (λ p. p < length files)
-  pub steps_fit : (1 ≤ steps) × (steps ≤ 100000000)
+  pub prelude_is : c.prelude ≡ plan.prelude
+  pub prelude_fits : IfSome c.prelude (λ p. p < length files)
+  pub steps_are : c.steps ≡ plan.steps
+  pub steps_fit : (1 ≤ c.steps) × (c.steps ≤ 100000000)
+  pub planned : IsPlanOf files plan
+  pub placed : ArePlaced files plan c.programs.now
 
 abbrev pub IsTurn : List File → Plan → Turn → Type 0
 IsTurn files plan Again = Unit {0}
@@ -44,5 +54,6 @@ pub record IsNextLoad (files : List File) (plan : Plan) (n i : ℕ) (l : Load) :
   pub within : i < length (loads_of plan n)
   pub fits : i + 1 < 2 ^ 64
   pub loads : Loads (loaded plan) n l.file
+  pub there : slice_get (loaded plan n) i ≡ Some l.file
   pub asked : IsAsked files plan l.file
   pub refused : IsOnCycle (Loads (loaded plan)) n l.file → IsRefusal plan n i

@@ -3,7 +3,9 @@ pub mod Readings
 pub mod Found
 pub mod Fits
 pub mod Views
+pub mod Bodies
 pub mod Refusals
 pub mod Frames
 pub mod Kept
 pub mod Leads
+pub mod Shown

@@ -8,7 +8,6 @@ use Rattle.star_syntax.specs.declared.tree.Tree.{Tree}
 use Rattle.star_parser.specs.Sources.{Parses}
 use Rattle.star_scope.specs.declared.loads.Load.{Load}
 use Rattle.star_scope.specs.declared.program.Prelude.{Prelude}
-use Rattle.star_scope.specs.declared.program.Program.{Program}
 use Rattle.star_scope.specs.Resolve.{Resolves}
 use Rattle.star_meaning.specs.Programs.{Files, IsOfFile, PlacedFile, placed_file}
 use Rattle.star_plan.specs.Plan.{Reading, Sound, Faulty, OfText, loads_in}
@@ -36,6 +35,10 @@ read_at row n = option_flatten (slice_get row n)
 -- the loads of a file in a row
 abbrev pub loads_at : Row → ℕ → List Load
 loads_at row n = loads_in (option_map reading_of (read_at row n))
+
+-- the loads of what was read: none where it is a static fault
+abbrev pub loads_read : Read → List Load
+loads_read r = loads_in (Some (reading_of r))
 
 -- the program of a file, placed
 abbrev pub placed_in : Option Read → Option PlacedFile

@@ -4,7 +4,8 @@ ghost use Rattle.std.specs.Prelude.{◌≡◌, ◌≢◌, MatchOption};
 ghost use Rattle.star_lex.specs.declared.token.SyntaxFault.TheVariants as text;
 ghost use Rattle.star_scope.specs.declared.error.ScopeFault.TheVariants as names;
 ghost use Rattle.star_plan.specs.Plan.{OfText, OfNames};
-ghost use Rattle.star_host.specs.Codes.{fault_of};
+ghost use Rattle.star_plan.specs.Text.{code_word, static_line};
+ghost use Rattle.star_host.specs.Codes.{fault_of, word_of};
 
 use star_lex::token::SyntaxFault;
 use star_meaning::fault::Code;
@@ -64,7 +65,9 @@ pub fn of_scope(fault: ScopeFault) -> Option<StaticFault>
 
 impl StaticCode {
     /// Its word in the report.
-    pub fn text(self) -> &'static str {
+    pub fn text(self) -> &'static str
+        ensures { result.now ≡ word_of self }
+    {
         match self {
             StaticCode::BadToken => "bad_token",
             StaticCode::BadIndent => "bad_indent",
@@ -80,8 +83,22 @@ impl StaticCode {
     }
 }
 
+impl StaticFault {
+    /// Its line in the report.
+    pub fn shown_line(self) -> usize
+        ensures { result ≡ static_line (fault_of self) }
+    {
+        match self.code {
+            StaticCode::Syntax => 0,
+            _ => self.line,
+        }
+    }
+}
+
 /// The word of a fault in the report.
-pub fn code_text(code: Code) -> &'static str {
+pub fn code_text(code: Code) -> &'static str
+    ensures { result.now ≡ code_word code }
+{
     match code {
         Code::Frozen => "frozen",
         Code::Iterating => "iterating",

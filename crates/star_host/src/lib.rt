@@ -4,6 +4,7 @@
 pub mod code;
 mod frame;
 pub mod gate;
+mod given;
 mod lead;
 mod loading;
 pub mod module;
@@ -13,6 +14,7 @@ mod outcome;
 mod reading;
 pub mod report;
 mod running;
+mod settle;
 mod shelf;
 mod table;
 mod told;

@@ -14,7 +14,7 @@ use crate::naming::Naming;
 use crate::table::{fault_at, program_at};
 use crate::told::Told;
 use crate::trace::{Refused, Trace};
-use crate::work::Common;
+use crate::work::{Common, run};
 use star_cache::{LoadCache, Reply, Seat};
 use star_scope::loads::Load;
 use std::alloc::{AllocError, Global};
@@ -51,26 +51,25 @@ fn numbers(alloc: Global, loads: &[Load]) -> Result<Vec<usize>, AllocError>
     loads.iter().map(|load| load.file).collect(alloc)
 }
 
-/// How a file ends whose loads have all been told, of which this is the first that is not good.
+/// How a file ends whose loads have all been told.
 fn ended<'s, 'r, 'p, 't, J: Naming, G: Gate>(
     common: &Common<'s, 'r, 'p, 't>,
     gate: &G,
     loader: usize,
-    n: usize,
-    failed: Option<usize>,
+    frame: &Frame<'s, J>,
 ) -> Result<Ended, AllocError>
-    requires world { IsWorld J.files J.plan J.shelf common.now.files.now common.now.reads.now common.now.programs.now common.now.modules.now common.now.prelude common.now.steps }
-    requires asked { IsAsked J.files J.plan n }
-    requires failed { IfSome failed (λ i. i < length (loads_of J.plan n)) }
-    ensures { IfOk result (IsEnd J.plan n) }
+    requires world { IsWorld J.files J.plan J.shelf common.now }
+    requires told { frame.now.told ≡ length (loads_of J.plan frame.now.n) }
+    ensures { IfOk result (IsEnd J.plan frame.now.n) }
 {
+    let n = frame.number();
     let Some(program) = program_at(common.reads, n) else {
         let Some(fault) = fault_at(common.reads, n) else {
             unreachable!()
         };
         return Ok(Ended::Static(fault));
     };
-    match failed {
+    match frame.failed() {
         Some(index) => {
             let Some(load) = common.load(n, index) else {
                 unreachable!()
@@ -80,7 +79,7 @@ fn ended<'s, 'r, 'p, 't, J: Naming, G: Gate>(
                 line: load.line,
             })
         }
-        None => Ok(Ended::Ran(common.run(gate, loader, n, program)?)),
+        None => run::<J, G>(common, gate, loader, n, program, frame.modules()),
     }
 }
 
@@ -116,13 +115,14 @@ fn end<'s, 'r, 'p, 't, J: Naming, R: Wait, G: Gate>(
     gate: &G,
     cache: &LoadCache<Told<J>>,
     seat: &mut Seat<Told<J>>,
-    frame: &Frame<J>,
+    frame: &Frame<'s, J>,
 ) -> Result<(), LoadError>
-    requires world { IsWorld J.files J.plan J.shelf common.now.files.now common.now.reads.now common.now.programs.now common.now.modules.now common.now.prelude common.now.steps }
+    requires world { IsWorld J.files J.plan J.shelf common.now }
+    requires told { frame.now.told ≡ length (loads_of J.plan frame.now.n) }
     ensures { seat.new ≡ seat.old }
 {
     let n = frame.number();
-    let ended = ended::<J, G>(common, gate, seat.number(), n, frame.failed())?;
+    let ended = ended::<J, G>(common, gate, seat.number(), frame)?;
     let made = module_of::<J>(common, n, ended)?;
     let good = made.is_good();
     let module = boxed(common.alloc, made)?;
@@ -135,15 +135,32 @@ fn end<'s, 'r, 'p, 't, J: Naming, R: Wait, G: Gate>(
     }
 }
 
-/// The next load of a file that is to be asked for.
+/// The next load of a file that is to be asked for: none where all were told.
 fn next_load<'s, 'r, 'p, 't, J: Naming>(
     common: &Common<'s, 'r, 'p, 't>,
-    frame: &Frame<J>,
+    frame: &Frame<'s, J>,
 ) -> Option<Load>
-    requires world { IsWorld J.files J.plan J.shelf common.now.files.now common.now.reads.now common.now.programs.now common.now.modules.now common.now.prelude common.now.steps }
-    ensures { IfSome result (IsNextLoad J.files J.plan frame.now.n frame.now.told) }
+    requires world { IsWorld J.files J.plan J.shelf common.now }
+    ensures { MatchOption result
+        (frame.now.told ≡ length (loads_of J.plan frame.now.n))
+        (IsNextLoad J.files J.plan frame.now.n frame.now.told) }
 {
     common.load(frame.number(), frame.told())
+}
+
+/// The module of a file of which that was told.
+fn told_module<'s, 'r, 'p, 't, J: Naming>(
+    common: &Common<'s, 'r, 'p, 't>,
+    n: usize,
+    told: Told<J>,
+) -> &'s Module
+    requires world { IsWorld J.files J.plan J.shelf common.now }
+    requires told { IsTold J.files J.plan n told }
+    ensures { IsModule J.plan n result.now }
+{
+    let mut told = told;
+    let note = told.note();
+    common.modules.seen(n, note)
 }
 
 /// One turn of the file on top.
@@ -153,10 +170,10 @@ fn take_turn<'s, 'r, 'p, 't, J: Naming, R: Wait, G: Gate>(
     gate: &G,
     cache: &LoadCache<Told<J>>,
     seat: &mut Seat<Told<J>>,
-    top: &mut Frame<J>,
+    top: &mut Frame<'s, J>,
     trace: &Trace<J>,
 ) -> Result<Turn, LoadError>
-    requires world { IsWorld J.files J.plan J.shelf common.now.files.now common.now.reads.now common.now.programs.now common.now.modules.now common.now.prelude common.now.steps }
+    requires world { IsWorld J.files J.plan J.shelf common.now }
     ensures turn { IfOk result (IsTurn J.files J.plan) }
     ensures number { seat.new.number ≡ seat.old.number }
 {
@@ -168,12 +185,12 @@ fn take_turn<'s, 'r, 'p, 't, J: Naming, R: Wait, G: Gate>(
     };
     match cache.ask(rt, seat, Some(file), load.file) {
         Ok(Reply::Begun) => return Ok(Turn::Enter(load.file)),
-        Ok(Reply::Ready(told)) => top.tell(told.went_well()),
-        Ok(Reply::Failed(told)) => top.tell(told.went_well()),
+        Ok(Reply::Ready(told)) => top.tell(told_module(common, load.file, told))?,
+        Ok(Reply::Failed(told)) => top.tell(told_module(common, load.file, told))?,
         Ok(Reply::Cycle) => {
             // A line of the trace that gets no memory is left out.
             let _ = trace.push(rt, Refused { file, index });
-            top.tell(false);
+            top.refuse();
         }
         Ok(Reply::Spoiled) => return Err(LoadError::Spoiled),
         Ok(Reply::Wait) => unreachable!(),
@@ -214,23 +231,27 @@ fn turns<'s, 'r, 'p, 't, J: Naming, R: Wait, G: Gate>(
     root: usize,
     trace: &Trace<J>,
 ) -> Result<Told<J>, LoadError>
-    requires world { IsWorld J.files J.plan J.shelf common.now.files.now common.now.reads.now common.now.programs.now common.now.modules.now common.now.prelude common.now.steps }
+    requires world { IsWorld J.files J.plan J.shelf common.now }
     requires root { IsAsked J.files J.plan root }
     ensures told { IfOk result (IsTold J.files J.plan root) }
     ensures number { seat.new.number ≡ seat.old.number }
 {
-    let mut stack: Vec<Frame<J>> = Vec::new(common.alloc);
+    let mut stack: Vec<Frame<'s, J>> = Vec::new(common.alloc);
     for _ in rt.forever() {
         let Some(top) = stack.last_mut() else {
             match ask_root(rt, cache, seat, root)? {
                 Some(told) => return Ok(told),
-                None => stack.push(Frame::new(root)).map_err(AllocError::from)?,
+                None => stack
+                    .push(Frame::new(common.alloc, root))
+                    .map_err(AllocError::from)?,
             }
             continue;
         };
         match take_turn(rt, common, gate, cache, seat, top, trace)? {
             Turn::Again => {}
-            Turn::Enter(m) => stack.push(Frame::new(m)).map_err(AllocError::from)?,
+            Turn::Enter(m) => stack
+                .push(Frame::new(common.alloc, m))
+                .map_err(AllocError::from)?,
             Turn::Ended => {
                 let _ = stack.pop();
             }
@@ -239,9 +260,10 @@ fn turns<'s, 'r, 'p, 't, J: Naming, R: Wait, G: Gate>(
     unreachable!()
 }
 
-/// Loads a file, and gives what is told of it: its module, which has its number, its loads, and how it ended. All loads of a file are
-/// asked for, also after one that is not good. `Memory` where a growth was refused, `Spoiled` where an entry that was met is spoiled,
-/// `Unpublished` where a cell of the shelf had something already. At `Err` the loader's stack was abandoned.
+/// Loads a file, and gives what is told of it: its module, which has its number, its loads, and its outcome. All loads
+/// of a file are asked for, also after one that is not good. `Memory` where a growth was refused, `Spoiled` where an
+/// entry that was met is spoiled, `Unpublished` where a cell of the shelf had something already. At `Err` the loader's
+/// stack was abandoned.
 pub fn load<'s, 'r, 'p, 't, J: Naming, R: Wait, G: Gate>(
     rt: &R,
     common: &Common<'s, 'r, 'p, 't>,
@@ -251,7 +273,7 @@ pub fn load<'s, 'r, 'p, 't, J: Naming, R: Wait, G: Gate>(
     root: usize,
     trace: &Trace<J>,
 ) -> Result<Told<J>, LoadError>
-    requires world { IsWorld J.files J.plan J.shelf common.now.files.now common.now.reads.now common.now.programs.now common.now.modules.now common.now.prelude common.now.steps }
+    requires world { IsWorld J.files J.plan J.shelf common.now }
     requires root { IsAsked J.files J.plan root }
     ensures told { IfOk result (IsTold J.files J.plan root) }
     ensures number { seat.new.number ≡ seat.old.number }

@@ -4,14 +4,26 @@ ghost use Rattle.std.specs.Prelude.{◌≡◌};
 ghost use Rattle.star_host.specs.Views.{ended_well};
 
 use crate::code::StaticFault;
-use star_module::Outcome;
+use star_meaning::fault::Code;
+use star_store::arena::Frozen;
+use star_text::Text;
+use std::sync::Arc;
 
-/// What a file's run left, and the files whose bodies it reaches through its loads.
+/// The store of a file, which all that reach it share.
+#[derive(Drop)]
+pub struct Reach {
+    pub number: u32,
+    pub store: Arc<Frozen>,
+}
+
+/// What a run left that went well.
 #[derive(Drop)]
 pub struct Body {
-    pub outcome: Outcome,
-    /// The numbers, in order, of all files that its loads reach.
-    pub reaches: Vec<u32>,
+    /// The stores of the file and of all files to which its loads lead.
+    pub stores: Vec<Reach>,
+    /// Each global with its text, in byte order of the names.
+    pub shown: Vec<(String, Text)>,
+    pub lines: Vec<Text>,
 }
 
 /// How a file has ended.
@@ -20,9 +32,18 @@ pub enum Ended {
     /// It has a static fault.
     Static(StaticFault),
     /// The load with this index is the first that is not good; its statement has this line.
-    Load { index: usize, line: usize },
-    /// Its body ran.
-    Ran(Body),
+    Load {
+        index: usize,
+        line: usize,
+    },
+    /// Its run stopped at this line, for this reason, when these lines were printed.
+    Stopped {
+        code: Code,
+        line: usize,
+        lines: Vec<Text>,
+    },
+    /// Its run went well.
+    Good(Body),
 }
 
 /// What has become of a file: its number, the files that it loads, and how it ended.
@@ -38,9 +59,6 @@ impl Module {
     pub fn is_good(&self) -> bool
         ensures { result ≡ ended_well self.now.ended }
     {
-        match &self.ended {
-            Ended::Ran(body) => matches!(&body.outcome, Outcome::Good { .. }),
-            _ => false,
-        }
+        matches!(&self.ended, Ended::Good(_))
     }
 }

@@ -1,11 +1,12 @@
 //! The reading of all files that roots reach, before any body runs.
 
-ghost use Rattle.std.specs.Prelude.{◌≡◌, ◌<◌, ◌≤◌, List, Option, None, All, length, vec_len, IfOk, MatchResult, OnOk, Ok};
+ghost use Rattle.std.specs.Prelude.{◌≡◌, ◌<◌, ◌∷◌, ◌++◌, None, Some, Ok, [], All, IfOk, IfSome, IsTrue, IsFalse};
+ghost use Rattle.std.specs.Prelude.{IsSome, MatchOption, MatchResult, OnOk, false, length, map, replicate};
+ghost use Rattle.std.specs.Prelude.{slice_set, vec_len};
 ghost use Rattle.std.specs.Option.{option_copied};
-ghost use Rattle.star_label.specs.Files.{File};
 ghost use Rattle.star_parser.specs.Sources.{Parses};
-ghost use Rattle.star_scope.specs.declared.program.Prelude.{Prelude as PreludeView};
-ghost use Rattle.star_host.specs.Readings.{AreReadAs, IsFaultOf, IsReadAs};
+ghost use Rattle.star_host.specs.Found.{AreFound, Grew, IsMarked, IsRowOf, Within};
+ghost use Rattle.star_host.specs.Readings.{IsFaultOf, IsReadAs, loads_read, read_at};
 
 use crate::code::{StaticFault, of_scope, of_syntax};
 use star_label::files::Files as Labels;
@@ -23,13 +24,14 @@ pub enum Read<'t> {
     Fault(StaticFault),
 }
 
-/// What files are read by: their texts, the place of their trees, and the prelude.
+/// What files are read by: their texts, the place of their trees, the prelude, and the roots.
 #[derive(Drop)]
 pub(crate) struct Reader<'s, 't> {
     pub alloc: Global,
     pub files: &'s Labels,
     pub trees: &'t boxcar::Vec<Tree>,
     pub prelude: Option<&'s Prelude<'t>>,
+    pub roots: &'s [usize],
 }
 
 /// The tree of a text, which is kept with the other trees: its static fault where it does not parse.
@@ -77,16 +79,16 @@ impl<'s, 't> Reader<'s, 't> {
         }
     }
 
-    /// Reads the file that was found at a place, where there is a file with its number.
-    fn read_next<R: Wait>(&self, rt: &R, found: &mut Found<'t>, i: usize) -> Result<(), AllocError>
-        ensures sized { vec_len found.new.reads ≡ vec_len found.old.reads }
-        ensures right { OnOk result (AreReadAs self.now.files.now (option_copied self.now.prelude) found.old.reads.items → AreReadAs self.now.files.now (option_copied self.now.prelude) found.new.reads.items) }
+    /// Reads the next file that was found, unless it was read.
+    fn read_next<R: Wait>(&self, rt: &R, found: &mut Found<'t>, n: usize) -> Result<(), AllocError>
+        requires file { n < length self.now.files.now }
+        requires prelude { IfSome self.now.prelude (λ p. p.now.file < length self.now.files.now) }
+        requires found { AreFound self.now.files.now (option_copied self.now.prelude) self.now.roots.now
+            found.old.reads.items found.old.marks.items (found.old.todo.items ++ n ∷ []) }
+        ensures { OnOk result (AreFound self.now.files.now (option_copied self.now.prelude) self.now.roots.now
+            found.new.reads.items found.new.marks.items found.new.todo.items) }
     {
-        if i >= found.queue.len() {
-            return Ok(());
-        }
-        let n = found.queue[i];
-        if n >= self.files.len() {
+        if found.is_read(n) {
             return Ok(());
         }
         let read = self.read(rt, n)?;
@@ -94,55 +96,54 @@ impl<'s, 't> Reader<'s, 't> {
         Ok(())
     }
 
-    /// Reads the files that were found from a place to another.
-    fn read_level<R: Wait>(
-        &self,
-        rt: &R,
-        found: &mut Found<'t>,
-        from: usize,
-        to: usize,
-    ) -> Result<(), AllocError>
-        ensures sized { vec_len found.new.reads ≡ vec_len found.old.reads }
-        ensures right { OnOk result (AreReadAs self.now.files.now (option_copied self.now.prelude) found.old.reads.items → AreReadAs self.now.files.now (option_copied self.now.prelude) found.new.reads.items) }
-    {
-        for i in from..to {
-            self.read_next(rt, found, i)?;
-        }
-        Ok(())
-    }
-
-    /// Reads all files that the roots reach: the roots, then level by level the loads of what was read. A file with a static fault
-    /// has no loads.
-    pub(crate) fn read_all<R: Wait>(
-        &self,
-        rt: &R,
-        roots: &[usize],
-    ) -> Result<Vec<Option<Read<'t>>>, AllocError>
-        ensures sized { IfOk result (λ row. vec_len row ≡ length self.now.files.now) }
-        ensures right { IfOk result (λ row. AreReadAs self.now.files.now (option_copied self.now.prelude) row.items) }
+    /// The roots are found, and nothing is read yet.
+    fn start(&self) -> Result<Found<'t>, AllocError>
+        requires { Within self.now.files.now self.now.roots.now }
+        ensures { IfOk result (λ f. AreFound self.now.files.now (option_copied self.now.prelude) self.now.roots.now
+            f.reads.items f.marks.items f.todo.items) }
     {
         let mut found = Found::new(self.alloc, self.files.len())?;
-        found.mark_each(roots)?;
-        let mut done = 0;
+        found.mark_each(self.roots)?;
+        Ok(found)
+    }
+
+    /// Reads all files that the roots reach: the roots, and the loads of all that is read. A file with a static fault
+    /// has no loads.
+    pub(crate) fn read_all<R: Wait>(&self, rt: &R) -> Result<Vec<Option<Read<'t>>>, AllocError>
+        requires roots { Within self.now.files.now self.now.roots.now }
+        requires prelude { IfSome self.now.prelude (λ p. p.now.file < length self.now.files.now) }
+        ensures { IfOk result (λ row. IsRowOf self.now.files.now (option_copied self.now.prelude)
+            self.now.roots.now row.items) }
+    {
+        let mut found = self.start()?;
         for _ in rt.forever() {
-            let end = found.queue.len();
-            if done >= end {
+            let Some(n) = found.next() else {
                 let Found { reads, .. } = found;
                 return Ok(reads);
-            }
-            self.read_level(rt, &mut found, done, end)?;
-            done = end;
+            };
+            self.read_next(rt, &mut found, n)?;
         }
         unreachable!()
     }
 }
 
-/// The files that were found so far: what was read of them, whether each was found, and their numbers in the order in which they were.
+/// The loads of what was read: none where it is a static fault.
+fn loads_of<'a>(read: &'a Read) -> &'a [Load]
+    ensures { result.now ≡ loads_read read.now }
+{
+    match read {
+        Read::Program(program) => program.loads(),
+        Read::Fault(_) => &[],
+    }
+}
+
+/// The files that were found so far: what was read of them, whether each was found, and the numbers of those that wait
+/// to be read.
 #[derive(Drop)]
 pub(crate) struct Found<'t> {
     reads: Vec<Option<Read<'t>>>,
     marks: Vec<bool>,
-    queue: Vec<usize>,
+    todo: Vec<usize>,
 }
 
 impl<'t> Found<'t> {
@@ -150,6 +151,8 @@ impl<'t> Found<'t> {
     fn new(alloc: Global, count: usize) -> Result<Found<'t>, AllocError>
         ensures reads { IfOk result (λ f. vec_len f.reads ≡ count) }
         ensures none { IfOk result (λ f. All (λ o. o ≡ None) f.reads.items) }
+        ensures marks { IfOk result (λ f. f.marks.items ≡ replicate count false) }
+        ensures todo { IfOk result (λ f. f.todo.items ≡ []) }
     {
         let mut reads = Vec::new(alloc);
         for _ in 0..count {
@@ -158,16 +161,41 @@ impl<'t> Found<'t> {
         Ok(Found {
             reads,
             marks: vec![in alloc; false; count]?,
-            queue: Vec::new(alloc),
+            todo: Vec::new(alloc),
         })
+    }
+
+    /// Takes a file that waits to be read.
+    fn next(&mut self) -> Option<usize>
+        ensures reads { self.new.reads ≡ self.old.reads }
+        ensures marks { self.new.marks ≡ self.old.marks }
+        ensures todo { MatchOption result
+            (self.old.todo.items ≡ [])
+            (λ n. self.old.todo.items ≡ self.new.todo.items ++ n ∷ []) }
+    {
+        self.todo.pop()
+    }
+
+    /// Whether a file was read.
+    fn is_read(&self, n: usize) -> bool
+        ensures yes { IsTrue result → IsSome (read_at self.now.reads.items n) }
+        ensures no { IsFalse result → read_at self.now.reads.items n ≡ None }
+    {
+        match self.reads.get(n) {
+            Some(Some(_)) => true,
+            _ => false,
+        }
     }
 
     /// A file is found.
     fn mark(&mut self, n: usize) -> Result<(), AllocError>
-        ensures { self.new.reads ≡ self.old.reads }
+        ensures reads { self.new.reads ≡ self.old.reads }
+        ensures grew { OnOk result (Grew (n ∷ []) self.old.marks.items self.old.todo.items
+            self.new.marks.items self.new.todo.items) }
+        ensures there { OnOk result (n < length self.old.marks.items → IsMarked self.new.marks.items n) }
     {
         if n < self.marks.len() && !self.marks[n] {
-            self.queue.push(n)?;
+            self.todo.push(n)?;
             self.marks[n] = true;
         }
         Ok(())
@@ -175,7 +203,11 @@ impl<'t> Found<'t> {
 
     /// Several files are found.
     fn mark_each(&mut self, numbers: &[usize]) -> Result<(), AllocError>
-        ensures { self.new.reads ≡ self.old.reads }
+        ensures reads { self.new.reads ≡ self.old.reads }
+        ensures grew { OnOk result (Grew numbers.now self.old.marks.items self.old.todo.items
+            self.new.marks.items self.new.todo.items) }
+        ensures there { OnOk result (All
+            (λ n. n < length self.old.marks.items → IsMarked self.new.marks.items n) numbers.now) }
     {
         for n in numbers {
             self.mark(*n)?;
@@ -185,7 +217,11 @@ impl<'t> Found<'t> {
 
     /// The files of loads are found.
     fn mark_loads(&mut self, loads: &[Load]) -> Result<(), AllocError>
-        ensures { self.new.reads ≡ self.old.reads }
+        ensures reads { self.new.reads ≡ self.old.reads }
+        ensures grew { OnOk result (Grew (map (λ l. l.file) loads.now) self.old.marks.items self.old.todo.items
+            self.new.marks.items self.new.todo.items) }
+        ensures there { OnOk result (All
+            (λ l. l.file < length self.old.marks.items → IsMarked self.new.marks.items l.file) loads.now) }
     {
         for load in loads {
             self.mark(load.file)?;
@@ -193,17 +229,18 @@ impl<'t> Found<'t> {
         Ok(())
     }
 
-    /// A file was read.
+    /// A file was read, and its loads are found.
     fn add(&mut self, n: usize, read: Read<'t>) -> Result<(), AllocError>
-        ensures sized { vec_len self.new.reads ≡ vec_len self.old.reads }
-        ensures right { (files : List File) (prelude : Option PreludeView) → IsReadAs files prelude n read.entry → AreReadAs files prelude self.old.reads.items → AreReadAs files prelude self.new.reads.items }
+        requires { n < vec_len self.old.reads }
+        ensures reads { OnOk result (self.new.reads.items ≡ slice_set self.old.reads.items n (Some read.entry)) }
+        ensures grew { OnOk result (Grew (map (λ l. l.file) (loads_read read.entry))
+            self.old.marks.items self.old.todo.items self.new.marks.items self.new.todo.items) }
+        ensures there { OnOk result (All
+            (λ l. l.file < length self.old.marks.items → IsMarked self.new.marks.items l.file)
+            (loads_read read.entry)) }
     {
-        if let Read::Program(program) = &read {
-            self.mark_loads(program.loads())?;
-        }
-        if n < self.reads.len() {
-            self.reads[n] = Some(read);
-        }
+        self.mark_loads(loads_of(&read))?;
+        self.reads[n] = Some(read);
         Ok(())
     }
 }

@@ -1,36 +1,61 @@
 //! The report.
 
-ghost use Rattle.std.specs.Prelude.{◌≡◌, ◌<◌, ◌≤◌, ℕ, All, Contains, Option, Some, IfOk, IfSome, OnOk, length, vec_len};
+ghost use Rattle.std.specs.Prelude.{◌≡◌, ◌<◌, ◌≤◌, [], All, Contains, Some, IfOk, IfSome, OnOk};
+ghost use Rattle.std.specs.Prelude.{codes, fold, length, map, string_bytes, vec_len};
+ghost use Rattle.serde_json.specs.Data.{no_members, string};
+ghost use Rattle.serde_json.specs.View.{members_view, view};
+ghost use Rattle.star_label.specs.Files.{label_at};
+ghost use Rattle.star_module.specs.Globals.{owned};
+ghost use Rattle.star_plan.specs.Causes.{Culprit, Cycle};
+ghost use Rattle.star_plan.specs.Text.{ill_data, load_data, static_line, static_word, well_data, with_global};
+ghost use Rattle.star_host.specs.Codes.{fault_of};
 ghost use Rattle.star_host.specs.Kept.{IsLoadBelow};
+ghost use Rattle.star_host.specs.Shown.{IsLoadShown, IsShown};
 ghost use Rattle.star_host.specs.Leads.{AreNexts, IsLead};
 
-use crate::code::code_text;
+use crate::code::{StaticFault, code_text};
 use crate::lead::{Lead, Leads};
 use crate::module::{Ended, Module};
 use crate::outcome::Run;
 use serde_json::{Map, Value, json};
 use star_label::files::Files as Labels;
-use star_module::Outcome;
 use star_text::Text;
 use std::alloc::{AllocError, Global};
 
+/// One more global's name with its text.
+fn put_global(
+    members: &mut Map<String, Value>,
+    alloc: Global,
+    global: &(String, Text),
+) -> Result<(), AllocError>
+    ensures { OnOk result (members_view members.new.entries
+        ≡ with_global (members_view members.old.entries) (string_bytes global.now.0, global.now.1)) }
+{
+    let text = Value::try_from_str(alloc, global.1.as_str())?;
+    serde_json::put(members, alloc, global.0.as_str(), text)?;
+    Ok(())
+}
+
 /// Each global's name with its text.
-fn global_texts(alloc: Global, shown: &[(String, Text)]) -> Result<Map<String, Value>, AllocError> {
+fn global_texts(alloc: Global, shown: &[(String, Text)]) -> Result<Map<String, Value>, AllocError>
+    ensures { IfOk result (λ m. members_view m.entries ≡ fold with_global no_members (owned shown.now)) }
+{
     let mut members = Map::new(alloc);
     for global in shown {
-        let text = Value::try_from_str(alloc, global.1.as_str())?;
-        serde_json::put(&mut members, alloc, global.0.as_str(), text)?;
+        put_global(&mut members, alloc, global)?;
     }
     Ok(members)
 }
 
 /// Lines as strings.
-fn texts(alloc: Global, lines: &[Text]) -> Result<Value, AllocError> {
+fn strings(alloc: Global, lines: &[Text]) -> Result<Vec<Value>, AllocError>
+    ensures { IfOk result (λ v. map view v.items ≡ map string lines.now) }
+{
     let mut items = Vec::new(alloc);
     for line in lines {
         items.push(Value::try_from_str(alloc, line.as_str())?)?;
     }
-    Ok(Value::Array(items))
+    Ok(items)
 }
 
 /// A module that failed by itself.
@@ -41,8 +66,11 @@ fn failed_module(
     line: usize,
     lines: &[Text],
     status: &str,
-) -> Result<Value, AllocError> {
-    let lines = texts(alloc, lines)?;
+) -> Result<Value, AllocError>
+    ensures { IfOk result (λ v. view v
+        ≡ ill_data (codes "fault") (string code.now) label.now line lines.now status.now) }
+{
+    let lines = Value::Array(strings(alloc, lines)?);
     json!(in alloc; {"fault": code, "label": label, "line": line as u64, "lines": lines, "status": status})
 }
 
@@ -52,9 +80,11 @@ fn good_module(
     label: &str,
     shown: &[(String, Text)],
     lines: &[Text],
-) -> Result<Value, AllocError> {
+) -> Result<Value, AllocError>
+    ensures { IfOk result (λ v. view v ≡ well_data label.now (owned shown.now) lines.now) }
+{
     let globals = Value::Object(global_texts(alloc, shown)?);
-    let lines = texts(alloc, lines)?;
+    let lines = Value::Array(strings(alloc, lines)?);
     json!(in alloc; {"globals": globals, "label": label, "lines": lines, "status": "ok"})
 }
 
@@ -85,14 +115,47 @@ fn nexts_of(alloc: Global, files: usize, run: &mut Run) -> Result<Vec<Option<usi
 }
 
 /// The labels of files.
-fn labels_of(alloc: Global, files: &Labels, numbers: &[usize]) -> Result<Value, AllocError>
+fn labels_of(alloc: Global, files: &Labels, numbers: &[usize]) -> Result<Vec<Value>, AllocError>
     requires { All (λ n. n < length files.now) numbers.now }
+    ensures { IfOk result (λ v. map view v.items ≡ map string (map (label_at files.now) numbers.now)) }
 {
     let mut labels = Vec::new(alloc);
     for n in numbers {
         labels.push(Value::try_from_str(alloc, files.label(*n).text())?)?;
     }
-    Ok(Value::Array(labels))
+    Ok(labels)
+}
+
+/// A module that failed since a load of it did, by this file.
+fn caused_module(
+    alloc: Global,
+    files: &Labels,
+    label: &str,
+    cause: usize,
+    line: usize,
+) -> Result<Value, AllocError>
+    requires { cause < length files.now }
+    ensures { IfOk result (λ v. view v ≡ load_data files.now label.now (Culprit cause) line) }
+{
+    let cause = files.label(cause).text();
+    let lines = Value::Array(Vec::new(alloc));
+    json!(in alloc; {"cause": cause, "label": label, "line": line as u64, "lines": lines, "status": "load"})
+}
+
+/// A module that failed since a load of it did, by this cycle of loads.
+fn cycle_module(
+    alloc: Global,
+    files: &Labels,
+    label: &str,
+    cycle: &[usize],
+    line: usize,
+) -> Result<Value, AllocError>
+    requires { All (λ n. n < length files.now) cycle.now }
+    ensures { IfOk result (λ v. view v ≡ load_data files.now label.now (Cycle cycle.now) line) }
+{
+    let cycle = Value::Array(labels_of(alloc, files, cycle)?);
+    let lines = Value::Array(Vec::new(alloc));
+    json!(in alloc; {"cycle": cycle, "label": label, "line": line as u64, "lines": lines, "status": "load"})
 }
 
 /// A module that failed since a load of it did.
@@ -105,21 +168,33 @@ fn load_module(
 ) -> Result<Value, AllocError>
     requires files { vec_len leads.old.nexts ≡ length files.now }
     requires there { n < length files.now }
-    ensures { leads.new.nexts ≡ leads.old.nexts }
+    ensures same { leads.new.nexts ≡ leads.old.nexts }
+    ensures shown { IfOk result (IsLoadShown files.now (label_at files.now n) line) }
 {
     let label = files.label(n).text();
-    let lines = Value::Array(Vec::new(alloc));
     match leads.lead(n) {
-        Lead::Cause(n) => {
-            let cause = files.label(n).text();
-            json!(in alloc; {"cause": cause, "label": label, "line": line as u64, "lines": lines, "status": "load"})
-        }
-        Lead::Cycle(n) => {
-            let cycle = leads.cycle_from(alloc, n)?;
-            let cycle = labels_of(alloc, files, &cycle)?;
-            json!(in alloc; {"cycle": cycle, "label": label, "line": line as u64, "lines": lines, "status": "load"})
+        Lead::Cause(cause) => caused_module(alloc, files, label, cause, line),
+        Lead::Cycle(first) => {
+            let cycle = leads.cycle_from(alloc, first)?;
+            cycle_module(alloc, files, label, &cycle, line)
         }
     }
+}
+
+/// A module that has a static fault.
+fn static_module(alloc: Global, label: &str, fault: StaticFault) -> Result<Value, AllocError>
+    ensures { IfOk result (λ v. view v
+        ≡ ill_data (codes "fault") (string (static_word (fault_of fault))) label.now
+        (static_line (fault_of fault)) [] (codes "static")) }
+{
+    failed_module(
+        alloc,
+        label,
+        fault.code.text(),
+        fault.shown_line(),
+        &[],
+        "static",
+    )
 }
 
 /// A module, with its label and how it ended.
@@ -131,20 +206,17 @@ fn module_value(
 ) -> Result<Value, AllocError>
     requires files { vec_len leads.old.nexts ≡ length files.now }
     requires there { it.now.number < length files.now }
-    ensures { leads.new.nexts ≡ leads.old.nexts }
+    ensures same { leads.new.nexts ≡ leads.old.nexts }
+    ensures shown { IfOk result (IsShown files.now (label_at files.now it.now.number) it.now.ended) }
 {
     let label = files.label(it.number).text();
     match &it.ended {
-        Ended::Static(fault) => {
-            failed_module(alloc, label, fault.code.text(), fault.line, &[], "static")
-        }
+        Ended::Static(fault) => static_module(alloc, label, *fault),
         Ended::Load { line, .. } => load_module(alloc, files, leads, it.number, *line),
-        Ended::Ran(body) => match &body.outcome {
-            Outcome::Good { shown, lines, .. } => good_module(alloc, label, &shown, &lines),
-            Outcome::Fault { code, line, lines } => {
-                failed_module(alloc, label, code_text(*code), *line, &lines, "fault")
-            }
-        },
+        Ended::Stopped { code, line, lines } => {
+            failed_module(alloc, label, code_text(*code), *line, &lines, "fault")
+        }
+        Ended::Good(body) => good_module(alloc, label, &body.shown, &body.lines),
     }
 }
 

@@ -1,11 +1,13 @@
 //! The run: each loader asks for all roots.
 
-ghost use Rattle.std.specs.Prelude.{◌≡◌, ◌+◌, ◌<◌, ◌≤◌, ℕ, List, Option, length, map, sum, slice_index_or, IfOk, IfSome, OnOk, vec_len};
+ghost use Rattle.std.specs.Prelude.{◌≡◌, ◌<◌, ◌≤◌, Some, length, map, sum, IfOk, IfSome, OnOk};
+ghost use Rattle.std.specs.Option.{option_copied};
 ghost use Rattle.star_cache.specs.Seats.{AreAll};
+ghost use Rattle.star_plan.specs.Reading.{IsPrelude};
 ghost use Rattle.star_host.specs.Fits.{IsAsked, IsWithin};
-ghost use Rattle.star_host.specs.Found.{IsClosed, Within};
+ghost use Rattle.star_host.specs.Found.{IsReadOf, Within};
 ghost use Rattle.star_host.specs.Frames.{IsWorld};
-ghost use Rattle.star_host.specs.Kept.{AllKept};
+ghost use Rattle.star_host.specs.Kept.{AllKept, AreModules, AreModulesOf};
 ghost use Rattle.star_host.specs.Readings.{table_of};
 ghost use Rattle.star_cache.specs.State.{begun_count};
 
@@ -16,12 +18,13 @@ use crate::naming::Naming;
 use crate::order::{first_place, place};
 use crate::outcome::{Kept, Run};
 use crate::reading::{Read, Reader, tree_of};
+use crate::settle::settled;
 use crate::shelf::Shelf;
-use crate::table::{is_closed, table};
+use crate::table::table;
 use crate::told::Told;
 use crate::trace::{Refused, Trace};
 use crate::work::Common;
-use star_cache::{Book, Entry, LoadCache, Product, Seat};
+use star_cache::{Book, LoadCache, Seat};
 use star_eval::files::Files;
 use star_label::files::Files as Labels;
 use star_scope::error::ScopeFault;
@@ -41,8 +44,6 @@ pub enum RunError {
     Memory,
     /// A cell of the shelf did not take its module.
     Unpublished,
-    /// A file that a root reaches was not read.
-    Unread,
 }
 
 impl From<AllocError> for RunError {
@@ -95,7 +96,7 @@ fn work<'s, 'r, 'p, 't, J: Naming, R: Wait, G: Gate>(
     roots: &[usize],
     trace: &Trace<J>,
 ) -> Worked<J>
-    requires world { IsWorld J.files J.plan J.shelf common.now.files.now common.now.reads.now common.now.programs.now common.now.modules.now common.now.prelude common.now.steps }
+    requires world { IsWorld J.files J.plan J.shelf common.now }
     requires within { IsWithin J.files J.plan }
     requires roots { roots.now ≡ J.plan.roots }
     requires loaders { (1 ≤ loaders) × (loaders ≤ 64) }
@@ -129,7 +130,7 @@ fn spread<'s, 'r, 'p, 't, J: Naming + Send + Sync, R: Threads + Wait + Sync, G: 
     roots: &[usize],
     trace: &Trace<J>,
 ) -> Result<Vec<Worked<J>>, AllocError>
-    requires world { IsWorld J.files J.plan J.shelf common.now.files.now common.now.reads.now common.now.programs.now common.now.modules.now common.now.prelude common.now.steps }
+    requires world { IsWorld J.files J.plan J.shelf common.now }
     requires within { IsWithin J.files J.plan }
     requires roots { roots.now ≡ J.plan.roots }
     requires loaders { (1 ≤ loaders) × (loaders ≤ 64) }
@@ -139,7 +140,8 @@ fn spread<'s, 'r, 'p, 't, J: Naming + Send + Sync, R: Threads + Wait + Sync, G: 
         rt,
         seats,
         &|seat: Seat<Told<J>>| -> Worked<J>
-            requires { IsWorld J.files J.plan J.shelf common.now.files.now common.now.reads.now common.now.programs.now common.now.modules.now common.now.prelude common.now.steps × IsWithin J.files J.plan × (roots.now ≡ J.plan.roots) × ((1 ≤ loaders) × (loaders ≤ 64)) }
+            requires { IsWorld J.files J.plan J.shelf common.now × IsWithin J.files J.plan
+                × (roots.now ≡ J.plan.roots) × ((1 ≤ loaders) × (loaders ≤ 64)) }
             ensures { result.seat.number ≡ seat.number }
         { work(rt, common, gate, cache, seat, loaders, roots, trace) },
     )
@@ -164,32 +166,6 @@ fn taken<J: Naming>(
     Ok((seats, last))
 }
 
-/// One more note.
-fn keep<J: Naming>(kept: &mut Vec<Kept>, told: Told<J>) -> Result<(), AllocError>
-    requires { length J.shelf ≡ length J.files }
-    ensures { OnOk result (AllKept J.shelf kept.old.items → AllKept J.shelf kept.new.items) }
-{
-    let one = told.into_kept();
-    kept.push(one)?;
-    Ok(())
-}
-
-/// The notes of all files that are done. `Memory` where a file is spoiled.
-fn kept_of<J: Naming>(alloc: Global, book: Book<Told<J>>) -> Result<Vec<Kept>, RunError>
-    requires { length J.shelf ≡ length J.files }
-    ensures { IfOk result (λ kept. AllKept J.shelf kept.items) }
-{
-    let mut kept = Vec::new(alloc);
-    for entry in book.into_entries() {
-        match entry {
-            Entry::Done(told) => keep(&mut kept, told)?,
-            Entry::Spoiled => return Err(RunError::Memory),
-            Entry::Fresh | Entry::Running => {}
-        }
-    }
-    Ok(kept)
-}
-
 /// What a closed cache tells, without the shelf.
 #[derive(Drop)]
 pub(crate) struct Closed {
@@ -210,40 +186,39 @@ fn run_named<'s, 'r, 'p, 't, J: Naming + Send + Sync, R: Threads + Wait + Sync, 
     requires name { blank.name ≡ J.name }
     requires parts { (blank.parts ≡ J.parts) × (blank.parts ≡ loaders) }
     requires loaders { (1 ≤ loaders) × (loaders ≤ 64) }
-    requires world { IsWorld J.files J.plan J.shelf common.now.files.now common.now.reads.now common.now.programs.now common.now.modules.now common.now.prelude common.now.steps }
+    requires world { IsWorld J.files J.plan J.shelf common.now }
     requires within { IsWithin J.files J.plan }
     requires roots { roots.now ≡ J.plan.roots }
     ensures kept { IfOk result (λ c. AllKept common.now.modules.now c.kept.items) }
+    ensures modules { IfOk result (λ c. AreModules J.plan c.kept.items) }
     ensures sum { IfOk result (λ c. sum c.per_loader ≡ c.begun) }
 {
     let alloc = common.alloc;
     let trace = Trace::<J>::new(alloc)?;
     let (cache, seats) = LoadCache::<Told<J>>::new(alloc, blank, common.files.len(), loaders)?;
     let worked = spread(rt, common, gate, &cache, seats, loaders, roots, &trace)?;
-    let (seats, error) = taken(alloc, worked)?;
+    let (mut seats, error) = taken(alloc, worked)?;
+    let settled = settled(rt, common, gate, &cache, &mut seats, error, &trace);
     let Ok(closed) = cache.close(seats) else {
         unreachable!()
     };
-    if let Some(error) = error {
-        return Err(RunError::from(error));
-    }
-    closed_of(alloc, closed, &trace)
+    let kept = settled?;
+    closed_of(alloc, closed, kept, &trace)
 }
 
-/// What a cache tells that is closed.
+/// What a cache tells that is closed, beside these notes.
 fn closed_of<J: Naming>(
     alloc: Global,
     closed: (Book<Told<J>>, [u32; 64]),
+    kept: Vec<Kept>,
     trace: &Trace<J>,
 ) -> Result<Closed, RunError>
     requires sum { sum closed.1 ≡ begun_count closed.0 }
-    requires cells { length J.shelf ≡ length J.files }
-    ensures kept { IfOk result (λ c. AllKept J.shelf c.kept.items) }
+    ensures kept { IfOk result (λ c. c.kept ≡ kept) }
     ensures sum { IfOk result (λ c. sum c.per_loader ≡ c.begun) }
 {
     let (book, per_loader) = closed;
     let begun = book.begun();
-    let kept = kept_of(alloc, book)?;
     let refused = trace.all(alloc)?;
     Ok(Closed {
         kept,
@@ -253,7 +228,8 @@ fn closed_of<J: Naming>(
     })
 }
 
-/// The prelude: its names are those of its tree, which is kept with the other trees; it has none where its text does not parse.
+/// The prelude: its names are those of its tree, which is kept with the other trees; it has none where its text does
+/// not parse.
 fn prelude_of<'t, R: Wait>(
     rt: &R,
     alloc: Global,
@@ -262,10 +238,31 @@ fn prelude_of<'t, R: Wait>(
     n: usize,
 ) -> Result<Prelude<'t>, RunError>
     requires { n < length files.now }
-    ensures { IfOk result (λ p. p.file ≡ n) }
+    ensures prelude { IfOk result (λ p. IsPrelude files.now (Some n) (Some p)) }
+    ensures file { IfOk result (λ p. p.file ≡ n) }
 {
-    let tree = tree_of(rt, alloc, trees, files.text(n))?.ok();
-    Ok(Prelude::new(alloc, n, tree)?)
+    match tree_of(rt, alloc, trees, files.text(n))? {
+        Ok(tree) => Ok(Prelude::new(alloc, n, Some(tree))?),
+        Err(_) => Ok(Prelude::new(alloc, n, None)?),
+    }
+}
+
+/// The prelude, where there is one.
+fn block_of<'t, R: Wait>(
+    rt: &R,
+    alloc: Global,
+    files: &Labels,
+    trees: &'t boxcar::Vec<Tree>,
+    prelude: Option<usize>,
+) -> Result<Option<Prelude<'t>>, RunError>
+    requires { IfSome prelude (λ n. n < length files.now) }
+    ensures prelude { IfOk result (IsPrelude files.now prelude) }
+    ensures file { IfOk result (λ block. IfSome block (λ p. p.file < length files.now)) }
+{
+    match prelude {
+        Some(n) => Ok(Some(prelude_of(rt, alloc, files, trees, n)?)),
+        None => Ok(None),
+    }
 }
 
 /// The run over a shelf for the modules and a place for the trees.
@@ -275,34 +272,33 @@ fn run_over<'s, 't, R: Threads + Wait + Sync, G: Gate + Sync>(
     files: &'s Labels,
     trees: &'t boxcar::Vec<Tree>,
     modules: &'s Shelf<Module>,
-    roots: &[usize],
-    prelude: Option<&'s Prelude<'t>>,
+    roots: &'s [usize],
+    prelude: Option<usize>,
+    block: Option<&'s Prelude<'t>>,
     loaders: usize,
     steps: u32,
     gate: &'s G,
 ) -> Result<Closed, RunError>
-    requires prelude { IfSome prelude (λ p. p.now.file < length files.now) }
+    requires roots { Within files.now roots.now }
+    requires prelude { IsPrelude files.now prelude (option_copied block) }
+    requires there { IfSome prelude (λ n. n < length files.now) }
+    requires file { IfSome block (λ p. p.now.file < length files.now) }
     requires loaders { (1 ≤ loaders) × (loaders ≤ 64) }
     requires steps { (1 ≤ steps) × (steps ≤ 100000000) }
     requires cells { length modules.now ≡ length files.now }
     ensures kept { IfOk result (λ c. AllKept modules.now c.kept.items) }
+    ensures modules { IfOk result (λ c. AreModulesOf files.now roots.now prelude steps c.kept.items) }
     ensures sum { IfOk result (λ c. sum c.per_loader ≡ c.begun) }
 {
     let reader = Reader {
         alloc,
         files,
         trees,
-        prelude,
+        prelude: block,
+        roots,
     };
-    let reads = reader.read_all(rt, roots)?;
-    if !is_closed(&reads, roots) {
-        return Err(RunError::Unread);
-    }
+    let reads = reader.read_all(rt)?;
     let programs = table(alloc, &reads)?;
-    let prelude = match prelude {
-        Some(block) => Some(block.file),
-        None => None,
-    };
     run_read(
         rt, alloc, files, &reads, &programs, modules, roots, prelude, loaders, steps, gate,
     )
@@ -326,10 +322,10 @@ fn run_read<'s, 'r, 'p, 't, R: Threads + Wait + Sync, G: Gate + Sync>(
     requires loaders { (1 ≤ loaders) × (loaders ≤ 64) }
     requires steps { (1 ≤ steps) × (steps ≤ 100000000) }
     requires cells { length modules.now ≡ length files.now }
-    requires row { length reads.now ≡ length files.now }
-    requires closed { IsClosed reads.now roots.now }
+    requires read { IsReadOf files.now roots.now prelude reads.now }
     requires table { programs.now ≡ table_of reads.now }
     ensures kept { IfOk result (λ c. AllKept modules.now c.kept.items) }
+    ensures modules { IfOk result (λ c. AreModulesOf files.now roots.now prelude steps c.kept.items) }
     ensures sum { IfOk result (λ c. sum c.per_loader ≡ c.begun) }
 {
     let common = Common {
@@ -345,8 +341,9 @@ fn run_read<'s, 'r, 'p, 't, R: Threads + Wait + Sync, G: Gate + Sync>(
     run_named::<Brand, R, G>(rt, &common, gate, roots, loaders, blank)
 }
 
-/// Loads the roots by so many loaders. `steps` is what each body may take; the roots and the prelude are numbers of files. `Memory`
-/// where a growth was refused.
+/// Loads the roots by so many loaders: the modules of exactly the reached files, in order, each with its outcome.
+/// `steps` is what each body may take; the roots and the prelude are numbers of files. `Memory` where a growth was
+/// refused.
 pub fn run<R: Threads + Wait + Sync, G: Gate + Sync>(
     rt: &R,
     alloc: Global,
@@ -362,14 +359,12 @@ pub fn run<R: Threads + Wait + Sync, G: Gate + Sync>(
     requires loaders { (1 ≤ loaders) × (loaders ≤ 64) }
     requires steps { (1 ≤ steps) × (steps ≤ 100000000) }
     ensures files { IfOk result (λ r. length r.cells ≡ length files.now) }
+    ensures modules { IfOk result (λ r. AreModulesOf files.now roots.now prelude steps r.kept) }
     ensures sum { IfOk result (λ r. sum r.per_loader ≡ r.begun) }
 {
     let modules = Shelf::new(alloc, files.len())?;
     let trees = boxcar::Vec::new(alloc)?;
-    let block = match prelude {
-        Some(n) => Some(prelude_of(rt, alloc, files, &trees, n)?),
-        None => None,
-    };
+    let block = block_of(rt, alloc, files, &trees, prelude)?;
     let told = run_over(
         rt,
         alloc,
@@ -377,6 +372,7 @@ pub fn run<R: Threads + Wait + Sync, G: Gate + Sync>(
         &trees,
         &modules,
         roots,
+        prelude,
         block.as_ref(),
         loaders,
         steps,

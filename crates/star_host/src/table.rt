@@ -1,13 +1,12 @@
-//! The rows of what was read: the programs of all files, the loads of each, and whether a row has all that it needs.
+//! The rows of what was read: the programs of all files, and the loads of each.
 
-ghost use Rattle.std.specs.Prelude.{◌≡◌, All, IfOk, IsSome, IsTrue, MatchOption, Some, ⊤};
+ghost use Rattle.std.specs.Prelude.{◌≡◌, All, IfOk, IsFalse, IsSome, IsTrue, MatchOption, None, Some, ⊤};
 ghost use Rattle.std.specs.Option.{option_map};
 ghost use Rattle.star_meaning.specs.Programs.{IsOfFile, placed_file};
 ghost use Rattle.star_scope.specs.declared.program.Program.{Program as ProgramView};
 ghost use Rattle.star_host.specs.declared.code.StaticFault.{StaticFault as FaultView};
 ghost use Rattle.star_host.specs.declared.reading.Read.TheVariants as read;
 ghost use Rattle.star_host.specs.Readings.{IsPlaceable, loads_at, placed_in, read_at, table_of};
-ghost use Rattle.star_host.specs.Found.{AreRead, IsClosed};
 
 use crate::code::StaticFault;
 use crate::reading::Read;
@@ -78,47 +77,12 @@ pub(crate) fn loads_in<'s, 't>(reads: &'s [Option<Read<'t>>], n: usize) -> &'s [
 }
 
 /// Whether a file was read.
-fn is_read(reads: &[Option<Read>], n: usize) -> bool
-    ensures { IsTrue result → IsSome (read_at reads.now n) }
+pub(crate) fn is_read(reads: &[Option<Read>], n: usize) -> bool
+    ensures yes { IsTrue result → IsSome (read_at reads.now n) }
+    ensures no { IsFalse result → read_at reads.now n ≡ None }
 {
     match reads.get(n) {
-        Some(read) => read.is_some(),
-        None => false,
+        Some(Some(_)) => true,
+        _ => false,
     }
-}
-
-/// Whether files were read.
-fn are_read(reads: &[Option<Read>], numbers: &[usize]) -> bool
-    ensures { IsTrue result → AreRead reads.now numbers.now }
-{
-    for n in numbers {
-        if !is_read(reads, *n) {
-            return false;
-        }
-    }
-    true
-}
-
-/// Whether the files of loads were read.
-fn loads_read(reads: &[Option<Read>], loads: &[Load]) -> bool
-    ensures { IsTrue result → All (λ l. IsSome (read_at reads.now l.file)) loads.now }
-{
-    for load in loads {
-        if !is_read(reads, load.file) {
-            return false;
-        }
-    }
-    true
-}
-
-/// Whether the roots were read, and the loads of all that was read.
-pub(crate) fn is_closed(reads: &[Option<Read>], roots: &[usize]) -> bool
-    ensures { IsTrue result → IsClosed reads.now roots.now }
-{
-    for n in 0..reads.len() {
-        if !loads_read(reads, loads_in(reads, n)) {
-            return false;
-        }
-    }
-    are_read(reads, roots)
 }

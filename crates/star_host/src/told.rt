@@ -29,7 +29,8 @@ impl<J: Naming> Model for Told<J> {
 
     ghost view = { λ t. record { number = t.number; good = t.good; known = t.note.known } };
 
-    ghost invariant = { λ t. (t.note.cell ≡ slice_index J.shelf t.number) × IsTold J.files J.plan t.number (record { number = t.number; good = t.good; known = t.note.known }) };
+    ghost invariant = { λ t. (t.note.cell ≡ slice_index J.shelf t.number)
+        × IsTold J.files J.plan t.number (record { number = t.number; good = t.good; known = t.note.known }) };
 }
 
 impl<J: Naming> Told<J> {
@@ -60,7 +61,9 @@ impl<J: Naming> Told<J> {
     /// The number with the note, for those to whom the cache is closed.
     pub(crate) fn into_kept(self) -> Kept
         requires { length J.shelf ≡ length J.files }
-        ensures { IsKept J.shelf result }
+        ensures kept { IsKept J.shelf result }
+        ensures number { result.number ≡ self.number }
+        ensures known { result.known ≡ self.known }
     {
         let Told {
             number,

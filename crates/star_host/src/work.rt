@@ -1,11 +1,21 @@
-//! What is done for one file: its body runs over the stores that its loads reach.
+//! What is done for one file: its body runs over the stores of all files that it needs.
 
-ghost use Rattle.std.specs.Prelude.{◌≡◌, ◌+◌, ◌^◌, ◌<◌, ◌≤◌, Some, IfSome, length, slice_get};
+ghost use Rattle.std.specs.Prelude.{◌≡◌, ◌+◌, ◌^◌, ◌<◌, ◌≤◌, Some, IfOk, IfSome, ℕ, Contains, length, map, slice_get};
+ghost use Rattle.star_meaning.specs.Module.{local};
 ghost use Rattle.star_meaning.specs.Programs.{file_in, placed_file};
-ghost use Rattle.star_host.specs.Readings.{loads_at};
+ghost use Rattle.star_module.specs.Outcomes.{AreReady, meant};
+ghost use Rattle.star_plan.specs.Plan.{loads_of};
+ghost use Rattle.star_plan.specs.Shelves.{IsOwn, Needs};
+ghost use Rattle.star_host.specs.Frames.{IsWorld};
+ghost use Rattle.star_host.specs.Bodies.{AreNeeded, IsRan, world_over};
+ghost use Rattle.star_host.specs.Readings.{loads_at, read_at};
+ghost use Rattle.star_host.specs.Views.{AreGoodLoads, AreStores, IsEnd};
+ghost use Rattle.star_host.specs.declared.reading.Read.TheVariants as read;
 
 use crate::gate::Gate;
-use crate::module::{Body, Ended, Module};
+use crate::given::gathered;
+use crate::module::{Body, Ended, Module, Reach};
+use crate::naming::Naming;
 use crate::reading::Read;
 use crate::shelf::Shelf;
 use crate::table::loads_in;
@@ -17,9 +27,10 @@ use star_scope::loads::Load;
 use star_scope::program::Program;
 use star_store::arena::{Frozen, Homes};
 use std::alloc::{AllocError, Global};
+use std::sync::Arc;
 
-/// What all loaders share: what was read of each reached file, the programs of all files, a shelf for the module of each file, the
-/// prelude's file, and the steps that a body may take, which are 1 to 100,000,000.
+/// What all loaders share: what was read of each reached file, the programs of all files, a shelf for the module of
+/// each file, the prelude's file, and the steps that a body may take, which are 1 to 100,000,000.
 #[derive(Drop)]
 pub struct Common<'s, 'r, 'p, 't> {
     pub alloc: Global,
@@ -29,50 +40,6 @@ pub struct Common<'s, 'r, 'p, 't> {
     pub modules: &'s Shelf<Module>,
     pub prelude: Option<usize>,
     pub steps: u32,
-}
-
-/// The store of a module, where it is good.
-fn store_in(module: &Module) -> Option<&Frozen> {
-    match &module.ended {
-        Ended::Ran(body) => match &body.outcome {
-            Outcome::Good { frozen, .. } => Some(frozen),
-            Outcome::Fault { .. } => None,
-        },
-        _ => None,
-    }
-}
-
-/// The files whose bodies a module reaches through its loads.
-fn reached_by(module: &Module) -> &[u32] {
-    match &module.ended {
-        Ended::Ran(body) => body.reaches.as_slice(),
-        _ => &[],
-    }
-}
-
-/// Marks files.
-fn mark_each(marks: &mut [bool], numbers: &[u32])
-    ensures { length marks.new ≡ length marks.old }
-{
-    for n in numbers {
-        let at = *n as usize;
-        if at < marks.len() {
-            marks[at] = true;
-        }
-    }
-}
-
-/// The numbers of the files that are marked, in order.
-fn marked(alloc: Global, marks: &[bool]) -> Result<Vec<u32>, AllocError>
-    requires { length marks.now ≤ 10000 }
-{
-    let mut numbers = Vec::new(alloc);
-    for n in 0..marks.len() {
-        if marks[n] {
-            numbers.push(n as u32)?;
-        }
-    }
-    Ok(numbers)
 }
 
 /// The number of a file: there are at most 10,000.
@@ -96,6 +63,8 @@ fn outcome_in(
 ) -> Result<Outcome, AllocError>
     requires stands { file_in files.now home ≡ Some (placed_file program.now) }
     requires steps { (1 ≤ steps) × (steps ≤ 100000000) }
+    ensures { let w = world_over home homes.now files.now program.now.loads.items prelude in
+        AreReady w steps → IfOk result (λ o. meant w.setting o ≡ local w.setting steps program.now.statements.now) }
 {
     let world = World::new(home, homes, files, program.loads(), prelude);
     run_body(alloc, &world, program, steps)
@@ -119,75 +88,8 @@ impl<'s, 'r, 'p, 't> Common<'s, 'r, 'p, 't> {
         if i < count { Some(loads[i]) } else { None }
     }
 
-    /// Marks the files whose bodies a file reaches, itself among them.
-    fn mark(&self, marks: &mut [bool], n: usize)
-        ensures { length marks.new ≡ length marks.old }
-    {
-        if n < marks.len() {
-            marks[n] = true;
-        }
-        if let Some(module) = self.modules.get(n) {
-            mark_each(marks, reached_by(module));
-        }
-    }
-
-    /// The numbers, in order, of all files that loads reach.
-    fn reached(&self, loads: &[Load]) -> Result<Vec<u32>, AllocError> {
-        if loads.is_empty() {
-            return Ok(Vec::new(self.alloc));
-        }
-        let mut marks = vec![in self.alloc; false; self.files.len()]?;
-        for load in loads {
-            self.mark(&mut marks, load.file);
-        }
-        marked(self.alloc, &marks)
-    }
-
-    /// The published stores of these files.
-    fn homes(&self, reached: &[u32]) -> Result<Homes<'s>, AllocError> {
-        let mut homes = Homes::new(self.alloc);
-        for n in reached {
-            if let Some(module) = self.modules.get(*n as usize) {
-                if let Some(store) = store_in(module) {
-                    homes.add(*n, store)?;
-                }
-            }
-        }
-        Ok(homes)
-    }
-
-    /// Runs the body of a file all of whose loads are good. The gate is told of it before.
-    pub(crate) fn run<G: Gate>(
-        &self,
-        gate: &G,
-        loader: usize,
-        n: usize,
-        program: &'r Program<'t>,
-    ) -> Result<Body, AllocError>
-        requires file { n < length self.now.files.now }
-        requires stands { file_in self.now.programs.now n ≡ Some (placed_file program.now) }
-        requires steps { (1 ≤ self.now.steps) × (self.now.steps ≤ 100000000) }
-        requires prelude { IfSome self.now.prelude (λ p. p < length self.now.files.now) }
-    {
-        let reaches = self.reached(program.loads())?;
-        let homes = self.homes(&reaches)?;
-        let prelude = self.prelude_file();
-        let home = file_number(self.files, n);
-        gate.before_body(loader, n);
-        let outcome = outcome_in(
-            self.alloc,
-            home,
-            &homes,
-            self.programs,
-            program,
-            prelude,
-            self.steps,
-        )?;
-        Ok(Body { outcome, reaches })
-    }
-
     /// The prelude's file.
-    fn prelude_file(&self) -> Option<u32>
+    pub(crate) fn prelude_file(&self) -> Option<u32>
         requires { IfSome self.now.prelude (λ p. p < length self.now.files.now) }
         ensures { result ≡ self.now.prelude }
     {
@@ -196,4 +98,87 @@ impl<'s, 'r, 'p, 't> Common<'s, 'r, 'p, 't> {
             None => None,
         }
     }
+}
+
+/// The stores of a file: its own, and those of all files that it needs.
+fn stores_of<J: Naming>(
+    alloc: Global,
+    home: u32,
+    own: Frozen,
+    reaches: Vec<Reach>,
+) -> Result<Vec<Reach>, AllocError>
+    requires own { IsOwn J.plan home own }
+    requires needed { AreNeeded J.plan home reaches.items }
+    requires all { (k : ℕ) → Needs J.plan home k → Contains (map (λ r. r.number) reaches.items) k }
+    ensures { IfOk result (λ stores. AreStores J.plan home stores.items) }
+{
+    let mut stores = reaches;
+    let store = Arc::new(alloc, own)?;
+    stores.push(Reach {
+        number: home,
+        store,
+    })?;
+    Ok(stores)
+}
+
+/// How a file ends whose run has ended so.
+fn ended_of<J: Naming>(
+    alloc: Global,
+    home: u32,
+    outcome: Outcome,
+    reaches: Vec<Reach>,
+) -> Result<Ended, AllocError>
+    requires ran { IsRan J.plan home outcome }
+    requires needed { AreNeeded J.plan home reaches.items }
+    requires all { (k : ℕ) → Needs J.plan home k → Contains (map (λ r. r.number) reaches.items) k }
+    ensures { IfOk result (IsEnd J.plan home) }
+{
+    match outcome {
+        Outcome::Good {
+            frozen,
+            shown,
+            lines,
+        } => {
+            let stores = stores_of::<J>(alloc, home, frozen, reaches)?;
+            Ok(Ended::Good(Body {
+                stores,
+                shown,
+                lines,
+            }))
+        }
+        Outcome::Fault { code, line, lines } => Ok(Ended::Stopped { code, line, lines }),
+    }
+}
+
+/// Runs the body of a file all of whose loads are good, over their modules: how the file ends. The gate is told of it
+/// before.
+pub(crate) fn run<'s, 'r, 'p, 't, J: Naming, G: Gate>(
+    common: &Common<'s, 'r, 'p, 't>,
+    gate: &G,
+    loader: usize,
+    n: usize,
+    program: &'r Program<'t>,
+    modules: &[&'s Module],
+) -> Result<Ended, AllocError>
+    requires world { IsWorld J.files J.plan J.shelf common.now }
+    requires file { n < length J.files }
+    requires read { read_at common.now.reads.now n ≡ Some (read.Program program.now) }
+    requires loads { AreGoodLoads J.plan n (length (loads_of J.plan n)) (map (λ m. m.now) modules.now) }
+    ensures { IfOk result (IsEnd J.plan n) }
+{
+    let given = gathered::<J>(common.alloc, n, modules)?;
+    let (homes, reaches) = given.parts();
+    let prelude = common.prelude_file();
+    let home = file_number(common.files, n);
+    gate.before_body(loader, n);
+    let outcome = outcome_in(
+        common.alloc,
+        home,
+        &homes,
+        common.programs,
+        program,
+        prelude,
+        common.steps,
+    )?;
+    ended_of::<J>(common.alloc, home, outcome, reaches)
 }

@@ -1,4 +1,4 @@
-use Rattle.std.proofs.Common.{◌≡◌, ◌<◌, vec_len}
+use Rattle.std.proofs.Common.{◌<◌, vec_len}
 use Rattle.std.specs.Prelude.{All}
 use Rattle.star_host.proofs.lead.Leads.cycle_from.Given as goal
 

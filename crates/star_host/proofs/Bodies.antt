@@ -1,0 +1,99 @@
+-- The run of a body over the stores of all files that it needs is the file's outcome.
+use Rattle.std.proofs.Common.{◌≡◌, ◌<◌, ℕ, List, length, Result, Ok, Err, IfOk, Option, Some, ap, sym, ◌∙◌, subst, arith}
+use Rattle.std.specs.Prelude.{slice_get}
+use Rattle.std.specs.Option.{option_map}
+use Rattle.std.specs.declared.alloc.AllocError.{AllocError}
+use Rattle.std.proofs.lemmas.List.{length-map}
+use Rattle.std.proofs.lemmas.Option.{slice_get_within}
+use Rattle.star_label.specs.Files.{File}
+use Rattle.star_scope.specs.declared.loads.Load.{Load}
+use Rattle.star_scope.specs.declared.program.Program.{Program}
+use Rattle.star_store.specs.Store.{Published, Shelf, put_up}
+use Rattle.star_syntax.specs.declared.tree.Statement.{Statement}
+use Rattle.star_meaning.specs.Module.{local, start}
+use Rattle.star_meaning.specs.Places.{AllFit}
+use Rattle.star_meaning.specs.Program.{Setting}
+use Rattle.star_meaning.specs.Programs.{ArePrograms, Files, trees_of}
+use Rattle.star_module.specs.declared.module.Outcome.{Outcome}
+use Rattle.star_module.specs.declared.module.Outcome.TheVariants as outcome
+use Rattle.star_module.specs.Globals.{owned}
+use Rattle.star_module.specs.Outcomes.{AreReady, meant}
+use Rattle.star_plan.specs.Plan.{Plan, loaded, loads_in, loads_of, tree_in}
+use Rattle.star_plan.specs.Reading.{IsPlanOf}
+use Rattle.star_plan.specs.Results.{IsGood, IsOutcome, Ran}
+use Rattle.star_plan.specs.Runs.{ArePlaced, MayRun, given_over}
+use Rattle.star_plan.specs.Shelves.{HoldsNeeds, IsTight}
+use Rattle.star_plan.proofs.Ready.{files_may_run}
+use Rattle.star_host.specs.Bodies.{IsOwnIn, IsRan, world_over}
+use Rattle.star_host.specs.Readings.{Row, read_at, reading_of, readings}
+use Rattle.star_host.specs.Views.{AreGoodLoads, AreStores, IsBody}
+use Rattle.star_host.specs.declared.module.Body.{Body}
+use Rattle.star_host.specs.declared.module.Module.{Module}
+use Rattle.star_host.specs.declared.reading.Read.TheVariants as read
+use Rattle.star_host.proofs.Opens.{module_good}
+use Rattle.star_host.proofs.Rows.{loads_are, read_is}
+
+pub loads_good : (plan : Plan) (n : ℕ) (ms : List Module) → AreGoodLoads plan n (length (loads_of plan n)) ms → (i m : ℕ) → slice_get (loaded plan n) i ≡ Some m → IsGood plan m
+loads_good plan n ms loads i m at =
+    let within = slice_get_within (loaded plan n) i m at in
+    let long = length-map (loads_of plan n) (λ (l : Load). l.file) in
+    let inside : i < length (loads_of plan n) = omega (arith, within, long) in
+    let one = loads.each i m inside at in
+    module_good plan m one.0 one.2.0 one.2.1
+
+-- a file all of whose loads are good may run over what was gathered for it
+pub body_may_run : (files : List File) (plan : Plan) (table : Files) (row : Row) (n : ℕ) (p : Program) (shelf : Shelf) (ms : List Module) → IsPlanOf files plan → ArePlaced files plan table → readings row ≡ plan.reads
+    → read_at row n ≡ Some (read.Program p) → AreGoodLoads plan n (length (loads_of plan n)) ms → IsTight shelf → HoldsNeeds plan n shelf → MayRun plan table n p.statements.now shelf
+body_may_run files plan table row n p shelf ms planned placed is e loads tight holds =
+    files_may_run files plan table planned placed n p.statements.now shelf (ap tree_in (read_is plan row n is ∙ ap (option_map reading_of) e)) (loads_good plan n ms loads) tight holds
+
+same_setting : (plan : Plan) (table : Files) (n home : ℕ) (shelf : Shelf) (ls : List Load) (prelude : Option ℕ) → home ≡ n → ls ≡ loads_of plan n → prelude ≡ plan.prelude → (world_over home shelf table ls prelude).setting ≡ given_over table plan n shelf
+same_setting plan table n home shelf ls prelude e f g =
+    ap (λ h. (world_over h shelf table ls prelude).setting) e
+    ∙ ap (λ xs. (world_over n shelf table xs prelude).setting) f
+    ∙ ap (λ o. (world_over n shelf table (loads_of plan n) o).setting) g
+
+own_in : (plan : Plan) (table : Files) (n : ℕ) (ss : List Statement) (shelf : Shelf) (o : Outcome) → MayRun plan table n ss shelf → meant (given_over table plan n shelf) o ≡ local (given_over table plan n shelf) plan.steps ss → IsOwnIn plan n o
+own_in plan table n ss shelf (outcome.Good frozen texts lines) may e = may.own frozen frozen.globals (owned texts.items) lines.items (sym e)
+own_in plan table n ss shelf (outcome.Fault code line lines) may e = tt
+
+ran_is : (plan : Plan) (table : Files) (n : ℕ) (ss : List Statement) (shelf : Shelf) (w : Setting) (steps : ℕ) (o : Outcome) → MayRun plan table n ss shelf → w ≡ given_over table plan n shelf → steps ≡ plan.steps → meant w o ≡ local w steps ss → IsRan plan n o
+ran_is plan table n ss shelf w steps o may same count e =
+    let f : meant w o ≡ local w plan.steps ss = e ∙ ap (λ k. local w k ss) count in
+    let g : meant (given_over table plan n shelf) o ≡ local (given_over table plan n shelf) plan.steps ss = subst (λ (v : Setting). meant v o ≡ local v plan.steps ss) same f in
+    record {
+      over = given_over table plan n shelf;
+      outcome = subst (λ m. IsOutcome plan n (Ran m)) (sym g) may.outcome;
+      own = own_in plan table n ss shelf o may g;
+    }
+
+-- what the run of a body answers is the file's outcome
+pub ran_so : (plan : Plan) (table : Files) (n home : ℕ) (ss : List Statement) (shelf : Shelf) (ls : List Load) (prelude : Option ℕ) (steps : ℕ) (r : Result Outcome AllocError) → MayRun plan table n ss shelf
+    → home ≡ n → ls ≡ loads_of plan n → prelude ≡ plan.prelude → steps ≡ plan.steps
+    → (AreReady (world_over home shelf table ls prelude) steps → IfOk r (λ o. meant (world_over home shelf table ls prelude).setting o ≡ local (world_over home shelf table ls prelude).setting steps ss)) → IfOk r (IsRan plan n)
+ran_so plan table n home ss shelf ls prelude steps r may at loads is count names = by_result r (names ready)
+  where
+    w : Setting
+    w = (world_over home shelf table ls prelude).setting
+
+    same : w ≡ given_over table plan n shelf
+    same = same_setting plan table n home shelf ls prelude at loads is
+
+    ready : AreReady (world_over home shelf table ls prelude) steps
+    ready = record {
+      programs = subst (ArePrograms table) (sym is) may.programs;
+      functions = subst (λ k. AllFit (trees_of table) w (start w k)) (sym count) (subst (λ (v : Setting). AllFit (trees_of table) v (start v plan.steps)) (sym same) may.functions);
+    }
+
+    by_result : (q : Result Outcome AllocError) → IfOk q (λ o. meant w o ≡ local w steps ss) → IfOk q (IsRan plan n)
+    by_result (Ok o) e = ran_is plan table n ss shelf w steps o may same count e
+    by_result (Err x) e = tt
+
+pub loads_in_row : (plan : Plan) (row : Row) (n : ℕ) (p : Program) → readings row ≡ plan.reads → read_at row n ≡ Some (read.Program p) → p.loads.items ≡ loads_of plan n
+loads_in_row plan row n p is e = sym (loads_are plan row n is ∙ ap (λ o. loads_in (option_map reading_of o)) e)
+
+-- what a good run left
+pub body_is : (plan : Plan) (n : ℕ) (o : Outcome) (frozen : Published) (b : Body) → o ≡ outcome.Good frozen b.shown b.lines → IsRan plan n o → AreStores plan n b.stores.items → IsBody plan n b
+body_is plan n o frozen b e ran stores =
+    let r : IsRan plan n (outcome.Good frozen b.shown b.lines) = subst (IsRan plan n) e ran in
+    record { shelf = put_up r.over.home frozen r.over.shelf; globals = frozen.globals; outcome = r.outcome; stores = stores }

@@ -1,0 +1,134 @@
+-- The modules of all reached files, as they are kept in order.
+use Rattle.std.proofs.Common.{◌≡◌, ◌+◌, ◌<◌, ◌⊎◌, inl, inr, ℕ, zero, suc, List, [], ◌∷◌, ◌++◌, map, length, get_or, Some, None, Result, Ok, Err, IfOk, refl, ap, sym, ◌∙◌, subst, arith, length-append}
+use Rattle.std.specs.Prelude.{All, Contains, IsSome}
+use Rattle.std.specs.Option.{option_map}
+use Rattle.std.specs.List.Sorted.{IsStrictlyIncreasing}
+use Rattle.std.proofs.lemmas.Bool.{cases_order}
+use Rattle.std.proofs.lemmas.List.{get_or_append_left, length-map, map-append, map-id}
+use Rattle.std.proofs.lemmas.List.Elements.{All-append, Contains-append_left, Contains-append_right}
+use Rattle.std.proofs.Math.Seq.{get_or-append_seam}
+use Rattle.star_cache.specs.Seats.{AreAll, AreNew, SeatState}
+use Rattle.star_label.specs.Files.{File}
+use Rattle.star_plan.specs.Plan.{Plan}
+use Rattle.star_plan.specs.Reached.{IsReached}
+use Rattle.star_plan.specs.Reading.{IsPlanOf}
+use Rattle.star_host.specs.Fits.{IsWithin, reached_below}
+use Rattle.star_host.specs.Kept.{AreModules, AreModulesBelow, IsModuleKept, KeptView}
+use Rattle.star_host.specs.Readings.{Row, read_at, reading_of, readings}
+use Rattle.star_host.specs.Views.{IsModule, IsTold, ToldView}
+use Rattle.star_host.proofs.Finds.{all_one, by_cases, contains_here, same_or_not}
+use Rattle.star_host.proofs.PlacesRead.{some_of}
+use Rattle.star_host.proofs.Rows.{read_is}
+use Rattle.star_host.proofs.SeatsBack.{all_back}
+
+abbrev numbers : List KeptView → List ℕ
+numbers ks = map (λ (k : KeptView). k.number) ks
+
+numbers_push : (ks : List KeptView) (k : KeptView) → numbers (ks ++ k ∷ []) ≡ numbers ks ++ k.number ∷ []
+numbers_push ks k = map-append (λ (x : KeptView). x.number) ks (k ∷ [])
+
+-- one more number, above all others
+rising_push : (xs : List ℕ) (n : ℕ) → IsStrictlyIncreasing xs → All (λ m. m < n) xs → IsStrictlyIncreasing (xs ++ n ∷ [])
+rising_push xs n up below k h = by_order (cases_order (k + 1) (length xs))
+  where
+    long : length (xs ++ n ∷ []) ≡ length xs + 1
+    long = length-append xs (n ∷ [])
+
+    front : (i : ℕ) → i < length xs → get_or (xs ++ n ∷ []) i 0 ≡ get_or xs i 0
+    front i less = get_or_append_left xs (n ∷ []) 0 i less
+
+    last : get_or (xs ++ n ∷ []) (length xs) 0 ≡ n
+    last = get_or-append_seam xs n [] 0
+
+    by_order : ((k + 1 ≡ length xs) ⊎ ((k + 1 < length xs) ⊎ (length xs < k + 1))) → get_or (xs ++ n ∷ []) k 0 < get_or (xs ++ n ∷ []) (k + 1) 0
+    by_order (inl same) =
+        let a = front k (omega (arith, same)) in
+        let b : get_or (xs ++ n ∷ []) (k + 1) 0 ≡ n = ap (λ i. get_or (xs ++ n ∷ []) i 0) same ∙ last in
+        let c = below k 0 (omega (arith, same)) in
+        omega (arith, a, b, c)
+    by_order (inr (inl less)) =
+        let a = front k (omega (arith, less)) in
+        let b = front (k + 1) less in
+        let c = up k less in
+        omega (arith, a, b, c)
+    by_order (inr (inr more)) = absurd (let no : ⊥ = omega (arith, more, h, long) in no)
+
+pub none_kept : (plan : Plan) → AreModulesBelow plan 0 []
+none_kept plan = record {
+  in_order = λ k h. absurd (omega (arith, h));
+  below = λ k d lt. absurd (omega (arith, lt));
+  all = λ n r h. absurd (omega (arith, h));
+  each = λ k d lt. absurd (omega (arith, lt));
+}
+
+-- a file that is not reached is passed by
+pub kept_on : (plan : Plan) (n : ℕ) (ks : List KeptView) → (IsReached plan n → ⊥) → AreModulesBelow plan n ks → AreModulesBelow plan (n + 1) ks
+kept_on plan n ks never is = record {
+  in_order = is.in_order;
+  below = λ k d lt. let b = is.below k d lt in omega (arith, b);
+  all = λ m r h. by_cases (same_or_not m n) (λ e. absurd (never (subst (IsReached plan) e r))) (λ ne. is.all m r (omega (arith, h, ne)));
+  each = is.each;
+}
+
+-- a reached file's module is kept
+pub kept_more : (plan : Plan) (n : ℕ) (ks : List KeptView) (k : KeptView) → k.number ≡ n → IsModuleKept plan k → AreModulesBelow plan n ks → AreModulesBelow plan (n + 1) (ks ++ k ∷ [])
+kept_more plan n ks k at kept is = record {
+  in_order = subst IsStrictlyIncreasing (sym (numbers_push ks k)) (rising_push (numbers ks) k.number is.in_order (subst (λ m. All (λ x. x < m) (numbers ks)) (sym at) is.below));
+  below = subst (All (λ m. m < n + 1)) (sym (numbers_push ks k)) (All-append (λ m. m < n + 1) (numbers ks) (k.number ∷ []) (λ i d lt. let b = is.below i d lt in omega (arith, b)) (all_one (λ m. m < n + 1) k.number (omega (arith, at))));
+  all = λ m r h. subst (λ ns. Contains ns m) (sym (numbers_push ks k)) (by_cases (same_or_not m n)
+      (λ e. Contains-append_right (numbers ks) (k.number ∷ []) m (subst (Contains (k.number ∷ [])) (at ∙ sym e) (contains_here k.number)))
+      (λ ne. Contains-append_left (numbers ks) (k.number ∷ []) m (is.all m r (omega (arith, h, ne)))));
+  each = All-append (IsModuleKept plan) ks (k ∷ []) is.each (all_one (IsModuleKept plan) k kept);
+}
+
+number_at : (P : ℕ → Type 0) (ks : List KeptView) → All (λ (k : KeptView). P k.number) ks → (m : ℕ) → Contains (numbers ks) m → P m
+number_at P ks all m (i, less, e) = pick ks all i less e
+  where
+    pick : (xs : List KeptView) → All (λ (k : KeptView). P k.number) xs → (j : ℕ) → j < length (numbers xs) → get_or (numbers xs) j m ≡ m → P m
+    pick [] h j short q = absurd (let no : ⊥ = omega (arith, short) in no)
+    pick (x ∷ xs) h zero short q = subst P q (h 0 x (omega arith))
+    pick (x ∷ xs) h (suc j) short q = pick xs (λ i d lt. h (suc i) d (omega (arith, lt))) j (omega (arith, short)) q
+
+-- all files were passed
+pub all_kept : (files : List File) (plan : Plan) (n : ℕ) (ks : List KeptView) → IsWithin files plan → n ≡ length files → AreModulesBelow plan n ks → AreModules plan ks
+all_kept files plan n ks within end is = record {
+  in_order = is.in_order;
+  reached = λ m. (λ r. is.all m r (let b = reached_below files plan m within r in omega (arith, b, end)), number_at (IsReached plan) ks (λ i d lt. (is.each i d lt).0) m);
+  each = λ i d lt. (is.each i d lt).1;
+}
+
+-- as many files as places in the row
+pub row_long : (files : List File) (plan : Plan) (row : Row) → readings row ≡ plan.reads → IsPlanOf files plan → length row ≡ length files
+row_long files plan row is planned = sym (length-map row (option_map reading_of)) ∙ (ap length is ∙ planned.size)
+
+-- what was read is reached
+pub read_reached : (files : List File) (plan : Plan) (row : Row) (n : ℕ) → readings row ≡ plan.reads → IsPlanOf files plan → IsSome (read_at row n) → IsReached plan n
+read_reached files plan row n is planned h =
+    let s = some_of (read_at row n) h in
+    (planned.reached n).1 (reading_of s.0, read_is plan row n is ∙ ap (option_map reading_of) s.1)
+
+pub unread_not_reached : (files : List File) (plan : Plan) (row : Row) (n : ℕ) → readings row ≡ plan.reads → IsPlanOf files plan → read_at row n ≡ None → IsReached plan n → ⊥
+unread_not_reached files plan row n is planned none r =
+    let there = (planned.reached n).0 r in
+    let both : None ≡ Some there.0 = sym (read_is plan row n is ∙ ap (option_map reading_of) none) ∙ there.1 in
+    let no : ⊥ = cc in
+    no
+
+pub told_kept : (files : List File) (plan : Plan) (n : ℕ) (t : ToldView) (k : KeptView) → IsReached plan n → IsTold files plan n t → k.number ≡ t.number → k.known ≡ t.known → IsModuleKept plan k
+told_kept files plan n t k reached told number known =
+    let at : n ≡ k.number = sym (number ∙ told.number) in
+    (subst (IsReached plan) at reached, (told.found, known ∙ told.known, subst (λ i. IsModule plan i told.found) at told.right))
+
+numbers_of : {W : Type 0} (ws : List W) (f : W → SeatState) → map (λ (s : SeatState). s.number) (map f ws) ≡ map (λ w. (f w).number) ws
+numbers_of [] f = refl
+numbers_of (w ∷ ws) f = ap (λ ns. (f w).number ∷ ns) (numbers_of ws f)
+
+-- seats that came back and were used again are all the seats
+pub seats_settled : {W : Type 0} (n : ℕ) (before seats after : List SeatState) (ws : List W) (f : W → SeatState) → AreNew n before → map (λ (s : SeatState). s.number) after ≡ map (λ (s : SeatState). s.number) seats → seats ≡ map f ws
+    → map (λ w. (f w).number) ws ≡ map (λ (s : SeatState). s.number) before → AreAll n after
+seats_settled n before seats after ws f new same are back =
+    subst (AreAll n) (map-id after) (all_back n before after (λ s. s) (record { number = 0; begun = 0 }) new (same ∙ (ap (map (λ (s : SeatState). s.number)) are ∙ (numbers_of ws f ∙ back))))
+
+pub if_ok : {T E : Type 0} {A B : T → Type 0} (r : Result T E) → ((x : T) → A x → B x) → IfOk r A → IfOk r B
+if_ok (Ok x) f a = f x a
+if_ok (Err e) f a = tt
