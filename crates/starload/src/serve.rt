@@ -72,7 +72,7 @@ fn answered<H: Threads + Wait + Sync>(
     ) {
         Ok(run) => run,
         Err(RunError::Memory) => return Err(ServeError::Memory),
-        Err(RunError::Unpublished | RunError::Unread) => return Err(ServeError::Unpublished),
+        Err(RunError::Unpublished) => return Err(ServeError::Unpublished),
     };
     let text = report(alloc, files, &mut run)?;
     let all_ok = all_good(&mut run);
