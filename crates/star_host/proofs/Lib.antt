@@ -13,3 +13,4 @@ pub mod NextLoads
 pub mod Settled
 pub mod Crossing
 pub mod Sharing
+pub mod Goods

@@ -1,11 +1,11 @@
 -- The modules of a run, and the notes that know them.
-use Rattle.std.specs.Prelude.{◌≡◌, ◌<◌, ◌↔◌, ℕ, List, Option, Some, All, Contains, length, map, slice_index, slice_index_or}
+use Rattle.std.specs.Prelude.{◌≡◌, ◌<◌, ◌↔◌, ℕ, true, List, Option, Some, All, Contains, length, map, slice_index, slice_index_or}
 use Rattle.std.specs.List.Sorted.{IsStrictlyIncreasing}
 use Rattle.star_label.specs.Files.{File}
 use Rattle.star_plan.specs.Plan.{Plan}
 use Rattle.star_plan.specs.Reached.{IsReached}
 use Rattle.star_plan.specs.Reading.{IsPlanOf}
-use Rattle.star_host.specs.Views.{IsModule}
+use Rattle.star_host.specs.Views.{IsModule, ended_well}
 use Rattle.star_host.specs.declared.module.Ended.{Ended}
 use Rattle.star_host.specs.declared.module.Ended.TheVariants.{Static, Load as Unloaded, Stopped, Good}
 use Rattle.star_host.specs.declared.module.Module.{Module}
@@ -65,3 +65,11 @@ pub record AreModules (plan : Plan) (ks : List KeptView) : Type 0 where
 -- so they do of the plan that files have for roots, a prelude and a number of steps
 abbrev pub AreModulesOf : List File → List ℕ → Option ℕ → ℕ → List KeptView → Type 0
 AreModulesOf files roots prelude steps ks = (plan : Plan) × IsPlanOf files plan × (plan.roots ≡ roots) × (plan.prelude ≡ prelude) × (plan.steps ≡ steps) × AreModules plan ks
+
+-- a note that knows a module which is good
+abbrev pub IsGoodKept : KeptView → Type 0
+IsGoodKept k = (m : Module) × (k.known ≡ Some m) × (ended_well m.ended ≡ true)
+
+-- all of them know good modules
+abbrev pub AllGood : List KeptView → Type 0
+AllGood ks = All IsGoodKept ks

@@ -1,6 +1,6 @@
 //! The report.
 
-ghost use Rattle.std.specs.Prelude.{◌≡◌, ◌<◌, ◌≤◌, [], All, Contains, Some, IfOk, IfSome, OnOk};
+ghost use Rattle.std.specs.Prelude.{◌≡◌, ◌<◌, ◌≤◌, true, false, [], All, Contains, Some, IfOk, IfSome, OnOk};
 ghost use Rattle.std.specs.Prelude.{codes, fold, length, map, string_bytes, vec_len};
 ghost use Rattle.serde_json.specs.Data.{no_members, string};
 ghost use Rattle.serde_json.specs.View.{members_view, view};
@@ -9,7 +9,7 @@ ghost use Rattle.star_module.specs.Globals.{owned};
 ghost use Rattle.star_plan.specs.Causes.{Culprit, Cycle};
 ghost use Rattle.star_plan.specs.Text.{ill_data, load_data, static_line, static_word, well_data, with_global};
 ghost use Rattle.star_host.specs.Codes.{fault_of};
-ghost use Rattle.star_host.specs.Kept.{IsLoadBelow};
+ghost use Rattle.star_host.specs.Kept.{AllGood, IsLoadBelow};
 ghost use Rattle.star_host.specs.Shown.{IsLoadShown, IsShown};
 ghost use Rattle.star_host.specs.Leads.{AreNexts, IsLead};
 
@@ -250,7 +250,9 @@ pub fn report(alloc: Global, files: &Labels, run: &mut Run) -> Result<String, Al
 
 /// Whether all modules of a run are good.
 pub fn all_good(run: &mut Run) -> bool
-    ensures { run.new ≡ run.old }
+    ensures same { run.new ≡ run.old }
+    ensures good { result ≡ true → AllGood run.old.kept }
+    ensures bad { result ≡ false → AllGood run.old.kept → ⊥ }
 {
     for i in 0..run.len() {
         let note = run.note(i);

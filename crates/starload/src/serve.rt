@@ -1,9 +1,10 @@
 //! From the bundle's bytes to the report's bytes.
 
-ghost use Rattle.std.specs.Prelude.{◌≡◌, ◌+◌, ◌<◌, ◌≤◌, ◌⊎◌, ℕ, List, All, map, length, option_map, string_bytes, IfOk, IfErr, IfSome, Ok};
+ghost use Rattle.std.specs.Prelude.{true, false, ◌≡◌, ◌+◌, ◌<◌, ◌≤◌, ◌⊎◌, ℕ, List, All, map, length, option_map, string_bytes, IfOk, IfErr, IfSome, Ok};
 ghost use Rattle.std.specs.Option.{option_copied};
 ghost use Rattle.star_bundle.specs.Bundle as bundle;
 ghost use Rattle.star_bundle.specs.Refusal.{reads_failed, writes_failed};
+ghost use Rattle.star_host.specs.Kept.{AllGood, AreModulesOf, KeptView};
 ghost use Rattle.starload.specs.Serve.{IsRefused, ReadsAll, input_limit};
 ghost use Rattle.starload.specs.Stream.{Adds};
 
@@ -57,6 +58,10 @@ fn answered<H: Threads + Wait + Sync>(
     requires steps { (1 ≤ steps) × (steps ≤ 100000000) }
     ensures kinds { IfErr result (λ e. (e ≡ ServeError.Memory) ⊎ (e ≡ ServeError.Unpublished)) }
     ensures cells { IfOk result (λ a. length a.run.cells ≡ length asked.now.files) }
+    ensures modules { IfOk result (λ a.
+        AreModulesOf asked.now.files asked.now.roots.items asked.now.prelude steps a.run.kept) }
+    ensures good { IfOk result (λ a. a.all_ok ≡ true → AllGood a.run.kept) }
+    ensures bad { IfOk result (λ a. a.all_ok ≡ false → AllGood a.run.kept → ⊥) }
 {
     let files = &asked.files;
     let roots = asked.roots.as_slice();
@@ -158,12 +163,15 @@ pub fn serve<H: Threads + Wait + Sync, R: Source, W: Sink, E: Sink>(
     requires loaders { (1 ≤ options.now.loaders) × (options.now.loaders ≤ 64) }
     requires steps { (1 ≤ options.now.steps) × (options.now.steps ≤ 100000000) }
 
-    // All was read, it is a bundle that has each root and the prelude, and one text was written, and nothing else.
+    // All was read, it is a bundle that has each root and the prelude, and one text was written, and nothing else; and the answer is
+    // whether each of the modules, which are those of exactly the reached files, each with its file's outcome, is good.
     ensures ok { IfOk result (λ all_ok. (input : List ℕ)
         × ReadsAll (R.given reader.old) (R.given reader.new) (R.ended reader.new) input
         × (asked : bundle.Asked)
         × (bundle.asked_of (map string_bytes options.now.roots.items) (option_map string_bytes options.now.prelude) input ≡ Ok asked)
-        × (text : List ℕ) × Adds (W.taken writer.old) (W.taken writer.new) text) }
+        × (text : List ℕ) × Adds (W.taken writer.old) (W.taken writer.new) text
+        × (modules : List KeptView) × AreModulesOf asked.files asked.roots asked.prelude options.now.steps modules
+        × (all_ok ≡ true → AllGood modules) × (all_ok ≡ false → AllGood modules → ⊥)) }
 
     // What was read is refused so, and nothing was written.
     ensures refused { IfErr result (IsRefused

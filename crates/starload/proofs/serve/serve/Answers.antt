@@ -77,4 +77,4 @@ returns-clause-ok g c =
     rw (c.as_slice.ensures.value, c.as_slice-2.ensures.value, words) refl in
     let asked = asked_view c.in-Ok-asked_for.asked in
     let found = same ∙ c.in-Ok-asked_for.ensures.asked in
-    (c.in-Ok.bytes.items, (c.in-Ok.ensures.ok.0, c.in-Ok.ensures.ok.1, c.in-Ok.ensures.within), asked, found, c.as_bytes.result.now, went_well c.write.result (sym c.is_err.ensures.value ∙ c.if-is_err.false) c.write.ensures.takes)
+    (c.in-Ok.bytes.items, (c.in-Ok.ensures.ok.0, c.in-Ok.ensures.ok.1, c.in-Ok.ensures.within), asked, found, c.as_bytes.result.now, went_well c.write.result (sym c.is_err.ensures.value ∙ c.if-is_err.false) c.write.ensures.takes, c.in-Ok-answered.answer.run.kept, c.in-Ok-answered.ensures.modules, c.in-Ok-answered.ensures.good, c.in-Ok-answered.ensures.bad)
