@@ -14,3 +14,6 @@ pub mod Settled
 pub mod Crossing
 pub mod Sharing
 pub mod Goods
+pub mod Fails
+pub mod NoFloat
+pub mod Shows

@@ -7,5 +7,5 @@ pub mod Bodies
 pub mod Refusals
 pub mod Frames
 pub mod Kept
-pub mod Leads
+pub mod Fails
 pub mod Shown

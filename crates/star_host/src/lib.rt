@@ -5,7 +5,6 @@ pub mod code;
 mod frame;
 pub mod gate;
 mod given;
-mod lead;
 mod loading;
 pub mod module;
 mod naming;

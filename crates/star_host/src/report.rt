@@ -1,23 +1,28 @@
 //! The report.
 
-ghost use Rattle.std.specs.Prelude.{◌≡◌, ◌<◌, ◌≤◌, true, false, [], All, Contains, Some, IfOk, IfSome, OnOk};
+ghost use Rattle.std.specs.Prelude.{◌≡◌, ◌<◌, ◌↔◌, ◌++◌, ◌∷◌, ℕ, true, false, [], All, Contains, Some, IfOk, IfSome, OnOk};
 ghost use Rattle.std.specs.Prelude.{codes, fold, length, map, string_bytes, vec_len};
-ghost use Rattle.serde_json.specs.Data.{no_members, string};
-ghost use Rattle.serde_json.specs.View.{members_view, view};
+ghost use Rattle.serde_json.specs.Data.{array, member, no_members, number, object, string, unsigned};
+ghost use Rattle.serde_json.specs.View.{items_of, members_view, view};
+ghost use Rattle.serde_json.specs.Written.{compact_text, has_float};
+ghost use Rattle.star_cause.specs.Ends.{AreWithin};
 ghost use Rattle.star_label.specs.Files.{label_at};
 ghost use Rattle.star_module.specs.Globals.{owned};
-ghost use Rattle.star_plan.specs.Causes.{Culprit, Cycle};
+ghost use Rattle.star_plan.specs.Causes.{Culprit, Cycle, FailsBy};
+ghost use Rattle.star_plan.specs.Plan.{Plan};
+ghost use Rattle.star_plan.specs.Reading.{IsPlanOf};
 ghost use Rattle.star_plan.specs.Text.{ill_data, load_data, static_line, static_word, well_data, with_global};
 ghost use Rattle.star_host.specs.Codes.{fault_of};
-ghost use Rattle.star_host.specs.Kept.{AllGood, IsLoadBelow};
-ghost use Rattle.star_host.specs.Shown.{IsLoadShown, IsShown};
-ghost use Rattle.star_host.specs.Leads.{AreNexts, IsLead};
+ghost use Rattle.star_host.specs.Fails.{AreFails};
+ghost use Rattle.star_host.specs.Kept.{AllGood, AreModules, IsLoadBelow};
+ghost use Rattle.star_host.specs.Shown.{AreShown, IsLoadShown, IsReportBut, IsReportValue, IsShown};
+ghost use Rattle.star_host.specs.Views.{IsModule};
 
 use crate::code::{StaticFault, code_text};
-use crate::lead::{Lead, Leads};
 use crate::module::{Ended, Module};
 use crate::outcome::Run;
 use serde_json::{Map, Value, json};
+use star_cause::{Cause, Causes};
 use star_label::files::Files as Labels;
 use star_text::Text;
 use std::alloc::{AllocError, Global};
@@ -91,7 +96,8 @@ fn good_module(
 /// The file of a module's first load that is not good: none where it ended otherwise.
 fn next_of(it: &Module) -> Option<usize>
     requires { IsLoadBelow (length it.now.loads.items) it.now.ended }
-    ensures { IfSome result (λ n. Contains it.now.loads.items n) }
+    ensures within { IfSome result (λ n. Contains it.now.loads.items n) }
+    ensures fails { (plan : Plan) (n m : ℕ) → IsModule plan n it.now → (result ≡ Some m) ↔ FailsBy plan n m }
 {
     match &it.ended {
         Ended::Load { index, .. } => Some(it.loads[*index]),
@@ -103,7 +109,9 @@ fn next_of(it: &Module) -> Option<usize>
 fn nexts_of(alloc: Global, files: usize, run: &mut Run) -> Result<Vec<Option<usize>>, AllocError>
     requires { files ≡ length run.old.cells }
     ensures same { run.new ≡ run.old }
-    ensures nexts { IfOk result (λ v. (vec_len v ≡ files) × AreNexts files v.items) }
+    ensures size { IfOk result (λ v. vec_len v ≡ files) }
+    ensures within { IfOk result (λ v. AreWithin v.items) }
+    ensures fails { IfOk result (λ v. AreFails run.old.kept v.items) }
 {
     let mut nexts = vec![in alloc; None; files]?;
     for i in 0..run.len() {
@@ -162,22 +170,19 @@ fn cycle_module(
 fn load_module(
     alloc: Global,
     files: &Labels,
-    leads: &mut Leads,
+    causes: &Causes,
     n: usize,
     line: usize,
 ) -> Result<Value, AllocError>
-    requires files { vec_len leads.old.nexts ≡ length files.now }
+    requires files { length causes.now ≡ length files.now }
     requires there { n < length files.now }
-    ensures same { leads.new.nexts ≡ leads.old.nexts }
-    ensures shown { IfOk result (IsLoadShown files.now (label_at files.now n) line) }
+    ensures { IfOk result (IsLoadShown files.now causes.now n line) }
 {
     let label = files.label(n).text();
-    match leads.lead(n) {
-        Lead::Cause(cause) => caused_module(alloc, files, label, cause, line),
-        Lead::Cycle(first) => {
-            let cycle = leads.cycle_from(alloc, first)?;
-            cycle_module(alloc, files, label, &cycle, line)
-        }
+    let cause = causes.of(alloc, n)?;
+    match cause {
+        Cause::Culprit(file) => caused_module(alloc, files, label, file, line),
+        Cause::Cycle(cycle) => cycle_module(alloc, files, label, &cycle, line),
     }
 }
 
@@ -201,18 +206,17 @@ fn static_module(alloc: Global, label: &str, fault: StaticFault) -> Result<Value
 fn module_value(
     alloc: Global,
     files: &Labels,
-    leads: &mut Leads,
+    causes: &Causes,
     it: &Module,
 ) -> Result<Value, AllocError>
-    requires files { vec_len leads.old.nexts ≡ length files.now }
+    requires files { length causes.now ≡ length files.now }
     requires there { it.now.number < length files.now }
-    ensures same { leads.new.nexts ≡ leads.old.nexts }
-    ensures shown { IfOk result (IsShown files.now (label_at files.now it.now.number) it.now.ended) }
+    ensures { IfOk result (IsShown files.now causes.now it.now.number it.now.ended) }
 {
     let label = files.label(it.number).text();
     match &it.ended {
         Ended::Static(fault) => static_module(alloc, label, *fault),
-        Ended::Load { line, .. } => load_module(alloc, files, leads, it.number, *line),
+        Ended::Load { line, .. } => load_module(alloc, files, causes, it.number, *line),
         Ended::Stopped { code, line, lines } => {
             failed_module(alloc, label, code_text(*code), *line, &lines, "fault")
         }
@@ -223,29 +227,60 @@ fn module_value(
 /// The modules, in order of their labels.
 fn module_values(alloc: Global, files: &Labels, run: &mut Run) -> Result<Vec<Value>, AllocError>
     requires { length run.old.cells ≡ length files.now }
-    ensures { run.new ≡ run.old }
+    ensures same { run.new ≡ run.old }
+    ensures modules { IfOk result (λ vs. (plan : Plan) → IsPlanOf files.now plan → AreModules plan run.old.kept
+        → AreShown files.now plan run.old.kept vs.items) }
 {
     let nexts = nexts_of(alloc, files.len(), run)?;
-    let mut leads = Leads::new(alloc, nexts)?;
+    let causes = Causes::new(alloc, nexts)?;
     let mut values = Vec::new(alloc);
     for i in 0..run.len() {
         let note = run.note(i);
         let module = run.module(i, note);
-        values.push(module_value(alloc, files, &mut leads, module)?)?;
+        values.push(module_value(alloc, files, &causes, module)?)?;
     }
     Ok(values)
+}
+
+/// The number of files that were begun, with modules.
+fn whole(alloc: Global, begun: u32, modules: Vec<Value>) -> Result<Value, AllocError>
+    ensures { IfOk result (λ v. view v ≡ object (member (codes "begun") (number (unsigned begun))
+        (member (codes "modules") (array (items_of (map view modules.items))) no_members))) }
+{
+    let modules = Value::Array(modules);
+    json!(in alloc; {"begun": u64::from(begun), "modules": modules})
+}
+
+/// The value of the report.
+fn report_value(alloc: Global, files: &Labels, run: &mut Run) -> Result<Value, AllocError>
+    requires { length run.old.cells ≡ length files.now }
+    ensures same { run.new ≡ run.old }
+    ensures value { IfOk result (λ v. (plan : Plan) → IsPlanOf files.now plan → AreModules plan run.old.kept
+        → IsReportValue files.now plan (length run.old.kept) run.old.begun v) }
+{
+    let modules = module_values(alloc, files, run)?;
+    whole(alloc, run.begun(), modules)
+}
+
+/// The text of a value that has no float, and a line end.
+fn text_of(alloc: Global, value: &Value) -> Result<String, AllocError>
+    ensures { IfOk result (λ s. has_float (view value.now) ≡ false
+        → string_bytes s ≡ compact_text (view value.now) ++ 10 ∷ []) }
+{
+    let mut text = value.to_string(alloc)?;
+    text.push('\n')?;
+    Ok(text)
 }
 
 /// The report of a run over these files as its text, with its line end.
 pub fn report(alloc: Global, files: &Labels, run: &mut Run) -> Result<String, AllocError>
     requires { length run.old.cells ≡ length files.now }
-    ensures { run.new ≡ run.old }
+    ensures same { run.new ≡ run.old }
+    ensures text { IfOk result (λ s. (plan : Plan) → IsPlanOf files.now plan → AreModules plan run.old.kept
+        → IsReportBut files.now plan (length run.old.kept) run.old.begun (string_bytes s)) }
 {
-    let modules = Value::Array(module_values(alloc, files, run)?);
-    let value = json!(in alloc; {"begun": u64::from(run.begun()), "modules": modules})?;
-    let mut text = value.to_string(alloc)?;
-    text.push('\n')?;
-    Ok(text)
+    let value = report_value(alloc, files, run)?;
+    text_of(alloc, &value)
 }
 
 /// Whether all modules of a run are good.

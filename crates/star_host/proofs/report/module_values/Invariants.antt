@@ -1,5 +1,12 @@
-use Rattle.std.proofs.Common.{◌≡◌, vec_len, length}
+use Rattle.std.proofs.Common.{◌≡◌, take}
+use Rattle.star_plan.specs.Plan.{Plan}
+use Rattle.star_plan.specs.Reading.{IsPlanOf}
+use Rattle.star_host.specs.Kept.{AreModules}
+use Rattle.star_host.specs.Shown.{AreShown}
 use Rattle.star_host.proofs.report.module_values.Given as goal
 
 abbrev pub invariant-loop-i : goal.invariant-loop-i
-invariant-loop-i l = (l.run ≡ l.initial.run) × (vec_len l.leads.nexts ≡ length l.files)
+invariant-loop-i l = record {
+  same : l.run ≡ l.initial.run;
+  shown : (plan : Plan) → IsPlanOf l.files plan → AreModules plan l.initial.run.kept → AreShown l.files plan (take l.i l.initial.run.kept) l.values.items;
+}

@@ -1,0 +1,6 @@
+use Rattle.std.proofs.Common.{◌≡◌}
+use Rattle.star_host.proofs.Fails.{fails_by, fails_not}
+use Rattle.star_host.proofs.report.next_of.Goals as goal
+
+pub returns-in_default : goal.returns-in_default
+returns-in_default c = record { within = tt; fails = fails_not c.args.it.now c.in_default.not-Load }
