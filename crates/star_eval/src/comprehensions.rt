@@ -2,9 +2,8 @@
 
 ghost use Rattle.std.specs.Prelude.{◌≡◌, ◌+◌};
 ghost use Rattle.star_machine.specs.Gives.{Gives};
-ghost use Rattle.star_meaning.specs.Comprehensions.{clause_node, clause_turn, dict_comprehension, list_comprehension, over};
+ghost use Rattle.star_meaning.specs.Comprehensions.{clause_turn, dict_comprehension, list_comprehension, over};
 ghost use Rattle.star_meaning.specs.Meaning.{repeat};
-ghost use Rattle.star_scope.specs.Syntax as form;
 ghost use Rattle.star_eval.specs.World.{meant, variables};
 ghost use Rattle.star_eval.specs.Steps.{behind, filled, filled_dict, filled_list, last};
 
@@ -193,7 +192,7 @@ fn run_turn(
     run_clauses(machine, world, context, more, output)
 }
 
-/// The clauses in order, and what is added behind the last.
+/// The clauses in order, and what is added after the last: conditions are asked one after another, up to the next `for`.
 #[cycle(run)]
 fn run_clauses(
     machine: &mut Machine,
@@ -204,37 +203,23 @@ fn run_clauses(
 ) -> Result<(), Stop>
     ensures { Gives (behind world.now context.levels context.place more.now output.entry machine.old) result machine.new }
 {
-    match more {
-        [clause, rest @ ..] => run_clause(machine, world, context, clause, rest, output),
-        [] => add(machine, world, context, output),
-    }
-}
-
-/// A clause, with those behind it: a `for` over its iterable, or a condition.
-#[cycle(run)]
-fn run_clause(
-    machine: &mut Machine,
-    world: &World,
-    context: Context,
-    clause: &Clause,
-    rest: &[Clause],
-    output: Output<'_>,
-) -> Result<(), Stop>
-    ensures { Gives (clause_node (variables world.now) world.now.setting (meant world.now context.levels) context.place (form.clause clause.now) (behind world.now context.levels context.place rest.now output.entry) machine.old) result machine.new }
-{
-    match clause {
-        Clause::For { target, iterable } => {
-            let value = evaluate(machine, world, context, iterable)?;
-            run_over(machine, world, context, target, value, rest, output)
-        }
-        Clause::If(condition) => {
-            let value = evaluate(machine, world, context, condition)?;
-            if machine.is_true(world.setting(), value) {
-                return run_clauses(machine, world, context, rest, output);
+    let mut rest = more;
+    while let [clause, others @ ..] = rest {
+        match clause {
+            Clause::For { target, iterable } => {
+                let value = evaluate(machine, world, context, iterable)?;
+                return run_over(machine, world, context, target, value, others, output);
             }
-            Ok(())
+            Clause::If(condition) => {
+                let value = evaluate(machine, world, context, condition)?;
+                if !machine.is_true(world.setting(), value) {
+                    return Ok(());
+                }
+            }
         }
+        rest = others;
     }
+    add(machine, world, context, output)
 }
 
 /// What a comprehension adds behind its clauses: an element, then 1; or an entry, whose key is checked, then 1 where the key is new.

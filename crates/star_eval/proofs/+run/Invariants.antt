@@ -1,4 +1,4 @@
-use Rattle.std.proofs.Common.{◌≡◌, List, ◌+◌, ◌-◌, ◌*◌, ◌^◌, drop, length}
+use Rattle.std.proofs.Common.{◌≡◌, List, ◌+◌, ◌-◌, ◌*◌, ◌^◌, ◌≤◌, drop, length}
 use Rattle.star_meaning.specs.Calls.{pass}
 use Rattle.star_meaning.specs.Comprehensions.{clause_turn}
 use Rattle.star_meaning.specs.Expressions.{defaults, entry_of}
@@ -7,6 +7,7 @@ use Rattle.star_meaning.specs.Meaning.{block, repeat, turns}
 use Rattle.star_meaning.specs.Run.{Action, each}
 use Rattle.star_meaning.specs.declared.place.Flow.{Flow}
 use Rattle.star_syntax.specs.declared.tree.Arm.{Arm}
+use Rattle.star_syntax.specs.declared.tree.Clause.{Clause}
 use Rattle.star_meaning.specs.Statements.{arms, loop_turn}
 use Rattle.star_meaning.specs.Targets.{to_each}
 use Rattle.star_eval.specs.World.{meant, variables}
@@ -131,9 +132,6 @@ decreases-comprehensions::run_turns l = 2 ^ 70 * l.context.levels + (8 * length 
 abbrev pub decreases-comprehensions::run_over : goal.decreases-comprehensions::run_over
 decreases-comprehensions::run_over l = 2 ^ 70 * l.context.levels + (8 * length l.more.now + 7)
 
-abbrev pub decreases-comprehensions::run_clause : goal.decreases-comprehensions::run_clause
-decreases-comprehensions::run_clause l = 2 ^ 70 * l.context.levels + (8 * length l.rest.now + 10)
-
 abbrev pub decreases-nodes::evaluate_and : goal.decreases-nodes::evaluate_and
 decreases-nodes::evaluate_and l = 2 ^ 70 * l.context.levels + 3
 
@@ -212,6 +210,14 @@ invariant-comprehensions::run_turns-loop-i l =
     let c = l.world in
     let f = clause_turn (variables c) c.setting (meant c l.context.levels) l.context.place l.target l.value (behind c l.context.levels l.context.place l.more l.output) in
     repeat f (l.count - l.i) l.i l.machine ≡ repeat f l.count 0 l.fn.machine
+
+abbrev pub invariant-comprehensions::run_clauses-loop-rest : goal.invariant-comprehensions::run_clauses-loop-rest
+invariant-comprehensions::run_clauses-loop-rest l =
+    let f : List Clause → Action (Unit {0}) = λ cs. behind l.world l.context.levels l.context.place cs l.output in
+    record { same : f l.rest l.machine ≡ f l.more l.fn.machine; short : length l.rest ≤ length l.more }
+
+abbrev pub decreases-comprehensions::run_clauses-loop-rest : goal.decreases-comprehensions::run_clauses-loop-rest
+decreases-comprehensions::run_clauses-loop-rest l = length l.rest
 
 abbrev pub invariant-execute::assign_each-loop-target : goal.invariant-execute::assign_each-loop-target
 invariant-execute::assign_each-loop-target l =
