@@ -22,7 +22,7 @@ fn with_clauses(alloc: Global, count: usize, conditions: usize) -> Result<String
 
 #[test]
 fn many_clauses_end(rt: HostRuntime) -> Result<(), Fail> {
-    for (count, conditions) in [(2_000, 75)] {
+    for (count, conditions) in [(70_000, 0), (2_000, 75)] {
         let source = with_clauses(rt.alloc(), count, conditions)?;
         good(
             &rt,
