@@ -2,6 +2,8 @@
 #![tactic(auto)]
 
 #[cfg(test)]
+mod clauses;
+#[cfg(test)]
 mod modules;
 #[cfg(test)]
 mod programs;

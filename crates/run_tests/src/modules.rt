@@ -105,7 +105,7 @@ fn shown(
 }
 
 /// Asserts that a body ends well, with these globals and lines.
-fn good(
+pub(crate) fn good(
     rt: &impl Abort,
     alloc: Global,
     source: &str,

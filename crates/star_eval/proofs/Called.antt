@@ -2,12 +2,10 @@
 use Rattle.std.proofs.Common.{◌≡◌, ap, refl}
 use Rattle.star_store.specs.declared.values.Value.{Value}
 use Rattle.star_store.specs.declared.values.Value.TheVariants as value
-use Rattle.star_meaning.specs.Calls.{Callee}
 use Rattle.star_meaning.specs.Program.{Setting}
 use Rattle.star_meaning.specs.Run.{State}
 use Rattle.star_meaning.specs.Values.{content, held}
 use Rattle.star_store.specs.Store.{look}
-use Rattle.star_call.specs.declared.callee.Called.{Called}
 use Rattle.star_call.specs.declared.callee.Callee.{Callee as HeldCallee}
 use Rattle.star_call.specs.declared.callee.Callee.TheVariants as callable
 use Rattle.star_call.specs.Callees.{shown, function_of}

@@ -1,11 +1,11 @@
 -- An entry of a display whose key is checked and new.
-use Rattle.std.proofs.Common.{◌≡◌, ℕ, List, Option, Some, None, Bool, true, false, not, is_some, refl, ap, sym, subst}
+use Rattle.std.proofs.Common.{◌≡◌, ℕ, List, Option, Some, None, false, not, is_some, refl, ap, sym, subst}
 use Rattle.star_store.specs.declared.values.Value.{Value}
 use Rattle.star_meaning.specs.declared.fault.Code.TheVariants.{Key}
 use Rattle.star_meaning.specs.Expressions.{fresh_entry}
 use Rattle.star_meaning.specs.Operators.{with_entry}
 use Rattle.star_meaning.specs.Program.{Setting}
-use Rattle.star_meaning.specs.Run.{State, Outcome, Done, and_then, check}
+use Rattle.star_meaning.specs.Run.{State, Done, check}
 use Rattle.star_meaning.specs.Values.{check_key, place_in}
 
 passed : (line : ℕ) (o : Option ℕ) (t : State) → is_some o ≡ false → check Key line (not (is_some o)) t ≡ Done tt t

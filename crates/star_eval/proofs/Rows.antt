@@ -9,14 +9,13 @@ use Rattle.star_syntax.specs.declared.tree.Statement.{Statement}
 use Rattle.star_scope.specs.declared.error.ScopeFault.{ScopeFault}
 use Rattle.star_scope.specs.declared.program.Prelude.{Prelude}
 use Rattle.star_scope.specs.declared.program.Program.{Program}
-use Rattle.star_scope.specs.Definitions.{Definition, definition_in}
-use Rattle.star_scope.specs.Names.{Names, has_name}
-use Rattle.star_scope.specs.Outlines.{Outline, names_in}
+use Rattle.star_scope.specs.Definitions.{definition_in}
+use Rattle.star_scope.specs.Names.{has_name}
+use Rattle.star_scope.specs.Outlines.{names_in}
 use Rattle.star_scope.specs.Resolve.{Resolves}
-use Rattle.star_meaning.specs.Local.{outlines}
 use Rattle.star_meaning.specs.Module.{loaded_names}
 use Rattle.star_meaning.specs.Program.{Setting, blocks_in, definition_of, names_of, outline_of}
-use Rattle.star_meaning.specs.Programs.{Files, IsOfFile, PlacedFile, outline_at, placed_file, trees_of}
+use Rattle.star_meaning.specs.Programs.{Files, IsOfFile, outline_at, placed_file, trees_of}
 use Rattle.star_machine.proofs.ProgramRows.{outline_there}
 use Rattle.star_eval.specs.World.{AreOutlined}
 

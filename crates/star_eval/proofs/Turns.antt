@@ -1,5 +1,5 @@
 -- Loops go on turn by turn.
-use Rattle.std.proofs.Common.{◌≡◌, ℕ, zero, suc, ◌+◌, ◌-◌, ◌<◌, refl, ap, arith}
+use Rattle.std.proofs.Common.{◌≡◌, ℕ, zero, suc, ◌+◌, ◌-◌, ◌<◌, ap, arith}
 use Rattle.star_meaning.specs.declared.place.Flow.{Flow}
 use Rattle.star_meaning.specs.Run.{State, Action, and_then}
 use Rattle.star_meaning.specs.Meaning.{turns, then_turn, repeat}

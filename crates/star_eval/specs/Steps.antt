@@ -1,6 +1,6 @@
 -- What the parts of a run by places are, in the words of the meaning.
 use denote.Ref.{Bor}
-use Rattle.std.specs.Prelude.{ℕ, ◌+◌, List, [], ◌∷◌, Some}
+use Rattle.std.specs.Prelude.{◌≡◌, ℕ, ◌+◌, ◌-◌, List, [], ◌∷◌, Option, Some, None, Result, Ok, Err}
 use Rattle.star_store.specs.declared.values.Value.{Value}
 use Rattle.star_syntax.specs.declared.tree.Clause.{Clause}
 use Rattle.star_syntax.specs.declared.tree.Name.{Name}
@@ -14,11 +14,15 @@ use Rattle.star_syntax.specs.declared.tree.Expression.{Expression}
 use Rattle.star_scope.specs.Definitions.{Definition}
 use Rattle.star_meaning.specs.Binding.{Share, make_shares}
 use Rattle.star_meaning.specs.Calls.{deactivate, run_body}
-use Rattle.star_meaning.specs.Run.{Action, Done, ◌>>=◌, all_of, build, give, pay}
-use Rattle.star_meaning.specs.Meaning.{Meaning, Read}
-use Rattle.star_meaning.specs.Comprehensions.{clauses, all_clauses, add_element, add_entry}
+use Rattle.star_meaning.specs.Run.{State, Outcome, Action, Done, ◌>>=◌, all_of, build, give, pay}
+use Rattle.star_meaning.specs.Values.{leave}
+use Rattle.star_meaning.specs.Meaning.{Meaning, Read, repeat}
+use Rattle.star_meaning.specs.Comprehensions.{clause_turn, clauses, all_clauses, add_element, add_entry}
+use Rattle.star_machine.specs.declared.fault.Stop.{Stop}
+use Rattle.star_machine.specs.Gives.{Ends}
 use Rattle.star_eval.specs.declared.output.Output.{Output}
 use Rattle.star_eval.specs.declared.output.Output.TheVariants as output
+use Rattle.star_eval.specs.declared.open_clause.OpenClause.{OpenClause}
 use Rattle.star_eval.specs.declared.targets.TargetParts.{TargetParts}
 use Rattle.star_eval.specs.World.{World, meant, variables}
 
@@ -30,6 +34,29 @@ last c levels p (output.Entry e d) = add_entry c.setting levels (meant c levels)
 -- the clauses of a comprehension from one on, and what is added behind them
 abbrev pub behind : World → ℕ → Place → List Clause → Output → Action (Unit {0})
 behind c levels p cs o = clauses (variables c) c.setting (meant c levels) p cs (last c levels p o)
+
+-- a turn of an open `for` clause
+abbrev pub turn_of : World → ℕ → Place → Output → OpenClause → ℕ → Action (Unit {0})
+turn_of c levels p o f i = clause_turn (variables c) c.setting (meant c levels) p f.target.now f.value (behind c levels p f.more.now o) i
+
+-- what is left of an open clause: its turns from the next item on, and then its value is left
+abbrev pub turns_left : World → ℕ → Place → Output → OpenClause → Action (Unit {0})
+turns_left c levels p o f = repeat (turn_of c levels p o f) (f.count - f.next) f.next >>= λ _. leave f.value
+
+-- what is left of a clause that may have been opened
+abbrev pub opened_left : World → ℕ → Place → Output → Option OpenClause → Action (Unit {0})
+opened_left c levels p o None = give tt
+opened_left c levels p o (Some f) = turns_left c levels p o f
+
+-- what is left of open clauses, each opened in a turn of the one before it: the innermost ends first
+abbrev pub all_left : World → ℕ → Place → Output → List OpenClause → Action (Unit {0})
+all_left c levels p o [] = give tt
+all_left c levels p o (f ∷ fs) = all_left c levels p o fs >>= λ _. turns_left c levels p o f
+
+-- What was to be done is what the answer leaves to do. Where it stopped: as a run ends that stops.
+abbrev pub Leads : {A B : Type 0} → (A → Action B) → Outcome B → Result A Stop → State → Type 0
+Leads rest o (Ok x) new = o ≡ rest x new
+Leads rest o (Err e) new = Ends o e new
 
 -- the parts of an index target, and what stood there
 abbrev pub shown_parts : TargetParts → Read

@@ -1,16 +1,15 @@
 //! Comprehensions.
 
-ghost use Rattle.std.specs.Prelude.{◌≡◌, ◌+◌};
+ghost use Rattle.std.specs.Prelude.{◌≡◌, ◌+◌, ◌<◌, ◌≤◌, OnOk};
 ghost use Rattle.star_machine.specs.Gives.{Gives};
-ghost use Rattle.star_meaning.specs.Comprehensions.{clause_node, clause_turn, dict_comprehension, list_comprehension, over};
-ghost use Rattle.star_meaning.specs.Meaning.{repeat};
-ghost use Rattle.star_scope.specs.Syntax as form;
+ghost use Rattle.star_meaning.specs.Comprehensions.{dict_comprehension, list_comprehension};
 ghost use Rattle.star_eval.specs.World.{meant, variables};
-ghost use Rattle.star_eval.specs.Steps.{behind, filled, filled_dict, filled_list, last};
+ghost use Rattle.star_eval.specs.Steps.{Leads, behind, filled, filled_dict, filled_list, last, opened_left, turn_of, turns_left};
 
 use crate::context::Context;
 use crate::evaluate::{evaluate, evaluate_entry};
 use crate::execute::assign_to;
+use crate::open_clause::OpenClause;
 use crate::output::Output;
 use crate::parts::{enter, new_row, new_table};
 use crate::world::World;
@@ -19,7 +18,7 @@ use star_machine::machine::Machine;
 use star_machine::subscript::put_entry;
 use star_store::arena::write::Change;
 use star_store::values::Value;
-use star_syntax::tree::{Clause, Clauses, Entry, Expression, Target};
+use star_syntax::tree::{Clause, Clauses, Entry, Expression};
 
 /// A list comprehension: the first iterable, its frame, the list, the clauses.
 #[cycle(run)]
@@ -111,6 +110,7 @@ fn fill_dict(
 
 /// All clauses over the first iterable; then the list or dictionary to which they add.
 #[cycle(run)]
+#[tactic(auto, using(crate::proofs::Clauses::just_opened))]
 fn fill(
     machine: &mut Machine,
     world: &World,
@@ -121,120 +121,113 @@ fn fill(
 ) -> Result<Value, Stop>
     ensures { Gives (filled world.now context.levels context.place clauses.now value output.entry machine.old) result machine.new }
 {
-    let more = clauses.more.as_slice();
-    run_over(
-        machine,
-        world,
-        context,
-        &clauses.target,
+    let count = machine.iterate(world.setting(), context.place.line, value)?;
+    let first = OpenClause {
+        target: &clauses.target,
         value,
-        more,
-        output,
-    )?;
+        count,
+        next: 0,
+        more: clauses.more.as_slice(),
+    };
+    run_turns(machine, world, context, first, output)?;
     Ok(output.container())
 }
 
-/// A `for` clause over a value: it is being iterated while the clauses behind it run.
+/// The turns of an open clause, among them those of all clauses that are opened in them; then it is left.
 #[cycle(run)]
-fn run_over(
+#[tactic(auto, using(crate::proofs::Clauses::none_around, crate::proofs::Spends::leave_spends))]
+fn run_turns<'t>(
     machine: &mut Machine,
     world: &World,
     context: Context,
-    target: &Target,
-    value: Value,
-    more: &[Clause],
+    first: OpenClause<'t>,
     output: Output<'_>,
 ) -> Result<(), Stop>
-    ensures { Gives (over (variables world.now) world.now.setting (meant world.now context.levels) context.place target.now value (behind world.now context.levels context.place more.now output.entry) machine.old) result machine.new }
+    ensures { Gives (turns_left world.now context.levels context.place output.entry first.entry machine.old) result machine.new }
 {
-    let count = machine.iterate(world.setting(), context.place.line, value)?;
-    run_turns(machine, world, context, target, value, count, more, output)?;
-    machine.leave(value);
-    Ok(())
-}
-
-/// So many turns of a `for` clause.
-#[cycle(run)]
-#[tactic(auto, using(crate::proofs::Turns::repeat_next))]
-fn run_turns(
-    machine: &mut Machine,
-    world: &World,
-    context: Context,
-    target: &Target,
-    value: Value,
-    count: usize,
-    more: &[Clause],
-    output: Output<'_>,
-) -> Result<(), Stop>
-    ensures { Gives (repeat (clause_turn (variables world.now) world.now.setting (meant world.now context.levels) context.place target.now value (behind world.now context.levels context.place more.now output.entry)) count 0 machine.old) result machine.new }
-{
-    for i in 0..count {
-        run_turn(machine, world, context, target, value, i, more, output)?;
-    }
-    Ok(())
-}
-
-/// A turn of a `for` clause: the next item is taken and assigned, and the clauses behind it run.
-#[cycle(run)]
-fn run_turn(
-    machine: &mut Machine,
-    world: &World,
-    context: Context,
-    target: &Target,
-    value: Value,
-    i: usize,
-    more: &[Clause],
-    output: Output<'_>,
-) -> Result<(), Stop>
-    ensures { Gives (clause_turn (variables world.now) world.now.setting (meant world.now context.levels) context.place target.now value (behind world.now context.levels context.place more.now output.entry) i machine.old) result machine.new }
-{
-    let item = machine.take_item(world.setting(), context.place.line, value, i)?;
-    assign_to(machine, world, context, target, item)?;
-    run_clauses(machine, world, context, more, output)
-}
-
-/// The clauses in order, and what is added behind the last.
-#[cycle(run)]
-fn run_clauses(
-    machine: &mut Machine,
-    world: &World,
-    context: Context,
-    more: &[Clause],
-    output: Output<'_>,
-) -> Result<(), Stop>
-    ensures { Gives (behind world.now context.levels context.place more.now output.entry machine.old) result machine.new }
-{
-    match more {
-        [clause, rest @ ..] => run_clause(machine, world, context, clause, rest, output),
-        [] => add(machine, world, context, output),
-    }
-}
-
-/// A clause, with those behind it: a `for` over its iterable, or a condition.
-#[cycle(run)]
-fn run_clause(
-    machine: &mut Machine,
-    world: &World,
-    context: Context,
-    clause: &Clause,
-    rest: &[Clause],
-    output: Output<'_>,
-) -> Result<(), Stop>
-    ensures { Gives (clause_node (variables world.now) world.now.setting (meant world.now context.levels) context.place (form.clause clause.now) (behind world.now context.levels context.place rest.now output.entry) machine.old) result machine.new }
-{
-    match clause {
-        Clause::For { target, iterable } => {
-            let value = evaluate(machine, world, context, iterable)?;
-            run_over(machine, world, context, target, value, rest, output)
+    let mut outer = Vec::new(machine.alloc());
+    let mut clause = first;
+    'turns: loop {
+        if clause.next >= clause.count {
+            machine.leave(clause.value);
+            let Some(around) = outer.pop() else {
+                return Ok(());
+            };
+            clause = around;
+            continue;
         }
-        Clause::If(condition) => {
-            let value = evaluate(machine, world, context, condition)?;
-            if machine.is_true(world.setting(), value) {
-                return run_clauses(machine, world, context, rest, output);
+        let opened = run_turn(machine, world, context, clause, output)?;
+        clause = clause.past_item();
+        if let Some(inner) = opened {
+            outer.push(clause)?;
+            clause = inner;
+        }
+    }
+}
+
+/// The next turn of an open clause: the next item is taken and assigned, and the clauses after it run up to the next `for`, which is
+/// opened.
+#[cycle(run)]
+#[tactic(auto, using(crate::proofs::Spends::item_pays, crate::proofs::Spends::target_spends))]
+fn run_turn<'t>(
+    machine: &mut Machine,
+    world: &World,
+    context: Context,
+    clause: OpenClause<'t>,
+    output: Output<'_>,
+) -> Result<Option<OpenClause<'t>>, Stop>
+    ensures turn { let rest = opened_left world.now context.levels context.place output.entry in
+        let turn = turn_of world.now context.levels context.place output.entry clause.entry in
+        Leads rest (turn clause.entry.next machine.old) result machine.new }
+    ensures paid { OnOk result (machine.new.steps < machine.old.steps) }
+{
+    let line = context.place.line;
+    let item = machine.take_item(world.setting(), line, clause.value, clause.next)?;
+    assign_to(machine, world, context, clause.target, item)?;
+    let opened = run_clauses(machine, world, context, clause.more, output)?;
+    Ok(opened)
+}
+
+/// The clauses in order up to the next `for`, which is opened, and what is added after the last: nothing is opened then, nor where a
+/// condition is false.
+#[cycle(run)]
+#[tactic(auto, using(crate::proofs::Clauses::just_opened, crate::proofs::Spends::expression_spends, crate::proofs::Spends::iterate_spends, crate::proofs::Spends::last_spends))]
+fn run_clauses<'t>(
+    machine: &mut Machine,
+    world: &World,
+    context: Context,
+    clauses: &'t [Clause],
+    output: Output<'_>,
+) -> Result<Option<OpenClause<'t>>, Stop>
+    ensures run { let rest = opened_left world.now context.levels context.place output.entry in
+        Leads rest (behind world.now context.levels context.place clauses.now output.entry machine.old) result machine.new }
+    ensures spent { OnOk result (machine.new.steps ≤ machine.old.steps) }
+{
+    let mut rest = clauses;
+    while let [clause, others @ ..] = rest {
+        match clause {
+            Clause::For { target, iterable } => {
+                let value = evaluate(machine, world, context, iterable)?;
+                let count = machine.iterate(world.setting(), context.place.line, value)?;
+                return Ok(Some(OpenClause {
+                    target,
+                    value,
+                    count,
+                    next: 0,
+                    more: others,
+                }));
             }
-            Ok(())
+            Clause::If(condition) => {
+                let value = evaluate(machine, world, context, condition)?;
+                if !machine.is_true(world.setting(), value) {
+                    return Ok(None);
+                }
+            }
         }
+        rest = others;
     }
+    add(machine, world, context, output)?;
+    Ok(None)
 }
 
 /// What a comprehension adds behind its clauses: an element, then 1; or an entry, whose key is checked, then 1 where the key is new.

@@ -9,6 +9,7 @@ pub mod execute;
 pub mod files;
 mod loads;
 mod nodes;
+mod open_clause;
 mod output;
 mod parts;
 mod targets;

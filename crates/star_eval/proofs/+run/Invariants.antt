@@ -1,16 +1,16 @@
-use Rattle.std.proofs.Common.{◌≡◌, List, ◌+◌, ◌-◌, ◌*◌, ◌^◌, drop, length}
+use Rattle.std.proofs.Common.{◌≡◌, List, ◌+◌, ◌-◌, ◌*◌, ◌^◌, ◌≤◌, drop, length, vec_len}
 use Rattle.star_meaning.specs.Calls.{pass}
-use Rattle.star_meaning.specs.Comprehensions.{clause_turn}
 use Rattle.star_meaning.specs.Expressions.{defaults, entry_of}
 use Rattle.star_machine.specs.Gives.{with_front}
-use Rattle.star_meaning.specs.Meaning.{block, repeat, turns}
-use Rattle.star_meaning.specs.Run.{Action, each}
+use Rattle.star_meaning.specs.Meaning.{block, turns}
+use Rattle.star_meaning.specs.Run.{Action, and_then, each}
 use Rattle.star_meaning.specs.declared.place.Flow.{Flow}
 use Rattle.star_syntax.specs.declared.tree.Arm.{Arm}
+use Rattle.star_syntax.specs.declared.tree.Clause.{Clause}
 use Rattle.star_meaning.specs.Statements.{arms, loop_turn}
 use Rattle.star_meaning.specs.Targets.{to_each}
 use Rattle.star_eval.specs.World.{meant, variables}
-use Rattle.star_eval.specs.Steps.{behind}
+use Rattle.star_eval.specs.Steps.{all_left, behind, turns_left}
 use Rattle.star_call.specs.Passed.{all_shown}
 use Rattle.star_eval.proofs.+run.Given as goal
 
@@ -120,19 +120,13 @@ abbrev pub decreases-comprehensions::add : goal.decreases-comprehensions::add
 decreases-comprehensions::add l = 2 ^ 70 * l.context.levels + 2
 
 abbrev pub decreases-comprehensions::run_clauses : goal.decreases-comprehensions::run_clauses
-decreases-comprehensions::run_clauses l = 2 ^ 70 * l.context.levels + (8 * length l.more.now + 3)
+decreases-comprehensions::run_clauses l = 2 ^ 70 * l.context.levels + 3
 
 abbrev pub decreases-comprehensions::run_turn : goal.decreases-comprehensions::run_turn
-decreases-comprehensions::run_turn l = 2 ^ 70 * l.context.levels + (8 * length l.more.now + 5)
+decreases-comprehensions::run_turn l = 2 ^ 70 * l.context.levels + 4
 
 abbrev pub decreases-comprehensions::run_turns : goal.decreases-comprehensions::run_turns
-decreases-comprehensions::run_turns l = 2 ^ 70 * l.context.levels + (8 * length l.more.now + 6)
-
-abbrev pub decreases-comprehensions::run_over : goal.decreases-comprehensions::run_over
-decreases-comprehensions::run_over l = 2 ^ 70 * l.context.levels + (8 * length l.more.now + 7)
-
-abbrev pub decreases-comprehensions::run_clause : goal.decreases-comprehensions::run_clause
-decreases-comprehensions::run_clause l = 2 ^ 70 * l.context.levels + (8 * length l.rest.now + 10)
+decreases-comprehensions::run_turns l = 2 ^ 70 * l.context.levels + 5
 
 abbrev pub decreases-nodes::evaluate_and : goal.decreases-nodes::evaluate_and
 decreases-nodes::evaluate_and l = 2 ^ 70 * l.context.levels + 3
@@ -207,11 +201,24 @@ invariant-execute::execute_turns-loop-i l =
     let f = loop_turn (variables c) c.setting (meant c l.context.levels) l.context.place l.target l.body l.value in
     turns f (l.count - l.i) l.i l.machine ≡ turns f l.count 0 l.fn.machine
 
-abbrev pub invariant-comprehensions::run_turns-loop-i : goal.invariant-comprehensions::run_turns-loop-i
-invariant-comprehensions::run_turns-loop-i l =
+abbrev pub invariant-comprehensions::run_turns-turns : goal.invariant-comprehensions::run_turns-turns
+invariant-comprehensions::run_turns-turns l =
     let c = l.world in
-    let f = clause_turn (variables c) c.setting (meant c l.context.levels) l.context.place l.target l.value (behind c l.context.levels l.context.place l.more l.output) in
-    repeat f (l.count - l.i) l.i l.machine ≡ repeat f l.count 0 l.fn.machine
+    let levels = l.context.levels in
+    let p = l.context.place in
+    and_then (turns_left c levels p l.output l.clause l.machine) (λ _. all_left c levels p l.output l.outer.items) ≡ turns_left c levels p l.output l.fn.first l.fn.machine
+
+-- each turn pays, and opens one clause at most
+abbrev pub decreases-comprehensions::run_turns-turns : goal.decreases-comprehensions::run_turns-turns
+decreases-comprehensions::run_turns-turns l = 2 * l.machine.steps + vec_len l.outer
+
+abbrev pub invariant-comprehensions::run_clauses-loop-rest : goal.invariant-comprehensions::run_clauses-loop-rest
+invariant-comprehensions::run_clauses-loop-rest l =
+    let f : List Clause → Action (Unit {0}) = λ cs. behind l.world l.context.levels l.context.place cs l.output in
+    record { same : f l.rest l.machine ≡ f l.clauses l.fn.machine; spent : l.machine.steps ≤ l.fn.machine.steps }
+
+abbrev pub decreases-comprehensions::run_clauses-loop-rest : goal.decreases-comprehensions::run_clauses-loop-rest
+decreases-comprehensions::run_clauses-loop-rest l = length l.rest
 
 abbrev pub invariant-execute::assign_each-loop-target : goal.invariant-execute::assign_each-loop-target
 invariant-execute::assign_each-loop-target l =

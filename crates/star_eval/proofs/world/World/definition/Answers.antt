@@ -1,6 +1,6 @@
-use Rattle.std.proofs.Common.{rules, ◌≡◌, ◌∙◌, ap}
-use Rattle.std.specs.Option.{option_and_then, option_map}
-use Rattle.star_scope.specs.Definitions.{definition_in, definition_of}
+use Rattle.std.proofs.Common.{◌∙◌, ap}
+use Rattle.std.specs.Option.{option_and_then}
+use Rattle.star_scope.specs.Definitions.{definition_in}
 use Rattle.star_meaning.specs.Program as program
 use Rattle.star_meaning.specs.Programs.{outline_at}
 use Rattle.star_eval.proofs.Rows.{definition_there}

@@ -1,0 +1,68 @@
+use Rattle.std.proofs.Common.{◌≡◌, ◌≤◌, ◌-◌, ◌∷◌, ◌++◌, [], List, length, take, drop, true, ap, sym, subst, ◌∙◌, arith}
+use Rattle.std.proofs.lemmas.Result.{err_from_is_err_and}
+use Rattle.star_meaning.specs.Program.{Setting}
+use Rattle.star_meaning.specs.Run.{Done, and_then}
+use Rattle.star_meaning.specs.Values.{is_true}
+use Rattle.star_eval.specs.declared.open_clause.OpenClause.{OpenClause}
+use Rattle.star_eval.specs.Steps.{all_left, opened_left, turns_left}
+use Rattle.star_eval.proofs.Clauses.{clause_ended, filled_ends, filled_well, first_of, if_holds, turn_ended, turn_opened}
+use Rattle.star_eval.proofs.Spends.{expression_spends}
+use Rattle.star_eval.proofs.+run.Goals as goal
+
+pub comprehensions::fill-returns : goal.comprehensions::fill-returns
+comprehensions::fill-returns t c =
+    filled_well c.args.world.now c.args.context.levels c.args.context.place c.args.output c.args.clauses.now c.args.value c.in_ok-count.count c.as_slice.result.now c.setting.result.now c.container.result c.args.machine.now c.iterate.new.self c.run_turns.new.machine
+    c.setting.ensures c.as_slice.ensures c.in_ok-count.ensures c.in_ok-run_turns.ensures c.container.ensures
+
+pub comprehensions::fill-returns-in_err-run_turns : goal.comprehensions::fill-returns-in_err-run_turns
+comprehensions::fill-returns-in_err-run_turns t c =
+    let q = err_from_is_err_and c.from_residual-in_err-run_turns.result c.from_residual-in_err-run_turns.ensures.1 in
+    rw (q.1, q.2) (filled_ends c.args.world.now c.args.context.levels c.args.context.place c.args.output c.args.clauses.now c.args.value c.in_ok-count.count c.as_slice.result.now c.setting.result.now c.in_err-run_turns.field-0.0 c.args.machine.now c.iterate.new.self c.run_turns.new.machine
+    c.setting.ensures c.as_slice.ensures c.in_ok-count.ensures c.in_err-run_turns.ensures)
+
+pub comprehensions::run_clauses-loop-rest-preserved : goal.comprehensions::run_clauses-loop-rest-preserved
+comprehensions::run_clauses-loop-rest-preserved t c =
+    let w = c.args.world.now in
+    let levels = c.args.context.levels in
+    let p = c.args.context.place in
+    let ks = c.loop-rest.rest.now in
+    let k = c.clause-item.result in
+    let v = c.in_ok-value-in-If.value in
+    let u = c.evaluate-in-If.new.machine in
+    let run = c.in_ok-value-in-If.ensures in
+    let test = subst (λ (y : Setting). is_true y v u ≡ Done true u) c.setting-in-If.ensures (c.is_true.ensures ∙ ap (λ b. Done b u) c.if-not-is_true.false) in
+    let less = expression_spends w levels p c.in-If.condition v c.loop-rest.machine u run in
+    record {
+      same = sym (if_holds w levels p c.args.output ks k (take (length ks - 1) (drop 1 ks)) c.in-If.condition v c.loop-rest.machine u (first_of ks k c.in-len1-up.len_at_least c.clause-item.is) c.in-If.is run test) ∙ c.loop-rest.invariant.same;
+      spent = omega (arith, less, c.loop-rest.invariant.spent);
+    }
+
+pub comprehensions::run_turns-turns-preserved-then-clause : goal.comprehensions::run_turns-turns-preserved-then-clause
+comprehensions::run_turns-turns-preserved-then-clause t c =
+    clause_ended c.args.world.now c.args.context.levels c.args.context.place c.args.output c.turns.outer.items c.pop.new.self.items c.turns.clause c.in-Some.around c.turns.machine c.leave.new.self c.if-clause.true c.leave.ensures c.in-Some.ensures.items
+    ∙ c.turns.invariant
+
+pub comprehensions::run_turns-turns-preserved-in-Some-opened : goal.comprehensions::run_turns-turns-preserved-in-Some-opened
+comprehensions::run_turns-turns-preserved-in-Some-opened t c =
+    let w = c.args.world.now in
+    let levels = c.args.context.levels in
+    let p = c.args.context.place in
+    let o = c.args.output in
+    let u = c.run_turn.new.machine in
+    let g = c.in-Some-opened.inner in
+    let fs = c.turns.outer.items in
+    ap (λ (xs : List OpenClause). and_then (turns_left w levels p o g u) (λ _. all_left w levels p o xs)) (c.in_ok-push.ensures.items ∙ ap (λ (f : OpenClause). fs ++ f ∷ []) c.past_item-clause.ensures)
+    ∙ turn_opened w levels p o fs c.turns.clause g c.turns.machine u c.if-clause.false (c.in_ok-opened.ensures.turn ∙ ap (λ x. opened_left w levels p o x u) c.in-Some-opened.is)
+    ∙ c.turns.invariant
+
+pub comprehensions::run_turns-turns-preserved : goal.comprehensions::run_turns-turns-preserved
+comprehensions::run_turns-turns-preserved t c =
+    let w = c.args.world.now in
+    let levels = c.args.context.levels in
+    let p = c.args.context.place in
+    let o = c.args.output in
+    let u = c.run_turn.new.machine in
+    let fs = c.turns.outer.items in
+    ap (λ (f : OpenClause). and_then (turns_left w levels p o f u) (λ _. all_left w levels p o fs)) c.past_item-clause.ensures
+    ∙ turn_ended w levels p o fs c.turns.clause c.turns.machine u c.if-clause.false (c.in_ok-opened.ensures.turn ∙ ap (λ x. opened_left w levels p o x u) c.in_default-opened.is)
+    ∙ c.turns.invariant
