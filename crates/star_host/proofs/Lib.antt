@@ -13,4 +13,5 @@ pub mod NextLoads
 pub mod Settled
 pub mod Crossing
 pub mod Sharing
+pub mod Moving
 pub mod Goods
