@@ -47,7 +47,8 @@ impl Graph {
     pub fn add_file(&mut self, n: usize) -> Result<(), AllocError>
         ensures { OnOk result (self.new ≡ record { loads = self.old.loads; files = self.old.files ++ n ∷ [] }) }
     {
-        self.files.push(n)
+        self.files.push(n)?;
+        Ok(())
     }
 
     /// The file `n` loads the file `m`, once more. A number that is none of these is passed by.
@@ -84,9 +85,10 @@ fn ready(alloc: Global, missing: &[usize], files: &[usize]) -> Result<Vec<usize>
 {
     let mut ready = Vec::with_capacity(alloc, files.len())?;
     for n in files {
-        if *n < missing.len() && missing[*n] == 0 {
-            ready.push(*n)?;
+        if *n >= missing.len() || missing[*n] > 0 {
+            continue;
         }
+        ready.push(*n)?;
     }
     Ok(ready)
 }
