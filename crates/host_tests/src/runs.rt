@@ -44,6 +44,36 @@ pub fn sums(alloc: Global, count: u32) -> Result<Files, Fail>
     Ok(Files::new(alloc, files)?)
 }
 
+/// The text of one of three hundred files: the first thirty lie on rings of three; of the others each tenth loads one of
+/// these, and the nine after it are a chain.
+fn text_of(alloc: Global, n: u32) -> Result<String, Fail>
+    requires { n < 300 }
+{
+    let text = if n < 30 {
+        format!(in alloc; "load(\":f{}.star\", \"x\")", 1000 + n - n % 3 + (n + 1) % 3)?
+    } else if n % 10 == 0 {
+        format!(in alloc; "load(\":f{}.star\", y = \"x\")\nx = y", 1000 + n / 10)?
+    } else if n % 10 == 1 {
+        String::from_str(alloc, "x = 1")?
+    } else {
+        format!(in alloc; "load(\":f{}.star\", y = \"x\")\nx = y + 1", 999 + n)?
+    };
+    Ok(text)
+}
+
+/// Three hundred files, of which thirty lie on cycles of loads.
+pub fn rings(alloc: Global) -> Result<Files, Fail> {
+    let mut files = BTreeMap::new(alloc);
+    for n in 0..300u32 {
+        let label = format!(in alloc; "//:f{}.star", 1000 + n)?;
+        files.insert(
+            Label::read(alloc, label.as_str(), "")?,
+            text_of(alloc, n)?,
+        )?;
+    }
+    Ok(Files::new(alloc, files)?)
+}
+
 /// The numbers of all files.
 pub fn all_roots(alloc: Global, files: &Files) -> Result<Vec<usize>, AllocError>
     ensures { IfOk result (λ v. All (λ n. n < length files.now) v.items) }

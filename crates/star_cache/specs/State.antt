@@ -61,6 +61,10 @@ module _ {P : Type 0} where
   abbrev pub entry_at : BookState P → ℕ → Entry P
   entry_at b n = slice_index_or b.entries n Fresh
 
+  -- the file n has ended with a product
+  abbrev pub HasEnded : BookState P → ℕ → Type 0
+  HasEnded b n = (p : P) × (entry_at b n ≡ Done p)
+
   -- the loader with the number of a seat; out of range an idle one
   abbrev pub loader_at : BookState P → ℕ → LoaderState
   loader_at b s = slice_index_or b.loaders s idle

@@ -1,4 +1,4 @@
-ghost use Rattle.std.specs.Prelude.{◌≡◌, ◌≢◌, ℕ, true, ◌<◌, ◌≤◌, ◌↔◌, List, length, IfOk, MatchResult, MatchOption, IsTrue, Option, Some, None};
+ghost use Rattle.std.specs.Prelude.{◌≡◌, ◌≢◌, ℕ, true, false, ◌<◌, ◌≤◌, ◌↔◌, All, List, length, vec_len, IfOk, MatchResult, MatchOption, IsTrue, Option, Some, None};
 ghost use Rattle.star_cache.specs.Tells.{Tells, IsCyclic};
 
 use crate::entry::{Entry, Standing, standing_of};
@@ -48,7 +48,7 @@ impl<P: Product> Model for Book<P> {
 }
 
 impl<P: Product> Book<P> {
-    ghost use Rattle.star_cache.specs.State.{BookState, IsLawful, Loads, Links, IsIn, top_of, stack_of, entry_at, awaited_by, loader_at, begun_count};
+    ghost use Rattle.star_cache.specs.State.{BookState, HasEnded, IsLawful, Loads, Links, IsIn, top_of, stack_of, entry_at, awaited_by, loader_at, begun_count};
     ghost use Rattle.star_cache.specs.Step.{IsBook, MayAsk, IsTurnRefused, IsStanding, MeetsSeat, IsAsked, IsAskRefused, IsWoken, IsWakeRefused, after_begin, after_wait, after_wake, after_end, after_abandon, fresh_book};
 
     /// The book of so many files, none of which has been asked for, and of 1 to 64 loaders that have done nothing.
@@ -364,9 +364,35 @@ impl<P: Product> Book<P> {
         self.loaders[seat].count
     }
 
-    /// The entries, by the numbers of their files. Each product in them is right for its file.
+    // Whether a file has ended with a product.
+    fn has_ended(&self, n: usize) -> bool
+        ensures { IsTrue result ↔ HasEnded self.now n }
+    {
+        match self.entries.get(n) {
+            Some(Entry::Done(_)) => true,
+            _ => false,
+        }
+    }
+
+    /// Whether each of these files has ended with a product.
+    pub fn have_ended(&self, files: &[usize]) -> bool
+        ensures yes { result ≡ true → All (HasEnded self.now) files.now }
+        ensures no { result ≡ false → All (HasEnded self.now) files.now → ⊥ }
+    {
+        for n in files {
+            if !self.has_ended(*n) {
+                return false;
+            }
+        }
+        true
+    }
+
+    /// The entries, by the numbers of their files. Each product in them is right for its file, and no file was begun
+    /// that is not reached.
     pub fn into_entries(self) -> Vec<Entry<P>>
         ensures entries { result.items ≡ self.entries }
+        ensures size { vec_len result ≡ P.files }
+        ensures reached { (n : ℕ) → entry_at self n ≢ Entry.Fresh → P.IsReached n }
         ensures right { (n : ℕ) (p : P) → entry_at self n ≡ Entry.Done p → P.IsRight n p }
     {
         self.entries

@@ -1,7 +1,7 @@
-ghost use Rattle.std.specs.Prelude.{◌≡◌, ◌≢◌, ◌+◌, ◌-◌, ◌<◌, ◌≤◌, ◌↔◌, ◌⊎◌, ◌++◌, ℕ, true, List, length, map, replicate, sum_by, vec_len, IfOk, IfErr, IsTrue, MatchOption, MatchResult, Option, Some, None};
+ghost use Rattle.std.specs.Prelude.{◌≡◌, ◌≢◌, ◌+◌, ◌-◌, ◌<◌, ◌≤◌, ◌↔◌, ◌⊎◌, ◌++◌, ℕ, true, false, All, List, length, map, replicate, sum_by, vec_len, IfOk, IfErr, IsTrue, MatchOption, MatchResult, Option, Some, None};
 ghost use Rattle.std.specs.List.{Any};
 ghost use Rattle.star_cache.specs.declared.entry.Entry.{Entry};
-ghost use Rattle.star_cache.specs.State.{LoaderState, Loads, awaited_by, begun_count};
+ghost use Rattle.star_cache.specs.State.{HasEnded, LoaderState, Loads, awaited_by, begun_count};
 ghost use Rattle.star_cache.specs.Step.{MayAsk, IsAsked, IsAskRefused, IsTurnRefused, IsWoken, after_end, after_abandon};
 ghost use Rattle.star_cache.specs.Tells.{Tells, IsCyclic, begins};
 ghost use Rattle.star_cache.specs.Seats.{SeatState, AreAll, AreNew, IsClosing, counts_of};
@@ -100,6 +100,14 @@ impl<P: Product> State<P> {
             (λ e. (e ≡ BookError.NoSuch) × (length self.old.loaders ≤ seat.now.number) × (self.new ≡ self.old)) }
     {
         self.book.abandon(seat.number)
+    }
+
+    // The book's `have_ended`.
+    fn have_ended(&self, files: &[usize]) -> bool
+        ensures yes { result ≡ true → All (HasEnded self.now) files.now }
+        ensures no { result ≡ false → All (HasEnded self.now) files.now → ⊥ }
+    {
+        self.book.have_ended(files)
     }
 
     // The book and its counts, once all seats have come back.
@@ -284,5 +292,27 @@ impl<P: Product> LoadCache<P> {
         }
         let LoadCache { state, changed: _ } = self;
         Ok(state.into_inner().closed(seats))
+    }
+
+    /// Closes as `close` does, with all the cache's seats, where each of these files has ended with a product.
+    ///
+    /// Refused where one of them has not; everything comes back then.
+    pub fn close_ended(
+        self,
+        seats: Vec<Seat<P>>,
+        files: &[usize],
+    ) -> Result<(Book<P>, [u32; 64]), (LoadCache<P>, Vec<Seat<P>>)>
+        requires all { AreAll P.seats seats.items }
+        ensures closing { IfOk result (λ closed. IsClosing seats.items closed.0 closed.1) }
+        ensures ended { IfOk result (λ closed. All (HasEnded closed.0) files.now) }
+        ensures back { IfErr result (λ back. back.1 ≡ seats) }
+    {
+        let LoadCache { state, changed } = self;
+        let state = state.into_inner();
+        if !state.have_ended(files) {
+            let state = Mutex::new(state);
+            return Err((LoadCache { state, changed }, seats));
+        }
+        Ok(state.closed(seats))
     }
 }

@@ -30,7 +30,7 @@ use Rattle.sqlite_items.proofs.boxed.Boxed.TheSendSync as of_boxed
 
 ruleset leaves = (of_name.the_field_sync, of_position.the_field_sync, of_unary.the_field_sync, of_binary.the_field_sync, of_comparator.the_field_sync, of_text.the_sync, of_items.the_sync, of_boxed.the_sync)
 
-expression_sync : IsSync expression.the_row
+pub expression_sync : IsSync expression.the_row
 expression_sync = search (sendable, crosses, of_expressions.crosses, leaves) depth 60
 
 expression_field : IsSync (expression.the_field).row
@@ -42,7 +42,7 @@ target_field = search (sendable, crosses, of_expressions.crosses, leaves) depth 
 parameter_field : IsSync (parameter.the_field).row
 parameter_field = search (sendable, crosses, of_expressions.crosses, leaves) depth 60
 
-parameter_sync : IsSync parameter.the_row
+pub parameter_sync : IsSync parameter.the_row
 parameter_sync = search (sendable, crosses, of_expressions.crosses, leaves) depth 60
 
 pub statement_sync : IsSync statement.the_row

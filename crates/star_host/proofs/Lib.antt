@@ -13,6 +13,7 @@ pub mod NextLoads
 pub mod Settled
 pub mod Crossing
 pub mod Sharing
+pub mod Moving
 pub mod Goods
 pub mod Fails
 pub mod NoFloat

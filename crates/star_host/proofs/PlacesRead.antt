@@ -1,6 +1,6 @@
 -- What is read, place by place.
 use Rattle.std.proofs.Common.{◌≡◌, ◌<◌, ◌≢◌, ◌⊎◌, inl, inr, ℕ, zero, suc, List, [], ◌∷◌, ◌++◌, length, get_or, Option, Some, None, refl, ap, sym, ◌∙◌, subst, arith, length-append}
-use Rattle.std.specs.Prelude.{All, IsSome, slice_get, slice_set}
+use Rattle.std.specs.Prelude.{All, IfSome, IsSome, slice_get, slice_set}
 use Rattle.std.specs.Option.{option_flatten}
 use Rattle.std.proofs.lemmas.Bool.{cases_order}
 use Rattle.std.proofs.lemmas.List.{get_or_append_left, get_or-set_other, get_or-set_same, length-set}
@@ -29,6 +29,28 @@ set_read files prelude row k r inside is all n d h = by_order (cases_order n k)
         subst (λ i. IsPlaceOf files prelude i (get_or (slice_set row k (Some r)) i d)) (sym same) here
     by_order (inr (inl less)) = other (omega arith)
     by_order (inr (inr less)) = other (omega arith)
+
+-- what was read of a file is taken away
+pub unset_read : (files : List File) (prelude : Option Prelude) (row : Row) (k : ℕ) → k < length row → AreReadAs files prelude row → AreReadAs files prelude (slice_set row k None)
+unset_read files prelude row k inside all n d h = by_order (cases_order n k)
+  where
+    short : n < length row
+    short = let e = length-set row k None in omega (arith, e, h)
+
+    other : n ≢ k → IsPlaceOf files prelude n (get_or (slice_set row k None) n d)
+    other ne = subst (IsPlaceOf files prelude n) (sym (get_or-set_other row k n None d ne)) (all n d short)
+
+    by_order : ((n ≡ k) ⊎ ((n < k) ⊎ (k < n))) → IsPlaceOf files prelude n (get_or (slice_set row k None) n d)
+    by_order (inl same) =
+        let here : IsPlaceOf files prelude k (get_or (slice_set row k None) k d) = subst (IsPlaceOf files prelude k) (sym (get_or-set_same row k None d inside)) tt in
+        subst (λ i. IsPlaceOf files prelude i (get_or (slice_set row k None) i d)) (sym same) here
+    by_order (inr (inl less)) = other (omega arith)
+    by_order (inr (inr less)) = other (omega arith)
+
+-- what stands at a place is right
+pub read_there : (files : List File) (prelude : Option Prelude) (n : ℕ) (o : Option Read) → IsPlaceOf files prelude n o → IfSome o (IsReadAs files prelude n)
+read_there files prelude n None h = tt
+read_there files prelude n (Some r) h = h
 
 -- nothing is read
 pub none_read : (files : List File) (prelude : Option Prelude) (row : Row) → All (λ o. o ≡ None) row → AreReadAs files prelude row

@@ -1,6 +1,7 @@
 -- Seats that came back from the loaders.
 use Rattle.std.proofs.Common.{◌≡◌, ◌<◌, ℕ, List, [], ◌∷◌, length, map, get_or, slice_index_or, ap, arith, refl, suc, sym, ◌∙◌}
 use Rattle.std.proofs.lemmas.List.{get_or_default, get_or-map, length-map}
+use Rattle.std.specs.List.{Any}
 use Rattle.star_cache.specs.Seats.{SeatState, AreAll, AreNew}
 
 -- seats that came back from the loaders, each in its place, are all the seats
@@ -39,3 +40,22 @@ numbers_back f h (x ∷ xs) (y ∷ ys) len each =
     let here : h y ≡ f x = each 0 y x (omega arith) in
     let rest : map h ys ≡ map f xs = numbers_back f h xs ys (omega arith) (λ i d e k. each (suc i) d e (omega arith)) in
     cc
+
+number_there : (xs ys : List SeatState) (k : ℕ) → length ys ≡ length xs → map (λ (s : SeatState). s.number) ys ≡ map (λ (s : SeatState). s.number) xs → Any (λ (s : SeatState). s.number ≡ k) xs → Any (λ (s : SeatState). s.number ≡ k) ys
+number_there xs ys k len same (i, x, inside, there, is) =
+    let s : SeatState = record { number = 0; begun = 0 } in
+    let here : i < length ys = omega (arith, inside, len) in (
+      i,
+      get_or ys i s,
+      here,
+      get_or_default ys i (get_or ys i s) s here,
+      sym (get_or-map (λ (t : SeatState). t.number) ys i s 0 here) ∙ (ap (λ ns. get_or ns i 0) same ∙ (get_or-map (λ (t : SeatState). t.number) xs i x 0 inside ∙ (ap (λ (t : SeatState). t.number) there ∙ is))),
+    )
+
+-- seats with the numbers of all the seats are all of them
+pub same_all : (n : ℕ) (xs ys : List SeatState) → map (λ (s : SeatState). s.number) ys ≡ map (λ (s : SeatState). s.number) xs → AreAll n xs → AreAll n ys
+same_all n xs ys same all =
+    let len : length ys ≡ length xs = sym (length-map ys (λ (s : SeatState). s.number)) ∙ (ap length same ∙ length-map xs (λ (s : SeatState). s.number)) in (
+      len ∙ all.0,
+      λ k h. number_there xs ys k len same (all.1 k h),
+    )

@@ -1,13 +1,17 @@
 -- The modules of all reached files, as they are kept in order.
-use Rattle.std.proofs.Common.{◌≡◌, ◌+◌, ◌<◌, ◌⊎◌, inl, inr, ℕ, zero, suc, List, [], ◌∷◌, ◌++◌, map, length, get_or, Some, None, Result, Ok, Err, IfOk, refl, ap, sym, ◌∙◌, subst, arith, length-append}
-use Rattle.std.specs.Prelude.{All, Contains, IsSome}
+use Rattle.std.proofs.Common.{◌≡◌, ◌+◌, ◌<◌, ◌⊎◌, inl, inr, ℕ, zero, suc, List, [], ◌∷◌, ◌++◌, map, length, get_or, take, Option, Some, None, Result, Ok, Err, IfOk, refl, ap, sym, ◌∙◌, subst, arith, length-append}
+use Rattle.std.specs.Prelude.{All, Contains, IsSome, cond}
+use Rattle.std.specs.List.{count_by}
 use Rattle.std.specs.Option.{option_map}
 use Rattle.std.specs.List.Sorted.{IsStrictlyIncreasing}
 use Rattle.std.proofs.lemmas.Bool.{cases_order}
 use Rattle.std.proofs.lemmas.List.{get_or_append_left, length-map, map-append, map-id}
 use Rattle.std.proofs.lemmas.List.Elements.{All-append, Contains-append_left, Contains-append_right}
+use Rattle.std.proofs.lemmas.List.Sums.{sum_by_more}
 use Rattle.std.proofs.Math.Seq.{get_or-append_seam}
 use Rattle.star_cache.specs.Seats.{AreAll, AreNew, SeatState}
+use Rattle.star_cache.specs.State.{is_begun}
+use Rattle.star_cache.specs.declared.entry.Entry.{Entry}
 use Rattle.star_label.specs.Files.{File}
 use Rattle.star_plan.specs.Plan.{Plan}
 use Rattle.star_plan.specs.Reached.{IsReached}
@@ -15,6 +19,7 @@ use Rattle.star_plan.specs.Reading.{IsPlanOf}
 use Rattle.star_host.specs.Fits.{IsWithin, reached_below}
 use Rattle.star_host.specs.Kept.{AreModules, AreModulesBelow, IsModuleKept, KeptView}
 use Rattle.star_host.specs.Readings.{Row, read_at, reading_of, readings}
+use Rattle.star_host.specs.declared.reading.Read.{Read}
 use Rattle.star_host.specs.Views.{IsModule, IsTold, ToldView}
 use Rattle.star_host.proofs.Finds.{all_one, by_cases, contains_here, same_or_not}
 use Rattle.star_host.proofs.PlacesRead.{some_of}
@@ -119,15 +124,46 @@ told_kept files plan n t k reached told number known =
     let at : n ≡ k.number = sym (number ∙ told.number) in
     (subst (IsReached plan) at reached, (told.found, known ∙ told.known, subst (λ i. IsModule plan i told.found) at told.right))
 
+-- one more number, which was read, after those below it
+pub contains_more : (row : Row) (n : ℕ) (ns : List ℕ) → ((m : ℕ) → m < n → IsSome (read_at row m) → Contains ns m) → (m : ℕ) → m < n + 1 → IsSome (read_at row m) → Contains (ns ++ n ∷ []) m
+contains_more row n ns before m h is = by_cases (same_or_not m n)
+    (λ e. Contains-append_right ns (n ∷ []) m (subst (Contains (n ∷ [])) (sym e) (contains_here n)))
+    (λ ne. Contains-append_left ns (n ∷ []) m (before m (omega (arith, h, ne)) is))
+
+-- a place at which nothing was read is passed by
+pub passed_by : (row : Row) (n : ℕ) (ns : List ℕ) → read_at row n ≡ None → ((m : ℕ) → m < n → IsSome (read_at row m) → Contains ns m) → (m : ℕ) → m < n + 1 → IsSome (read_at row m) → Contains ns m
+passed_by row n ns none before m h is = by_cases (same_or_not m n)
+    (λ e. absurd (let there = some_of (read_at row m) is in let both : None ≡ Some there.0 = sym none ∙ (ap (read_at row) (sym e) ∙ there.1) in let no : ⊥ = cc in no))
+    (λ ne. before m (omega (arith, h, ne)) is)
+
+-- what is reached was read
+pub reached_read : (files : List File) (plan : Plan) (row : Row) (n : ℕ) → readings row ≡ plan.reads → IsPlanOf files plan → IsReached plan n → IsSome (read_at row n)
+reached_read files plan row n is planned r = split (read_at row n) refl
+  where
+    split : (o : Option Read) → read_at row n ≡ o → IsSome o
+    split (Some x) e = tt
+    split None e = absurd (unread_not_reached files plan row n is planned e r)
+
+-- so all that holds of each file that was read holds of the reached ones
+pub of_reached : (P : ℕ → Type 0) (files : List File) (plan : Plan) (row : Row) (ns : List ℕ) → readings row ≡ plan.reads → IsPlanOf files plan → ((n : ℕ) → IsSome (read_at row n) → Contains ns n) → All P ns
+    → (n : ℕ) → IsReached plan n → P n
+of_reached P files plan row ns is planned there all n r = pick (there n (reached_read files plan row n is planned r))
+  where
+    pick : Contains ns n → P n
+    pick (i, less, e) = subst P e (all i n less)
+
+-- how many of the first entries were begun, and one more
+pub begun_more : (es : List (Entry ToldView)) (n : ℕ) (d : Entry ToldView) → n < length es → count_by is_begun (take (n + 1) es) ≡ count_by is_begun (take n es) + cond (is_begun (get_or es n d)) 1 0
+begun_more es n d h = sum_by_more (λ e. cond (is_begun e) 1 0) es n d h
+
 numbers_of : {W : Type 0} (ws : List W) (f : W → SeatState) → map (λ (s : SeatState). s.number) (map f ws) ≡ map (λ w. (f w).number) ws
 numbers_of [] f = refl
 numbers_of (w ∷ ws) f = ap (λ ns. (f w).number ∷ ns) (numbers_of ws f)
 
--- seats that came back and were used again are all the seats
-pub seats_settled : {W : Type 0} (n : ℕ) (before seats after : List SeatState) (ws : List W) (f : W → SeatState) → AreNew n before → map (λ (s : SeatState). s.number) after ≡ map (λ (s : SeatState). s.number) seats → seats ≡ map f ws
-    → map (λ w. (f w).number) ws ≡ map (λ (s : SeatState). s.number) before → AreAll n after
-seats_settled n before seats after ws f new same are back =
-    subst (AreAll n) (map-id after) (all_back n before after (λ s. s) (record { number = 0; begun = 0 }) new (same ∙ (ap (map (λ (s : SeatState). s.number)) are ∙ (numbers_of ws f ∙ back))))
+-- the seats that came back from the loaders are all the seats
+pub seats_all : {W : Type 0} (n : ℕ) (before seats : List SeatState) (ws : List W) (f : W → SeatState) → AreNew n before → seats ≡ map f ws → map (λ w. (f w).number) ws ≡ map (λ (s : SeatState). s.number) before → AreAll n seats
+seats_all n before seats ws f new are back =
+    subst (AreAll n) (map-id seats) (all_back n before seats (λ s. s) (record { number = 0; begun = 0 }) new (ap (map (λ (s : SeatState). s.number)) are ∙ (numbers_of ws f ∙ back)))
 
 pub if_ok : {T E : Type 0} {A B : T → Type 0} (r : Result T E) → ((x : T) → A x → B x) → IfOk r A → IfOk r B
 if_ok (Ok x) f a = f x a

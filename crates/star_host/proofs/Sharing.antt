@@ -14,6 +14,8 @@ use Rattle.std.specs.declared.sync.ledger.Ledger
 use Rattle.star_cache.specs.contracts.cache.LoadCache as cache
 use Rattle.star_cache.proofs.cache.LoadCache.TheSendSync as of_cache
 use Rattle.star_eval.specs.contracts.files.Files as files
+use Rattle.star_flow.specs.contracts.flow.Flow as flow
+use Rattle.star_flow.proofs.flow.Flow.TheSendSync as of_flow
 use Rattle.star_label.proofs.files.Files.TheSendSync as of_labels
 use Rattle.star_machine.specs.contracts.programs.Programs as programs
 use Rattle.star_host.specs.contracts.reading.Read as read
@@ -51,20 +53,20 @@ parts_sync [] s = tt
 parts_sync (T ∷ Ts) s = (as_row_sync (row_field T) s.0, parts_sync Ts s.1)
 
 -- a closure may be shared where all that it captures may be
-tuple_sync : (ν : List ℕ) (Ts : List RattleType) → AllSync Ts → IsSync (TupleAt ν Ts)
+pub tuple_sync : (ν : List ℕ) (Ts : List RattleType) → AllSync Ts → IsSync (TupleAt ν Ts)
 tuple_sync ν Ts s = declared_sync (type_at ν Ts) (parts_sync Ts s)
 
--- a loader's closure: it captures the runtime R, what all loaders share, the gate G, the cache, how many loaders there are, the roots
--- and the trace
-module _ (J : RattleType) (n : Naming.Ghosts J.Denot) (l : Ledger.Ghosts J.Denot) (R G : RattleType) (α β γ δ ε ζ η θ ι κ ξ : NamedLft) where
+-- a loader's closure: it captures the runtime R, what all loaders share, the gate G, the cache, how many loaders there are, the roots,
+-- the trace and the flow
+module _ (J : RattleType) (n : Naming.Ghosts J.Denot) (l : Ledger.Ghosts J.Denot) (R G : RattleType) (α β γ δ ε ζ η θ ι κ ξ ο : NamedLft) where
   abbrev the_cache : RattleType
   the_cache = cache.the_row (told.the_row J n l) J (product.ghosts J n product.no_dict l product.no_dict) l
 
   abbrev captured : List RattleType
-  captured = shared_at α R ∷ shared_at β (common.the_row γ δ ε ζ) ∷ shared_at η G ∷ shared_at θ the_cache ∷ shared_at ι usize ∷ ShrSlice κ.mir κ.lft usize ∷ shared_at ξ (trace.the_row J n l) ∷ []
+  captured = shared_at α R ∷ shared_at β (common.the_row γ δ ε ζ) ∷ shared_at η G ∷ shared_at θ the_cache ∷ shared_at ι usize ∷ ShrSlice κ.mir κ.lft usize ∷ shared_at ξ (trace.the_row J n l) ∷ shared_at ο flow.the_row ∷ []
 
   captured_sync : IsSync R → IsSync G → AllSync captured
-  captured_sync r g = search (common_sync, of_cache.the_sync, of_told.the_send, of_trace.the_sync, sendable) depth 20
+  captured_sync r g = search (common_sync, of_cache.the_sync, of_told.the_send, of_trace.the_sync, of_flow.the_sync, sendable) depth 20
 
   pub loader_sync : IsSync R → IsSync G → (ν : List ℕ) → IsSync (TupleAt ν captured)
   loader_sync r g ν = tuple_sync ν captured (captured_sync r g)

@@ -1,5 +1,5 @@
 -- What was read of files, by what the program has of it.
-use Rattle.std.specs.Prelude.{◌≡◌, ◌≢◌, ◌<◌, ℕ, List, map, length, Option, Some, None, Ok, Err, slice_get, slice_index_or}
+use Rattle.std.specs.Prelude.{◌≡◌, ◌≢◌, ◌<◌, ℕ, All, List, map, length, Option, Some, None, Ok, Err, slice_get, slice_index_or}
 use Rattle.std.specs.Option.{option_map, option_flatten}
 use Rattle.star_label.specs.Files.{File, text_at}
 use Rattle.star_lex.specs.declared.token.SyntaxFault.{SyntaxFault}
@@ -66,6 +66,10 @@ IsPlaceOf files prelude n (Some r) = IsReadAs files prelude n r
 -- so is each of a row
 abbrev pub AreReadAs : List File → Option Prelude → Row → Type 0
 AreReadAs files prelude row = (n : ℕ) (d : Option Read) → n < length row → IsPlaceOf files prelude n (slice_index_or row n d)
+
+-- so is each of these, by its number
+abbrev pub AreAllReadAs : List File → Option Prelude → List (ℕ × Read) → Type 0
+AreAllReadAs files prelude reads = All (λ p. IsReadAs files prelude p.0 p.1) reads
 
 -- a program among what was read is that of some file
 abbrev pub IsPlaceable : Option Read → Type 0

@@ -1,6 +1,7 @@
 //! Loading by several loaders: the modules of all files that roots reach, and the report.
 #![tactic(auto)]
 
+mod ahead;
 pub mod code;
 mod frame;
 pub mod gate;

@@ -6,7 +6,7 @@ ghost use Rattle.std.specs.Prelude.{slice_set, vec_len};
 ghost use Rattle.std.specs.Option.{option_copied};
 ghost use Rattle.star_parser.specs.Sources.{Parses};
 ghost use Rattle.star_host.specs.Found.{AreFound, Grew, IsMarked, IsRowOf, Within};
-ghost use Rattle.star_host.specs.Readings.{IsFaultOf, IsReadAs, loads_read, read_at};
+ghost use Rattle.star_host.specs.Readings.{AreReadAs, IsFaultOf, IsReadAs, loads_read, read_at};
 
 use crate::code::{StaticFault, of_scope, of_syntax};
 use star_label::files::Files as Labels;
@@ -16,6 +16,7 @@ use star_scope::program::{Prelude, Program, resolve};
 use star_syntax::tree::Tree;
 use std::alloc::{AllocError, Global};
 use std::sync::Wait;
+use std::thread::Threads;
 
 /// What was read of a file: its program, or its static fault.
 #[derive(Drop)]
@@ -62,7 +63,7 @@ pub(crate) fn tree_of<'t, R: Wait>(
 
 impl<'s, 't> Reader<'s, 't> {
     /// Reads and resolves a file.
-    fn read<R: Wait>(&self, rt: &R, n: usize) -> Result<Read<'t>, AllocError>
+    pub(crate) fn read<R: Wait>(&self, rt: &R, n: usize) -> Result<Read<'t>, AllocError>
         requires { n < length self.now.files.now }
         ensures { IfOk result (IsReadAs self.now.files.now (option_copied self.now.prelude) n) }
     {
@@ -80,18 +81,26 @@ impl<'s, 't> Reader<'s, 't> {
     }
 
     /// Reads the next file that was found, unless it was read.
-    fn read_next<R: Wait>(&self, rt: &R, found: &mut Found<'t>, n: usize) -> Result<(), AllocError>
+    fn read_next<R: Wait>(
+        &self,
+        rt: &R,
+        found: &mut Found<'t>,
+        ahead: &mut Found<'t>,
+        n: usize,
+    ) -> Result<(), AllocError>
+        requires ahead { AreReadAs self.now.files.now (option_copied self.now.prelude) ahead.old.reads.items }
         requires file { n < length self.now.files.now }
         requires prelude { IfSome self.now.prelude (λ p. p.now.file < length self.now.files.now) }
         requires found { AreFound self.now.files.now (option_copied self.now.prelude) self.now.roots.now
             found.old.reads.items found.old.marks.items (found.old.todo.items ++ n ∷ []) }
-        ensures { OnOk result (AreFound self.now.files.now (option_copied self.now.prelude) self.now.roots.now
+        ensures found { OnOk result (AreFound self.now.files.now (option_copied self.now.prelude) self.now.roots.now
             found.new.reads.items found.new.marks.items found.new.todo.items) }
+        ensures ahead { AreReadAs self.now.files.now (option_copied self.now.prelude) ahead.new.reads.items }
     {
         if found.is_read(n) {
             return Ok(());
         }
-        let read = self.read(rt, n)?;
+        let read = self.read_once(rt, ahead, n)?;
         found.add(n, read)?;
         Ok(())
     }
@@ -107,21 +116,26 @@ impl<'s, 't> Reader<'s, 't> {
         Ok(found)
     }
 
-    /// Reads all files that the roots reach: the roots, and the loads of all that is read. A file with a static fault
-    /// has no loads.
-    pub(crate) fn read_all<R: Wait>(&self, rt: &R) -> Result<Vec<Option<Read<'t>>>, AllocError>
+    /// Reads all files that the roots reach, by so many threads: the roots, and the loads of all that is read. A file
+    /// with a static fault has no loads.
+    pub(crate) fn read_all<R: Threads + Wait + Sync>(
+        &self,
+        rt: &R,
+        threads: usize,
+    ) -> Result<Vec<Option<Read<'t>>>, AllocError>
         requires roots { Within self.now.files.now self.now.roots.now }
         requires prelude { IfSome self.now.prelude (λ p. p.now.file < length self.now.files.now) }
         ensures { IfOk result (λ row. IsRowOf self.now.files.now (option_copied self.now.prelude)
             self.now.roots.now row.items) }
     {
+        let mut ahead = self.read_ahead(rt, threads)?;
         let mut found = self.start()?;
         for _ in rt.forever() {
             let Some(n) = found.next() else {
                 let Found { reads, .. } = found;
                 return Ok(reads);
             };
-            self.read_next(rt, &mut found, n)?;
+            self.read_next(rt, &mut found, &mut ahead, n)?;
         }
         unreachable!()
     }
@@ -141,14 +155,14 @@ fn loads_of<'a>(read: &'a Read) -> &'a [Load]
 /// to be read.
 #[derive(Drop)]
 pub(crate) struct Found<'t> {
-    reads: Vec<Option<Read<'t>>>,
-    marks: Vec<bool>,
-    todo: Vec<usize>,
+    pub reads: Vec<Option<Read<'t>>>,
+    pub marks: Vec<bool>,
+    pub todo: Vec<usize>,
 }
 
 impl<'t> Found<'t> {
     /// Nothing of so many files.
-    fn new(alloc: Global, count: usize) -> Result<Found<'t>, AllocError>
+    pub(crate) fn new(alloc: Global, count: usize) -> Result<Found<'t>, AllocError>
         ensures reads { IfOk result (λ f. vec_len f.reads ≡ count) }
         ensures none { IfOk result (λ f. All (λ o. o ≡ None) f.reads.items) }
         ensures marks { IfOk result (λ f. f.marks.items ≡ replicate count false) }
@@ -202,7 +216,7 @@ impl<'t> Found<'t> {
     }
 
     /// Several files are found.
-    fn mark_each(&mut self, numbers: &[usize]) -> Result<(), AllocError>
+    pub(crate) fn mark_each(&mut self, numbers: &[usize]) -> Result<(), AllocError>
         ensures reads { self.new.reads ≡ self.old.reads }
         ensures grew { OnOk result (Grew numbers.now self.old.marks.items self.old.todo.items
             self.new.marks.items self.new.todo.items) }
@@ -230,7 +244,7 @@ impl<'t> Found<'t> {
     }
 
     /// A file was read, and its loads are found.
-    fn add(&mut self, n: usize, read: Read<'t>) -> Result<(), AllocError>
+    pub(crate) fn add(&mut self, n: usize, read: Read<'t>) -> Result<(), AllocError>
         requires { n < vec_len self.old.reads }
         ensures reads { OnOk result (self.new.reads.items ≡ slice_set self.old.reads.items n (Some read.entry)) }
         ensures grew { OnOk result (Grew (map (λ l. l.file) (loads_read read.entry))

@@ -1,6 +1,6 @@
 //! The run: each loader asks for all roots.
 
-ghost use Rattle.std.specs.Prelude.{◌≡◌, ◌<◌, ◌≤◌, Some, length, map, sum, IfOk, IfSome, OnOk};
+ghost use Rattle.std.specs.Prelude.{◌≡◌, ◌<◌, ◌≤◌, ℕ, None, Some, length, map, sum, vec_len, IfOk, IfSome, OnOk};
 ghost use Rattle.std.specs.Option.{option_copied};
 ghost use Rattle.star_cache.specs.Seats.{AreAll};
 ghost use Rattle.star_plan.specs.Reading.{IsPrelude};
@@ -9,7 +9,8 @@ ghost use Rattle.star_host.specs.Found.{IsReadOf, Within};
 ghost use Rattle.star_host.specs.Frames.{IsWorld};
 ghost use Rattle.star_host.specs.Kept.{AllKept, AreModules, AreModulesOf};
 ghost use Rattle.star_host.specs.Readings.{table_of};
-ghost use Rattle.star_cache.specs.State.{begun_count};
+ghost use Rattle.star_cache.specs.State.{HasEnded, begun_count};
+ghost use Rattle.star_plan.specs.Reached.{IsReached};
 
 use crate::gate::Gate;
 use crate::loading::{LoadError, load};
@@ -18,14 +19,15 @@ use crate::naming::Naming;
 use crate::order::{first_place, place};
 use crate::outcome::{Kept, Run};
 use crate::reading::{Read, Reader, tree_of};
-use crate::settle::settled;
+use crate::settle::{closed, kept_of, settle_one};
 use crate::shelf::Shelf;
-use crate::table::table;
+use crate::table::{is_read, table};
 use crate::told::Told;
 use crate::trace::{Refused, Trace};
 use crate::work::Common;
 use star_cache::{Book, LoadCache, Seat};
 use star_eval::files::Files;
+use star_flow::{Flow, Graph};
 use star_label::files::Files as Labels;
 use star_scope::error::ScopeFault;
 use star_scope::program::Prelude;
@@ -85,7 +87,62 @@ fn root_at<J: Naming>(roots: &[usize], i: usize) -> usize
     roots[i]
 }
 
-/// One loader asks for each root.
+/// The flow of the reached files, by their loads.
+fn flow_of<'s, 'r, 'p, 't>(common: &Common<'s, 'r, 'p, 't>) -> Result<Flow, AllocError> {
+    let count = common.reads.len();
+    let mut graph = Graph::new(common.alloc, count)?;
+    for n in 0..count {
+        add_file(&mut graph, common, n)?;
+    }
+    graph.into_flow(common.alloc)
+}
+
+/// A file of the graph with its loads, where it is reached.
+fn add_file<'s, 'r, 'p, 't>(
+    graph: &mut Graph,
+    common: &Common<'s, 'r, 'p, 't>,
+    n: usize,
+) -> Result<(), AllocError> {
+    if !is_read(common.reads, n) {
+        return Ok(());
+    }
+    graph.add_file(n)?;
+    for load in common.loads(n) {
+        graph.add_load(n, load.file)?;
+    }
+    Ok(())
+}
+
+/// One loader takes files all of whose loads have ended, as long as there are some.
+fn take_ready<'s, 'r, 'p, 't, J: Naming, R: Wait, G: Gate>(
+    rt: &R,
+    common: &Common<'s, 'r, 'p, 't>,
+    gate: &G,
+    cache: &LoadCache<Told<J>>,
+    seat: &mut Seat<Told<J>>,
+    flow: &Flow,
+    trace: &Trace<J>,
+) -> Result<(), LoadError>
+    requires world { IsWorld J.files J.plan J.shelf common.now }
+    requires within { IsWithin J.files J.plan }
+    ensures number { seat.new.number ≡ seat.old.number }
+{
+    let mut done = Ok(());
+    let mut ended = None;
+    for _ in rt.forever() {
+        let Some(n) = flow.take(rt, ended) else {
+            return done;
+        };
+        if let Err(why) = settle_one(rt, common, gate, cache, seat, n, trace) {
+            done = Err(why);
+        }
+        ended = Some(n);
+    }
+    unreachable!()
+}
+
+/// One loader takes files all of whose loads have ended, where there are other loaders; then it asks for each root, since
+/// what is left lies on a cycle of loads or leads to one.
 fn work<'s, 'r, 'p, 't, J: Naming, R: Wait, G: Gate>(
     rt: &R,
     common: &Common<'s, 'r, 'p, 't>,
@@ -95,6 +152,7 @@ fn work<'s, 'r, 'p, 't, J: Naming, R: Wait, G: Gate>(
     loaders: usize,
     roots: &[usize],
     trace: &Trace<J>,
+    flow: &Flow,
 ) -> Worked<J>
     requires world { IsWorld J.files J.plan J.shelf common.now }
     requires within { IsWithin J.files J.plan }
@@ -104,6 +162,9 @@ fn work<'s, 'r, 'p, 't, J: Naming, R: Wait, G: Gate>(
 {
     let mut seat = seat;
     let mut error = None;
+    if loaders > 1 {
+        error = take_ready(rt, common, gate, cache, &mut seat, flow, trace).err();
+    }
     let count = roots.len();
     if count == 0 {
         return Worked { seat, error };
@@ -129,6 +190,7 @@ fn spread<'s, 'r, 'p, 't, J: Naming + Send + Sync, R: Threads + Wait + Sync, G: 
     loaders: usize,
     roots: &[usize],
     trace: &Trace<J>,
+    flow: &Flow,
 ) -> Result<Vec<Worked<J>>, AllocError>
     requires world { IsWorld J.files J.plan J.shelf common.now }
     requires within { IsWithin J.files J.plan }
@@ -143,11 +205,22 @@ fn spread<'s, 'r, 'p, 't, J: Naming + Send + Sync, R: Threads + Wait + Sync, G: 
             requires { IsWorld J.files J.plan J.shelf common.now × IsWithin J.files J.plan
                 × (roots.now ≡ J.plan.roots) × ((1 ≤ loaders) × (loaders ≤ 64)) }
             ensures { result.seat.number ≡ seat.number }
-        { work(rt, common, gate, cache, seat, loaders, roots, trace) },
+        { work(rt, common, gate, cache, seat, loaders, roots, trace, flow) },
     )
 }
 
-/// The seats of the loaders, in order, and the last of their errors.
+/// The error that says why: a loader that met what another had given up is no reason itself.
+fn reason(first: Option<LoadError>, then: Option<LoadError>) -> Option<LoadError>
+    ensures { result ≡ None → (first ≡ None) × (then ≡ None) }
+{
+    match first {
+        None => then,
+        Some(LoadError::Spoiled) => then.or(first),
+        Some(_) => first,
+    }
+}
+
+/// The seats of the loaders, in order, and the reason why they could not go on.
 fn taken<J: Naming>(
     alloc: Global,
     worked: Vec<Worked<J>>,
@@ -155,15 +228,13 @@ fn taken<J: Naming>(
     ensures { IfOk result (λ r. r.0.items ≡ map (λ w. w.seat) worked.items) }
 {
     let mut seats = Vec::new(alloc);
-    let mut last = None;
+    let mut why = None;
     for each in worked {
         let Worked { seat, error } = each;
         seats.push(seat)?;
-        if error.is_some() {
-            last = error;
-        }
+        why = reason(why, error);
     }
-    Ok((seats, last))
+    Ok((seats, why))
 }
 
 /// What a closed cache tells, without the shelf.
@@ -191,37 +262,44 @@ fn run_named<'s, 'r, 'p, 't, J: Naming + Send + Sync, R: Threads + Wait + Sync, 
     requires roots { roots.now ≡ J.plan.roots }
     ensures kept { IfOk result (λ c. AllKept common.now.modules.now c.kept.items) }
     ensures modules { IfOk result (λ c. AreModules J.plan c.kept.items) }
+    ensures begun { IfOk result (λ c. c.begun ≡ vec_len c.kept) }
     ensures sum { IfOk result (λ c. sum c.per_loader ≡ c.begun) }
 {
     let alloc = common.alloc;
     let trace = Trace::<J>::new(alloc)?;
     let (cache, seats) = LoadCache::<Told<J>>::new(alloc, blank, common.files.len(), loaders)?;
-    let worked = spread(rt, common, gate, &cache, seats, loaders, roots, &trace)?;
-    let (mut seats, error) = taken(alloc, worked)?;
-    let settled = settled(rt, common, gate, &cache, &mut seats, error, &trace);
-    let Ok(closed) = cache.close(seats) else {
-        unreachable!()
-    };
-    let kept = settled?;
-    closed_of(alloc, closed, kept, &trace)
+    let flow = flow_of(common)?;
+    let worked = spread(
+        rt, common, gate, &cache, seats, loaders, roots, &trace, &flow,
+    )?;
+    let (seats, error) = taken(alloc, worked)?;
+    if let Some(error) = error {
+        return Err(RunError::from(error));
+    }
+    let closed = closed(rt, common, gate, cache, seats, &trace)?;
+    closed_of(alloc, closed, &trace)
 }
 
-/// What a cache tells that is closed, beside these notes.
+/// What a cache tells that is closed when all reached files have ended.
 fn closed_of<J: Naming>(
     alloc: Global,
     closed: (Book<Told<J>>, [u32; 64]),
-    kept: Vec<Kept>,
     trace: &Trace<J>,
 ) -> Result<Closed, RunError>
+    requires cells { length J.shelf ≡ length J.files }
+    requires within { IsWithin J.files J.plan }
     requires sum { sum closed.1 ≡ begun_count closed.0 }
-    ensures kept { IfOk result (λ c. c.kept ≡ kept) }
+    requires ended { (n : ℕ) → IsReached J.plan n → HasEnded closed.0 n }
+    ensures kept { IfOk result (λ c. AllKept J.shelf c.kept.items) }
+    ensures modules { IfOk result (λ c. AreModules J.plan c.kept.items) }
+    ensures begun { IfOk result (λ c. c.begun ≡ vec_len c.kept) }
     ensures sum { IfOk result (λ c. sum c.per_loader ≡ c.begun) }
 {
     let (book, per_loader) = closed;
     let begun = book.begun();
     let refused = trace.all(alloc)?;
     Ok(Closed {
-        kept,
+        kept: kept_of(alloc, book)?,
         begun,
         per_loader,
         refused,
@@ -288,6 +366,7 @@ fn run_over<'s, 't, R: Threads + Wait + Sync, G: Gate + Sync>(
     requires cells { length modules.now ≡ length files.now }
     ensures kept { IfOk result (λ c. AllKept modules.now c.kept.items) }
     ensures modules { IfOk result (λ c. AreModulesOf files.now roots.now prelude steps c.kept.items) }
+    ensures begun { IfOk result (λ c. c.begun ≡ vec_len c.kept) }
     ensures sum { IfOk result (λ c. sum c.per_loader ≡ c.begun) }
 {
     let reader = Reader {
@@ -297,7 +376,7 @@ fn run_over<'s, 't, R: Threads + Wait + Sync, G: Gate + Sync>(
         prelude: block,
         roots,
     };
-    let reads = reader.read_all(rt)?;
+    let reads = reader.read_all(rt, loaders)?;
     let programs = table(alloc, &reads)?;
     run_read(
         rt, alloc, files, &reads, &programs, modules, roots, prelude, loaders, steps, gate,
@@ -326,6 +405,7 @@ fn run_read<'s, 'r, 'p, 't, R: Threads + Wait + Sync, G: Gate + Sync>(
     requires table { programs.now ≡ table_of reads.now }
     ensures kept { IfOk result (λ c. AllKept modules.now c.kept.items) }
     ensures modules { IfOk result (λ c. AreModulesOf files.now roots.now prelude steps c.kept.items) }
+    ensures begun { IfOk result (λ c. c.begun ≡ vec_len c.kept) }
     ensures sum { IfOk result (λ c. sum c.per_loader ≡ c.begun) }
 {
     let common = Common {
@@ -360,6 +440,7 @@ pub fn run<R: Threads + Wait + Sync, G: Gate + Sync>(
     requires steps { (1 ≤ steps) × (steps ≤ 100000000) }
     ensures files { IfOk result (λ r. length r.cells ≡ length files.now) }
     ensures modules { IfOk result (λ r. AreModulesOf files.now roots.now prelude steps r.kept) }
+    ensures begun { IfOk result (λ r. r.begun ≡ length r.kept) }
     ensures sum { IfOk result (λ r. sum r.per_loader ≡ r.begun) }
 {
     let modules = Shelf::new(alloc, files.len())?;

@@ -1,40 +1,43 @@
 //! The modules of all reached files, once the loaders have ended.
 
-ghost use Rattle.std.specs.Prelude.{◌≡◌, ◌+◌, ◌<◌, IfOk, OnOk, length, map, vec_len};
+ghost use Rattle.std.specs.Prelude.{◌≡◌, ◌≢◌, ◌+◌, ◌<◌, ℕ, Contains, IfOk, IsSome, OnOk, cond, length, map, sum, vec_len};
+ghost use Rattle.star_cache.specs.Seats.{AreAll};
+ghost use Rattle.star_cache.specs.State.{HasEnded, begun_count, is_begun};
 ghost use Rattle.star_plan.specs.Reached.{IsReached};
 ghost use Rattle.star_host.specs.Fits.{IsWithin};
 ghost use Rattle.star_host.specs.Frames.{IsWorld};
 ghost use Rattle.star_host.specs.Kept.{AllKept, AreModules, AreModulesBelow};
-ghost use Rattle.star_host.specs.Views.{IsTold};
+ghost use Rattle.star_host.specs.Readings.{read_at};
+ghost use Rattle.star_host.specs.Views.{IsTold, ToldView};
 
 use crate::gate::Gate;
 use crate::loading::{LoadError, load};
 use crate::naming::Naming;
 use crate::outcome::Kept;
+use crate::reading::Read;
 use crate::table::is_read;
 use crate::told::Told;
 use crate::trace::Trace;
 use crate::work::Common;
-use star_cache::{LoadCache, Seat};
-use std::alloc::AllocError;
+use star_cache::{Book, Entry, LoadCache, Seat};
+use std::alloc::{AllocError, Global};
 use std::sync::Wait;
 
-/// Keeps what was told of a reached file, after the modules of all such files below it.
-fn keep<J: Naming>(kept: &mut Vec<Kept>, n: usize, told: Told<J>) -> Result<(), AllocError>
-    requires cells { length J.shelf ≡ length J.files }
-    requires told { IsTold J.files J.plan n told }
-    requires reached { IsReached J.plan n }
-    ensures cells { OnOk result (AllKept J.shelf kept.old.items → AllKept J.shelf kept.new.items) }
-    ensures modules { OnOk result
-        (AreModulesBelow J.plan n kept.old.items → AreModulesBelow J.plan (n + 1) kept.new.items) }
+/// The numbers of the files that were read, which are those that are reached.
+fn reached(alloc: Global, reads: &[Option<Read>]) -> Result<Vec<usize>, AllocError>
+    ensures { IfOk result (λ v. (n : ℕ) → IsSome (read_at reads.now n) → Contains v.items n) }
 {
-    let one = told.into_kept();
-    kept.push(one)?;
-    Ok(())
+    let mut numbers = Vec::new(alloc);
+    for n in 0..reads.len() {
+        if is_read(reads, n) {
+            numbers.push(n)?;
+        }
+    }
+    Ok(numbers)
 }
 
-/// Asks for a file once more, where it is reached, and keeps what is told of it.
-fn settle_one<'s, 'r, 'p, 't, J: Naming, R: Wait, G: Gate>(
+/// Asks for a file, where it is reached.
+pub(crate) fn settle_one<'s, 'r, 'p, 't, J: Naming, R: Wait, G: Gate>(
     rt: &R,
     common: &Common<'s, 'r, 'p, 't>,
     gate: &G,
@@ -42,65 +45,125 @@ fn settle_one<'s, 'r, 'p, 't, J: Naming, R: Wait, G: Gate>(
     seat: &mut Seat<Told<J>>,
     n: usize,
     trace: &Trace<J>,
-    kept: &mut Vec<Kept>,
 ) -> Result<(), LoadError>
     requires world { IsWorld J.files J.plan J.shelf common.now }
     requires within { IsWithin J.files J.plan }
-    ensures cells { OnOk result (AllKept J.shelf kept.old.items → AllKept J.shelf kept.new.items) }
-    ensures modules { OnOk result
-        (AreModulesBelow J.plan n kept.old.items → AreModulesBelow J.plan (n + 1) kept.new.items) }
     ensures number { seat.new.number ≡ seat.old.number }
 {
     if !is_read(common.reads, n) {
         return Ok(());
     }
-    let told = load(rt, common, gate, cache, seat, n, trace)?;
-    keep(kept, n, told)?;
+    let _told = load(rt, common, gate, cache, seat, n, trace)?;
     Ok(())
 }
 
-/// Asks for each reached file once more, in order, and keeps what is told of it. All of them have ended when the
-/// loaders have, so nothing runs here that ran before.
-pub(crate) fn settle<'s, 'r, 'p, 't, J: Naming, R: Wait, G: Gate>(
+/// Asks for each reached file once more, in order.
+fn settle<'s, 'r, 'p, 't, J: Naming, R: Wait, G: Gate>(
     rt: &R,
     common: &Common<'s, 'r, 'p, 't>,
     gate: &G,
     cache: &LoadCache<Told<J>>,
     seat: &mut Seat<Told<J>>,
     trace: &Trace<J>,
-) -> Result<Vec<Kept>, LoadError>
+) -> Result<(), LoadError>
     requires world { IsWorld J.files J.plan J.shelf common.now }
     requires within { IsWithin J.files J.plan }
-    ensures cells { IfOk result (λ kept. AllKept J.shelf kept.items) }
-    ensures modules { IfOk result (λ kept. AreModules J.plan kept.items) }
     ensures number { seat.new.number ≡ seat.old.number }
 {
-    let mut kept = Vec::new(common.alloc);
     for n in 0..common.reads.len() {
-        settle_one(rt, common, gate, cache, seat, n, trace, &mut kept)?;
+        settle_one(rt, common, gate, cache, seat, n, trace)?;
     }
-    Ok(kept)
+    Ok(())
 }
 
-/// The same by the first of the loaders' seats, where no loader has failed.
-pub(crate) fn settled<'s, 'r, 'p, 't, J: Naming, R: Wait, G: Gate>(
+/// The same by the first of the loaders' seats.
+fn settle_first<'s, 'r, 'p, 't, J: Naming, R: Wait, G: Gate>(
     rt: &R,
     common: &Common<'s, 'r, 'p, 't>,
     gate: &G,
     cache: &LoadCache<Told<J>>,
     seats: &mut Vec<Seat<Told<J>>>,
-    error: Option<LoadError>,
     trace: &Trace<J>,
-) -> Result<Vec<Kept>, LoadError>
+) -> Result<(), LoadError>
     requires world { IsWorld J.files J.plan J.shelf common.now }
     requires within { IsWithin J.files J.plan }
     requires seat { 0 < vec_len seats.old }
-    ensures cells { IfOk result (λ kept. AllKept J.shelf kept.items) }
-    ensures modules { IfOk result (λ kept. AreModules J.plan kept.items) }
     ensures numbers { map (λ s. s.number) seats.new.items ≡ map (λ s. s.number) seats.old.items }
 {
-    match error {
-        Some(error) => Err(error),
-        None => settle(rt, common, gate, cache, &mut seats[0], trace),
+    settle(rt, common, gate, cache, &mut seats[0], trace)
+}
+
+/// Closes the cache when all reached files have ended under one look at the book. They have when the loaders have;
+/// where one has not, each is asked for again.
+pub(crate) fn closed<'s, 'r, 'p, 't, J: Naming, R: Wait, G: Gate>(
+    rt: &R,
+    common: &Common<'s, 'r, 'p, 't>,
+    gate: &G,
+    cache: LoadCache<Told<J>>,
+    seats: Vec<Seat<Told<J>>>,
+    trace: &Trace<J>,
+) -> Result<(Book<Told<J>>, [u32; 64]), LoadError>
+    requires world { IsWorld J.files J.plan J.shelf common.now }
+    requires within { IsWithin J.files J.plan }
+    requires seats { AreAll J.parts seats.items }
+    requires some { 0 < J.parts }
+    ensures sum { IfOk result (λ c. sum c.1 ≡ begun_count c.0) }
+    ensures ended { IfOk result (λ c. (n : ℕ) → IsReached J.plan n → HasEnded c.0 n) }
+{
+    let reached = reached(common.alloc, common.reads)?;
+    let mut open = (cache, seats);
+    for _ in rt.forever() {
+        let (cache, seats) = open;
+        match cache.close_ended(seats, &reached) {
+            Ok(closed) => return Ok(closed),
+            Err((cache, mut seats)) => {
+                settle_first(rt, common, gate, &cache, &mut seats, trace)?;
+                open = (cache, seats);
+            }
+        }
     }
+    unreachable!()
+}
+
+/// Keeps what an entry of a closed book tells of its file, after the modules of all reached files below it.
+fn keep<J: Naming>(
+    kept: &mut Vec<Kept>,
+    n: usize,
+    entry: &mut Entry<Told<J>>,
+) -> Result<(), AllocError>
+    requires cells { length J.shelf ≡ length J.files }
+    requires told { (t : ToldView) → entry.old ≡ Entry.Done t → IsTold J.files J.plan n t }
+    requires begun { entry.old ≢ Entry.Fresh → IsReached J.plan n }
+    requires ended { IsReached J.plan n → (t : ToldView) × (entry.old ≡ Entry.Done t) }
+    ensures same { entry.new ≡ entry.old }
+    ensures cells { OnOk result (AllKept J.shelf kept.old.items → AllKept J.shelf kept.new.items) }
+    ensures modules { OnOk result
+        (AreModulesBelow J.plan n kept.old.items → AreModulesBelow J.plan (n + 1) kept.new.items) }
+    ensures begun { OnOk result
+        (vec_len kept.new ≡ vec_len kept.old + cond (is_begun entry.old) 1 0) }
+{
+    if let Entry::Done(told) = entry {
+        kept.push(told.kept())?;
+    }
+    Ok(())
+}
+
+/// The modules of all reached files, in order, by the book in which each of them has ended.
+pub(crate) fn kept_of<J: Naming>(
+    alloc: Global,
+    book: Book<Told<J>>,
+) -> Result<Vec<Kept>, AllocError>
+    requires cells { length J.shelf ≡ length J.files }
+    requires within { IsWithin J.files J.plan }
+    requires ended { (n : ℕ) → IsReached J.plan n → HasEnded book n }
+    ensures cells { IfOk result (λ kept. AllKept J.shelf kept.items) }
+    ensures modules { IfOk result (λ kept. AreModules J.plan kept.items) }
+    ensures begun { IfOk result (λ kept. vec_len kept ≡ begun_count book) }
+{
+    let mut entries = book.into_entries();
+    let mut kept = Vec::new(alloc);
+    for n in 0..entries.len() {
+        keep(&mut kept, n, &mut entries[n])?;
+    }
+    Ok(kept)
 }

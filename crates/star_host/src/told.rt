@@ -59,19 +59,17 @@ impl<J: Naming> Told<J> {
     }
 
     /// The number with the note, for those to whom the cache is closed.
-    pub(crate) fn into_kept(self) -> Kept
+    pub(crate) fn kept(&mut self) -> Kept
         requires { length J.shelf ≡ length J.files }
+        ensures same { self.new ≡ self.old }
         ensures kept { IsKept J.shelf result }
-        ensures number { result.number ≡ self.number }
-        ensures known { result.known ≡ self.known }
+        ensures number { result.number ≡ self.old.number }
+        ensures known { result.known ≡ self.old.known }
     {
-        let Told {
-            number,
-            good: _,
-            note,
-            of: _,
-        } = self;
-        Kept { number, note }
+        Kept {
+            number: self.number,
+            note: self.note.again(),
+        }
     }
 
     /// Whether the file may be used by those that load it.

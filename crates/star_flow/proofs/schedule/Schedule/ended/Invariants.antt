@@ -1,0 +1,9 @@
+use Rattle.std.proofs.Common.{◌≡◌}
+use Rattle.star_flow.specs.Schedules.{IsReadyOf}
+use Rattle.star_flow.proofs.schedule.Schedule.ended.Given as goal
+
+abbrev pub invariant-loop-n : goal.invariant-loop-n
+invariant-loop-n l = record {
+  ready : IsReadyOf l.fn.self.ready l.importers l.self.ready;
+  running : l.self.running ≡ l.initial.self.running;
+}

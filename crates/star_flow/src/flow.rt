@@ -1,0 +1,62 @@
+//! The schedule under its lock.
+
+ghost use Rattle.std.specs.Prelude.{◌≡◌, ◌<◌, IfOk, length};
+
+use crate::schedule::{Next, Schedule};
+use std::alloc::{AllocError, Global};
+use std::sync::{Condvar, Mutex, Wait};
+
+/// Hands out files to loaders, each when all its loads have ended. It is a hint: that a file is handed out promises nothing
+/// of it, and a file that is not handed out is begun by whoever asks for it.
+#[derive(Drop)]
+pub struct Flow {
+    // For each file those that load it.
+    importers: Vec<Vec<usize>>,
+    state: Mutex<Schedule>,
+    // Notified where a file is ready, and at the end.
+    changed: Condvar,
+}
+
+impl Flow {
+    /// The flow of files: for each, the files that load it, as often as they do.
+    pub fn new(importers: Vec<Vec<usize>>, schedule: Schedule) -> Flow {
+        Flow {
+            importers,
+            state: Mutex::new(schedule),
+            changed: Condvar::new(),
+        }
+    }
+
+    // The files that load a file.
+    fn importers_of(&self, n: usize) -> &[usize] {
+        match self.importers.get(n) {
+            Some(importers) => importers.as_slice(),
+            None => &[],
+        }
+    }
+
+    /// The next file for a loader, which has ended the one that it was given before. It waits while no file is ready and
+    /// some run. `None` where no file is ready, and none runs.
+    pub fn take<R: Wait>(&self, rt: &R, ended: Option<usize>) -> Option<usize> {
+        let mut state = self.state.lock(rt);
+        if let Some(n) = ended {
+            state.ended(self.importers_of(n));
+        }
+        for _ in rt.forever() {
+            match state.next() {
+                Next::Run(n) => {
+                    if state.has_more() {
+                        self.changed.notify_all();
+                    }
+                    return Some(n);
+                }
+                Next::Sleep => state = self.changed.wait(rt, state),
+                Next::Over => {
+                    self.changed.notify_all();
+                    return None;
+                }
+            }
+        }
+        unreachable!()
+    }
+}

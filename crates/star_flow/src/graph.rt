@@ -1,0 +1,94 @@
+//! Which files load which.
+
+ghost use Rattle.std.specs.Prelude.{◌≡◌, ◌+◌, ◌<◌, ◌^◌, ◌-◌, ◌++◌, ◌∷◌, [], All, IfOk, OnOk, length, min, replicate, slice_index_or};
+ghost use Rattle.star_flow.specs.Schedules.{HasAll, IsReadyOf};
+
+use crate::flow::Flow;
+use crate::schedule::Schedule;
+use std::alloc::{AllocError, Global};
+use std::marker::Model;
+
+/// Files, and for each how many loads it has and which files load it. Contracts see the number of loads.
+#[derive(Drop)]
+pub struct Graph {
+    importers: Vec<Vec<usize>>,
+    missing: Vec<usize>,
+    files: Vec<usize>,
+}
+
+impl Model for Graph {
+    ghost use Rattle.std.specs.Prelude.{◌≡◌, length};
+    ghost use Rattle.star_flow.specs.Schedules.{GraphView};
+
+    ghost Value = { GraphView };
+
+    ghost view = { λ g. record { loads = g.missing.items; files = g.files.items } };
+
+    ghost invariant = { λ g. length g.importers.items ≡ length g.missing.items };
+}
+
+impl Graph {
+    /// So many numbers, of which none is a file yet.
+    pub fn new(alloc: Global, count: usize) -> Result<Graph, AllocError>
+        ensures { IfOk result (λ g. g ≡ record { loads = replicate count 0; files = [] }) }
+    {
+        let mut importers = Vec::with_capacity(alloc, count)?;
+        for _ in 0..count {
+            importers.push(Vec::new(alloc))?;
+        }
+        Ok(Graph {
+            importers,
+            missing: vec![in alloc; 0; count]?,
+            files: Vec::with_capacity(alloc, count)?,
+        })
+    }
+
+    /// This number is a file.
+    pub fn add_file(&mut self, n: usize) -> Result<(), AllocError>
+        ensures { OnOk result (self.new ≡ record { loads = self.old.loads; files = self.old.files ++ n ∷ [] }) }
+    {
+        self.files.push(n)?;
+        Ok(())
+    }
+
+    /// The file `n` loads the file `m`, once more. A number that is none of these is passed by.
+    pub fn add_load(&mut self, n: usize, m: usize) -> Result<(), AllocError>
+        ensures files { self.new.files ≡ self.old.files }
+        ensures size { length self.new.loads ≡ length self.old.loads }
+        ensures loads { OnOk result (n < length self.old.loads → m < length self.old.loads
+            → slice_index_or self.new.loads n 0 ≡ min (slice_index_or self.old.loads n 0 + 1) (2 ^ 64 - 1)) }
+    {
+        if n >= self.missing.len() || m >= self.importers.len() {
+            return Ok(());
+        }
+        self.importers[m].push(n)?;
+        self.missing[n] = self.missing[n].saturating_add(1);
+        Ok(())
+    }
+
+    /// The flow of the files. Those that load nothing are ready.
+    pub fn into_flow(self, alloc: Global) -> Result<Flow, AllocError> {
+        let Graph {
+            importers,
+            missing,
+            files,
+        } = self;
+        let ready = ready(alloc, &missing, &files)?;
+        Ok(Flow::new(importers, Schedule::new(missing, ready)))
+    }
+}
+
+/// The files that load nothing, the last first.
+fn ready(alloc: Global, missing: &[usize], files: &[usize]) -> Result<Vec<usize>, AllocError>
+    ensures whole { IfOk result (λ r. All (HasAll missing.now) r.items) }
+    ensures among { IfOk result (λ r. IsReadyOf [] files.now r.items) }
+{
+    let mut ready = Vec::with_capacity(alloc, files.len())?;
+    for n in files {
+        if *n >= missing.len() || missing[*n] > 0 {
+            continue;
+        }
+        ready.push(*n)?;
+    }
+    Ok(ready)
+}
