@@ -1,20 +1,17 @@
 -- The files by which files fail, as they are found among the modules of a run.
-use Rattle.std.proofs.Common.{arith, ◌≡◌, ◌<◌, ◌≤◌, ◌+◌, ◌↔◌, ◌⊎◌, inl, inr, ℕ, zero, suc, List, [], ◌∷◌, map, length, replicate, get_or, Option, Some, None, refl, ap, sym, subst, ◌∙◌}
+use Rattle.std.proofs.Common.{arith, ◌≡◌, ◌<◌, ◌≤◌, ◌+◌, ◌↔◌, ◌⊎◌, inl, inr, ℕ, zero, suc, List, [], map, length, replicate, get_or, Option, Some, None, refl, ap, sym, subst, ◌∙◌}
 use Rattle.std.specs.Prelude.{All, Contains, IfSome, slice_get, slice_index_or, slice_set}
 use Rattle.std.proofs.lemmas.Bool.{cases_eq, cases_lt}
 use Rattle.std.proofs.lemmas.List.{get_or-map, length-map}
 use Rattle.std.proofs.lemmas.List.Elements.{All-contains}
 use Rattle.std.proofs.lemmas.Option.{slice_get-get_or}
-use Rattle.star_label.specs.Files.{File}
 use Rattle.star_meaning.specs.Module.{Good as WentWell}
 use Rattle.star_module.specs.Globals.{owned}
 use Rattle.star_plan.specs.Causes.{FailsBy}
 use Rattle.star_plan.specs.Plan.{Plan, Reading, loaded, loads_in, read_of}
 use Rattle.star_plan.specs.Reached.{IsReached}
-use Rattle.star_plan.specs.Reading.{IsPlanOf}
 use Rattle.star_plan.proofs.Causes.{one_next, stops}
 use Rattle.star_plan.proofs.Outcomes.{no_bad}
-use Rattle.star_cause.specs.Causes.{AreNextsOf}
 use Rattle.star_cause.specs.Ends.{AreWithin}
 use Rattle.star_cause.specs.Ways.{Goes, Nexts}
 use Rattle.star_cause.proofs.Settles.{get_set_other, get_set_same}

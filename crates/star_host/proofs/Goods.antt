@@ -1,5 +1,5 @@
 -- Whether all modules that are kept are good.
-use Rattle.std.proofs.Common.{◌≡◌, ◌<◌, ◌+◌, ◌∙◌, ◌⊎◌, inl, inr, subst, arith, ℕ, List, All, Some, None, true, false, ap, sym, length}
+use Rattle.std.proofs.Common.{◌≡◌, ◌<◌, ◌+◌, ◌∙◌, ◌⊎◌, inl, inr, subst, arith, ℕ, List, Some, None, true, false, ap, sym, length}
 use Rattle.std.specs.Prelude.{slice_index_or}
 use Rattle.std.proofs.lemmas.Bool.{cases_order, true≢false}
 use Rattle.std.proofs.lemmas.List.Elements.{All-get_or, All-from_get_or}

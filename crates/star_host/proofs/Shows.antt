@@ -1,7 +1,6 @@
 -- The values that show modules, and the report of them.
-use Rattle.std.proofs.Common.{arith, ◌≡◌, ◌<◌, ◌+◌, ℕ, false, List, [], ◌∷◌, ◌++◌, map, take, length, get_or, Option, Some, None, refl, ap, sym, subst, ◌∙◌, codes}
+use Rattle.std.proofs.Common.{arith, ◌≡◌, ◌<◌, ◌+◌, ℕ, false, List, [], ◌∷◌, ◌++◌, map, take, length, get_or, Some, None, refl, ap, sym, subst, ◌∙◌, codes}
 use Rattle.std.specs.Prelude.{Contains, slice_index_or}
-use Rattle.std.specs.List.{All}
 use Rattle.std.specs.List.Sorted.{IsStrictlyIncreasing}
 use Rattle.std.proofs.lemmas.List.{get_or-map, length-map, map_push, take_all, take_more}
 use Rattle.std.proofs.lemmas.List.Elements.{All-get_or, All-nil, All-push}
@@ -16,7 +15,7 @@ use Rattle.star_plan.specs.Reached.{IsReached}
 use Rattle.star_plan.specs.Reading.{IsPlanOf}
 use Rattle.star_plan.specs.Report.{Ended as ReportEnded, HadFault, HadLoad, HadStatic, IsEnded, IsReport, Module as ReportModule, WentWell}
 use Rattle.star_plan.specs.Results.{IsFirstBad, IsGood, result}
-use Rattle.star_plan.specs.Text.{ended_data, module_data, report_data, report_text}
+use Rattle.star_plan.specs.Text.{ended_data, module_data, report_text}
 use Rattle.star_plan.proofs.Outcomes.{no_bad}
 use Rattle.star_plan.proofs.Stay.{good_is}
 use Rattle.star_cause.specs.Causes.{AreNextsOf}

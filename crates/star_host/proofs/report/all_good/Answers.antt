@@ -1,4 +1,4 @@
-use Rattle.std.proofs.Common.{◌≡◌, ◌<◌, ◌∙◌, Some, ap, sym, subst, length, arith}
+use Rattle.std.proofs.Common.{◌≡◌, ◌<◌, ◌∙◌, Some, ap, sym, length, arith}
 use Rattle.std.specs.Prelude.{slice_index_or}
 use Rattle.star_host.specs.Kept.{KeptView}
 use Rattle.star_host.proofs.Goods.{not_all, one_more}

@@ -30,5 +30,9 @@ returns-in-Cycle c =
     let files = c.in-Cycle.cycle.items in
     let same : c.text-label.result.now ≡ label_at c.args.files.now c.args.n = c.text-label.ensures ∙ c.label.ensures in
     let cause : IsCauseBy c.args.causes.now c.args.n (Cycle files) = subst (λ x. IsCauseBy c.args.causes.now c.args.n (cause_of x)) c.in-Cycle.is c.in_ok-cause.ensures.cause in
-    IfOk-weaker c.cycle_module.result _ _ (λ v e. (Cycle files, cause, subst (λ l. view v ≡ load_data c.args.files.now l (Cycle files) c.args.line) same
-        (subst (λ ns. view v ≡ load_data c.args.files.now c.text-label.result.now (Cycle ns) c.args.line) c.deref.ensures.value e))) c.cycle_module.ensures
+    IfOk-weaker c.cycle_module.result _ _ (λ v e. (
+      Cycle files,
+      cause,
+      subst (λ l. view v ≡ load_data c.args.files.now l (Cycle files) c.args.line) same
+          (subst (λ ns. view v ≡ load_data c.args.files.now c.text-label.result.now (Cycle ns) c.args.line) c.deref.ensures.value e),
+    )) c.cycle_module.ensures

@@ -1,5 +1,4 @@
-use Rattle.std.proofs.Common.{◌≡◌}
-use Rattle.star_host.proofs.Fails.{fails_by, fails_not}
+use Rattle.star_host.proofs.Fails.{fails_not}
 use Rattle.star_host.proofs.report.next_of.Goals as goal
 
 pub returns-in_default : goal.returns-in_default

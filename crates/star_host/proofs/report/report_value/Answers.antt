@@ -10,4 +10,4 @@ returns-clause-value c =
     let ks = c.args.run.now.kept in
     let begun = c.begun.ensures ∙ ap (λ r. r.begun) c.in_ok-modules.ensures.same in
     IfOk-weaker c.whole.result _ _ (λ v e plan planned are.
-        subst (λ b. IsReportValue files plan (length ks) b v) begun (value_is files plan ks c.in_ok-modules.modules.items c.begun.result v are (c.in_ok-modules.ensures.modules plan planned are) e)) c.whole.ensures
+    subst (λ b. IsReportValue files plan (length ks) b v) begun (value_is files plan ks c.in_ok-modules.modules.items c.begun.result v are (c.in_ok-modules.ensures.modules plan planned are) e)) c.whole.ensures
