@@ -11,6 +11,9 @@ use Rattle.star_bundle.specs.declared.error.ServeError.TheVariants as error
 pub fails_so : {Y : Type 0} (e : ServeError) (given : Result Y ServeError) → IsNamed e → given ≡ Err e → Fails e given
 fails_so error.Read given h k = k
 fails_so error.TooBig given h k = k
+fails_so error.BadDir given h k = k
+fails_so error.BadFile given h k = k
+fails_so error.NotText given h k = k
 fails_so error.BadBundle given h k = k
 fails_so error.BadKey given h k = k
 fails_so error.TooMany given h k = k
@@ -27,6 +30,9 @@ fails_so error.Unpublished given h k = k
 pub fails_as : {X Y : Type 0} (e : ServeError) (part : Result X ServeError) (whole : Result Y ServeError) → Fails e part → (part ≡ Err e → whole ≡ Err e) → Fails e whole
 fails_as error.Read part whole h k = k h
 fails_as error.TooBig part whole h k = k h
+fails_as error.BadDir part whole h k = k h
+fails_as error.BadFile part whole h k = k h
+fails_as error.NotText part whole h k = k h
 fails_as error.BadBundle part whole h k = k h
 fails_as error.BadKey part whole h k = k h
 fails_as error.TooMany part whole h k = k h

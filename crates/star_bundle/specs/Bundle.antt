@@ -97,9 +97,12 @@ pub record Asked : Type 0 where
   pub roots : List ℕ
   pub prelude : Option ℕ
 
-unfoldable pub asked_of : List (List ℕ) → Option (List ℕ) → List ℕ → Result Asked ServeError
-asked_of roots prelude input = do
-  files ← files_of input
+unfoldable pub asked_among : List (List ℕ) → Option (List ℕ) → List File → Result Asked ServeError
+asked_among roots prelude files = do
   ns ← roots_of files roots
   p ← prelude_of files prelude
   Ok (record { files = files; roots = ns; prelude = p })
+
+-- what is asked for of the bundle that the bytes are
+unfoldable pub asked_of : List (List ℕ) → Option (List ℕ) → List ℕ → Result Asked ServeError
+asked_of roots prelude input = files_of input >>= λ files. asked_among roots prelude files

@@ -1,11 +1,14 @@
 -- Why there is no report, what the program says of it, and its exit status.
 use Rattle.std.specs.Prelude.{◌≡◌, ⊤, ℕ, List, Bool, true, false, Result, Ok, Err, codes}
 use Rattle.star_bundle.specs.declared.error.ServeError.{ServeError}
-use Rattle.star_bundle.specs.declared.error.ServeError.TheVariants.{Read, TooBig, BadBundle, BadKey, TooMany, TooLong, BadRoot, NoRoot, BadPrelude, NoPrelude, Memory, Write, Unpublished}
+use Rattle.star_bundle.specs.declared.error.ServeError.TheVariants.{Read, TooBig, BadDir, BadFile, NotText, BadBundle, BadKey, TooMany, TooLong, BadRoot, NoRoot, BadPrelude, NoPrelude, Memory, Write, Unpublished}
 
 abbrev pub text_of : ServeError → List ℕ
 text_of Read = codes "cannot read the bundle"
 text_of TooBig = codes "bundle too big"
+text_of BadDir = codes "cannot list the folder"
+text_of BadFile = codes "cannot read a file"
+text_of NotText = codes "a file is not text"
 text_of BadBundle = codes "not a JSON object of texts"
 text_of BadKey = codes "bad label in the bundle"
 text_of TooMany = codes "too many files"

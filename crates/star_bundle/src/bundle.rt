@@ -200,6 +200,29 @@ pub struct AskedFor {
     pub prelude: Option<usize>,
 }
 
+/// What the words of the command line ask for of these files. The refusals come in this order: those of the roots, those of the
+/// prelude.
+#[tactic(auto, unfolding(crate::specs::Bundle::asked_among))]
+pub fn asked_in(
+    alloc: Global,
+    files: Files,
+    roots: &[String],
+    prelude: Option<&String>,
+) -> Result<AskedFor, ServeError>
+    ensures asked { Gives asked_view result
+        (bundle.asked_among (map string_bytes roots.now) (option_map (λ p. string_bytes p.now) prelude.entry) files) }
+    ensures roots { IfOk result (λ a. All (λ n. n < length a.files) a.roots.items) }
+    ensures prelude { IfOk result (λ a. IfSome a.prelude (λ n. n < length a.files)) }
+{
+    let roots = roots_in(alloc, &files, roots)?;
+    let prelude = prelude_in(alloc, &files, prelude)?;
+    Ok(AskedFor {
+        files,
+        roots,
+        prelude,
+    })
+}
+
 /// What the bytes of a bundle and the words of the command line ask for. The refusals come in this order: those of the bundle, those
 /// of the roots, those of the prelude.
 #[tactic(auto, unfolding(crate::specs::Bundle::asked_of))]
@@ -214,12 +237,5 @@ pub fn asked_for(
     ensures roots { IfOk result (λ a. All (λ n. n < length a.files) a.roots.items) }
     ensures prelude { IfOk result (λ a. IfSome a.prelude (λ n. n < length a.files)) }
 {
-    let files = files_in(alloc, bytes)?;
-    let roots = roots_in(alloc, &files, roots)?;
-    let prelude = prelude_in(alloc, &files, prelude)?;
-    Ok(AskedFor {
-        files,
-        roots,
-        prelude,
-    })
+    asked_in(alloc, files_in(alloc, bytes)?, roots, prelude)
 }

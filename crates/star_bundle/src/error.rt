@@ -13,13 +13,19 @@ use thiserror::Error;
 pub enum ServeError {
     /// A read failed.
     Read,
-    /// More than 268,435,456 bytes were read.
+    /// More than 268,435,456 bytes were read, or the texts of a folder have more.
     TooBig,
+    /// A folder could not be listed.
+    BadDir,
+    /// A file could not be read.
+    BadFile,
+    /// A file is not UTF-8.
+    NotText,
     /// The input is no JSON object of texts.
     BadBundle,
     /// A key of the bundle is no label in normal form.
     BadKey,
-    /// There are more than 10,000 files.
+    /// There are more than 10,000 files, or more than 100,000 entries of folders were listed.
     TooMany,
     /// A text has more than 1,048,576 bytes.
     TooLong,
@@ -47,6 +53,9 @@ impl ServeError {
         match self {
             ServeError::Read => "cannot read the bundle",
             ServeError::TooBig => "bundle too big",
+            ServeError::BadDir => "cannot list the folder",
+            ServeError::BadFile => "cannot read a file",
+            ServeError::NotText => "a file is not text",
             ServeError::BadBundle => "not a JSON object of texts",
             ServeError::BadKey => "bad label in the bundle",
             ServeError::TooMany => "too many files",

@@ -1,6 +1,6 @@
 //! What bundles and words ask for.
 
-use crate::bundle::{asked_for, files_in, prelude_in, roots_in};
+use crate::bundle::{asked_for, asked_in, files_in, prelude_in, roots_in};
 use crate::error::ServeError;
 use std::alloc::{AllocError, Global};
 use std::test::Fail;
@@ -69,6 +69,17 @@ fn numbers_of_roots_and_prelude(rt: HostRuntime) -> Result<(), Fail> {
         prelude_in(alloc, &files, others.get(1)).err(),
         Some(ServeError::NoPrelude)
     );
+    Ok(())
+}
+
+#[test]
+fn what_is_asked_for_of_files(rt: HostRuntime) -> Result<(), Fail> {
+    let alloc = rt.alloc();
+    let roots = words(alloc, &["//b:x.star"])?;
+    let asked = asked_in(alloc, files_in(alloc, TWO)?, &roots, None)?;
+    assert_eq!(rt; asked.files.len(), 2);
+    assert_eq!(rt; asked.roots.as_slice(), [1].as_slice());
+    assert_eq!(rt; asked.prelude, None);
     Ok(())
 }
 

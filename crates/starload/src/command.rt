@@ -10,8 +10,10 @@ use std::alloc::{AllocError, Global};
 
 /// What stands after the options in the help.
 const EXAMPLE: &str =
-    "The bundle is a JSON object from labels to the texts of files, on standard input. For example:
+    "The files are those of DIR whose names end in .star; //app:main.star is the file app/main.star. Without
+--dir they are read on standard input, as a JSON object from labels to texts. For example:
 
+    starload --dir . //app:main.star
     echo '{\"//:a.star\": \"x = 1 + 2\"}' | starload //:a.star
 
 The report is one line of JSON on standard output. The exit status is 0 where every file is ok, 1 where some
@@ -49,6 +51,12 @@ fn trace_arg<'a>(alloc: Global) -> Arg<'a> {
         .action(ArgAction::SetTrue)
 }
 
+fn dir_arg<'a>(alloc: Global) -> Arg<'a> {
+    Arg::new(alloc, "dir").long("dir").value_name("DIR").help(
+        "The folder that has the files; standard input is not read then",
+    )
+}
+
 fn roots_arg<'a>(alloc: Global) -> Arg<'a> {
     Arg::new(alloc, "ROOT")
         .help("The labels of the files to load, such as //app:main.star")
@@ -68,6 +76,7 @@ pub fn command<'a>(alloc: Global) -> Result<Command<'a>, clap::Error> {
             .arg(steps_arg(alloc))?
             .arg(prelude_arg(alloc))?
             .arg(trace_arg(alloc))?
+            .arg(dir_arg(alloc))?
             .arg(roots_arg(alloc))?,
     )
 }
@@ -110,6 +119,7 @@ pub fn options(alloc: Global, matches: &ArgMatches<'_>) -> Result<Options, Alloc
     ensures roots { IfOk result (λ o. map string_bytes o.roots.items ≡ spec.values_of matches.now (codes "ROOT")) }
     ensures prelude { IfOk result (λ o. option_map string_bytes o.prelude
         ≡ first_value (found_of matches.now) (codes "prelude")) }
+    ensures dir { IfOk result (λ o. option_map string_bytes o.dir ≡ first_value (found_of matches.now) (codes "dir")) }
     ensures trace { IfOk result (λ o. (one_text (found_of matches.now) (codes "trace") ≡ Some (codes "true"))
         → (o.trace ≡ true)) }
     ensures no_trace { IfOk result (λ o. (one_text (found_of matches.now) (codes "trace") ≡ Some (codes "false"))
@@ -123,5 +133,6 @@ pub fn options(alloc: Global, matches: &ArgMatches<'_>) -> Result<Options, Alloc
         roots: values_of(alloc, matches, "ROOT")?,
         prelude: value_of(alloc, matches, "prelude")?,
         trace: matches.get_flag("trace"),
+        dir: value_of(alloc, matches, "dir")?,
     })
 }

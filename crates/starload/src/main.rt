@@ -1,10 +1,13 @@
-//! Loads the Starlark files of a bundle and writes the report.
+//! Loads the Starlark files of a bundle or of a folder and writes the report.
 //!
-//! The bundle is read on standard input and the report written on standard output, by `serve`; `docs/REPORT.md` has the
-//! rules. The statuses are those of `status`; what goes wrong before is said on standard error, with status 2.
+//! The bundle is read on standard input, by `serve`, or the files of a folder are, by `serve_dir`; the report is written on standard
+//! output. `docs/REPORT.md` has the rules. The statuses are those of `status`; what goes wrong before is said on standard error, with status 2.
 #![tactic(auto)]
 
+ghost use Rattle.std.specs.Prelude.{◌≤◌};
+
 mod command;
+mod dir;
 mod ends;
 mod read;
 mod serve;
@@ -14,10 +17,15 @@ mod tests;
 
 use clap::error::ErrorKind;
 use command::{command, options};
+use dir::serve_dir;
 use ends::{CountedReader, CountedWriter};
-use serve::serve;
+use serve::{Options, serve};
 use star_bundle::error::{ServeError, status};
+use star_folder::disk::DiskFolder;
+use std::alloc::Global;
 use std::process::ExitCode;
+use std::sync::Wait;
+use std::thread::Threads;
 use std::{env, io};
 
 /// Says why there is no report.
@@ -54,6 +62,44 @@ fn say(rt: &HostRuntime, error: &clap::Error) -> ExitCode {
     ExitCode::from(2)
 }
 
+/// Writes the report of what the options ask for. The loaders are threads of `threads`.
+fn report<H: Threads + Wait + Sync>(
+    rt: &HostRuntime,
+    threads: &H,
+    alloc: Global,
+    options: &Options,
+) -> Result<bool, ServeError>
+    requires loaders { (1 ≤ options.now.loaders) × (options.now.loaders ≤ 64) }
+    requires steps { (1 ≤ options.now.steps) × (options.now.steps ≤ 100000000) }
+{
+    let mut writer = CountedWriter::new(rt.stdout());
+    let mut errors = CountedWriter::new(rt.stderr());
+    match &options.dir {
+        Some(dir) => {
+            let mut folder = DiskFolder::new(rt, dir.as_str());
+            serve_dir(
+                threads,
+                alloc,
+                &mut folder,
+                &mut writer,
+                &mut errors,
+                options,
+            )
+        }
+        None => {
+            let mut reader = CountedReader::new(rt.stdin());
+            serve(
+                threads,
+                alloc,
+                &mut reader,
+                &mut writer,
+                &mut errors,
+                options,
+            )
+        }
+    }
+}
+
 fn main(rt: HostRuntime) -> ExitCode {
     let alloc = rt.alloc();
     let words = match words(&rt) {
@@ -72,10 +118,7 @@ fn main(rt: HostRuntime) -> ExitCode {
         Ok(options) => options,
         Err(_) => return refuse(&rt, ServeError::Memory.text()),
     };
-    let mut reader = CountedReader::new(rt.stdin());
-    let mut writer = CountedWriter::new(rt.stdout());
-    let mut errors = CountedWriter::new(rt.stderr());
-    let outcome = serve(&rt, alloc, &mut reader, &mut writer, &mut errors, &options);
+    let outcome = report(&rt, &rt, alloc, &options);
     if let Err(error) = &outcome {
         let _ = eprintln!(rt; "starload: {}", error.text());
     }

@@ -3,9 +3,10 @@
 ghost use Rattle.std.specs.Prelude.{true, false, ◌≡◌, ◌+◌, ◌<◌, ◌≤◌, ◌⊎◌, ℕ, List, All, map, length, option_map, string_bytes, IfOk, IfErr, IfSome, Ok};
 ghost use Rattle.std.specs.Option.{option_copied};
 ghost use Rattle.star_bundle.specs.Bundle as bundle;
+ghost use Rattle.star_bundle.specs.View.{asked_view};
 ghost use Rattle.star_bundle.specs.Refusal.{reads_failed, writes_failed};
-ghost use Rattle.star_host.specs.Kept.{AllGood, AreModulesOf, KeptView};
-ghost use Rattle.starload.specs.Serve.{IsRefused, ReadsAll, input_limit};
+ghost use Rattle.star_host.specs.Kept.{AllGood, AreModulesOf};
+ghost use Rattle.starload.specs.Serve.{IsRefused, IsRefusedRun, ReadsAll, Reports, input_limit};
 ghost use Rattle.starload.specs.Stream.{Adds};
 
 use crate::read::read_all;
@@ -34,6 +35,8 @@ pub struct Options {
     pub prelude: Option<String>,
     /// Whether the refused loads are written after the report.
     pub trace: bool,
+    /// The folder that has the files: none where the bundle is read.
+    pub dir: Option<String>,
 }
 
 /// A run, its report, and whether every module of it is ok.
@@ -148,6 +151,41 @@ fn write_trace<W: Sink>(alloc: Global, writer: &mut W, files: &Files, run: &mut 
     }
 }
 
+/// Runs what is asked for and writes the report, and the trace to `errors` where that is wanted. It answers whether every module of the
+/// report is ok.
+pub(crate) fn reported<H: Threads + Wait + Sync, W: Sink, E: Sink>(
+    rt: &H,
+    alloc: Global,
+    asked: &AskedFor,
+    writer: &mut W,
+    errors: &mut E,
+    options: &Options,
+) -> Result<bool, ServeError>
+    requires roots { All (λ n. n < length asked.now.files) asked.now.roots.items }
+    requires prelude { IfSome asked.now.prelude (λ n. n < length asked.now.files) }
+    requires loaders { (1 ≤ options.now.loaders) × (options.now.loaders ≤ 64) }
+    requires steps { (1 ≤ options.now.steps) × (options.now.steps ≤ 100000000) }
+    ensures ok { IfOk result (Reports (asked_view asked.now) options.now.steps (W.taken writer.old) (W.taken writer.new)) }
+    ensures refused { IfErr result (IsRefusedRun (writer.new ≡ writer.old)) }
+    ensures writes { W.failed writer.new ≡ W.failed writer.old + writes_failed result }
+{
+    let Answer {
+        mut run,
+        text,
+        all_ok,
+    } = match answered(rt, alloc, asked, options.loaders, options.steps) {
+        Ok(answer) => answer,
+        Err(error) => return Err(error),
+    };
+    if writer.write(text.as_bytes()).is_err() {
+        return Err(ServeError::Write);
+    }
+    if options.trace {
+        write_trace(alloc, errors, &asked.files, &mut run);
+    }
+    Ok(all_ok)
+}
+
 /// Reads a bundle, loads the roots and writes the report, and the trace to `errors` where that is wanted. It answers whether every
 /// module of the report is ok.
 ///
@@ -163,15 +201,12 @@ pub fn serve<H: Threads + Wait + Sync, R: Source, W: Sink, E: Sink>(
     requires loaders { (1 ≤ options.now.loaders) × (options.now.loaders ≤ 64) }
     requires steps { (1 ≤ options.now.steps) × (options.now.steps ≤ 100000000) }
 
-    // All was read, it is a bundle that has each root and the prelude, and one text was written, and nothing else; and the answer is
-    // whether each of the modules, which are those of exactly the reached files, each with its file's outcome, is good.
+    // All was read, it is a bundle that has each root and the prelude, and one text was written for it, and nothing else.
     ensures ok { IfOk result (λ all_ok. (input : List ℕ)
         × ReadsAll (R.given reader.old) (R.given reader.new) (R.ended reader.new) input
         × (asked : bundle.Asked)
         × (bundle.asked_of (map string_bytes options.now.roots.items) (option_map string_bytes options.now.prelude) input ≡ Ok asked)
-        × (text : List ℕ) × Adds (W.taken writer.old) (W.taken writer.new) text
-        × (modules : List KeptView) × AreModulesOf asked.files asked.roots asked.prelude options.now.steps modules
-        × (all_ok ≡ true → AllGood modules) × (all_ok ≡ false → AllGood modules → ⊥)) }
+        × Reports asked options.now.steps (W.taken writer.old) (W.taken writer.new) all_ok) }
 
     // What was read is refused so, and nothing was written.
     ensures refused { IfErr result (IsRefused
@@ -201,19 +236,5 @@ pub fn serve<H: Threads + Wait + Sync, R: Source, W: Sink, E: Sink>(
         Ok(asked) => asked,
         Err(error) => return Err(error),
     };
-    let Answer {
-        mut run,
-        text,
-        all_ok,
-    } = match answered(rt, alloc, &asked, options.loaders, options.steps) {
-        Ok(answer) => answer,
-        Err(error) => return Err(error),
-    };
-    if writer.write(text.as_bytes()).is_err() {
-        return Err(ServeError::Write);
-    }
-    if options.trace {
-        write_trace(alloc, errors, &asked.files, &mut run);
-    }
-    Ok(all_ok)
+    reported(rt, alloc, &asked, writer, errors, options)
 }

@@ -1,11 +1,17 @@
-//! Bundles from bytes to bytes, over scripted streams that say their bytes.
+//! Bundles and folders from bytes to bytes, over scripted streams that say their bytes and folders that say what they hold.
 
-ghost use Rattle.std.specs.Prelude.{◌≤◌, None, Some, false, ◌==◌, if◌then◌else◌};
+ghost use Rattle.std.specs.Prelude.{◌≤◌, IfOk, None, Some, false, ◌==◌, if◌then◌else◌};
+ghost use Rattle.star_folder.specs.Memory.{contents_of, rows_of};
 
+use crate::dir::serve_dir;
 use crate::serve::{Options, serve};
 use crate::stream::{Failed, Sink, Source};
 use star_bundle::error::{ServeError, status};
+use star_folder::folder::{Folder, FolderError, Kind};
+use star_folder::memory::{MemoryFolder, Row};
+use star_label::label::Label;
 use std::alloc::{AllocError, Global};
+use std::collections::BTreeMap;
 use std::process::Abort;
 use std::sync::Wait;
 use std::test::Fail;
@@ -109,6 +115,23 @@ fn scripted<'a>(
     }
 }
 
+/// What is asked for: the root `//:a.star`, with so many loaders.
+fn options_of(alloc: Global, loaders: usize) -> Result<Options, AllocError>
+    requires { (1 ≤ loaders) × (loaders ≤ 64) }
+    ensures { IfOk result (λ o. (1 ≤ o.loaders) × (o.loaders ≤ 64) × (1 ≤ o.steps) × (o.steps ≤ 100000000)) }
+{
+    let mut roots = Vec::new(alloc);
+    roots.push(String::from_str(alloc, "//:a.star")?)?;
+    Ok(Options {
+        loaders,
+        steps: 10_000,
+        roots,
+        prelude: None,
+        trace: true,
+        dir: None,
+    })
+}
+
 /// What `serve` answers for the root `//:a.star` with so many loaders, and what it wrote.
 fn served<H: Threads + Wait + Sync, R: Source>(
     rt: &H,
@@ -121,15 +144,7 @@ fn served<H: Threads + Wait + Sync, R: Source>(
 {
     let mut writer = writer_of(alloc, fails);
     let mut errors = writer_of(alloc, false);
-    let mut roots = Vec::new(alloc);
-    roots.push(String::from_str(alloc, "//:a.star")?)?;
-    let options = Options {
-        loaders,
-        steps: 10_000,
-        roots,
-        prelude: None,
-        trace: true,
-    };
+    let options = options_of(alloc, loaders)?;
     let outcome = serve(rt, alloc, reader, &mut writer, &mut errors, &options);
     let Kept { bytes, .. } = writer;
     Ok((outcome, bytes))
@@ -276,4 +291,134 @@ fn files_that_load_one_another(rt: HostRuntime) -> Result<(), Fail> {
         false,
         "{\"begun\":1,\"modules\":[{\"fault\":\"zero\",\"label\":\"//:a.star\",\"line\":2,\"lines\":[\"a\"],\"status\":\"fault\"}]}\n",
     )
+}
+
+/// A folder in memory whose call with this number fails, counted from 0.
+#[derive(Drop)]
+struct Failing<'a> {
+    folder: MemoryFolder<'a>,
+    fails_at: usize,
+    calls: usize,
+    failed_listings: u64,
+    failed_reads: u64,
+}
+
+impl<'a> Folder for Failing<'a> {
+    ghost holds = { λ s. contents_of (rows_of s.folder) };
+
+    ghost failed_listings = { λ s. s.failed_listings };
+
+    ghost failed_reads = { λ s. s.failed_reads };
+
+    fn list(&mut self, alloc: Global, path: &str) -> Result<BTreeMap<String, Kind>, FolderError> {
+        let call = self.calls;
+        self.calls = usize::saturating_add(call, 1);
+        if call == self.fails_at && self.failed_listings < u64::MAX {
+            self.failed_listings += 1;
+            return Err(FolderError::Failed);
+        }
+        self.folder.list(alloc, path)
+    }
+
+    fn read(&mut self, alloc: Global, label: &Label) -> Result<Vec<u8>, FolderError> {
+        let call = self.calls;
+        self.calls = usize::saturating_add(call, 1);
+        if call == self.fails_at && self.failed_reads < u64::MAX {
+            self.failed_reads += 1;
+            return Err(FolderError::Failed);
+        }
+        self.folder.read(alloc, label)
+    }
+}
+
+fn row<'a>(path: &'a str, name: &'a str, kind: Kind, bytes: &'a [u8]) -> Row<'a> {
+    Row {
+        path,
+        name,
+        kind,
+        bytes,
+    }
+}
+
+/// What `serve_dir` answers for the root `//:a.star` of a folder with these entries, and what it wrote.
+fn served_dir<H: Threads + Wait + Sync>(
+    rt: &H,
+    alloc: Global,
+    rows: &[Row<'_>],
+    fails_at: usize,
+    fails: bool,
+    loaders: usize,
+) -> Result<(Result<bool, ServeError>, Vec<u8>), AllocError>
+    requires { (1 ≤ loaders) × (loaders ≤ 64) }
+{
+    let mut folder = Failing {
+        folder: MemoryFolder::new(rows),
+        fails_at,
+        calls: 0,
+        failed_listings: 0,
+        failed_reads: 0,
+    };
+    let mut writer = writer_of(alloc, fails);
+    let mut errors = writer_of(alloc, false);
+    let options = options_of(alloc, loaders)?;
+    let outcome = serve_dir(rt, alloc, &mut folder, &mut writer, &mut errors, &options);
+    let Kept { bytes, .. } = writer;
+    Ok((outcome, bytes))
+}
+
+fn two_files() -> [Row<'static>; 4] {
+    [
+        row("", "lib", Kind::Folder, b""),
+        row("lib", "b.star", Kind::File, b"k = 1"),
+        row("", "readme.txt", Kind::File, b"\xff"),
+        row(
+            "",
+            "a.star",
+            Kind::File,
+            b"load(\"//lib:b.star\", \"k\")\nx = k",
+        ),
+    ]
+}
+
+#[test]
+fn a_folder_is_reported(rt: HostRuntime) -> Result<(), Fail> {
+    let want =
+        "{\"begun\":2,\"modules\":[{\"globals\":{\"x\":\"1\"},\"label\":\"//:a.star\",\"lines\":[],\"status\":\"ok\"},{\"globals\":{\"k\":\"1\"},\"label\":\"//lib:b.star\",\"lines\":[],\"status\":\"ok\"}]}\n";
+    for loaders in [1, 3] {
+        let rows = two_files();
+        let (outcome, written) = served_dir(&rt, rt.alloc(), &rows, 99, false, loaders)?;
+        assert_eq!(rt; outcome, Ok(true));
+        assert_eq!(rt; written.as_slice(), want.as_bytes());
+    }
+    Ok(())
+}
+
+/// The top is listed, `a.star` read, `lib` listed and `b.star` read.
+#[test]
+fn a_folder_that_fails(rt: HostRuntime) -> Result<(), Fail> {
+    for (fails_at, want) in [
+        (0, ServeError::BadDir),
+        (1, ServeError::BadFile),
+        (2, ServeError::BadDir),
+        (3, ServeError::BadFile),
+    ] {
+        let rows = two_files();
+        let (outcome, written) = served_dir(&rt, rt.alloc(), &rows, fails_at, false, 1)?;
+        assert_eq!(rt; outcome, Err(want));
+        assert!(rt; written.is_empty());
+    }
+    let (outcome, _) = served_dir(&rt, rt.alloc(), &two_files(), 4, true, 1)?;
+    assert_eq!(rt; outcome, Err(ServeError::Write));
+    Ok(())
+}
+
+#[test]
+fn a_folder_that_is_refused(rt: HostRuntime) -> Result<(), Fail> {
+    let rows = [row("", "a.star", Kind::File, b"\xff")];
+    let (outcome, written) = served_dir(&rt, rt.alloc(), &rows, 99, false, 1)?;
+    assert_eq!(rt; outcome, Err(ServeError::NotText));
+    assert!(rt; written.is_empty());
+    let (outcome, _) = served_dir(&rt, rt.alloc(), &[], 99, false, 1)?;
+    assert_eq!(rt; outcome, Err(ServeError::NoRoot));
+    Ok(())
 }

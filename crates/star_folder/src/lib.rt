@@ -1,0 +1,13 @@
+//! The files of a folder: which they are, or why they are refused.
+#![tactic(auto)]
+
+pub mod disk;
+pub mod folder;
+pub mod law;
+pub mod memory;
+mod path;
+mod places;
+mod state;
+#[cfg(test)]
+mod tests;
+pub mod walk;
