@@ -6,6 +6,7 @@ ghost use Rattle.star_bundle.specs.Bundle as bundle;
 ghost use Rattle.star_bundle.specs.View.{asked_view};
 ghost use Rattle.star_bundle.specs.Refusal.{reads_failed, writes_failed};
 ghost use Rattle.star_host.specs.Kept.{AllGood, AreModulesOf};
+ghost use Rattle.star_host.specs.Shown.{IsReportOf};
 ghost use Rattle.starload.specs.Serve.{IsRefused, IsRefusedRun, ReadsAll, Reports, input_limit};
 ghost use Rattle.starload.specs.Stream.{Adds};
 
@@ -63,6 +64,8 @@ fn answered<H: Threads + Wait + Sync>(
     ensures cells { IfOk result (λ a. length a.run.cells ≡ length asked.now.files) }
     ensures modules { IfOk result (λ a.
         AreModulesOf asked.now.files asked.now.roots.items asked.now.prelude steps a.run.kept) }
+    ensures text { IfOk result (λ a.
+        IsReportOf asked.now.files asked.now.roots.items asked.now.prelude steps (string_bytes a.text)) }
     ensures good { IfOk result (λ a. a.all_ok ≡ true → AllGood a.run.kept) }
     ensures bad { IfOk result (λ a. a.all_ok ≡ false → AllGood a.run.kept → ⊥) }
 {
