@@ -25,7 +25,7 @@ pub enum ServeError {
     BadBundle,
     /// A key of the bundle is no label in normal form.
     BadKey,
-    /// There are more than 10,000 files, or a folder lists more than 100,000 entries.
+    /// There are more than 10,000 files, or more than 100,000 entries of folders were listed.
     TooMany,
     /// A text has more than 1,048,576 bytes.
     TooLong,

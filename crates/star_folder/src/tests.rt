@@ -1,7 +1,8 @@
-//! Folders in memory.
+//! Folders in memory, and what a test can see of the disk: that it runs in a folder without such files.
 
 ghost use Rattle.star_folder.specs.Folder.{unsaid};
 
+use crate::disk::DiskFolder;
 use crate::folder::{Folder, FolderError, Kind};
 use crate::memory::{MemoryFolder, Row};
 use crate::walk::files_in;
@@ -129,6 +130,17 @@ fn more_than_the_limits(rt: HostRuntime) -> Result<(), Fail> {
     for count in [10_001, 100_001] {
         let refused = files_in(alloc, &mut Many(count)).err();
         assert_eq!(rt; refused, Some(ServeError::TooMany));
+    }
+    Ok(())
+}
+
+#[test]
+fn folders_of_the_disk(rt: HostRuntime) -> Result<(), Fail> {
+    let alloc = rt.alloc();
+    assert!(rt; files_in(alloc, &mut DiskFolder::new(&rt, "."))?.is_empty());
+    for none in ["", "no-such-folder"] {
+        let refused = files_in(alloc, &mut DiskFolder::new(&rt, none)).err();
+        assert_eq!(rt; refused, Some(ServeError::BadDir));
     }
     Ok(())
 }

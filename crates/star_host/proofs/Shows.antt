@@ -21,8 +21,8 @@ use Rattle.star_plan.proofs.Stay.{good_is}
 use Rattle.star_cause.specs.Causes.{AreNextsOf}
 use Rattle.star_cause.specs.Ways.{Nexts}
 use Rattle.star_host.specs.Codes.{fault_of}
-use Rattle.star_host.specs.Kept.{AreModules, KeptView}
-use Rattle.star_host.specs.Shown.{AreShown, IsReportBut, IsReportValue, IsShown}
+use Rattle.star_host.specs.Kept.{AreModules, AreModulesOf, KeptView}
+use Rattle.star_host.specs.Shown.{AreShown, IsReportBut, IsReportOf, IsReportValue, IsShown}
 use Rattle.star_host.specs.Views.{IsEnd, IsModule}
 use Rattle.star_host.specs.declared.module.Ended.{Ended}
 use Rattle.star_host.specs.declared.module.Ended.TheVariants.{Static, Load as Unloaded, Stopped, Good}
@@ -114,3 +114,10 @@ value_is files plan ks vs begun v are shown is =
 pub text_is : (files : List File) (plan : Plan) (reached begun : ℕ) (v : Value) (text : List ℕ) → (has_float (view v) ≡ false → text ≡ compact_text (view v) ++ 10 ∷ []) → IsReportValue files plan reached begun v → IsReportBut files plan reached begun text
 unfolding report_text
 text_is files plan reached begun v text writes (ms, report, is) = (ms, report, writes (ap has_float is ∙ report_none files begun ms) ∙ ap (λ d. compact_text d ++ 10 ∷ []) is)
+
+-- where as many files were begun as are reached, the text is that of the report
+pub report_of : (files : List File) (roots : List ℕ) (prelude : Option ℕ) (steps : ℕ) (ks : List KeptView) (begun : ℕ) (text : List ℕ) → begun ≡ length ks → AreModulesOf files roots prelude steps ks
+    → ((plan : Plan) → IsPlanOf files plan → AreModules plan ks → IsReportBut files plan (length ks) begun text) → IsReportOf files roots prelude steps text
+report_of files roots prelude steps ks begun text count (plan, planned, of_roots, of_prelude, of_steps, are) writes =
+    let but = writes plan planned are in
+    (plan, planned, of_roots, of_prelude, of_steps, (begun, but.0, subst (λ b. IsReport plan b but.0) (sym count) but.1, but.2))

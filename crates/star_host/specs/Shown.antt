@@ -1,5 +1,5 @@
 -- How modules are shown in the report.
-use Rattle.std.specs.Prelude.{◌≡◌, ℕ, List, [], map, codes}
+use Rattle.std.specs.Prelude.{◌≡◌, ℕ, List, [], map, codes, Option}
 use Rattle.std.specs.List.{All}
 use Rattle.serde_json.specs.Data.{string}
 use Rattle.serde_json.specs.View.{view}
@@ -7,8 +7,9 @@ use Rattle.serde_json.specs.declared.value.Value.{Value}
 use Rattle.star_label.specs.Files.{File, label_at}
 use Rattle.star_plan.specs.Causes.{Cause}
 use Rattle.star_plan.specs.Plan.{Plan}
+use Rattle.star_plan.specs.Reading.{IsPlanOf}
 use Rattle.star_plan.specs.Report.{IsEnded, IsReport, Module}
-use Rattle.star_plan.specs.Text.{code_word, ill_data, load_data, module_data, report_data, report_text, static_line, static_word, well_data}
+use Rattle.star_plan.specs.Text.{IsReportText, code_word, ill_data, load_data, module_data, report_data, report_text, static_line, static_word, well_data}
 use Rattle.star_cause.specs.Causes.{IsCauseBy}
 use Rattle.star_cause.specs.Ways.{Nexts}
 use Rattle.star_module.specs.Globals.{owned}
@@ -42,3 +43,7 @@ IsReportValue files plan reached begun v = (modules : List Module) × IsReport p
 -- .. and a text is its text; where as many are begun as are reached, it is that of the report (`IsReportText`)
 abbrev pub IsReportBut : List File → Plan → ℕ → ℕ → List ℕ → Type 0
 IsReportBut files plan reached begun text = (modules : List Module) × IsReport plan reached modules × (text ≡ report_text files begun modules)
+
+-- a text is that of the report of the plan that files have for roots, a prelude and a number of steps
+abbrev pub IsReportOf : List File → List ℕ → Option ℕ → ℕ → List ℕ → Type 0
+IsReportOf files roots prelude steps text = (plan : Plan) × IsPlanOf files plan × (plan.roots ≡ roots) × (plan.prelude ≡ prelude) × (plan.steps ≡ steps) × IsReportText files plan text

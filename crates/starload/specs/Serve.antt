@@ -3,6 +3,7 @@ use Rattle.std.specs.Prelude.{◌≡◌, ⊤, ℕ, ◌≤◌, List, length, Bool
 use Rattle.starload.specs.Stream.{Adds}
 use Rattle.star_bundle.specs.Bundle.{Asked}
 use Rattle.star_host.specs.Kept.{AllGood, AreModulesOf, KeptView}
+use Rattle.star_host.specs.Shown.{IsReportOf}
 use Rattle.star_bundle.specs.declared.error.ServeError.{ServeError}
 use Rattle.star_bundle.specs.declared.error.ServeError.TheVariants.{Read, TooBig, BadBundle, BadKey, TooMany, TooLong, BadRoot, NoRoot, BadPrelude, NoPrelude, Memory, Write, Unpublished}
 
@@ -14,10 +15,10 @@ input_limit = 268435456
 abbrev pub ReadsAll : Option (List ℕ) → Option (List ℕ) → Bool → List ℕ → Type 0
 ReadsAll before after ended input = Adds before after input × (ended ≡ true) × (length input ≤ input_limit)
 
--- Between old and new one text was written for what is asked for, and nothing else; and the answer is whether each of the modules, which
+-- Between old and new the report of what is asked for was written, and nothing else; and the answer is whether each of the modules, which
 -- are those of exactly the reached files, each with its file's outcome, is good.
 abbrev pub Reports : Asked → ℕ → Option (List ℕ) → Option (List ℕ) → Bool → Type 0
-Reports asked steps old new all_ok = (text : List ℕ) × Adds old new text
+Reports asked steps old new all_ok = (text : List ℕ) × Adds old new text × IsReportOf asked.files asked.roots asked.prelude steps text
     × (modules : List KeptView) × AreModulesOf asked.files asked.roots asked.prelude steps modules
     × (all_ok ≡ true → AllGood modules) × (all_ok ≡ false → AllGood modules → ⊥)
 

@@ -6,6 +6,7 @@ ghost use Rattle.star_bundle.specs.Bundle as bundle;
 ghost use Rattle.star_bundle.specs.View.{asked_view};
 ghost use Rattle.star_bundle.specs.Refusal.{reads_failed, writes_failed};
 ghost use Rattle.star_host.specs.Kept.{AllGood, AreModulesOf};
+ghost use Rattle.star_host.specs.Shown.{IsReportOf};
 ghost use Rattle.starload.specs.Serve.{IsRefused, IsRefusedRun, ReadsAll, Reports, input_limit};
 ghost use Rattle.starload.specs.Stream.{Adds};
 
@@ -63,6 +64,8 @@ fn answered<H: Threads + Wait + Sync>(
     ensures cells { IfOk result (λ a. length a.run.cells ≡ length asked.now.files) }
     ensures modules { IfOk result (λ a.
         AreModulesOf asked.now.files asked.now.roots.items asked.now.prelude steps a.run.kept) }
+    ensures text { IfOk result (λ a.
+        IsReportOf asked.now.files asked.now.roots.items asked.now.prelude steps (string_bytes a.text)) }
     ensures good { IfOk result (λ a. a.all_ok ≡ true → AllGood a.run.kept) }
     ensures bad { IfOk result (λ a. a.all_ok ≡ false → AllGood a.run.kept → ⊥) }
 {
@@ -201,7 +204,7 @@ pub fn serve<H: Threads + Wait + Sync, R: Source, W: Sink, E: Sink>(
     requires loaders { (1 ≤ options.now.loaders) × (options.now.loaders ≤ 64) }
     requires steps { (1 ≤ options.now.steps) × (options.now.steps ≤ 100000000) }
 
-    // All was read, it is a bundle that has each root and the prelude, and its report was written.
+    // All was read, it is a bundle that has each root and the prelude, and one text was written for it, and nothing else.
     ensures ok { IfOk result (λ all_ok. (input : List ℕ)
         × ReadsAll (R.given reader.old) (R.given reader.new) (R.ended reader.new) input
         × (asked : bundle.Asked)

@@ -1,4 +1,5 @@
-use Rattle.std.proofs.Common.{refl, sym, ◌∙◌, arith}
+use Rattle.std.proofs.Common.{refl, subst, sym, ◌∙◌, arith}
+use Rattle.star_host.specs.Shown.{IsReportOf}
 use Rattle.starload.proofs.Streams.{went_well}
 use Rattle.starload.proofs.Refusals.{started_refused, started_writes}
 use Rattle.starload.proofs.serve.reported.Goals as goal
@@ -11,4 +12,4 @@ returns-in-Err-clause-writes g c = omega (arith, started_writes c.in-Err.error c
 
 pub returns-clause-ok : goal.returns-clause-ok
 returns-clause-ok g c =
-    (c.as_bytes.result.now, went_well c.write.result (sym c.is_err.ensures.value ∙ c.if-is_err.false) c.write.ensures.takes, c.in-Ok.answer.run.kept, c.in-Ok.ensures.modules, c.in-Ok.ensures.good, c.in-Ok.ensures.bad)
+    (c.as_bytes.result.now, went_well c.write.result (sym c.is_err.ensures.value ∙ c.if-is_err.false) c.write.ensures.takes, subst (IsReportOf c.args.asked.now.files c.args.asked.now.roots.items c.args.asked.now.prelude c.args.options.now.steps) (sym c.as_bytes.ensures.value) c.in-Ok.ensures.text, c.in-Ok.answer.run.kept, c.in-Ok.ensures.modules, c.in-Ok.ensures.good, c.in-Ok.ensures.bad)
