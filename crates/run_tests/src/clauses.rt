@@ -4,6 +4,7 @@ use crate::modules::good;
 use crate::samples::{cost, fault, give};
 use star_meaning::fault::Code;
 use std::alloc::{AllocError, Global};
+use std::process::Abort;
 use std::test::Fail;
 
 /// Two lists: `x`, of one pair, and `y`, of what a comprehension over it gives with so many further `for` clauses, after each of
@@ -20,20 +21,25 @@ fn with_clauses(alloc: Global, count: usize, conditions: usize) -> Result<String
     Ok(text)
 }
 
+fn many_clauses_end_over(
+    rt: &impl Abort,
+    alloc: Global,
+    count: usize,
+    conditions: usize,
+) -> Result<(), Fail> {
+    let source = with_clauses(alloc, count, conditions)?;
+    let globals = [("x", "[(1, 2)]"), ("y", "[0]")];
+    good(rt, alloc, source.as_str(), 2_000_000, &globals, &[])
+}
+
 #[test]
-fn many_clauses_end(rt: HostRuntime) -> Result<(), Fail> {
-    for (count, conditions) in [(70_000, 0), (2_000, 75)] {
-        let source = with_clauses(rt.alloc(), count, conditions)?;
-        good(
-            &rt,
-            rt.alloc(),
-            source.as_str(),
-            2_000_000,
-            &[("x", "[(1, 2)]"), ("y", "[0]")],
-            &[],
-        )?;
-    }
-    Ok(())
+fn many_for_clauses_end(rt: HostRuntime) -> Result<(), Fail> {
+    many_clauses_end_over(&rt, rt.alloc(), 20_000, 0)
+}
+
+#[test]
+fn many_conditions_end(rt: HostRuntime) -> Result<(), Fail> {
+    many_clauses_end_over(&rt, rt.alloc(), 500, 75)
 }
 
 #[test]
@@ -46,10 +52,7 @@ fn clauses_run_in_order(rt: HostRuntime) -> Result<(), Fail> {
                 "[(a, b, c) for a in [1, 2, 3] if a != 2 for b in [a, 9] if b > 1 for c in range(a) if c != 1]",
                 "[(1, 9, 0), (3, 3, 0), (3, 3, 2), (3, 9, 0), (3, 9, 2)]",
             ),
-            (
-                "{(a, b): c for a in [1, 2] for b in [] for c in [3]}",
-                "{}",
-            ),
+            ("{(a, b): c for a in [1, 2] for b in [] for c in [3]}", "{}"),
             (
                 "{a: c for a in [1, 2] for b in [3, 4] for c in [a + b] if c != 6}",
                 "{1: 5, 2: 5}",

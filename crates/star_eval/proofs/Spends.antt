@@ -14,7 +14,7 @@ use Rattle.star_meaning.specs.Laws.{Grows, Grown}
 use Rattle.star_meaning.specs.Places.{Tables, at_spot, bind_spot, by_places, frame_above, joined, new_slots, own_spot, read_spot, slot_in}
 use Rattle.star_meaning.specs.Program.{Setting, seen}
 use Rattle.star_meaning.specs.Programs.{tables_of}
-use Rattle.star_meaning.specs.Run.{State, Outcome, Done, Failed, Action, and_then, fail, found, pay}
+use Rattle.star_meaning.specs.Run.{State, Done, Failed, Action, and_then, fail, found, pay}
 use Rattle.star_meaning.specs.Targets.{to_target}
 use Rattle.star_meaning.specs.Comprehensions.{add_element, add_entry}
 use Rattle.star_meaning.specs.Values.{content, count_of, item_in, iterate, leave, take_item, with_content}
