@@ -50,7 +50,10 @@ fn text_of(alloc: Global, n: u32) -> Result<String, Fail>
     requires { n < 300 }
 {
     let text = if n < 30 {
-        format!(in alloc; "load(\":f{}.star\", \"x\")", 1000 + n - n % 3 + (n + 1) % 3)?
+        format!(in alloc;
+            "load(\":f{}.star\", \"x\")",
+            1000 + n - n % 3 + (n + 1) % 3
+        )?
     } else if n % 10 == 0 {
         format!(in alloc; "load(\":f{}.star\", y = \"x\")\nx = y", 1000 + n / 10)?
     } else if n % 10 == 1 {
@@ -66,10 +69,7 @@ pub fn rings(alloc: Global) -> Result<Files, Fail> {
     let mut files = BTreeMap::new(alloc);
     for n in 0..300u32 {
         let label = format!(in alloc; "//:f{}.star", 1000 + n)?;
-        files.insert(
-            Label::read(alloc, label.as_str(), "")?,
-            text_of(alloc, n)?,
-        )?;
+        files.insert(Label::read(alloc, label.as_str(), "")?, text_of(alloc, n)?)?;
     }
     Ok(Files::new(alloc, files)?)
 }

@@ -64,7 +64,10 @@ fn modules_are_read_while_a_body_is_held(rt: HostRuntime) -> Result<(), Fail> {
     let counts = run.per_loader();
     assert_eq!(rt; gate.alone(), 0);
     assert_eq!(rt; gate.bodies(), 4);
-    assert_eq!(rt; (counts[0].min(counts[1]), counts[0].max(counts[1])), (1, 3));
+    assert_eq!(rt;
+        (counts[0].min(counts[1]), counts[0].max(counts[1])),
+        (1, 3)
+    );
     assert_eq!(rt;
         report(alloc, &files, &mut run)?.as_str(),
         "{\"begun\":4,\"modules\":[{\"globals\":{\"x\":\"1\"},\"label\":\"//:a.star\",\"lines\":[],\"status\":\"ok\"},{\"globals\":{\"y\":\"[(3,)]\"},\"label\":\"//:b.star\",\"lines\":[],\"status\":\"ok\"},{\"globals\":{\"k\":\"(3,)\"},\"label\":\"//:c.star\",\"lines\":[],\"status\":\"ok\"},{\"globals\":{\"z\":\"([(3,)], (3,))\"},\"label\":\"//:d.star\",\"lines\":[],\"status\":\"ok\"}]}\n"

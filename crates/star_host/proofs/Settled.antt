@@ -141,7 +141,7 @@ pub reached_read : (files : List File) (plan : Plan) (row : Row) (n : ℕ) → r
 reached_read files plan row n is planned r = split (read_at row n) refl
   where
     split : (o : Option Read) → read_at row n ≡ o → IsSome o
-    split (Some x) e = tt
+    split (Some x) e = refl
     split None e = absurd (unread_not_reached files plan row n is planned e r)
 
 -- so all that holds of each file that was read holds of the reached ones

@@ -1,6 +1,6 @@
 //! Files that are read by several threads, before they are asked for.
 
-ghost use Rattle.std.specs.Prelude.{◌≡◌, ◌<◌, ◌×◌, [], All, IfOk, IfSome, List, OnOk, Option, length, vec_len};
+ghost use Rattle.std.specs.Prelude.{◌≡◌, ◌<◌, [], All, IfOk, IfSome, List, OnOk, Option, length, vec_len};
 ghost use Rattle.std.specs.Option.{option_copied};
 ghost use Rattle.star_label.specs.Files.{File};
 ghost use Rattle.star_scope.specs.declared.program.Prelude.{Prelude as PreludeView};
@@ -8,10 +8,9 @@ ghost use Rattle.star_host.specs.Readings.{AreReadAs, AreAllReadAs, IsReadAs};
 
 use crate::reading::{Found, Read, Reader};
 use std::alloc::{AllocError, Global};
-use std::mem;
 use std::sync::Wait;
-use std::thread;
 use std::thread::Threads;
+use std::{mem, thread};
 
 /// From how many files on a level is read by several threads.
 const MANY: usize = 16;
@@ -158,7 +157,8 @@ impl<'t> Found<'t> {
         if n >= self.reads.len() {
             return Ok(());
         }
-        self.add(n, read)
+        self.add(n, read)?;
+        Ok(())
     }
 
     /// Several files were read.

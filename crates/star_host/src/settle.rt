@@ -29,9 +29,10 @@ fn reached(alloc: Global, reads: &[Option<Read>]) -> Result<Vec<usize>, AllocErr
 {
     let mut numbers = Vec::new(alloc);
     for n in 0..reads.len() {
-        if is_read(reads, n) {
-            numbers.push(n)?;
+        if !is_read(reads, n) {
+            continue;
         }
+        numbers.push(n)?;
     }
     Ok(numbers)
 }
@@ -142,9 +143,11 @@ fn keep<J: Naming>(
     ensures begun { OnOk result
         (vec_len kept.new ≡ vec_len kept.old + cond (is_begun entry.old) 1 0) }
 {
-    if let Entry::Done(told) = entry {
-        kept.push(told.kept())?;
-    }
+    let Entry::Done(told) = entry else {
+        return Ok(());
+    };
+    let one = told.kept();
+    kept.push(one)?;
     Ok(())
 }
 

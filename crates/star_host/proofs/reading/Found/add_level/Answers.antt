@@ -8,13 +8,13 @@ use Rattle.std.specs.declared.result.Result.{Result}
 use Rattle.star_host.specs.declared.reading.Read.{Read}
 use Rattle.star_host.specs.Readings.{IsReadAs}
 use Rattle.star_host.proofs.PlacesRead.{all_front, all_last}
-use Rattle.star_host.proofs.ahead.Found.add_level.Goals as goal
+use Rattle.star_host.proofs.reading.Found.add_level.Goals as goal
 
 pub loop-share-preserved : goal.loop-share-preserved
 loop-share-preserved c = λ files prelude all old.
-      let Q = λ (r : Result (Vec (ℕ × Read) Global) AllocError). IfOk r (λ reads. All (λ (p : ℕ × Read). IsReadAs files prelude p.0 p.1) reads.items) in
-      let here = subst Q c.in_ok-share.was (all_last Q _ _ all) in
-      c.in_ok-add_each.ensures files prelude here (c.loop-share.invariant files prelude (all_front Q _ _ all) old)
+    let Q = λ (r : Result (Vec (ℕ × Read) Global) AllocError). IfOk r (λ reads. All (λ (p : ℕ × Read). IsReadAs files prelude p.0 p.1) reads.items) in
+    let here = subst Q c.in_ok-share.was (all_last Q _ _ all) in
+    c.in_ok-add_each.ensures files prelude here (c.loop-share.invariant files prelude (all_front Q _ _ all) old)
 
 pub returns : goal.returns
 returns c = λ files prelude all old.

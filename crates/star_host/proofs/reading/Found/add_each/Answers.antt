@@ -6,12 +6,12 @@ use Rattle.std.specs.Prelude.{All}
 use Rattle.star_host.specs.declared.reading.Read.{Read}
 use Rattle.star_host.specs.Readings.{IsReadAs}
 use Rattle.star_host.proofs.PlacesRead.{all_front, all_last}
-use Rattle.star_host.proofs.ahead.Found.add_each.Goals as goal
+use Rattle.star_host.proofs.reading.Found.add_each.Goals as goal
 
 pub loop-n-preserved : goal.loop-n-preserved
 loop-n-preserved c = λ files prelude all old.
-      let P = λ (p : ℕ × Read). IsReadAs files prelude p.0 p.1 in
-      c.in_ok-add_read.ensures files prelude (all_last P _ _ all) (c.loop-n.invariant files prelude (all_front P _ _ all) old)
+    let P = λ (p : ℕ × Read). IsReadAs files prelude p.0 p.1 in
+    c.in_ok-add_read.ensures files prelude (all_last P _ _ all) (c.loop-n.invariant files prelude (all_front P _ _ all) old)
 
 pub returns : goal.returns
 returns c = λ files prelude all old.

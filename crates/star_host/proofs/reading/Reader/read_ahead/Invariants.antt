@@ -1,6 +1,6 @@
 use Rattle.std.specs.Option.{option_copied}
 use Rattle.star_host.specs.Readings.{AreReadAs}
-use Rattle.star_host.proofs.ahead.Reader.read_ahead.Given as goal
+use Rattle.star_host.proofs.reading.Reader.read_ahead.Given as goal
 
 abbrev pub invariant-loop : goal.invariant-loop
 invariant-loop g l =
