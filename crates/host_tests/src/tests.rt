@@ -94,3 +94,24 @@ fn the_first_load_that_is_not_good_is_the_cause(rt: HostRuntime) -> Result<(), F
     }
     Ok(())
 }
+
+#[test]
+fn functions_of_another_file_keep_what_they_captured(rt: HostRuntime) -> Result<(), Fail> {
+    let bundle = [
+        (
+            "//:a.star",
+            "load(\":b.star\", \"adder\", \"get\", \"held\")\nx = adder(2)(40)\ny = get()\nz = held()",
+        ),
+        (
+            "//:b.star",
+            "def adder(n):\n    return lambda m: n + m\ndef get(k = [1, 2]):\n    return len(k)\nl = [7]\ndef held():\n    return l",
+        ),
+    ];
+    for loaders in [1, 2, 4] {
+        assert_eq!(rt;
+            report_of(&rt, rt.alloc(), &bundle, loaders)?.as_str(),
+            "{\"begun\":2,\"modules\":[{\"globals\":{\"x\":\"42\",\"y\":\"2\",\"z\":\"[7]\"},\"label\":\"//:a.star\",\"lines\":[],\"status\":\"ok\"},{\"globals\":{\"adder\":\"<function adder>\",\"get\":\"<function get>\",\"held\":\"<function held>\",\"l\":\"[7]\"},\"label\":\"//:b.star\",\"lines\":[],\"status\":\"ok\"}]}\n"
+        );
+    }
+    Ok(())
+}
