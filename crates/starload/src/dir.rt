@@ -33,7 +33,7 @@ pub fn serve_dir<H: Threads + Wait + Sync, F: Folder, W: Sink, E: Sink>(
     requires loaders { (1 ≤ options.now.loaders) × (options.now.loaders ≤ 64) }
     requires steps { (1 ≤ options.now.steps) × (options.now.steps ≤ 100000000) }
 
-    // The walk came to its end, its files have each root and the prelude, and one text was written for them, and nothing else.
+    // The walk came to its end, its files have each root and the prelude, and their report was written, and nothing else.
     ensures ok { IfOk result (λ all_ok. (files : List File) × AreFilesOf (F.holds folder.old) files
         × (asked : bundle.Asked)
         × (bundle.asked_among (map string_bytes options.now.roots.items) (option_map string_bytes options.now.prelude) files ≡ Ok asked)

@@ -204,7 +204,7 @@ pub fn serve<H: Threads + Wait + Sync, R: Source, W: Sink, E: Sink>(
     requires loaders { (1 ≤ options.now.loaders) × (options.now.loaders ≤ 64) }
     requires steps { (1 ≤ options.now.steps) × (options.now.steps ≤ 100000000) }
 
-    // All was read, it is a bundle that has each root and the prelude, and one text was written for it, and nothing else.
+    // All was read, it is a bundle that has each root and the prelude, and its report was written, and nothing else.
     ensures ok { IfOk result (λ all_ok. (input : List ℕ)
         × ReadsAll (R.given reader.old) (R.given reader.new) (R.ended reader.new) input
         × (asked : bundle.Asked)
