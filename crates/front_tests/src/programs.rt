@@ -5,7 +5,7 @@ use star_label::label::Label;
 use star_parser::parse;
 use star_scope::error::ScopeFault;
 use star_scope::program::{Prelude, Program, resolve};
-use star_syntax::tree::Tree;
+use star_tree::tree::Tree;
 use std::alloc::{AllocError, Global};
 use std::collections::BTreeMap;
 use std::test::Fail;

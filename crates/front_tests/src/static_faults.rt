@@ -7,7 +7,7 @@ use star_scope::conflicts::{block_conflict, repeated_parameter};
 use star_scope::error::{Refusal, ScopeFault, earlier};
 use star_scope::loads::find_loads;
 use star_scope::placement::misplaced;
-use star_syntax::tree::Form;
+use star_tree::tree::Form;
 use std::alloc::{AllocError, Global};
 use std::collections::BTreeMap;
 use std::test::Fail;

@@ -6,7 +6,7 @@ use star_parser::nest::too_nested;
 use star_parser::parse;
 use star_syntax::leaf::{Word, leaves};
 use star_syntax::name::is_name;
-use star_syntax::tree::{BinaryOperator, Expression, Form, Position, Target, Tree};
+use star_tree::tree::{BinaryOperator, Expression, Form, Position, Target, Tree};
 use std::alloc::{AllocError, Global};
 
 /// A letter for the answer, and the line of a fault that has one: a tree, or a bad token, indentation, nesting or syntax.

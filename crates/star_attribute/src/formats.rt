@@ -103,7 +103,7 @@ fn formatted(
         numbering = next;
     }
     out.push_str(rest)?;
-    Ok(Text::from(out))
+    Ok(Text::of(out)?)
 }
 
 /// `format(*x, **kw)`: the bytes are paid, then a new string, with the `str` of a value in the place of each `{}` (the next value),

@@ -31,7 +31,7 @@ fn want_separator(
         return Ok(Text::new(machine.alloc(), " ")?);
     };
     let text = machine.want_text(setting, line, value)?;
-    Ok(Text::new(machine.alloc(), text.as_str())?)
+    Ok(text.share()?)
 }
 
 /// The `str` of each value.
@@ -70,7 +70,7 @@ fn joined(alloc: Global, by: &Text, texts: &[Text]) -> Result<Text, AllocError>
         [first, rest @ ..] => {
             let mut line = String::from_str(alloc, first.as_str())?;
             push_texts(&mut line, by, rest)?;
-            Ok(Text::from(line))
+            Text::of(line)
         }
         [] => Text::new(alloc, ""),
     }

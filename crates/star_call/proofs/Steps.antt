@@ -4,8 +4,8 @@ use Rattle.std.proofs.Common.{◌≡◌, ℕ, ◌+◌, ◌<◌, List, [], ◌∷
 use Rattle.std.proofs.Math.Seq.{drop-cons}
 use Rattle.std.proofs.lemmas.List.{map-append}
 use Rattle.std.specs.Option.{option_and_then}
-use Rattle.star_syntax.specs.declared.tree.Name.{Name}
-use Rattle.star_syntax.specs.declared.tree.Parameter.{Parameter}
+use Rattle.star_tree.specs.declared.tree.Name.{Name}
+use Rattle.star_tree.specs.declared.tree.Parameter.{Parameter}
 use Rattle.star_scope.specs.Syntax.{parameter}
 use Rattle.star_meaning.specs.declared.given.NamedValue.{NamedValue}
 use Rattle.star_meaning.specs.Binding.{Share, Progress, also, shares, step}

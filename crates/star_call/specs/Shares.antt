@@ -2,7 +2,7 @@
 use denote.Ref.{Bor}
 use Rattle.std.specs.Prelude.{List, map}
 use Rattle.star_store.specs.declared.values.Value.{Value}
-use Rattle.star_syntax.specs.declared.tree.Name.{Name}
+use Rattle.star_tree.specs.declared.tree.Name.{Name}
 use Rattle.star_meaning.specs.declared.given.NamedValue.{NamedValue}
 use Rattle.star_meaning.specs.Binding.{Share, One, Rest, Names}
 use Rattle.star_call.specs.declared.shares.Share.{Share as HeldShare}

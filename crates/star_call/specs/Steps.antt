@@ -1,7 +1,7 @@
 -- What a step of binding of the code shows.
 use denote.Ref.{Bor}
 use Rattle.std.specs.Prelude.{List, [], ◌∷◌, Option, Some, None}
-use Rattle.star_syntax.specs.declared.tree.Name.{Name}
+use Rattle.star_tree.specs.declared.tree.Name.{Name}
 use Rattle.star_meaning.specs.declared.given.NamedValue.{NamedValue}
 use Rattle.star_meaning.specs.Binding.{Share, Progress}
 use Rattle.star_call.specs.declared.shares.Share.{Share as HeldShare}

@@ -13,7 +13,7 @@ use crate::names::{is_given, value_named};
 use crate::shares::{Share, Shares};
 use star_meaning::given::{Given, NamedValue};
 use star_store::values::Value;
-use star_syntax::tree::{Name, Parameter};
+use star_tree::tree::{Name, Parameter};
 use std::alloc::{AllocError, Global};
 
 /// Where binding stands: whether values by place can still be taken, those that are left, and the defaults that are left.

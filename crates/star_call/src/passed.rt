@@ -127,7 +127,7 @@ fn named_entry(
     let (key, value) = entry;
     match machine.content(setting, key) {
         Content::Held(Cell::Text(name)) => {
-            let name = Text::new(machine.alloc(), name.as_str())?;
+            let name = name.share()?;
             Ok(Some(NamedValue {
                 name,
                 key: Some(key),
@@ -245,7 +245,7 @@ pub fn given(
     let names = take_names(machine, line, names)?;
     let plain = with_plain(machine.alloc(), passed, &items)?;
     let named = with_named(machine.alloc(), passed, names)?;
-    if comes_twice(named.as_slice()) {
+    if comes_twice(machine.alloc(), named.as_slice())? {
         return Err(faulted(Code::Args, line));
     }
     Ok(Given { plain, named })

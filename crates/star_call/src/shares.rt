@@ -10,7 +10,7 @@ use star_machine::fault::Stop;
 use star_machine::machine::Machine;
 use star_meaning::given::NamedValue;
 use star_store::values::{Entries, Value, Values};
-use star_syntax::tree::Name;
+use star_tree::tree::Name;
 use std::marker::Model;
 
 /// What a parameter gets.
@@ -33,7 +33,7 @@ pub struct Shares<'t, 'g> {
 
 impl<'t, 'g> Model for Shares<'t, 'g> {
     ghost use Rattle.std.specs.Prelude.{List};
-    ghost use Rattle.star_syntax.specs.declared.tree.Name.{Name as AnyName};
+    ghost use Rattle.star_tree.specs.declared.tree.Name.{Name as AnyName};
     ghost use Rattle.star_meaning.specs.Binding.{Share as AnyShare};
     ghost use Rattle.star_call.specs.Shares.{all_named, all_shown};
 

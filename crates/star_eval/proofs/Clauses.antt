@@ -3,11 +3,11 @@ use Rattle.std.proofs.Common.{◌≡◌, ℕ, ◌+◌, ◌-◌, ◌<◌, ◌≤�
 use Rattle.std.proofs.lemmas.List.{take_rest}
 use denote.Ref.{Bor}
 use Rattle.star_store.specs.declared.values.Value.{Value}
-use Rattle.star_syntax.specs.declared.tree.Clause.{Clause, out-Clause, out-roll-Clause}
-use Rattle.star_syntax.specs.declared.tree.Clause.TheVariants as variant
-use Rattle.star_syntax.specs.declared.tree.Argument.TheOpen as tree
-use Rattle.star_syntax.specs.declared.tree.Expression.{Expression}
-use Rattle.star_syntax.specs.declared.tree.Target.{Target}
+use Rattle.star_tree.specs.declared.tree.Clause.{Clause, out-Clause, out-roll-Clause}
+use Rattle.star_tree.specs.declared.tree.Clause.TheVariants as variant
+use Rattle.star_tree.specs.declared.tree.Argument.TheOpen as tree
+use Rattle.star_tree.specs.declared.tree.Expression.{Expression}
+use Rattle.star_tree.specs.declared.tree.Target.{Target}
 use Rattle.star_meaning.specs.declared.place.Place.{Place}
 use Rattle.star_meaning.specs.declared.fault.Fault.{Fault}
 use Rattle.star_meaning.specs.Comprehensions.{clause_node, clause_turn, over}
@@ -20,7 +20,7 @@ use Rattle.star_meaning.specs.Run.{State, Outcome, Done, Failed, Action, and_the
 use Rattle.star_meaning.specs.Values.{is_true, iterate, leave}
 use Rattle.star_eval.specs.declared.output.Output.{Output}
 use Rattle.star_eval.specs.declared.open_clause.OpenClause.{OpenClause}
-use Rattle.star_syntax.specs.declared.tree.Clauses.{Clauses, out-Clauses}
+use Rattle.star_tree.specs.declared.tree.Clauses.{Clauses, out-Clauses}
 use Rattle.star_eval.specs.Steps.{all_left, behind, container, filled, opened_left, turn_of, turns_left}
 use Rattle.star_eval.specs.World.{World, meant, variables}
 use Rattle.star_eval.proofs.Turns.{repeat_next}

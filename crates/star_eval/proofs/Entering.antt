@@ -2,7 +2,7 @@
 use Rattle.std.proofs.Common.{◌≡◌, ℕ, List, refl, ◌∙◌}
 use Rattle.star_store.specs.declared.values.Value.{Value}
 use Rattle.star_store.specs.declared.values.Function.{Function}
-use Rattle.star_syntax.specs.declared.tree.Name.{Name}
+use Rattle.star_tree.specs.declared.tree.Name.{Name}
 use Rattle.std.specs.Prelude.{◌+◌, Some}
 use Rattle.star_scope.specs.Definitions.{Definition}
 use Rattle.star_meaning.specs.declared.place.Place.{Place}

@@ -4,9 +4,9 @@ use Rattle.std.proofs.lemmas.Bool.{ltb-false}
 use Rattle.star_store.specs.declared.values.Value.{Value}
 use Rattle.star_scope.specs.declared.spot.Spot.{Spot}
 use Rattle.star_scope.specs.declared.spot.Spot.TheVariants as spot
-use Rattle.star_syntax.specs.declared.tree.Expression.{Expression}
-use Rattle.star_syntax.specs.declared.tree.Target.{Target}
-use Rattle.star_syntax.specs.declared.tree.Name.{Name}
+use Rattle.star_tree.specs.declared.tree.Expression.{Expression}
+use Rattle.star_tree.specs.declared.tree.Target.{Target}
+use Rattle.star_tree.specs.declared.tree.Name.{Name}
 use Rattle.star_meaning.specs.declared.fault.Code.TheVariants as code
 use Rattle.star_meaning.specs.declared.fault.Fault.{Fault}
 use Rattle.star_meaning.specs.declared.place.Place.{Place}

@@ -20,7 +20,7 @@ use star_machine::machine::Machine;
 use star_meaning::place::Place;
 use star_scope::outline::Definition;
 use star_store::values::Value;
-use star_syntax::tree::Name;
+use star_tree::tree::Name;
 
 /// The definition of a function: none of another value, or where its file has none.
 fn definition_of<'t>(
@@ -55,12 +55,13 @@ pub(crate) fn bind_all(
     world: &World,
     place: Place,
     values: &[(&Name, Value)],
-)
-    ensures { bind_all world.now place (map bound_value values.now) machine.old ≡ Done tt machine.new }
+) -> Result<(), Stop>
+    ensures { Gives (bind_all world.now place (map bound_value values.now) machine.old) result machine.new }
 {
     for (name, value) in values {
-        bind(machine, world, place, *name, *value);
+        bind(machine, world, place, *name, *value)?;
     }
+    Ok(())
 }
 
 /// The place in which the body of a call runs, whose parameters have these values: its frame, which pays 1, with the parameters in
@@ -82,7 +83,7 @@ fn enter_with(
         frame,
         line,
     };
-    bind_all(machine, world, place, values);
+    bind_all(machine, world, place, values)?;
     machine.activate(called.file, called.number)?;
     Ok(place)
 }

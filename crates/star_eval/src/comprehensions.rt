@@ -18,7 +18,7 @@ use star_machine::machine::Machine;
 use star_machine::subscript::put_entry;
 use star_store::arena::write::Change;
 use star_store::values::Value;
-use star_syntax::tree::{Clause, Clauses, Entry, Expression};
+use star_tree::tree::{Clause, Clauses, Entry, Expression};
 
 /// A list comprehension: the first iterable, its frame, the list, the clauses.
 #[cycle(run)]

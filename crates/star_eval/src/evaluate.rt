@@ -37,7 +37,7 @@ use star_meaning::fault::Code;
 use star_meaning::given::Given;
 use star_scope::outline::{Body, Definition};
 use star_store::values::{Entries, Value, Values};
-use star_syntax::tree::{Argument, Entry, Expression, Parameter};
+use star_tree::tree::{Argument, Entry, Expression, Parameter};
 
 /// The value of an expression. `Deep` where no level is left; a node pays 1 as it begins.
 #[cycle(run)]

@@ -22,7 +22,7 @@ use star_machine::subscript::{index, set_index};
 use star_meaning::fault::Code;
 use star_meaning::place::Flow;
 use star_store::values::Value;
-use star_syntax::tree::{Arm, BinaryOperator, Expression, Form, Statement, Target};
+use star_tree::tree::{Arm, BinaryOperator, Expression, Form, Statement, Target};
 
 /// How a statement ends. `Deep` where no level is left; it pays 1 as it begins. One of the running module's own file gives a fault
 /// its line.
@@ -112,7 +112,7 @@ fn execute_form(
             let token = statement.position.token;
             let text = name.text.as_str();
             let value = make_function(machine, world, context, token, text, parameters.as_slice())?;
-            bind(machine, world, context.place, name, value);
+            bind(machine, world, context.place, name, value)?;
             Ok(Flow::Next)
         }
     }
@@ -235,8 +235,7 @@ fn augment_target(
             let old = read(machine, world, context.place, name)?;
             let by = evaluate(machine, world, context, value)?;
             let new = augmented(machine, world, context, operator, old, by)?;
-            bind(machine, world, context.place, name, new);
-            Ok(())
+            bind(machine, world, context.place, name, new)
         }
         Target::Index { value: base, index } => {
             let parts = read_target(machine, world, context, base.get(), index.get())?;
@@ -269,8 +268,7 @@ pub(crate) fn assign_to(
     ensures { Gives (to_target (variables world.now) (meant world.now context.levels) context.place target.now value machine.old) result machine.new }
 {
     if let Target::Name(name) = target {
-        bind(machine, world, context.place, name, value);
-        return Ok(());
+        return bind(machine, world, context.place, name, value);
     }
     assign(machine, world, context, target, value)
 }
@@ -306,10 +304,7 @@ fn assign_node(
     ensures { Gives (target_node (variables world.now) world.now.setting context.levels (meant world.now context.levels) context.place (form.target target.now) value machine.old) result machine.new }
 {
     match target {
-        Target::Name(name) => {
-            bind(machine, world, context.place, name, value);
-            Ok(())
-        }
+        Target::Name(name) => { bind(machine, world, context.place, name, value) }
         Target::Index { value: base, index } => {
             let base = evaluate(machine, world, context, base.get())?;
             let at = evaluate(machine, world, context, index.get())?;

@@ -9,7 +9,7 @@ use star_label::files::Files as Labels;
 use star_machine::programs::Programs;
 use star_scope::error::ScopeFault;
 use star_scope::program::{Prelude, Program, resolve};
-use star_syntax::tree::{Statement, Tree};
+use star_tree::tree::{Statement, Tree};
 use std::alloc::{AllocError, Global};
 use std::marker::Model;
 
@@ -28,7 +28,7 @@ impl<'a, 't> Model for Files<'a, 't> {
     ghost Value = { PlacedFiles };
 
     ghost use Rattle.std.specs.Coded.{codes};
-    ghost use Rattle.star_syntax.specs.contracts.tree.Statement as statement;
+    ghost use Rattle.star_tree.specs.contracts.tree.Statement as statement;
 
     ghost coded = { Prim.hlevel (codes, statement.the_row.coded) };
 

@@ -16,7 +16,7 @@ use star_machine::machine::Machine;
 use star_meaning::fault::Code;
 use star_store::arena::Frozen;
 use star_store::values::Value;
-use star_syntax::tree::{LoadedName, Position};
+use star_tree::tree::{LoadedName, Position};
 
 /// The published module of a load statement.
 fn published<'w>(world: &'w World<'_, '_>, position: Position) -> Option<&'w Frozen>
@@ -51,8 +51,7 @@ fn load_name(
     let Some(value) = global(published, name) else {
         return Err(faulted(Code::NoName, context.place.line));
     };
-    bind(machine, world, context.place, &name.local, value);
-    Ok(())
+    bind(machine, world, context.place, &name.local, value)
 }
 
 /// Binds loaded names, one after another.

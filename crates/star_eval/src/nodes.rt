@@ -3,7 +3,7 @@
 ghost use Rattle.std.specs.Prelude.{◌≡◌};
 ghost use Rattle.star_machine.specs.Gives.{Gives};
 ghost use Rattle.star_meaning.specs.Expressions.{node};
-ghost use Rattle.star_syntax.specs.declared.tree.Argument.TheOpen as tree;
+ghost use Rattle.star_tree.specs.declared.tree.Argument.TheOpen as tree;
 ghost use Rattle.star_eval.specs.World.{meant, variables};
 
 use crate::context::Context;
@@ -19,7 +19,7 @@ use star_machine::operators::{operate, prefix};
 use star_machine::slices::slice;
 use star_machine::subscript::index;
 use star_store::values::Value;
-use star_syntax::tree::{BinaryOperator, Comparator, Entry, Expression, Name, UnaryOperator};
+use star_tree::tree::{BinaryOperator, Comparator, Entry, Expression, Name, UnaryOperator};
 
 /// A tuple: its items in order, then 1 and one for each.
 #[cycle(run)]

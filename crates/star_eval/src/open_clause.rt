@@ -3,7 +3,7 @@
 ghost use Rattle.std.specs.Prelude.{◌≡◌, ◌+◌, ◌<◌};
 
 use star_store::values::Value;
-use star_syntax::tree::{Clause, Target};
+use star_tree::tree::{Clause, Target};
 
 /// A `for` clause that is open: its value is being iterated.
 #[derive(Clone, Copy)]

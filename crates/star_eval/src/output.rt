@@ -4,7 +4,7 @@ ghost use Rattle.std.specs.Prelude.{◌≡◌};
 ghost use Rattle.star_eval.specs.Steps.{container};
 
 use star_store::values::Value;
-use star_syntax::tree::{Entry, Expression};
+use star_tree::tree::{Entry, Expression};
 
 /// What a comprehension adds behind its clauses, and to which list or dictionary.
 #[derive(Clone, Copy)]

@@ -24,8 +24,8 @@ use star_meaning::place::{Flow, Place};
 use star_method::lists::extend;
 use star_method::pairs::update_with;
 use star_store::values::{Cell, Entries, Function, Value, Values};
-use star_syntax::tree::{BinaryOperator, Statement};
 use star_text::Text;
+use star_tree::tree::{BinaryOperator, Statement};
 
 /// Where a statement runs: one of the running module's own file gives a fault its line.
 pub(crate) fn place_of(world: &World, context: Context, statement: &Statement) -> Place
@@ -65,7 +65,7 @@ pub(crate) fn answer_of(flow: Flow) -> Value
 pub(crate) fn new_string(machine: &mut Machine, line: usize, text: &Text) -> Result<Value, Stop>
     ensures { Gives (new_text line text.now machine.old) result machine.new }
 {
-    let copy = Text::new(machine.alloc(), text.as_str())?;
+    let copy = text.share()?;
     machine.new_text(line, copy)
 }
 

@@ -19,8 +19,9 @@ use star_meaning::fault::Code;
 use star_meaning::place::Place;
 use star_scope::spot::Spot;
 use star_store::names::BuiltIn;
-use star_store::values::{Cell, Frame, Slots, Value};
-use star_syntax::tree::Name;
+use star_store::slots::Slots;
+use star_store::values::{Cell, Frame, Value};
+use star_tree::tree::Name;
 use std::alloc::{AllocError, Global};
 
 /// The frame to which a value leads: none for another value.
@@ -208,21 +209,19 @@ fn own_spot(spot: Option<Spot>) -> Option<usize>
 
 /// Gives a name of the innermost frame a value.
 #[tactic(auto, unfolding(star_meaning::specs::Places::bind_spot))]
-pub fn bind(machine: &mut Machine, world: &World, place: Place, name: &Name, value: Value)
-    ensures { bind_spot (tables_of world.now.files) place name.now value machine.old ≡ Done tt machine.new }
+pub fn bind(
+    machine: &mut Machine,
+    world: &World,
+    place: Place,
+    name: &Name,
+    value: Value,
+) -> Result<(), Stop>
+    ensures { Gives (bind_spot (tables_of world.now.files) place name.now value machine.old) result machine.new }
 {
-    if let Some(slot) = own_spot(world.spot(place.file, name.position.token)) {
-        machine.bind(place.frame, slot, value);
+    match own_spot(world.spot(place.file, name.position.token)) {
+        Some(slot) => machine.bind(place.frame, slot, value),
+        None => Ok(()),
     }
-}
-
-/// So many slots, all of them unbound.
-fn unbound(alloc: Global, count: usize) -> Result<Slots, AllocError>
-    ensures { IfOk result (λ slots. slots ≡ replicate count None) }
-{
-    let mut values = Vec::new(alloc);
-    values.resize(count, None)?;
-    Ok(Slots::new(values))
 }
 
 /// The frame of a block of a file, in which all names are unbound.
@@ -235,7 +234,7 @@ fn frame_cell(
 ) -> Result<Cell, AllocError>
     ensures { IfOk result (λ c. c ≡ Cell.Frame (record { file = file; block = block; parent = parent; slots = replicate ((tables_of world.now.files).slots file block) None })) }
 {
-    let slots = unbound(alloc, world.slots(file, block as usize))?;
+    let slots = Slots::unbound(alloc, world.slots(file, block as usize))?;
     Ok(Cell::Frame(Frame {
         file,
         block,

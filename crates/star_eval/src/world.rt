@@ -31,9 +31,9 @@ impl<'a, 't> Model for World<'a, 't> {
     ghost Value = { Given };
 
     ghost use Rattle.std.specs.Coded.{codes};
-    ghost use Rattle.star_syntax.specs.contracts.tree.Expression as expression;
-    ghost use Rattle.star_syntax.specs.contracts.tree.Parameter as parameter;
-    ghost use Rattle.star_syntax.specs.contracts.tree.Statement as statement;
+    ghost use Rattle.star_tree.specs.contracts.tree.Expression as expression;
+    ghost use Rattle.star_tree.specs.contracts.tree.Parameter as parameter;
+    ghost use Rattle.star_tree.specs.contracts.tree.Statement as statement;
 
     ghost coded = { Prim.hlevel (codes, expression.the_row.coded, parameter.the_row.coded, statement.the_row.coded) };
 

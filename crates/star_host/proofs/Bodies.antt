@@ -9,7 +9,7 @@ use Rattle.star_label.specs.Files.{File}
 use Rattle.star_scope.specs.declared.loads.Load.{Load}
 use Rattle.star_scope.specs.declared.program.Program.{Program}
 use Rattle.star_store.specs.Store.{Published, Shelf, put_up}
-use Rattle.star_syntax.specs.declared.tree.Statement.{Statement}
+use Rattle.star_tree.specs.declared.tree.Statement.{Statement}
 use Rattle.star_meaning.specs.Module.{local, start}
 use Rattle.star_meaning.specs.Places.{AllFit}
 use Rattle.star_meaning.specs.Program.{Setting}
@@ -25,6 +25,7 @@ use Rattle.star_plan.specs.Runs.{ArePlaced, MayRun, given_over}
 use Rattle.star_plan.specs.Shelves.{HoldsNeeds, IsTight}
 use Rattle.star_plan.proofs.Ready.{files_may_run}
 use Rattle.star_host.specs.Bodies.{IsOwnIn, IsRan, world_over}
+use Rattle.star_host.specs.Reaches.{row_of}
 use Rattle.star_host.specs.Readings.{Row, read_at, reading_of, readings}
 use Rattle.star_host.specs.Views.{AreGoodLoads, AreStores, IsBody}
 use Rattle.star_host.specs.declared.module.Body.{Body}
@@ -93,7 +94,7 @@ pub loads_in_row : (plan : Plan) (row : Row) (n : ℕ) (p : Program) → reading
 loads_in_row plan row n p is e = sym (loads_are plan row n is ∙ ap (λ o. loads_in (option_map reading_of o)) e)
 
 -- what a good run left
-pub body_is : (plan : Plan) (n : ℕ) (o : Outcome) (frozen : Published) (b : Body) → o ≡ outcome.Good frozen b.shown b.lines → IsRan plan n o → AreStores plan n b.stores.items → IsBody plan n b
+pub body_is : (plan : Plan) (n : ℕ) (o : Outcome) (frozen : Published) (b : Body) → o ≡ outcome.Good frozen b.shown b.lines → IsRan plan n o → AreStores plan n (row_of b.stores) → IsBody plan n b
 body_is plan n o frozen b e ran stores =
     let r : IsRan plan n (outcome.Good frozen b.shown b.lines) = subst (IsRan plan n) e ran in
     record { shelf = put_up r.over.home frozen r.over.shelf; globals = frozen.globals; outcome = r.outcome; stores = stores }

@@ -8,6 +8,7 @@ pub mod KeptNotes
 pub mod Ends
 pub mod Opens
 pub mod Stores
+pub mod RefusedLoads
 pub mod Bodies
 pub mod NextLoads
 pub mod Settled

@@ -5,7 +5,7 @@ use Rattle.std.specs.List.{flat_map}
 use Rattle.std.specs.Option.{option_map}
 use Rattle.std.proofs.lemmas.List.Elements.{All-append}
 use Rattle.star_label.specs.Files.{File}
-use Rattle.star_syntax.specs.declared.tree.Position.{Position}
+use Rattle.star_tree.specs.declared.tree.Position.{Position}
 use Rattle.star_scope.specs.declared.loads.Lead.{Lead}
 use Rattle.star_scope.specs.declared.loads.Lead.TheVariants as lead
 use Rattle.star_scope.specs.declared.loads.Load.{Load}

@@ -1,11 +1,11 @@
 -- Stores that are gathered for a file.
 use Rattle.std.proofs.Common.{◌≡◌, ◌+◌, ◌<◌, ◌⊎◌, inl, inr, ℕ, zero, suc, true, false, List, [], ◌∷◌, ◌++◌, map, length, get_or, Option, Some, None, Result, Ok, Err, refl, ap, sym, ◌∙◌, subst, arith}
 use denote.Ref.{Bor}
-use Rattle.std.specs.Prelude.{All, Contains, OnOk, is_some, slice_get}
-use Rattle.std.specs.Arc.{arc_value}
+use Rattle.std.specs.Prelude.{All, Contains, IfOk, OnOk, is_some, slice_get}
+use Rattle.std.specs.declared.alloc.AllocError.{AllocError}
 use Rattle.std.specs.Option.{option_copied, option_flatten, option_map}
-use Rattle.std.proofs.lemmas.List.{get_or_default, length-map, map-append}
-use Rattle.std.proofs.lemmas.List.Elements.{All-append, Contains-append_left, Contains-append_right}
+use Rattle.std.proofs.lemmas.List.{get_or-append-add, get_or-map, get_or_append_left, get_or_default, length-append, length-map, map-append}
+use Rattle.std.proofs.lemmas.List.Elements.{All-append, All-nil, Contains-append_left, Contains-append_right}
 use Rattle.std.proofs.lemmas.Option.{slice_get-get_or, slice_get-map}
 use Rattle.star_cache.specs.State.{Loads}
 use Rattle.star_cache.specs.Walk.{LeadsTo}
@@ -19,52 +19,64 @@ use Rattle.star_plan.proofs.Shelves.{from_put, one-own}
 use Rattle.star_plan.proofs.Tight.{put_up-tight}
 use Rattle.star_plan.proofs.Union.{put_up-keeps, put_up-own}
 use Rattle.star_host.specs.Bodies.{AreNeeded, HasStore, IsGathered}
+use Rattle.star_host.specs.Reaches.{ReachView, StoreRowView, row_of}
 use Rattle.star_host.specs.Views.{AreGoodLoads, AreStores, IsEnd, IsGoodModule, IsModule}
 use Rattle.star_host.specs.declared.module.Body.{Body}
 use Rattle.star_host.specs.declared.module.Ended.TheVariants.{Good}
 use Rattle.star_host.specs.declared.module.Module.{Module}
-use Rattle.star_host.specs.declared.module.Reach.{Reach}
 use Rattle.star_host.proofs.Finds.{all_one, by_cases, contains_here, same_or_not}
 
-abbrev numbers : List Reach → List ℕ
-numbers rs = map (λ (r : Reach). r.number) rs
+abbrev numbers : List ReachView → List ℕ
+numbers rs = map (λ (r : ReachView). r.number) rs
 
-listed_front : (rs : List Reach) (r : Reach) (k : ℕ) → Contains (numbers rs) k → Contains (numbers (rs ++ r ∷ [])) k
-listed_front rs r k c = subst (λ ns. Contains ns k) (sym (map-append (λ (x : Reach). x.number) rs (r ∷ []))) (Contains-append_left (numbers rs) (r.number ∷ []) k c)
+listed_front : (rs : List ReachView) (r : ReachView) (k : ℕ) → Contains (numbers rs) k → Contains (numbers (rs ++ r ∷ [])) k
+listed_front rs r k c = subst (λ ns. Contains ns k) (sym (map-append (λ (x : ReachView). x.number) rs (r ∷ []))) (Contains-append_left (numbers rs) (r.number ∷ []) k c)
 
-listed_last : (rs : List Reach) (r : Reach) (k : ℕ) → r.number ≡ k → Contains (numbers (rs ++ r ∷ [])) k
-listed_last rs r k e = subst (λ ns. Contains ns k) (sym (map-append (λ (x : Reach). x.number) rs (r ∷ []))) (Contains-append_right (numbers rs) (r.number ∷ []) k (subst (Contains (r.number ∷ [])) e (contains_here r.number)))
+listed_last : (rs : List ReachView) (r : ReachView) (k : ℕ) → r.number ≡ k → Contains (numbers (rs ++ r ∷ [])) k
+listed_last rs r k e = subst (λ ns. Contains ns k) (sym (map-append (λ (x : ReachView). x.number) rs (r ∷ []))) (Contains-append_right (numbers rs) (r.number ∷ []) k (subst (Contains (r.number ∷ [])) e (contains_here r.number)))
 
-pub gathered_new : (plan : Plan) (n : ℕ) → IsGathered plan n [] []
-gathered_new plan n = record {
+-- stores that are needed, none of which is on the shelf yet
+pub gathered_over : (plan : Plan) (n : ℕ) (rs : List ReachView) → AreNeeded plan n rs → IsGathered plan n [] rs
+gathered_over plan n rs needed = record {
   tight = λ k e. absurd (let no : ⊥ = omega (arith, e) in no);
   needed = λ k p e. absurd (let no : ⊥ = cc in no);
   listed = λ k h. absurd (nowhere k h);
-  reaches = λ i d lt. absurd (let no : ⊥ = omega (arith, lt) in no);
+  reaches = needed;
 }
   where
     nowhere : (k : ℕ) → HasStore [] k → ⊥
     nowhere k (p, e) = let no : ⊥ = cc in no
 
+pub gathered_new : (plan : Plan) (n : ℕ) → IsGathered plan n [] []
+gathered_new plan n = gathered_over plan n [] (λ i d lt. absurd (let no : ⊥ = omega (arith, lt) in no))
+
+put_same : (r : ReachView) (h : ℕ) (p : Published) (shelf after : Shelf) → h ≡ r.number → p ≡ r.store → after ≡ put_up h p shelf → after ≡ put_up r.number r.store shelf
+put_same r h p shelf after number store e = e ∙ (ap (λ k. put_up k p shelf) number ∙ ap (λ q. put_up r.number q shelf) store)
+
+-- one of the row is put on the shelf
+pub gathered_seat : (plan : Plan) (n : ℕ) (shelf : Shelf) (rs : List ReachView) (h : ℕ) (p : Published) → IsGathered plan n shelf rs → Needs plan n h → IsOwn plan h p → Contains (numbers rs) h → IsGathered plan n (put_up h p shelf) rs
+gathered_seat plan n shelf rs h p g needs own listed = record {
+  tight = put_up-tight shelf h p g.tight;
+  needed = λ k q e. by_cases (from_put (is_taken (slice_get shelf h)) h p shelf k q e) (λ old. g.needed k q old) (λ new. (subst (Needs plan n) (sym new.0) needs, subst (IsOwn plan k) new.1 (subst (λ i. IsOwn plan i p) (sym new.0) own)));
+  listed = λ k x. by_cases (from_put (is_taken (slice_get shelf h)) h p shelf k x.0 x.1) (λ old. g.listed k (x.0, old)) (λ new. subst (Contains (numbers rs)) (sym new.0) listed);
+  reaches = g.reaches;
+}
+
+pub seat_by : (plan : Plan) (n : ℕ) (shelf after : Shelf) (rs : List ReachView) (r : ReachView) (h : ℕ) (p : Published) → h ≡ r.number → p ≡ r.store → after ≡ put_up h p shelf → IsGathered plan n shelf rs → Needs plan n r.number → IsOwn plan r.number r.store → Contains (numbers rs) r.number → IsGathered plan n after rs
+seat_by plan n shelf after rs r h p number store e g needs own listed = subst (λ s. IsGathered plan n s rs) (sym (put_same r h p shelf after number store e)) (gathered_seat plan n shelf rs r.number r.store g needs own listed)
+
 -- one more in the row, which is not on the shelf yet
-pub gathered_row : (plan : Plan) (n : ℕ) (shelf : Shelf) (rs : List Reach) (r : Reach) → IsGathered plan n shelf rs → Needs plan n r.number → IsOwn plan r.number (arc_value r.store) → IsGathered plan n shelf (rs ++ r ∷ [])
+pub gathered_row : (plan : Plan) (n : ℕ) (shelf : Shelf) (rs : List ReachView) (r : ReachView) → IsGathered plan n shelf rs → Needs plan n r.number → IsOwn plan r.number r.store → IsGathered plan n shelf (rs ++ r ∷ [])
 gathered_row plan n shelf rs r g needs own = record {
   tight = g.tight;
   needed = g.needed;
   listed = λ k h. listed_front rs r k (g.listed k h);
-  reaches = All-append (λ (x : Reach). Needs plan n x.number × IsOwn plan x.number (arc_value x.store)) rs (r ∷ []) g.reaches (all_one (λ (x : Reach). Needs plan n x.number × IsOwn plan x.number (arc_value x.store)) r (needs, own));
+  reaches = All-append (λ (x : ReachView). Needs plan n x.number × IsOwn plan x.number x.store) rs (r ∷ []) g.reaches (all_one (λ (x : ReachView). Needs plan n x.number × IsOwn plan x.number x.store) r (needs, own));
 }
 
 -- one more on the shelf as well
-pub gathered_both : (plan : Plan) (n : ℕ) (shelf : Shelf) (rs : List Reach) (r : Reach) (p : Published) → arc_value r.store ≡ p → IsGathered plan n shelf rs → Needs plan n r.number → IsOwn plan r.number p → IsGathered plan n (put_up r.number p shelf) (rs ++ r ∷ [])
-gathered_both plan n shelf rs r p same g needs own =
-    let row = gathered_row plan n shelf rs r g needs (subst (IsOwn plan r.number) (sym same) own) in
-    record {
-      tight = put_up-tight shelf r.number p g.tight;
-      needed = λ k q e. by_cases (from_put (is_taken (slice_get shelf r.number)) r.number p shelf k q e) (λ old. g.needed k q old) (λ new. (subst (Needs plan n) (sym new.0) needs, subst (IsOwn plan k) new.1 (subst (λ i. IsOwn plan i p) (sym new.0) own)));
-      listed = λ k h. by_cases (from_put (is_taken (slice_get shelf r.number)) r.number p shelf k h.0 h.1) (λ old. row.listed k (h.0, old)) (λ new. listed_last rs r k (sym new.0));
-      reaches = row.reaches;
-    }
+pub gathered_both : (plan : Plan) (n : ℕ) (shelf : Shelf) (rs : List ReachView) (r : ReachView) → IsGathered plan n shelf rs → Needs plan n r.number → IsOwn plan r.number r.store → IsGathered plan n (put_up r.number r.store shelf) (rs ++ r ∷ [])
+gathered_both plan n shelf rs r g needs own = gathered_seat plan n shelf (rs ++ r ∷ []) r.number r.store (gathered_row plan n shelf rs r g needs own) needs own (listed_last rs r r.number refl)
 
 free : (o : Option (Option Published)) → option_flatten o ≡ None → is_taken o ≡ false
 free None e = refl
@@ -89,25 +101,51 @@ has_still shelf h p k x = (x.0, put_up-keeps h p shelf k x.0 x.1)
 pub needed_by_load : (plan : Plan) (n m k : ℕ) → Loads (loaded plan) n m → LeadsTo (Loads (loaded plan)) m k → Needs plan n k
 needed_by_load plan n m k l w = (m, l, w)
 
-pub needed_of : (plan : Plan) (n m : ℕ) (rs : List Reach) → Loads (loaded plan) n m → AreStores plan m rs → AreNeeded plan n rs
+pub needed_of : (plan : Plan) (n m : ℕ) (rs : List ReachView) → Loads (loaded plan) n m → AreStores plan m rs → AreNeeded plan n rs
 needed_of plan n m rs l s i d lt = let one = s.own i d lt in ((m, l, one.0), one.1)
 
-pub all_there : (plan : Plan) (m : ℕ) (rs : List Reach) (shelf : Shelf) → AreStores plan m rs → All (λ (r : Reach). HasStore shelf r.number) rs → (k : ℕ) → LeadsTo (Loads (loaded plan)) m k → HasStore shelf k
+-- what holds of two rows together
+pub front_of : {X : Type 0} (P : X → Type 0) (xs ys : List X) → All P (xs ++ ys) → All P xs
+front_of P xs ys all i d lt = subst P (get_or_append_left xs ys d i lt) (all i d (let long = length-append xs ys in omega (arith, lt, long)))
+
+pub back_of : {X : Type 0} (P : X → Type 0) (xs ys : List X) → All P (xs ++ ys) → All P ys
+back_of P xs ys all i d lt = subst P (get_or-append-add xs ys i d) (all (length xs + i) d (let long = length-append xs ys in omega (arith, lt, long)))
+
+-- what holds of all holds of the one at a place
+pub at_place : {X : Type 0} (P : X → Type 0) (xs : List X) (i : ℕ) (x : X) → i < length xs → x ≡ get_or xs i x → All P xs → P x
+at_place P xs i x inside is all = subst P (sym is) (all i x inside)
+
+-- the first stores of a row are in it
+pub front_listed : (rs qs : List ReachView) → All (λ (s : ReachView). Contains (numbers (rs ++ qs)) s.number) rs
+front_listed rs qs i d lt =
+    let x : ℕ = (get_or rs i d).number in
+    let long = length-map rs (λ (r : ReachView). r.number) in
+    let inside : i < length (numbers rs) = omega (arith, lt, long) in
+    subst (λ ns. Contains ns x) (sym (map-append (λ (r : ReachView). r.number) rs qs)) (Contains-append_left (numbers rs) (numbers qs) x (i, inside, get_or-map (λ (r : ReachView). r.number) rs i d x lt))
+
+-- so far as a row is shared, its stores are needed as all of them are
+pub needed_front : (plan : Plan) (n : ℕ) (rs qs : List ReachView) → AreNeeded plan n (rs ++ qs) → AreNeeded plan n (rs ++ [])
+needed_front plan n rs qs all = All-append P rs [] (front_of P rs qs all) (All-nil P)
+  where
+    P : ReachView → Type 0
+    P r = Needs plan n r.number × IsOwn plan r.number r.store
+
+pub all_there : (plan : Plan) (m : ℕ) (rs : List ReachView) (shelf : Shelf) → AreStores plan m rs → All (λ (r : ReachView). HasStore shelf r.number) rs → (k : ℕ) → LeadsTo (Loads (loaded plan)) m k → HasStore shelf k
 all_there plan m rs shelf s all k w =
     let c = s.all k w in
-    let inside : c.0 < length rs = let l = length-map rs (λ (r : Reach). r.number) in let h = c.1 in omega (arith, l, h) in
+    let inside : c.0 < length rs = let l = length-map rs (λ (r : ReachView). r.number) in let h = c.1 in omega (arith, l, h) in
     by_place c.0 inside (slice_get-get_or (numbers rs) c.0 k c.1) c.2
   where
     by_place : (i : ℕ) → i < length rs → slice_get (numbers rs) i ≡ Some (get_or (numbers rs) i k) → get_or (numbers rs) i k ≡ k → HasStore shelf k
     by_place i inside at e = pick rs all i inside (at ∙ ap Some e)
       where
-        pick : (xs : List Reach) → All (λ (r : Reach). HasStore shelf r.number) xs → (j : ℕ) → j < length xs → slice_get (numbers xs) j ≡ Some k → HasStore shelf k
+        pick : (xs : List ReachView) → All (λ (r : ReachView). HasStore shelf r.number) xs → (j : ℕ) → j < length xs → slice_get (numbers xs) j ≡ Some k → HasStore shelf k
         pick [] h j less q = absurd (let no : ⊥ = omega (arith, less) in no)
         pick (x ∷ xs) h zero less q = let same : x.number ≡ k = cc in subst (HasStore shelf) same (h 0 x (omega arith))
         pick (x ∷ xs) h (suc j) less q = pick xs (λ i d lt. h (suc i) d (omega (arith, lt))) j (omega (arith, less)) q
 
 -- all that the loads lead to was gathered
-pub holds_needs : (plan : Plan) (n : ℕ) (shelf : Shelf) (rs : List Reach) → IsGathered plan n shelf rs
+pub holds_needs : (plan : Plan) (n : ℕ) (shelf : Shelf) (rs : List ReachView) → IsGathered plan n shelf rs
     → ((i m : ℕ) → slice_get (loaded plan n) i ≡ Some m → (k : ℕ) → LeadsTo (Loads (loaded plan)) m k → HasStore shelf k) → HoldsNeeds plan n shelf
 holds_needs plan n shelf rs g all k p = (λ e. g.needed k p e, λ h. back h)
   where
@@ -120,8 +158,8 @@ holds_needs plan n shelf rs g all k p = (λ e. g.needed k p e, λ h. back h)
         has.1 ∙ ap (λ x. Some (Some x)) same
 
 -- the row has all that is needed
-pub all_listed : (plan : Plan) (n : ℕ) (shelf : Shelf) (rs : List Reach) → IsGathered plan n shelf rs
-    → ((i m : ℕ) → slice_get (loaded plan n) i ≡ Some m → (k : ℕ) → LeadsTo (Loads (loaded plan)) m k → HasStore shelf k) → (k : ℕ) → Needs plan n k → Contains (map (λ (r : Reach). r.number) rs) k
+pub all_listed : (plan : Plan) (n : ℕ) (shelf : Shelf) (rs : List ReachView) → IsGathered plan n shelf rs
+    → ((i m : ℕ) → slice_get (loaded plan n) i ≡ Some m → (k : ℕ) → LeadsTo (Loads (loaded plan)) m k → HasStore shelf k) → (k : ℕ) → Needs plan n k → Contains (map (λ (r : ReachView). r.number) rs) k
 all_listed plan n shelf rs g all k needs =
     let m : ℕ = needs.0 in
     let place = needs.1 in
@@ -135,14 +173,18 @@ needs_lead : (plan : Plan) (n k : ℕ) → Needs plan n k → LeadsTo (Loads (lo
 needs_lead plan n k (m, l, w) = (suc w.0, (m, l, w.1))
 
 -- the stores of all that a file needs, and its own
-pub stores_are : (plan : Plan) (n : ℕ) (rs : List Reach) (r : Reach) → AreNeeded plan n rs → ((k : ℕ) → Needs plan n k → Contains (map (λ (x : Reach). x.number) rs) k) → r.number ≡ n → IsOwn plan n (arc_value r.store) → AreStores plan n (rs ++ r ∷ [])
+pub stores_are : (plan : Plan) (n : ℕ) (rs : List ReachView) (r : ReachView) → AreNeeded plan n rs → ((k : ℕ) → Needs plan n k → Contains (map (λ (x : ReachView). x.number) rs) k) → r.number ≡ n → IsOwn plan n r.store → AreStores plan n (rs ++ r ∷ [])
 stores_are plan n rs r needed all number own = record {
-  own = All-append P rs (r ∷ []) (λ i d lt. let one = needed i d lt in (needs_lead plan n (get_or rs i d).number one.0, one.1)) (all_one P r ((0, sym number), subst (λ k. IsOwn plan k (arc_value r.store)) (sym number) own));
+  own = All-append P rs (r ∷ []) (λ i d lt. let one = needed i d lt in (needs_lead plan n (get_or rs i d).number one.0, one.1)) (all_one P r ((0, sym number), subst (λ k. IsOwn plan k r.store) (sym number) own));
   all = λ k w. by_cases (lead_cases plan n k w) (λ e. listed_last rs r k (number ∙ e)) (λ needs. listed_front rs r k (all k needs));
 }
   where
-    P : Reach → Type 0
-    P x = LeadsTo (Loads (loaded plan)) n x.number × IsOwn plan x.number (arc_value x.store)
+    P : ReachView → Type 0
+    P x = LeadsTo (Loads (loaded plan)) n x.number × IsOwn plan x.number x.store
+
+pub settled_are : (plan : Plan) (n : ℕ) (rs : List ReachView) (o : Result StoreRowView AllocError) → IfOk o (λ s. row_of s ≡ rs) → AreStores plan n rs → IfOk o (λ s. AreStores plan n (row_of s))
+settled_are plan n rs (Ok s) e are = subst (AreStores plan n) (sym e) are
+settled_are plan n rs (Err x) e are = tt
 
 pub has_some : (shelf : Shelf) (k : ℕ) (o : Option (Bor Published)) → option_copied o ≡ option_flatten (slice_get shelf k) → is_some o ≡ true → HasStore shelf k
 has_some shelf k None e h = absurd (let no : ⊥ = cc in no)
@@ -152,18 +194,18 @@ pub taken_none : (shelf : Shelf) (k : ℕ) (o : Option (Bor Published)) → opti
 taken_none shelf k None e h = sym e
 taken_none shelf k (Some p) e h = absurd (let no : ⊥ = cc in no)
 
-pub row_by : (plan : Plan) (n : ℕ) (shelf after : Shelf) (rs more : List Reach) (r : Reach) → after ≡ shelf → more ≡ rs ++ r ∷ [] → IsGathered plan n shelf rs → Needs plan n r.number → IsOwn plan r.number (arc_value r.store) → IsGathered plan n after more
+pub row_by : (plan : Plan) (n : ℕ) (shelf after : Shelf) (rs more : List ReachView) (r : ReachView) → after ≡ shelf → more ≡ rs ++ r ∷ [] → IsGathered plan n shelf rs → Needs plan n r.number → IsOwn plan r.number r.store → IsGathered plan n after more
 row_by plan n shelf after rs more r e f g needs own = subst (λ s. IsGathered plan n s more) (sym e) (subst (IsGathered plan n shelf) (sym f) (gathered_row plan n shelf rs r g needs own))
 
-pub both_by : (plan : Plan) (n : ℕ) (shelf after : Shelf) (rs more : List Reach) (r : Reach) (p : Published) → after ≡ put_up r.number p shelf → more ≡ rs ++ r ∷ [] → arc_value r.store ≡ p → IsGathered plan n shelf rs → Needs plan n r.number → IsOwn plan r.number p → IsGathered plan n after more
-both_by plan n shelf after rs more r p e f same g needs own = subst (λ s. IsGathered plan n s more) (sym e) (subst (IsGathered plan n (put_up r.number p shelf)) (sym f) (gathered_both plan n shelf rs r p same g needs own))
+pub both_by : (plan : Plan) (n : ℕ) (shelf after : Shelf) (rs more : List ReachView) (r : ReachView) (h : ℕ) (p : Published) → h ≡ r.number → p ≡ r.store → after ≡ put_up h p shelf → more ≡ rs ++ r ∷ [] → IsGathered plan n shelf rs → Needs plan n r.number → IsOwn plan r.number r.store → IsGathered plan n after more
+both_by plan n shelf after rs more r h p number store e f g needs own = subst (λ s. IsGathered plan n s more) (sym (put_same r h p shelf after number store e)) (subst (IsGathered plan n (put_up r.number r.store shelf)) (sym f) (gathered_both plan n shelf rs r g needs own))
 
-pub more_there : (shelf : Shelf) (rs : List Reach) (i : ℕ) (it : Reach) → it ≡ get_or rs i it → i < length rs → ((k : ℕ) (d : Reach) → k < i → HasStore shelf (get_or rs k d).number) → HasStore shelf it.number → (k : ℕ) (d : Reach) → k < i + 1 → HasStore shelf (get_or rs k d).number
+pub more_there : (shelf : Shelf) (rs : List ReachView) (i : ℕ) (it : ReachView) → it ≡ get_or rs i it → i < length rs → ((k : ℕ) (d : ReachView) → k < i → HasStore shelf (get_or rs k d).number) → HasStore shelf it.number → (k : ℕ) (d : ReachView) → k < i + 1 → HasStore shelf (get_or rs k d).number
 more_there shelf rs i it is inside before here k d less = by_cases (same_or_not k i)
-    (λ e. subst (λ j. HasStore shelf (get_or rs j d).number) (sym e) (subst (λ (x : Reach). HasStore shelf x.number) (is ∙ get_or_default rs i it d inside) here))
+    (λ e. subst (λ j. HasStore shelf (get_or rs j d).number) (sym e) (subst (λ (x : ReachView). HasStore shelf x.number) (is ∙ get_or_default rs i it d inside) here))
     (λ ne. before k d (omega (arith, less, ne)))
 
-pub good_stores : (plan : Plan) (n : ℕ) (m : Module) (b : Body) → m.ended ≡ Good b → IsModule plan n m → AreStores plan n b.stores.items
+pub good_stores : (plan : Plan) (n : ℕ) (m : Module) (b : Body) → m.ended ≡ Good b → IsModule plan n m → AreStores plan n (row_of b.stores)
 good_stores plan n m b e is = (subst (IsEnd plan n) e is.ended).stores
 
 pub on_ok : {T E A B : Type 0} (r : Result T E) → (A → B) → OnOk r A → OnOk r B

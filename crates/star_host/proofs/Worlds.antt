@@ -7,7 +7,7 @@ use Rattle.std.proofs.lemmas.Option.{slice_get-map, slice_get_within}
 use Rattle.star_cache.specs.State.{Loads}
 use Rattle.star_label.specs.Files.{File, text_at}
 use Rattle.star_lex.specs.declared.token.SyntaxFault.TheVariants as syntax
-use Rattle.star_syntax.specs.declared.tree.Tree.{Tree}
+use Rattle.star_tree.specs.declared.tree.Tree.{Tree}
 use Rattle.star_parser.specs.Sources.{Parses}
 use Rattle.star_scope.specs.declared.loads.Load.{Load}
 use Rattle.star_scope.specs.declared.program.Prelude.{Prelude}

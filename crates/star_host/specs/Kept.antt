@@ -9,6 +9,7 @@ use Rattle.star_host.specs.Views.{IsModule, ended_well}
 use Rattle.star_host.specs.declared.module.Ended.{Ended}
 use Rattle.star_host.specs.declared.module.Ended.TheVariants.{Static, Load as Unloaded, Stopped, Good}
 use Rattle.star_host.specs.declared.module.Module.{Module}
+use Rattle.star_host.specs.declared.trace.Refused.{Refused}
 
 pub record KeptView : Type 0 where
   pub number : ℕ
@@ -20,6 +21,7 @@ pub record RunView : Type 0 where
   pub kept : List KeptView
   pub begun : ℕ
   pub per_loader : List ℕ
+  pub refused : List Refused
 
 -- the load that is not good is one of so many
 abbrev pub IsLoadBelow : ℕ → Ended → Type 0

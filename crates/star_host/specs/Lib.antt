@@ -2,6 +2,7 @@ pub mod Codes
 pub mod Readings
 pub mod Found
 pub mod Fits
+pub mod Reaches
 pub mod Views
 pub mod Bodies
 pub mod Refusals

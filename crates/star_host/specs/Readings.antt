@@ -4,7 +4,7 @@ use Rattle.std.specs.Option.{option_map, option_flatten}
 use Rattle.star_label.specs.Files.{File, text_at}
 use Rattle.star_lex.specs.declared.token.SyntaxFault.{SyntaxFault}
 use Rattle.star_lex.specs.declared.token.SyntaxFault.TheVariants as syntax
-use Rattle.star_syntax.specs.declared.tree.Tree.{Tree}
+use Rattle.star_tree.specs.declared.tree.Tree.{Tree}
 use Rattle.star_parser.specs.Sources.{Parses}
 use Rattle.star_scope.specs.declared.loads.Load.{Load}
 use Rattle.star_scope.specs.declared.program.Prelude.{Prelude}

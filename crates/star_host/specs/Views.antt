@@ -1,6 +1,5 @@
 -- What has become of a file, as it is told: its outcome.
 use Rattle.std.specs.Prelude.{◌≡◌, ◌<◌, ℕ, Bool, true, false, List, Option, Some, All, Contains, length, map, slice_get}
-use Rattle.std.specs.Arc.{arc_value}
 use Rattle.star_cache.specs.State.{Loads}
 use Rattle.star_cache.specs.Walk.{LeadsTo}
 use Rattle.star_label.specs.Files.{File}
@@ -14,11 +13,11 @@ use Rattle.star_plan.specs.Results.{IsGood, IsOutcome, Ran, Static as StaticOutc
 use Rattle.star_plan.specs.Shelves.{IsOwn}
 use Rattle.star_host.specs.Codes.{fault_of}
 use Rattle.star_host.specs.Fits.{IsAsked}
+use Rattle.star_host.specs.Reaches.{ReachView, row_of}
 use Rattle.star_host.specs.declared.module.Body.{Body}
 use Rattle.star_host.specs.declared.module.Ended.{Ended}
 use Rattle.star_host.specs.declared.module.Ended.TheVariants.{Static, Load as Unloaded, Stopped, Good}
 use Rattle.star_host.specs.declared.module.Module.{Module}
-use Rattle.star_host.specs.declared.module.Reach.{Reach}
 
 abbrev pub ended_well : Ended → Bool
 ended_well (Static f) = false
@@ -27,8 +26,8 @@ ended_well (Stopped code line lines) = false
 ended_well (Good body) = true
 
 -- these are the stores of the file n and of all files to which its loads lead: each file's own
-pub record AreStores (plan : Plan) (n : ℕ) (rs : List Reach) : Type 0 where
-  pub own : All (λ r. LeadsTo (Loads (loaded plan)) n r.number × IsOwn plan r.number (arc_value r.store)) rs
+pub record AreStores (plan : Plan) (n : ℕ) (rs : List ReachView) : Type 0 where
+  pub own : All (λ r. LeadsTo (Loads (loaded plan)) n r.number × IsOwn plan r.number r.store) rs
   pub all : (k : ℕ) → LeadsTo (Loads (loaded plan)) n k → Contains (map (λ r. r.number) rs) k
 
 -- what is left of the file n, whose outcome is a run that went well: the texts of its globals, its lines, and the stores
@@ -36,7 +35,7 @@ pub record IsBody (plan : Plan) (n : ℕ) (b : Body) : Type 0 where
   pub shelf : Shelf
   pub globals : List (List ℕ × Value)
   pub outcome : IsOutcome plan n (Ran (WentWell shelf globals (owned b.shown.items) b.lines.items))
-  pub stores : AreStores plan n b.stores.items
+  pub stores : AreStores plan n (row_of b.stores)
 
 -- the file n ended so: with its outcome
 abbrev pub IsEnd : Plan → ℕ → Ended → Type 0

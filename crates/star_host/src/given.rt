@@ -1,38 +1,39 @@
-//! What a body is given of other files: the stores of all files that it needs.
+//! What a body is given of other files: the stores of all files that it needs. With its own they are what others are given.
 
-ghost use Rattle.std.specs.Prelude.{◌≡◌, ◌<◌, ℕ, Some, All, Contains, IfOk, OnOk, length, map, slice_get};
-ghost use Rattle.std.specs.Arc.{arc_value};
+ghost use Rattle.std.specs.Prelude.{◌≡◌, ◌<◌, ℕ, Some, All, Contains, IfOk, IfSome, OnOk, length, map, slice_get};
 ghost use Rattle.star_cache.specs.State.{Loads};
 ghost use Rattle.star_cache.specs.Walk.{LeadsTo};
 ghost use Rattle.star_plan.specs.Plan.{loaded, loads_of};
 ghost use Rattle.star_plan.specs.Shelves.{HoldsNeeds, IsOwn, Needs};
 ghost use Rattle.star_host.specs.Bodies.{AreNeeded, HasStore, IsGathered};
-ghost use Rattle.star_host.specs.Views.{AreGoodLoads, IsGoodModule};
+ghost use Rattle.star_host.specs.Reaches.{row_of};
+ghost use Rattle.star_host.specs.Views.{AreGoodLoads, AreStores, IsGoodModule};
 
-use crate::module::{Ended, Module, Reach};
+use crate::module::{Ended, Module};
 use crate::naming::Naming;
+use crate::store_row::{Reach, StoreRow};
 use star_store::arena::{Frozen, Homes};
 use std::alloc::{AllocError, Global};
 use std::marker::{Model, PhantomData};
-use std::sync::Arc;
 
 /// The stores that were gathered for a file: as a run is given them, and as those share them that load this file.
 #[derive(Drop)]
 pub(crate) struct Given<'s, J: Naming> {
     file: usize,
     homes: Homes<'s>,
-    reaches: Vec<Reach>,
+    reaches: StoreRow,
     of: PhantomData<J>,
 }
 
 impl<'s, J: Naming> Model for Given<'s, J> {
     ghost use Rattle.star_host.specs.Bodies.{GivenView, IsGathered};
+    ghost use Rattle.star_host.specs.Reaches.{row_of};
 
     ghost Value = { GivenView };
 
-    ghost view = { λ g. record { file = g.file; shelf = g.homes; reaches = g.reaches.items } };
+    ghost view = { λ g. record { file = g.file; shelf = g.homes; reaches = row_of g.reaches } };
 
-    ghost invariant = { λ g. IsGathered J.plan g.file g.homes g.reaches.items };
+    ghost invariant = { λ g. IsGathered J.plan g.file g.homes (row_of g.reaches) };
 }
 
 impl<'s, J: Naming> Given<'s, J> {
@@ -43,41 +44,106 @@ impl<'s, J: Naming> Given<'s, J> {
         Given {
             file,
             homes: Homes::new(alloc),
-            reaches: Vec::new(alloc),
+            reaches: StoreRow::new(alloc),
             of: PhantomData,
         }
     }
 
+    /// The stores that the row of a load shares.
+    fn over(alloc: Global, file: usize, it: &'s Module) -> Result<Given<'s, J>, AllocError>
+        requires load { Loads (loaded J.plan) file it.now.number }
+        requires good { IsGoodModule J.plan it.now.number it.now }
+        ensures { IfOk result (λ g. g.file ≡ file) }
+    {
+        match &it.ended {
+            Ended::Good(body) => Given::over_row(alloc, file, &body.stores),
+            _ => unreachable!(),
+        }
+    }
+
+    /// The stores that this row shares.
+    fn over_row(
+        alloc: Global,
+        file: usize,
+        stores: &'s StoreRow,
+    ) -> Result<Given<'s, J>, AllocError>
+        requires { AreNeeded J.plan file (row_of stores.now) }
+        ensures { IfOk result (λ g. g.file ≡ file) }
+    {
+        let reaches = StoreRow::over(alloc, stores)?;
+        let mut given = Given {
+            file,
+            homes: Homes::new(alloc),
+            reaches,
+            of: PhantomData,
+        };
+        given.seat_each(stores.base())?;
+        Ok(given)
+    }
+
+    /// A store that is in the row already is put on the shelf.
+    fn seat(&mut self, reach: &'s Reach) -> Result<(), AllocError>
+        requires needed { Needs J.plan self.old.file reach.now.number }
+        requires own { IsOwn J.plan reach.now.number reach.now.store }
+        requires listed { Contains (map (λ r. r.number) self.old.reaches) reach.now.number }
+        ensures file { self.new.file ≡ self.old.file }
+        ensures row { self.new.reaches ≡ self.old.reaches }
+    {
+        self.homes.add(reach.number(), reach.store())?;
+        Ok(())
+    }
+
+    /// So are several.
+    fn seat_each(&mut self, stores: &'s [Reach]) -> Result<(), AllocError>
+        requires needed { AreNeeded J.plan self.old.file stores.now }
+        requires listed { All (λ s. Contains (map (λ r. r.number) self.old.reaches) s.number) stores.now }
+        ensures file { self.new.file ≡ self.old.file }
+    {
+        for reach in stores {
+            self.seat(reach)?;
+        }
+        Ok(())
+    }
+
     /// One store more, unless its file has one.
-    fn add(&mut self, number: u32, store: &'s Arc<Frozen>) -> Result<(), AllocError>
-        requires needed { Needs J.plan self.old.file number }
-        requires own { IsOwn J.plan number (arc_value store.now) }
+    fn add(&mut self, reach: &'s Reach) -> Result<(), AllocError>
+        requires needed { Needs J.plan self.old.file reach.now.number }
+        requires own { IsOwn J.plan reach.now.number reach.now.store }
         ensures file { self.new.file ≡ self.old.file }
         ensures stays { (k : ℕ) → HasStore self.old.shelf k → HasStore self.new.shelf k }
-        ensures there { OnOk result (HasStore self.new.shelf number) }
+        ensures there { OnOk result (HasStore self.new.shelf reach.now.number) }
     {
+        let number = reach.number();
         if self.homes.published(number as usize).is_some() {
             return Ok(());
         }
-        let store_too = Arc::try_clone(store)?;
-        self.reaches.push(Reach {
-            number,
-            store: store_too,
-        })?;
-        self.homes.add(number, &**store)?;
+        self.reaches.push_again(reach)?;
+        self.homes.add(number, reach.store())?;
         Ok(())
     }
 
     /// Several stores more.
-    fn add_all(&mut self, stores: &'s [Reach]) -> Result<(), AllocError>
+    fn add_each(&mut self, stores: &'s [Reach]) -> Result<(), AllocError>
         requires { AreNeeded J.plan self.old.file stores.now }
         ensures file { self.new.file ≡ self.old.file }
         ensures stays { (k : ℕ) → HasStore self.old.shelf k → HasStore self.new.shelf k }
         ensures there { OnOk result (All (λ r. HasStore self.new.shelf r.number) stores.now) }
     {
         for reach in stores {
-            self.add(reach.number, &reach.store)?;
+            self.add(reach)?;
         }
+        Ok(())
+    }
+
+    /// The stores of a row.
+    fn add_row(&mut self, stores: &'s StoreRow) -> Result<(), AllocError>
+        requires { AreNeeded J.plan self.old.file (row_of stores.now) }
+        ensures file { self.new.file ≡ self.old.file }
+        ensures stays { (k : ℕ) → HasStore self.old.shelf k → HasStore self.new.shelf k }
+        ensures there { OnOk result (All (λ r. HasStore self.new.shelf r.number) (row_of stores.now)) }
+    {
+        self.add_each(stores.base())?;
+        self.add_each(stores.more())?;
         Ok(())
     }
 
@@ -91,7 +157,7 @@ impl<'s, J: Naming> Given<'s, J> {
             ((k : ℕ) → LeadsTo (Loads (loaded J.plan)) it.now.number k → HasStore self.new.shelf k) }
     {
         match &it.ended {
-            Ended::Good(body) => self.add_all(&body.stores),
+            Ended::Good(body) => self.add_row(&body.stores),
             _ => unreachable!(),
         }
     }
@@ -108,10 +174,10 @@ impl<'s, J: Naming> Given<'s, J> {
     }
 
     /// The stores for a run, and those to be shared.
-    pub(crate) fn parts(self) -> (Homes<'s>, Vec<Reach>)
+    pub(crate) fn parts(self) -> (Homes<'s>, StoreRow)
         ensures shelf { result.0 ≡ self.entry.shelf }
-        ensures reaches { result.1.items ≡ self.entry.reaches }
-        ensures gathered { IsGathered J.plan self.entry.file result.0 result.1.items }
+        ensures reaches { row_of result.1 ≡ self.entry.reaches }
+        ensures gathered { IsGathered J.plan self.entry.file result.0 (row_of result.1) }
     {
         let Given {
             file: _,
@@ -120,6 +186,37 @@ impl<'s, J: Naming> Given<'s, J> {
             of: _,
         } = self;
         (homes, reaches)
+    }
+}
+
+/// The place of the module that shares the most stores: none where no module shares any.
+fn widest(modules: &[&Module]) -> Option<usize>
+    ensures { IfSome result (λ i. i < length modules.now) }
+{
+    let mut most = 0;
+    let mut place = None;
+    for i in 0..modules.len() {
+        let shared = modules[i].shared();
+        if shared > most {
+            most = shared;
+            place = Some(i);
+        }
+    }
+    place
+}
+
+/// What is gathered first: what the module shares that shares the most, and all that the others have is added to it.
+fn begun<'s, J: Naming>(
+    alloc: Global,
+    n: usize,
+    modules: &[&'s Module],
+) -> Result<Given<'s, J>, AllocError>
+    requires { AreGoodLoads J.plan n (length (loads_of J.plan n)) (map (λ m. m.now) modules.now) }
+    ensures { IfOk result (λ g. g.file ≡ n) }
+{
+    match widest(modules) {
+        Some(i) => Given::over(alloc, n, modules[i]),
+        None => Ok(Given::new(alloc, n)),
     }
 }
 
@@ -134,10 +231,28 @@ pub(crate) fn gathered<'s, J: Naming>(
     ensures holds { IfOk result (λ g. HoldsNeeds J.plan n g.shelf) }
     ensures listed { IfOk result (λ g. (k : ℕ) → Needs J.plan n k → Contains (map (λ r. r.number) g.reaches) k) }
 {
-    let mut given = Given::new(alloc, n);
+    let mut given = begun::<J>(alloc, n, modules)?;
     for it in modules {
         given.add_load(*it)?;
     }
     given.all_needed(n);
     Ok(given)
+}
+
+/// The stores of a file: its own, and those of all files that it needs.
+pub(crate) fn stores_of<J: Naming>(
+    alloc: Global,
+    home: u32,
+    store: Frozen,
+    reaches: StoreRow,
+) -> Result<StoreRow, AllocError>
+    requires own { IsOwn J.plan home store }
+    requires needed { AreNeeded J.plan home (row_of reaches) }
+    requires all { (k : ℕ) → Needs J.plan home k → Contains (map (λ r. r.number) (row_of reaches)) k }
+    ensures { IfOk result (λ stores. AreStores J.plan home (row_of stores)) }
+{
+    let mut stores = reaches;
+    let own = Reach::new(alloc, home, store)?;
+    stores.push(own)?;
+    stores.settled(alloc)
 }

@@ -16,6 +16,7 @@ pub mod report;
 mod running;
 mod settle;
 mod shelf;
+pub mod store_row;
 mod table;
 mod told;
 mod trace;

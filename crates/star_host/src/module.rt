@@ -4,23 +4,15 @@ ghost use Rattle.std.specs.Prelude.{◌≡◌};
 ghost use Rattle.star_host.specs.Views.{ended_well};
 
 use crate::code::StaticFault;
+use crate::store_row::StoreRow;
 use star_meaning::fault::Code;
-use star_store::arena::Frozen;
 use star_text::Text;
-use std::sync::Arc;
-
-/// The store of a file, which all that reach it share.
-#[derive(Drop)]
-pub struct Reach {
-    pub number: u32,
-    pub store: Arc<Frozen>,
-}
 
 /// What a run left that went well.
 #[derive(Drop)]
 pub struct Body {
     /// The stores of the file and of all files to which its loads lead.
-    pub stores: Vec<Reach>,
+    pub stores: StoreRow,
     /// Each global with its text, in byte order of the names.
     pub shown: Vec<(String, Text)>,
     pub lines: Vec<Text>,
@@ -60,5 +52,13 @@ impl Module {
         ensures { result ≡ ended_well self.now.ended }
     {
         matches!(&self.ended, Ended::Good(_))
+    }
+
+    /// How many of its stores others may share: how much room that saves them.
+    pub(crate) fn shared(&self) -> usize {
+        match &self.ended {
+            Ended::Good(body) => body.stores.base().len(),
+            _ => 0,
+        }
     }
 }

@@ -54,7 +54,13 @@ impl Model for Run {
 
     ghost Value = { RunView };
 
-    ghost view = { λ r. record { cells = r.shelf; kept = r.kept.items; begun = r.begun; per_loader = r.per_loader } };
+    ghost view = { λ r. record {
+      cells = r.shelf;
+      kept = r.kept.items;
+      begun = r.begun;
+      per_loader = r.per_loader;
+      refused = r.refused.items;
+    } };
 
     ghost invariant = { λ r. AllKept r.shelf r.kept.items };
 }
@@ -87,7 +93,9 @@ impl Run {
     }
 
     /// The loads that were refused since they lie on a load cycle.
-    pub fn refused(&self) -> &[Refused] {
+    pub fn refused(&self) -> &[Refused]
+        ensures { result.now ≡ self.now.refused }
+    {
         self.refused.as_slice()
     }
 

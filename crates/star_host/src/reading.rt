@@ -13,7 +13,7 @@ use star_label::files::Files as Labels;
 use star_parser::parse;
 use star_scope::loads::Load;
 use star_scope::program::{Prelude, Program, resolve};
-use star_syntax::tree::Tree;
+use star_tree::tree::Tree;
 use std::alloc::{AllocError, Global};
 use std::sync::Wait;
 use std::thread::Threads;

@@ -1,6 +1,6 @@
 //! The run: each loader asks for all roots.
 
-ghost use Rattle.std.specs.Prelude.{◌≡◌, ◌<◌, ◌≤◌, ℕ, None, Some, length, map, sum, vec_len, IfOk, IfSome, OnOk};
+ghost use Rattle.std.specs.Prelude.{◌≡◌, ◌<◌, ◌≤◌, ◌⊎◌, ℕ, None, Some, length, map, sum, vec_len, IfOk, IfSome, OnOk};
 ghost use Rattle.std.specs.Option.{option_copied};
 ghost use Rattle.star_cache.specs.Seats.{AreAll};
 ghost use Rattle.star_plan.specs.Reading.{IsPrelude};
@@ -9,6 +9,7 @@ ghost use Rattle.star_host.specs.Found.{IsReadOf, Within};
 ghost use Rattle.star_host.specs.Frames.{IsWorld};
 ghost use Rattle.star_host.specs.Kept.{AllKept, AreModules, AreModulesOf};
 ghost use Rattle.star_host.specs.Readings.{table_of};
+ghost use Rattle.star_host.specs.Refusals.{AreRefusals, AreRefusalsOf};
 ghost use Rattle.star_cache.specs.State.{HasEnded, begun_count};
 ghost use Rattle.star_plan.specs.Reached.{IsReached};
 
@@ -31,7 +32,7 @@ use star_flow::{Flow, Graph};
 use star_label::files::Files as Labels;
 use star_scope::error::ScopeFault;
 use star_scope::program::Prelude;
-use star_syntax::tree::Tree;
+use star_tree::tree::Tree;
 use std::alloc::{AllocError, Global};
 use std::marker::Brand;
 use std::sync::Wait;
@@ -44,7 +45,7 @@ use std::thread::Threads;
 pub enum RunError {
     /// A growth was refused.
     Memory,
-    /// A cell of the shelf did not take its module.
+    /// A module was not published: a cell of the shelf did not take it, or its file was given up and no loader says why.
     Unpublished,
 }
 
@@ -64,7 +65,7 @@ impl From<LoadError> for RunError {
     fn from(error: LoadError) -> RunError {
         match error {
             LoadError::Memory => RunError::Memory,
-            LoadError::Spoiled => RunError::Memory,
+            LoadError::Spoiled => RunError::Unpublished,
             LoadError::Unpublished => RunError::Unpublished,
         }
     }
@@ -113,7 +114,8 @@ fn add_file<'s, 'r, 'p, 't>(
     Ok(())
 }
 
-/// One loader takes files all of whose loads have ended, as long as there are some.
+/// One loader takes files all of whose loads have ended, as long as there are some. Where it could not go on with one,
+/// the reason.
 fn take_ready<'s, 'r, 'p, 't, J: Naming, R: Wait, G: Gate>(
     rt: &R,
     common: &Common<'s, 'r, 'p, 't>,
@@ -122,20 +124,19 @@ fn take_ready<'s, 'r, 'p, 't, J: Naming, R: Wait, G: Gate>(
     seat: &mut Seat<Told<J>>,
     flow: &Flow,
     trace: &Trace<J>,
-) -> Result<(), LoadError>
+) -> Option<LoadError>
     requires world { IsWorld J.files J.plan J.shelf common.now }
     requires within { IsWithin J.files J.plan }
     ensures number { seat.new.number ≡ seat.old.number }
 {
-    let mut done = Ok(());
+    let mut error = None;
     let mut ended = None;
     for _ in rt.forever() {
         let Some(n) = flow.take(rt, ended) else {
-            return done;
+            return error;
         };
-        if let Err(why) = settle_one(rt, common, gate, cache, seat, n, trace) {
-            done = Err(why);
-        }
+        let settled = settle_one(rt, common, gate, cache, seat, n, trace);
+        error = reason(error, settled.err());
         ended = Some(n);
     }
     unreachable!()
@@ -163,7 +164,7 @@ fn work<'s, 'r, 'p, 't, J: Naming, R: Wait, G: Gate>(
     let mut seat = seat;
     let mut error = None;
     if loaders > 1 {
-        error = take_ready(rt, common, gate, cache, &mut seat, flow, trace).err();
+        error = take_ready(rt, common, gate, cache, &mut seat, flow, trace);
     }
     let count = roots.len();
     if count == 0 {
@@ -172,9 +173,8 @@ fn work<'s, 'r, 'p, 't, J: Naming, R: Wait, G: Gate>(
     let first = first_place(seat.number(), loaders, count);
     for i in 0..count {
         let root = root_at::<J>(roots, place(first, i, count));
-        if let Err(why) = load(rt, common, gate, cache, &mut seat, root, trace) {
-            error = Some(why);
-        }
+        let told = load(rt, common, gate, cache, &mut seat, root, trace);
+        error = reason(error, told.err());
     }
     Worked { seat, error }
 }
@@ -209,13 +209,16 @@ fn spread<'s, 'r, 'p, 't, J: Naming + Send + Sync, R: Threads + Wait + Sync, G: 
     )
 }
 
-/// The error that says why: a loader that met what another had given up is no reason itself.
-fn reason(first: Option<LoadError>, then: Option<LoadError>) -> Option<LoadError>
-    ensures { result ≡ None → (first ≡ None) × (then ≡ None) }
+/// The first error that says why: that a file was met which was given up before is no reason itself.
+fn reason(first: Option<LoadError>, next: Option<LoadError>) -> Option<LoadError>
+    ensures none { result ≡ None → (first ≡ None) × (next ≡ None) }
+    ensures one { (result ≡ first) ⊎ (result ≡ next) }
+    ensures spoiled { result ≡ Some LoadError.Spoiled
+        → IfSome first (λ e. e ≡ LoadError.Spoiled) × IfSome next (λ e. e ≡ LoadError.Spoiled) }
 {
     match first {
-        None => then,
-        Some(LoadError::Spoiled) => then.or(first),
+        None => next,
+        Some(LoadError::Spoiled) => next.or(first),
         Some(_) => first,
     }
 }
@@ -264,6 +267,7 @@ fn run_named<'s, 'r, 'p, 't, J: Naming + Send + Sync, R: Threads + Wait + Sync, 
     ensures modules { IfOk result (λ c. AreModules J.plan c.kept.items) }
     ensures begun { IfOk result (λ c. c.begun ≡ vec_len c.kept) }
     ensures sum { IfOk result (λ c. sum c.per_loader ≡ c.begun) }
+    ensures refused { IfOk result (λ c. AreRefusals J.plan c.refused.items) }
 {
     let alloc = common.alloc;
     let trace = Trace::<J>::new(alloc)?;
@@ -294,6 +298,7 @@ fn closed_of<J: Naming>(
     ensures modules { IfOk result (λ c. AreModules J.plan c.kept.items) }
     ensures begun { IfOk result (λ c. c.begun ≡ vec_len c.kept) }
     ensures sum { IfOk result (λ c. sum c.per_loader ≡ c.begun) }
+    ensures refused { IfOk result (λ c. AreRefusals J.plan c.refused.items) }
 {
     let (book, per_loader) = closed;
     let begun = book.begun();
@@ -368,6 +373,7 @@ fn run_over<'s, 't, R: Threads + Wait + Sync, G: Gate + Sync>(
     ensures modules { IfOk result (λ c. AreModulesOf files.now roots.now prelude steps c.kept.items) }
     ensures begun { IfOk result (λ c. c.begun ≡ vec_len c.kept) }
     ensures sum { IfOk result (λ c. sum c.per_loader ≡ c.begun) }
+    ensures refused { IfOk result (λ c. AreRefusalsOf files.now roots.now prelude steps c.refused.items) }
 {
     let reader = Reader {
         alloc,
@@ -407,6 +413,7 @@ fn run_read<'s, 'r, 'p, 't, R: Threads + Wait + Sync, G: Gate + Sync>(
     ensures modules { IfOk result (λ c. AreModulesOf files.now roots.now prelude steps c.kept.items) }
     ensures begun { IfOk result (λ c. c.begun ≡ vec_len c.kept) }
     ensures sum { IfOk result (λ c. sum c.per_loader ≡ c.begun) }
+    ensures refused { IfOk result (λ c. AreRefusalsOf files.now roots.now prelude steps c.refused.items) }
 {
     let common = Common {
         alloc,
@@ -421,7 +428,8 @@ fn run_read<'s, 'r, 'p, 't, R: Threads + Wait + Sync, G: Gate + Sync>(
     run_named::<Brand, R, G>(rt, &common, gate, roots, loaders, blank)
 }
 
-/// Loads the roots by so many loaders: the modules of exactly the reached files, in order, each with its outcome.
+/// Loads the roots by so many loaders: the modules of exactly the reached files, in order, each with its outcome; and
+/// loads that were refused, each of which lies on a cycle of loads.
 /// `steps` is what each body may take; the roots and the prelude are numbers of files. `Memory` where a growth was
 /// refused.
 pub fn run<R: Threads + Wait + Sync, G: Gate + Sync>(
@@ -442,6 +450,7 @@ pub fn run<R: Threads + Wait + Sync, G: Gate + Sync>(
     ensures modules { IfOk result (λ r. AreModulesOf files.now roots.now prelude steps r.kept) }
     ensures begun { IfOk result (λ r. r.begun ≡ length r.kept) }
     ensures sum { IfOk result (λ r. sum r.per_loader ≡ r.begun) }
+    ensures refused { IfOk result (λ r. AreRefusalsOf files.now roots.now prelude steps r.refused) }
 {
     let modules = Shelf::new(alloc, files.len())?;
     let trees = boxcar::Vec::new(alloc)?;

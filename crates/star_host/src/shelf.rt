@@ -46,11 +46,6 @@ impl<T: Drop> Shelf<T> {
         }
     }
 
-    /// What stands in a cell by now. It takes no lock and waits for nobody.
-    pub fn get(&self, n: usize) -> Option<&T> {
-        self.cells.get(n)?.get()
-    }
-
     /// Sets a cell, and gives a note that knows it. Where the cell has something already, what was to be set comes back.
     pub fn publish(&self, n: usize, there: Box<T>) -> Result<Note<T>, Box<T>>
         requires { n < length self.now }

@@ -2,7 +2,7 @@
 
 ghost use Rattle.std.specs.Prelude.{◌≡◌, IfOk, IfSome};
 ghost use Rattle.boxcar.specs.Table.{Shows};
-ghost use Rattle.star_host.specs.Refusals.{IsRefusal};
+ghost use Rattle.star_host.specs.Refusals.{AreRefusals, IsRefusal};
 
 use crate::naming::Naming;
 use boxcar::tag::Tag;
@@ -79,7 +79,9 @@ impl<J: Naming> Trace<J> {
     }
 
     /// All items, in order.
-    pub fn all(&self, alloc: Global) -> Result<Vec<Refused>, AllocError> {
+    pub fn all(&self, alloc: Global) -> Result<Vec<Refused>, AllocError>
+        ensures { IfOk result (λ all. AreRefusals J.plan all.items) }
+    {
         let mut all = Vec::new(alloc);
         let items = self.items.iter();
         for (_, item) in items {

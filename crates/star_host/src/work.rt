@@ -5,19 +5,21 @@ ghost use Rattle.star_meaning.specs.Module.{local};
 ghost use Rattle.star_meaning.specs.Programs.{file_in, placed_file};
 ghost use Rattle.star_module.specs.Outcomes.{AreReady, meant};
 ghost use Rattle.star_plan.specs.Plan.{loads_of};
-ghost use Rattle.star_plan.specs.Shelves.{IsOwn, Needs};
+ghost use Rattle.star_plan.specs.Shelves.{Needs};
 ghost use Rattle.star_host.specs.Frames.{IsWorld};
 ghost use Rattle.star_host.specs.Bodies.{AreNeeded, IsRan, world_over};
+ghost use Rattle.star_host.specs.Reaches.{row_of};
 ghost use Rattle.star_host.specs.Readings.{loads_at, read_at};
-ghost use Rattle.star_host.specs.Views.{AreGoodLoads, AreStores, IsEnd};
+ghost use Rattle.star_host.specs.Views.{AreGoodLoads, IsEnd};
 ghost use Rattle.star_host.specs.declared.reading.Read.TheVariants as read;
 
 use crate::gate::Gate;
-use crate::given::gathered;
-use crate::module::{Body, Ended, Module, Reach};
+use crate::given::{gathered, stores_of};
+use crate::module::{Body, Ended, Module};
 use crate::naming::Naming;
 use crate::reading::Read;
 use crate::shelf::Shelf;
+use crate::store_row::StoreRow;
 use crate::table::loads_in;
 use star_eval::files::Files;
 use star_eval::world::World;
@@ -25,9 +27,8 @@ use star_label::files::Files as Labels;
 use star_module::{Outcome, run_body};
 use star_scope::loads::Load;
 use star_scope::program::Program;
-use star_store::arena::{Frozen, Homes};
+use star_store::arena::Homes;
 use std::alloc::{AllocError, Global};
-use std::sync::Arc;
 
 /// What all loaders share: what was read of each reached file, the programs of all files, a shelf for the module of
 /// each file, the prelude's file, and the steps that a body may take, which are 1 to 100,000,000.
@@ -100,37 +101,16 @@ impl<'s, 'r, 'p, 't> Common<'s, 'r, 'p, 't> {
     }
 }
 
-/// The stores of a file: its own, and those of all files that it needs.
-fn stores_of<J: Naming>(
-    alloc: Global,
-    home: u32,
-    own: Frozen,
-    reaches: Vec<Reach>,
-) -> Result<Vec<Reach>, AllocError>
-    requires own { IsOwn J.plan home own }
-    requires needed { AreNeeded J.plan home reaches.items }
-    requires all { (k : ℕ) → Needs J.plan home k → Contains (map (λ r. r.number) reaches.items) k }
-    ensures { IfOk result (λ stores. AreStores J.plan home stores.items) }
-{
-    let mut stores = reaches;
-    let store = Arc::new(alloc, own)?;
-    stores.push(Reach {
-        number: home,
-        store,
-    })?;
-    Ok(stores)
-}
-
 /// How a file ends whose run has ended so.
 fn ended_of<J: Naming>(
     alloc: Global,
     home: u32,
     outcome: Outcome,
-    reaches: Vec<Reach>,
+    reaches: StoreRow,
 ) -> Result<Ended, AllocError>
     requires ran { IsRan J.plan home outcome }
-    requires needed { AreNeeded J.plan home reaches.items }
-    requires all { (k : ℕ) → Needs J.plan home k → Contains (map (λ r. r.number) reaches.items) k }
+    requires needed { AreNeeded J.plan home (row_of reaches) }
+    requires all { (k : ℕ) → Needs J.plan home k → Contains (map (λ r. r.number) (row_of reaches)) k }
     ensures { IfOk result (IsEnd J.plan home) }
 {
     match outcome {

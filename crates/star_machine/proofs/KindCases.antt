@@ -5,7 +5,7 @@ use Rattle.star_store.specs.declared.values.Value.TheVariants as value
 use Rattle.star_store.specs.declared.values.Cell.{Cell}
 use Rattle.star_store.specs.declared.values.Cell.TheVariants as cell
 use Rattle.star_store.specs.declared.range.Range.{Range}
-use Rattle.star_syntax.specs.declared.tree.BinaryOperator.TheVariants as binary
+use Rattle.star_tree.specs.declared.tree.BinaryOperator.TheVariants as binary
 use Rattle.star_machine.specs.declared.content.Kind.TheVariants as kind
 use Rattle.star_meaning.specs.declared.fault.Code.TheVariants.{BadType}
 use Rattle.star_meaning.specs.Run.{State, fail, give}

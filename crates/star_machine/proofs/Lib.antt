@@ -12,3 +12,4 @@ pub mod Slicing
 pub mod Subscripts
 pub mod Times
 pub mod Turns
+pub mod Windows

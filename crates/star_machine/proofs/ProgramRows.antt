@@ -1,20 +1,18 @@
 -- Rows of programs: the file at a place, one file more, and its outline.
-use Rattle.std.proofs.Common.{◌≡◌, ℕ, zero, suc, Bool, true, false, not, ◌&&◌, ◌||◌, List, [], ◌∷◌, ◌++◌, map, length, slice_get, Option, Some, None, refl, ap, sym, ◌∙◌}
+use Rattle.std.proofs.Common.{◌≡◌, ℕ, zero, suc, Bool, true, false, not, ◌&&◌, ◌||◌, List, [], ◌∷◌, ◌++◌, slice_get, Option, Some, None, refl, ap, sym, ◌∙◌}
 use Rattle.std.specs.Prelude.{⊤, MatchOption}
-use Rattle.std.specs.Option.{is_some, option_and_then, option_flatten, option_map}
+use Rattle.std.specs.Option.{is_some, option_flatten, option_map}
 use Rattle.std.proofs.lemmas.Option.{slice_get-map}
 use Rattle.std.proofs.lemmas.List.{map-append}
 use Rattle.std.proofs.lemmas.Map.Views.{any-filter_same}
 use Rattle.std.proofs.lemmas.Slice.Eq.{bytes_eq-Decides}
 use denote.Ref.{Bor}
 use Rattle.star_scope.specs.declared.program.Program.{Program}
-use Rattle.star_scope.specs.Definitions.{Definition, definition_in}
 use Rattle.star_scope.specs.Names.{Names, has_name, once, same_name, slot_of}
-use Rattle.star_scope.specs.Outlines.{Outline, names_in, outline}
+use Rattle.star_scope.specs.Outlines.{outline}
 use Rattle.star_scope.proofs.Numbers.{position_any}
 use Rattle.star_meaning.specs.Local.{outlines}
-use Rattle.star_meaning.specs.Program.{blocks_in}
-use Rattle.star_meaning.specs.Programs.{AllOfFiles, Files, IsOfFile, PlacedFile, file_in, outline_at, placed_file, placed_files, slots_in, trees_of}
+use Rattle.star_meaning.specs.Programs.{AllOfFiles, Files, IsOfFile, PlacedFile, file_in, outline_at, placed_file, placed_files, trees_of}
 
 flat : (o : Option (Option (Bor Program))) → option_flatten (option_map (option_map (λ p. placed_file p.now)) o) ≡ option_map (λ p. placed_file p.now) (option_flatten o)
 flat None = refl

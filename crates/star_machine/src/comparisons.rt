@@ -18,7 +18,7 @@ use crate::texts::place_between;
 use star_meaning::fault::Code;
 use star_store::range::Range;
 use star_store::values::Value;
-use star_syntax::tree::Comparator;
+use star_tree::tree::Comparator;
 
 /// Whether one of the items of a list or tuple is equal to a value.
 #[tactic(auto, unfolding(crate::specs::Search::found_place), using(crate::proofs::FirstEqual::has_some))]

@@ -116,7 +116,7 @@ impl Machine {
         match named.key {
             Some(key) => Ok(key),
             None => {
-                let name = Text::new(self.alloc(), named.name.as_str())?;
+                let name = named.name.share()?;
                 self.new_text(line, name)
             }
         }

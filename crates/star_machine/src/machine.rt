@@ -149,10 +149,13 @@ impl Machine {
 
     /// Gives a slot of a frame of this module a value. Where there is no such slot, nothing changes.
     #[tactic(auto, using(crate::proofs::Cells::length_bound))]
-    pub fn bind(&mut self, frame: Value, slot: usize, value: Value)
-        ensures { storing (bound frame slot value) self.old ≡ Done tt self.new }
+    pub fn bind(&mut self, frame: Value, slot: usize, value: Value) -> Result<(), Stop>
+        ensures { Gives (storing (bound frame slot value) self.old) result self.new }
     {
-        self.arena.bind(frame, slot, value);
+        match self.arena.bind(frame, slot, value) {
+            Ok(()) => Ok(()),
+            Err(_memory) => Err(Stop::Memory),
+        }
     }
 
     /// Whether the definition of a function is active.
@@ -511,7 +514,7 @@ impl Machine {
         ensures { IfOk result (λ t. t ≡ bytes_of (content setting.now self.now value)) }
     {
         match self.content(setting, value) {
-            Content::Held(Cell::Text(text)) => Text::new(self.alloc, text.as_str()),
+            Content::Held(Cell::Text(text)) => text.share(),
             _ => Text::new(self.alloc, ""),
         }
     }
@@ -521,7 +524,7 @@ impl Machine {
         ensures { IfOk result (λ t. t ≡ text_of (content setting.now self.now value)) }
     {
         match self.content(setting, value) {
-            Content::Held(Cell::Text(text)) => Ok(Some(Text::new(self.alloc, text.as_str())?)),
+            Content::Held(Cell::Text(text)) => Ok(Some(text.share()?)),
             _ => Ok(None),
         }
     }

@@ -15,8 +15,8 @@ use star_meaning::fault::Code;
 use star_store::arithmetic::{add, floor_div, floor_mod, mul, neg, shl, sub};
 use star_store::fault::StoreFault;
 use star_store::values::{Cell, Entries, Value, Values};
-use star_syntax::tree::{BinaryOperator, UnaryOperator};
 use star_text::Text;
+use star_tree::tree::{BinaryOperator, UnaryOperator};
 use std::alloc::{AllocError, Global};
 
 /// An int of 64 bits is the value of its arithmetic.
@@ -142,7 +142,7 @@ fn joined_text(alloc: Global, front: &Text, back: &Text) -> Result<Text, AllocEr
 {
     let mut text = String::from_str(alloc, front.as_str())?;
     text.push_str(back.as_str())?;
-    Ok(Text::from(text))
+    Text::of(text)
 }
 
 /// The sum of two ints, or two strings, lists or tuples joined. `BadType` for other operands.
@@ -206,7 +206,7 @@ fn repeated_text(alloc: Global, text: &Text, count: u64) -> Result<Text, AllocEr
             made.push_str(text.as_str())?;
         }
     }
-    Ok(Text::from(made))
+    Text::of(made)
 }
 
 /// What `1 + size * count` comes to.

@@ -99,7 +99,7 @@ fn filled(
     if used < values.len() {
         return Err(faulted(Code::BadValue, line));
     }
-    Ok(Text::from(out))
+    Ok(Text::of(out)?)
 }
 
 /// The values that are put in: a tuple's items, else the one value.

@@ -28,7 +28,7 @@ impl<'a, 't> Model for Programs<'a, 't> {
     ghost Value = { Files };
 
     ghost use Rattle.std.specs.Coded.{codes};
-    ghost use Rattle.star_syntax.specs.contracts.tree.Statement as statement;
+    ghost use Rattle.star_tree.specs.contracts.tree.Statement as statement;
 
     ghost coded = { Prim.hlevel (codes, statement.the_row.coded) };
 

@@ -9,7 +9,7 @@ ghost use Rattle.star_meaning.specs.Programs.{load_files};
 
 use star_scope::loads::Load;
 use star_store::arena::{Frozen, Homes};
-use star_syntax::tree::Statement;
+use star_tree::tree::Statement;
 use std::marker::Model;
 
 /// What is given before a run: the running file, the published stores that it reaches, the statements of all files by their
@@ -33,9 +33,9 @@ impl<'a> Model for Setting<'a> {
     ghost Value = { GivenSetting };
 
     ghost use Rattle.std.specs.Coded.{codes};
-    ghost use Rattle.star_syntax.specs.contracts.tree.Expression as expression;
-    ghost use Rattle.star_syntax.specs.contracts.tree.Parameter as parameter;
-    ghost use Rattle.star_syntax.specs.contracts.tree.Statement as statement;
+    ghost use Rattle.star_tree.specs.contracts.tree.Expression as expression;
+    ghost use Rattle.star_tree.specs.contracts.tree.Parameter as parameter;
+    ghost use Rattle.star_tree.specs.contracts.tree.Statement as statement;
 
     ghost coded = { Prim.hlevel (codes, expression.the_row.coded, parameter.the_row.coded, statement.the_row.coded) };
 

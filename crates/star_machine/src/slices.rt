@@ -213,7 +213,7 @@ fn spread(alloc: Global, text: &str, span: Span) -> Result<Option<Text>, AllocEr
             return Ok(None);
         }
     }
-    Ok(Some(Text::from(made)))
+    Ok(Some(Text::of(made)?))
 }
 
 /// Puts a byte, if there is one, behind a text; false where it is not ASCII.

@@ -69,7 +69,7 @@ fn one_byte(alloc: Global, byte: u8) -> Result<Text, AllocError>
 {
     let mut text = String::new(alloc);
     text.push(byte as char)?;
-    Ok(Text::from(text))
+    Text::of(text)
 }
 
 /// The byte of a string at an int, as a new string. `BadType` for another index, `Index` outside, `Cut` for a byte that is not

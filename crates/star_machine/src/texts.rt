@@ -1,30 +1,28 @@
 //! Strings, by their bytes.
 
-ghost use Rattle.std.specs.Prelude.{◌≡◌, length, ◌≤◌};
-ghost use Rattle.star_meaning.specs.Operators.{first_place, place_between, stands_at};
+ghost use Rattle.std.specs.Prelude.{◌≡◌};
+ghost use Rattle.star_meaning.specs.Operators.{place_between};
 
-/// Whether a string stands in another one at a place.
-fn stands_at(text: &[u8], part: &[u8], at: usize) -> bool
-    ensures { result ≡ stands_at text.now part.now at }
-{
-    if at > text.len() {
-        return part.is_empty();
-    }
-    text[at..].starts_with(part)
-}
+use memchr::memmem;
 
-/// The least place from one on at which a part stands, with its end at most at another.
-#[tactic(auto, using(crate::proofs::Bytes::first_next))]
+/// The least place from one on at which a part stands, with its end at most at another. Its time is in proportion to the
+/// lengths of the two texts.
+#[tactic(auto, using(crate::proofs::Windows::found_in_part, crate::proofs::Windows::past_all, crate::proofs::Windows::empty_stands, crate::proofs::Windows::empty_past))]
 pub fn place_between(text: &[u8], part: &[u8], from: usize, to: usize) -> Option<usize>
     ensures { result ≡ place_between text.now part.now from to }
 {
-    let last = (to as u128 + 1).saturating_sub(from as u128 + part.len() as u128);
-    let mut at = from;
-    for _turn in 0..last {
-        if stands_at(text, part, at) {
-            return Some(at);
-        }
-        at += 1;
+    if from > to {
+        return None;
     }
-    None
+    if part.is_empty() {
+        return Some(from);
+    }
+    let end = to.min(text.len());
+    if from > end {
+        return None;
+    }
+    match memmem::find(&text[from..end], part) {
+        Some(at) => Some(from + at),
+        None => None,
+    }
 }

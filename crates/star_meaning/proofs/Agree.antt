@@ -14,8 +14,8 @@ use Rattle.star_scope.specs.Names.{Names}
 use Rattle.star_scope.specs.declared.blocks.Block.{Block}
 use Rattle.star_scope.specs.Places.{Spots, AllPlaced, IsPlaced}
 use Rattle.star_scope.specs.Uses.{Use, Named, Defined, uses}
-use Rattle.star_syntax.specs.declared.tree.Name.{Name}
-use Rattle.star_syntax.specs.declared.tree.Statement.{Statement}
+use Rattle.star_tree.specs.declared.tree.Name.{Name}
+use Rattle.star_tree.specs.declared.tree.Statement.{Statement}
 use Rattle.star_meaning.specs.declared.fault.Code.{Code}
 use Rattle.star_meaning.specs.declared.place.Place.{Place}
 use Rattle.star_meaning.specs.declared.place.Flow.{Flow}

@@ -5,15 +5,15 @@ use Rattle.std.specs.Option.{option_and_then, option_map}
 use Rattle.star_store.specs.declared.values.Value.{Value}
 use Rattle.star_store.specs.declared.values.Value.TheVariants as value
 use Rattle.star_store.specs.Store.{Published, global_of}
-use Rattle.star_syntax.specs.declared.tree.Arm.{Arm, out-Arm}
-use Rattle.star_syntax.specs.declared.tree.BinaryOperator.{BinaryOperator}
-use Rattle.star_syntax.specs.declared.tree.Expression.{Expression}
-use Rattle.star_syntax.specs.declared.tree.LoadedName.{LoadedName}
-use Rattle.star_syntax.specs.declared.tree.Position.{Position}
-use Rattle.star_syntax.specs.declared.tree.Statement.{Statement}
-use Rattle.star_syntax.specs.declared.tree.Target.{Target}
-use Rattle.star_syntax.specs.declared.tree.Argument.TheOpen as tree
-use Rattle.star_syntax.specs.declared.tree.Form.TheOpen as form
+use Rattle.star_tree.specs.declared.tree.Arm.{Arm, out-Arm}
+use Rattle.star_tree.specs.declared.tree.BinaryOperator.{BinaryOperator}
+use Rattle.star_tree.specs.declared.tree.Expression.{Expression}
+use Rattle.star_tree.specs.declared.tree.LoadedName.{LoadedName}
+use Rattle.star_tree.specs.declared.tree.Position.{Position}
+use Rattle.star_tree.specs.declared.tree.Statement.{Statement}
+use Rattle.star_tree.specs.declared.tree.Target.{Target}
+use Rattle.star_tree.specs.declared.tree.Argument.TheOpen as tree
+use Rattle.star_tree.specs.declared.tree.Form.TheOpen as form
 use Rattle.star_scope.specs.Syntax.{ExpressionForm, StatementForm, TargetForm, target}
 use Rattle.star_scope.specs.Uses.{Named, Use, all_uses, in_arm, in_entry, in_expression, in_returned, in_statement, in_target, loaded_uses, maybe_use, outer_of, uses}
 use Rattle.star_meaning.specs.declared.fault.Code.TheVariants as code

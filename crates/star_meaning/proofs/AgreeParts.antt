@@ -5,15 +5,15 @@ use Rattle.std.specs.Option.{option_map}
 use Rattle.star_store.specs.declared.values.Value.{Value}
 use Rattle.star_store.specs.declared.values.Function.{Function}
 use Rattle.star_store.specs.declared.arena.write.Change.TheVariants as change_to
-use Rattle.star_syntax.specs.declared.tree.Clause.{Clause}
-use Rattle.star_syntax.specs.declared.tree.Clauses.{Clauses, out-Clauses}
-use Rattle.star_syntax.specs.declared.tree.Entry.{Entry, out-Entry}
-use Rattle.star_syntax.specs.declared.tree.Expression.{Expression}
-use Rattle.star_syntax.specs.declared.tree.Name.{Name}
-use Rattle.star_syntax.specs.declared.tree.Parameter.{Parameter}
-use Rattle.star_syntax.specs.declared.tree.Statement.{Statement}
-use Rattle.star_syntax.specs.declared.tree.Target.{Target}
-use Rattle.star_syntax.specs.declared.tree.Argument.TheOpen as tree
+use Rattle.star_tree.specs.declared.tree.Clause.{Clause}
+use Rattle.star_tree.specs.declared.tree.Clauses.{Clauses, out-Clauses}
+use Rattle.star_tree.specs.declared.tree.Entry.{Entry, out-Entry}
+use Rattle.star_tree.specs.declared.tree.Expression.{Expression}
+use Rattle.star_tree.specs.declared.tree.Name.{Name}
+use Rattle.star_tree.specs.declared.tree.Parameter.{Parameter}
+use Rattle.star_tree.specs.declared.tree.Statement.{Statement}
+use Rattle.star_tree.specs.declared.tree.Target.{Target}
+use Rattle.star_tree.specs.declared.tree.Argument.TheOpen as tree
 use Rattle.star_scope.specs.Definitions.{Body, Statements, Answer, Definition}
 use Rattle.star_scope.specs.Syntax.{ClauseForm, ParameterForm, TargetForm, clause, parameter, target}
 use Rattle.star_scope.specs.Uses.{Defined, Named, Within, all_uses, in_clause, in_clauses, in_entry, in_expression, in_parameters, in_statement, in_target, inner_of, maybe_use, outer_of, uses}

@@ -1,7 +1,7 @@
 -- The run of a file by places is its run by names, by induction on the levels that may still be opened.
 use Rattle.std.proofs.Common.{◌≡◌, ℕ, zero, suc, List, [], ◌∷◌, Option, Some, None, refl, sym, subst, nat_eq, Bool, true, false, if◌then◌else◌}
 use Rattle.star_store.specs.declared.values.Value.{Value}
-use Rattle.star_syntax.specs.declared.tree.Statement.{Statement}
+use Rattle.star_tree.specs.declared.tree.Statement.{Statement}
 use Rattle.star_scope.specs.Syntax.{expression, form_of, position_of, target}
 use Rattle.star_scope.specs.Uses.{in_statement, uses}
 use Rattle.star_meaning.specs.declared.place.Place.{Place}

@@ -2,15 +2,15 @@
 use Rattle.std.proofs.Common.{◌≡◌, ℕ, zero, suc, ◌+◌, ◌<◌, List, [], ◌∷◌, ◌++◌, length, map, slice_get, slice_index_or, Option, Some, None, refl, ap, sym, ◌∙◌, subst, arith, nat_eq, Bool, true, false, if◌then◌else◌}
 use Rattle.std.specs.List.{Contains, find}
 use Rattle.std.specs.Option.{option_and_then, option_flatten, option_map}
-use Rattle.star_syntax.specs.declared.tree.LoadedName.{LoadedName}
-use Rattle.star_syntax.specs.declared.tree.Name.{Name}
-use Rattle.star_syntax.specs.declared.tree.Parameter.{Parameter}
-use Rattle.star_syntax.specs.declared.tree.Position.{Position}
-use Rattle.star_syntax.specs.declared.tree.Form.{Form, out-Form, roll-Form, out-roll-Form, para-roll-Form}
-use Rattle.star_syntax.specs.declared.tree.Arm.{Arm, roll-Arm, para-roll-Arm}
-use Rattle.star_syntax.specs.declared.tree.Statement.{Statement, roll-Statement, para-roll-Statement, ind-Statement}
-use Rattle.star_syntax.specs.declared.tree.Form.TheOpen as form
-use Rattle.star_syntax.specs.declared.tree.Form.TheFolds as form_folds
+use Rattle.star_tree.specs.declared.tree.LoadedName.{LoadedName}
+use Rattle.star_tree.specs.declared.tree.Name.{Name}
+use Rattle.star_tree.specs.declared.tree.Parameter.{Parameter}
+use Rattle.star_tree.specs.declared.tree.Position.{Position}
+use Rattle.star_tree.specs.declared.tree.Form.{Form, out-Form, roll-Form, out-roll-Form, para-roll-Form}
+use Rattle.star_tree.specs.declared.tree.Arm.{Arm, roll-Arm, para-roll-Arm}
+use Rattle.star_tree.specs.declared.tree.Statement.{Statement, roll-Statement, para-roll-Statement, ind-Statement}
+use Rattle.star_tree.specs.declared.tree.Form.TheOpen as form
+use Rattle.star_tree.specs.declared.tree.Form.TheFolds as form_folds
 use Rattle.star_scope.specs.declared.outline.Found.{Found}
 use Rattle.star_scope.specs.Definitions.{Statements, Definition, definition_in}
 use Rattle.star_scope.specs.Outlines as found

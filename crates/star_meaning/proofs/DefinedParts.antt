@@ -2,16 +2,16 @@
 use Rattle.std.proofs.Common.{◌≡◌, ◌⊎◌, inl, inr, ℕ, zero, suc, ◌+◌, ◌<◌, List, [], ◌∷◌, ◌++◌, length, map, slice_index_or, Some, None, refl, ap, sym, subst, arith}
 use Rattle.std.specs.List.{Contains}
 use Rattle.std.proofs.lemmas.List.Elements.{Contains-append_cases, Contains-append_left, Contains-append_right}
-use Rattle.star_syntax.specs.declared.tree.Argument.{Argument, roll-Argument, para-roll-Argument}
-use Rattle.star_syntax.specs.declared.tree.Clause.{Clause, roll-Clause, para-roll-Clause}
-use Rattle.star_syntax.specs.declared.tree.Expression.{Expression, roll-Expression, para-roll-Expression, ind-Expression}
-use Rattle.star_syntax.specs.declared.tree.Parameter.{Parameter, roll-Parameter, para-roll-Parameter, ind-Parameter}
-use Rattle.star_syntax.specs.declared.tree.Target.{Target, roll-Target, para-roll-Target, ind-Target}
-use Rattle.star_syntax.specs.declared.tree.Clauses.{Clauses, roll-Clauses, para-roll-Clauses}
-use Rattle.star_syntax.specs.declared.tree.Entry.{Entry, roll-Entry, para-roll-Entry}
-use Rattle.star_syntax.specs.declared.tree.Name.{Name}
-use Rattle.star_syntax.specs.declared.tree.Argument.TheOpen as tree
-use Rattle.star_syntax.specs.declared.tree.Argument.TheFolds as folds
+use Rattle.star_tree.specs.declared.tree.Argument.{Argument, roll-Argument, para-roll-Argument}
+use Rattle.star_tree.specs.declared.tree.Clause.{Clause, roll-Clause, para-roll-Clause}
+use Rattle.star_tree.specs.declared.tree.Expression.{Expression, roll-Expression, para-roll-Expression, ind-Expression}
+use Rattle.star_tree.specs.declared.tree.Parameter.{Parameter, roll-Parameter, para-roll-Parameter, ind-Parameter}
+use Rattle.star_tree.specs.declared.tree.Target.{Target, roll-Target, para-roll-Target, ind-Target}
+use Rattle.star_tree.specs.declared.tree.Clauses.{Clauses, roll-Clauses, para-roll-Clauses}
+use Rattle.star_tree.specs.declared.tree.Entry.{Entry, roll-Entry, para-roll-Entry}
+use Rattle.star_tree.specs.declared.tree.Name.{Name}
+use Rattle.star_tree.specs.declared.tree.Argument.TheOpen as tree
+use Rattle.star_tree.specs.declared.tree.Argument.TheFolds as folds
 use Rattle.star_scope.specs.declared.outline.Found.{Found}
 use Rattle.star_scope.specs.Definitions.{Body, Answer, Definition}
 use Rattle.star_scope.specs.Outlines as found

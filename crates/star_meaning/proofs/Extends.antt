@@ -9,10 +9,10 @@ use Rattle.star_store.specs.declared.fault.StoreFault.TheVariants as refused
 use Rattle.star_store.specs.Store.{Store}
 use Rattle.star_store.specs.Spend.{Spend, Spent, Enough, Lacks}
 use Rattle.star_store.specs.Write.{write}
-use Rattle.star_syntax.specs.declared.tree.Expression.{Expression}
-use Rattle.star_syntax.specs.declared.tree.Statement.{Statement}
-use Rattle.star_syntax.specs.declared.tree.Target.{Target}
-use Rattle.star_syntax.specs.declared.tree.Name.{Name}
+use Rattle.star_tree.specs.declared.tree.Expression.{Expression}
+use Rattle.star_tree.specs.declared.tree.Statement.{Statement}
+use Rattle.star_tree.specs.declared.tree.Target.{Target}
+use Rattle.star_tree.specs.declared.tree.Name.{Name}
 use Rattle.star_meaning.specs.declared.fault.Code.{Code}
 use Rattle.star_meaning.specs.declared.fault.Code.TheVariants as code
 use Rattle.star_meaning.specs.declared.place.Place.{Place}

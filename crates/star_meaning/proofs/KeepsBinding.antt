@@ -1,5 +1,5 @@
 -- What every run keeps: binding.
-use Rattle.star_syntax.specs.declared.tree.Name.{Name}
+use Rattle.star_tree.specs.declared.tree.Name.{Name}
 use Rattle.star_meaning.specs.declared.given.NamedValue.{NamedValue}
 use Rattle.std.proofs.Common.{ℕ, List, Bool}
 use Rattle.star_meaning.specs.Binding.{key_and_value, made_of, make_shares, Share, One, Rest, Names}

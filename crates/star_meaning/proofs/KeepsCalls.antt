@@ -2,10 +2,10 @@
 use Rattle.star_store.specs.declared.values.Value.{Value}
 use Rattle.star_store.specs.declared.values.Cell.TheVariants as cell
 use Rattle.star_store.specs.declared.values.Function.{Function}
-use Rattle.star_syntax.specs.declared.tree.Argument.{Argument}
-use Rattle.star_syntax.specs.declared.tree.Expression.{Expression}
-use Rattle.star_syntax.specs.declared.tree.Name.{Name}
-use Rattle.star_syntax.specs.declared.tree.Argument.TheOpen as tree
+use Rattle.star_tree.specs.declared.tree.Argument.{Argument}
+use Rattle.star_tree.specs.declared.tree.Expression.{Expression}
+use Rattle.star_tree.specs.declared.tree.Name.{Name}
+use Rattle.star_tree.specs.declared.tree.Argument.TheOpen as tree
 use Rattle.star_meaning.specs.declared.place.Place.{Place}
 use Rattle.star_scope.specs.Syntax.{ArgumentForm}
 use Rattle.star_scope.specs.Definitions.{Definition, Body, Statements, Answer}

@@ -1,11 +1,11 @@
 -- What every run keeps: comprehensions.
 use Rattle.star_store.specs.declared.values.Value.{Value}
-use Rattle.star_syntax.specs.declared.tree.Target.{Target}
-use Rattle.star_syntax.specs.declared.tree.Expression.{Expression}
-use Rattle.star_syntax.specs.declared.tree.Clause.{Clause}
-use Rattle.star_syntax.specs.declared.tree.Clauses.{Clauses}
-use Rattle.star_syntax.specs.declared.tree.Entry.{Entry}
-use Rattle.star_syntax.specs.declared.tree.Argument.TheOpen as tree
+use Rattle.star_tree.specs.declared.tree.Target.{Target}
+use Rattle.star_tree.specs.declared.tree.Expression.{Expression}
+use Rattle.star_tree.specs.declared.tree.Clause.{Clause}
+use Rattle.star_tree.specs.declared.tree.Clauses.{Clauses}
+use Rattle.star_tree.specs.declared.tree.Entry.{Entry}
+use Rattle.star_tree.specs.declared.tree.Argument.TheOpen as tree
 use Rattle.star_meaning.specs.declared.place.Place.{Place}
 use Rattle.star_scope.specs.Syntax.{ClauseForm}
 use Rattle.star_meaning.specs.Program.{Setting, Variables}

@@ -1,9 +1,9 @@
 -- What every run keeps: expressions.
 use Rattle.star_store.specs.declared.values.Value.{Value}
-use Rattle.star_syntax.specs.declared.tree.Expression.{Expression}
-use Rattle.star_syntax.specs.declared.tree.Entry.{Entry}
-use Rattle.star_syntax.specs.declared.tree.Parameter.{Parameter}
-use Rattle.star_syntax.specs.declared.tree.Argument.TheOpen as tree
+use Rattle.star_tree.specs.declared.tree.Expression.{Expression}
+use Rattle.star_tree.specs.declared.tree.Entry.{Entry}
+use Rattle.star_tree.specs.declared.tree.Parameter.{Parameter}
+use Rattle.star_tree.specs.declared.tree.Argument.TheOpen as tree
 use Rattle.star_meaning.specs.declared.place.Place.{Place}
 use Rattle.star_scope.specs.Syntax.{ExpressionForm, ParameterForm}
 use Rattle.star_meaning.specs.Program.{Setting, Variables}

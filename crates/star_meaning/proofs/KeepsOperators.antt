@@ -2,12 +2,12 @@
 use Rattle.std.specs.declared.cmp.Ordering.{Ordering}
 use Rattle.star_store.specs.declared.values.Value.{Value}
 use Rattle.star_store.specs.declared.values.Cell.TheVariants as cell
-use Rattle.star_syntax.specs.declared.tree.UnaryOperator.{UnaryOperator}
-use Rattle.star_syntax.specs.declared.tree.UnaryOperator.TheVariants as unary
-use Rattle.star_syntax.specs.declared.tree.BinaryOperator.{BinaryOperator}
-use Rattle.star_syntax.specs.declared.tree.BinaryOperator.TheVariants as binary
-use Rattle.star_syntax.specs.declared.tree.Comparator.{Comparator}
-use Rattle.star_syntax.specs.declared.tree.Comparator.TheVariants as comparator
+use Rattle.star_tree.specs.declared.tree.UnaryOperator.{UnaryOperator}
+use Rattle.star_tree.specs.declared.tree.UnaryOperator.TheVariants as unary
+use Rattle.star_tree.specs.declared.tree.BinaryOperator.{BinaryOperator}
+use Rattle.star_tree.specs.declared.tree.BinaryOperator.TheVariants as binary
+use Rattle.star_tree.specs.declared.tree.Comparator.{Comparator}
+use Rattle.star_tree.specs.declared.tree.Comparator.TheVariants as comparator
 use Rattle.star_meaning.specs.Program.{Setting}
 use Rattle.star_meaning.specs.Values.{Content, Number, Held}
 use Rattle.std.proofs.Common.{ℕ, List, [], ◌∷◌, Bool, ℤ, pos, negsuc}

@@ -1,6 +1,6 @@
 -- What every run keeps: variables.
 use Rattle.star_store.specs.declared.values.Value.{Value}
-use Rattle.star_syntax.specs.declared.tree.Name.{Name}
+use Rattle.star_tree.specs.declared.tree.Name.{Name}
 use Rattle.star_meaning.specs.declared.place.Place.{Place}
 use Rattle.star_meaning.specs.Program.{Setting}
 use Rattle.std.proofs.Common.{ℕ, List, Option, Some, None, Bool}

@@ -1,7 +1,7 @@
 -- A file that does not end for want of steps means the same with more steps, by induction on the levels that may still be opened.
 use Rattle.std.proofs.Common.{◌≡◌, ℕ, zero, suc, ◌+◌, List, refl, false}
 use Rattle.star_store.specs.declared.values.Value.{Value}
-use Rattle.star_syntax.specs.declared.tree.Statement.{Statement}
+use Rattle.star_tree.specs.declared.tree.Statement.{Statement}
 use Rattle.star_scope.specs.Syntax.{expression, target, position_of, form_of}
 use Rattle.star_meaning.specs.Run.{Outcome, Done, Failed}
 use Rattle.star_meaning.specs.Program.{Setting, Variables}

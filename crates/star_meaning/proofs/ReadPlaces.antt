@@ -15,7 +15,7 @@ use Rattle.star_scope.specs.declared.blocks.Block.{Block}
 use Rattle.star_scope.specs.Outlines.{names_in}
 use Rattle.star_scope.specs.Places.{IsPlaced, chain_length, or_further, spot_in, outside_spot, outermost_names}
 use Rattle.star_scope.specs.Uses.{Named}
-use Rattle.star_syntax.specs.declared.tree.Name.{Name}
+use Rattle.star_tree.specs.declared.tree.Name.{Name}
 use Rattle.star_scope.specs.Places as scope
 use Rattle.star_meaning.specs.declared.fault.Code.TheVariants as code
 use Rattle.star_meaning.specs.declared.place.Place.{Place}

@@ -2,21 +2,21 @@
 use Rattle.std.specs.Prelude.{◌≡◌, ℕ, List, Some, None, [], ◌∷◌, pos}
 use Rattle.std.specs.Fmt.{digits}
 use Rattle.std.proofs.Common.{refl}
-use Rattle.star_syntax.specs.declared.tree.Expression.{Expression, out-Expression}
-use Rattle.star_syntax.specs.declared.tree.Expression.TheVariants as e
-use Rattle.star_syntax.specs.declared.tree.Target.{Target, out-Target}
-use Rattle.star_syntax.specs.declared.tree.Target.TheVariants as t
-use Rattle.star_syntax.specs.declared.tree.Argument.{out-Argument}
-use Rattle.star_syntax.specs.declared.tree.Argument.TheVariants as a
-use Rattle.star_syntax.specs.declared.tree.Clause.{out-Clause}
-use Rattle.star_syntax.specs.declared.tree.Parameter.{out-Parameter}
-use Rattle.star_syntax.specs.declared.tree.Parameter.TheVariants as q
-use Rattle.star_syntax.specs.declared.tree.Statement.{Statement, roll-Statement}
-use Rattle.star_syntax.specs.declared.tree.Form.{Form, out-Form}
-use Rattle.star_syntax.specs.declared.tree.Form.TheVariants as f
-use Rattle.star_syntax.specs.declared.tree.BinaryOperator.TheVariants as op
-use Rattle.star_syntax.specs.declared.tree.Name.{Name}
-use Rattle.star_syntax.specs.declared.tree.Position.{Position}
+use Rattle.star_tree.specs.declared.tree.Expression.{Expression, out-Expression}
+use Rattle.star_tree.specs.declared.tree.Expression.TheVariants as e
+use Rattle.star_tree.specs.declared.tree.Target.{Target, out-Target}
+use Rattle.star_tree.specs.declared.tree.Target.TheVariants as t
+use Rattle.star_tree.specs.declared.tree.Argument.{out-Argument}
+use Rattle.star_tree.specs.declared.tree.Argument.TheVariants as a
+use Rattle.star_tree.specs.declared.tree.Clause.{out-Clause}
+use Rattle.star_tree.specs.declared.tree.Parameter.{out-Parameter}
+use Rattle.star_tree.specs.declared.tree.Parameter.TheVariants as q
+use Rattle.star_tree.specs.declared.tree.Statement.{Statement, roll-Statement}
+use Rattle.star_tree.specs.declared.tree.Form.{Form, out-Form}
+use Rattle.star_tree.specs.declared.tree.Form.TheVariants as f
+use Rattle.star_tree.specs.declared.tree.BinaryOperator.TheVariants as op
+use Rattle.star_tree.specs.declared.tree.Name.{Name}
+use Rattle.star_tree.specs.declared.tree.Position.{Position}
 use Rattle.star_scope.specs.declared.blocks.Block.{Block}
 use Rattle.star_scope.specs.Definitions.{Definition, Statements}
 use Rattle.star_meaning.specs.Program.{Setting}

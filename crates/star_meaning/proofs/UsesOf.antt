@@ -3,20 +3,20 @@ use Rattle.std.proofs.Common.{◌≡◌, ◌+◌, ℕ, List, [], ◌∷◌, ◌+
 use Rattle.std.specs.List.{Contains}
 use Rattle.std.specs.Option.{option_map}
 use Rattle.std.proofs.lemmas.List.Elements.{Contains-append_left, Contains-append_right}
-use Rattle.star_syntax.specs.declared.tree.Argument.{Argument, out-Argument, roll-Argument, roll-out-Argument}
-use Rattle.star_syntax.specs.declared.tree.Clause.{Clause, out-Clause, roll-Clause, roll-out-Clause}
-use Rattle.star_syntax.specs.declared.tree.Clauses.{Clauses, out-Clauses}
-use Rattle.star_syntax.specs.declared.tree.Entry.{Entry, out-Entry}
-use Rattle.star_syntax.specs.declared.tree.Expression.{Expression, out-Expression, roll-Expression, roll-out-Expression}
-use Rattle.star_syntax.specs.declared.tree.Parameter.{Parameter, out-Parameter, roll-Parameter, roll-out-Parameter}
-use Rattle.star_syntax.specs.declared.tree.Target.{Target, out-Target, roll-Target, roll-out-Target}
-use Rattle.star_syntax.specs.declared.tree.Argument.TheOpen as tree
-use Rattle.star_syntax.specs.declared.tree.Argument.TheFolds.{fold-roll-Argument, fold-roll-Clause, fold-roll-Expression, fold-roll-Parameter, fold-roll-Target, fold_out-Clauses, fold_out-Entry}
-use Rattle.star_syntax.specs.declared.tree.Arm.{Arm, out-Arm}
-use Rattle.star_syntax.specs.declared.tree.Form.{Form, out-Form, roll-Form, roll-out-Form}
-use Rattle.star_syntax.specs.declared.tree.Form.TheFolds.{fold-roll-Form, fold_out-Arm, fold_out-Statement}
-use Rattle.star_syntax.specs.declared.tree.Form.TheOpen as form
-use Rattle.star_syntax.specs.declared.tree.Statement.{Statement, out-Statement}
+use Rattle.star_tree.specs.declared.tree.Argument.{Argument, out-Argument, roll-Argument, roll-out-Argument}
+use Rattle.star_tree.specs.declared.tree.Clause.{Clause, out-Clause, roll-Clause, roll-out-Clause}
+use Rattle.star_tree.specs.declared.tree.Clauses.{Clauses, out-Clauses}
+use Rattle.star_tree.specs.declared.tree.Entry.{Entry, out-Entry}
+use Rattle.star_tree.specs.declared.tree.Expression.{Expression, out-Expression, roll-Expression, roll-out-Expression}
+use Rattle.star_tree.specs.declared.tree.Parameter.{Parameter, out-Parameter, roll-Parameter, roll-out-Parameter}
+use Rattle.star_tree.specs.declared.tree.Target.{Target, out-Target, roll-Target, roll-out-Target}
+use Rattle.star_tree.specs.declared.tree.Argument.TheOpen as tree
+use Rattle.star_tree.specs.declared.tree.Argument.TheFolds.{fold-roll-Argument, fold-roll-Clause, fold-roll-Expression, fold-roll-Parameter, fold-roll-Target, fold_out-Clauses, fold_out-Entry}
+use Rattle.star_tree.specs.declared.tree.Arm.{Arm, out-Arm}
+use Rattle.star_tree.specs.declared.tree.Form.{Form, out-Form, roll-Form, roll-out-Form}
+use Rattle.star_tree.specs.declared.tree.Form.TheFolds.{fold-roll-Form, fold_out-Arm, fold_out-Statement}
+use Rattle.star_tree.specs.declared.tree.Form.TheOpen as form
+use Rattle.star_tree.specs.declared.tree.Statement.{Statement, out-Statement}
 use Rattle.star_scope.specs.Syntax.{ArgumentForm, ClauseForm, ExpressionForm, ParameterForm, StatementForm, TargetForm, argument, clause, expression, form_of, parameter, position_of, target}
 use Rattle.star_scope.specs.Uses.{ClauseUses, Defined, Named, OfForm, ParameterUses, Use, Within, all_uses, arm_uses, argument_uses, clause_uses, clauses_uses, each_use, entry_uses, expression_uses, form_uses, in_argument, in_arm, in_clause, in_clauses, in_entry, in_expression, in_form, in_parameter, in_parameters, in_returned, in_statement, in_target, inner_of, loaded_uses, maybe_use, one_use, outer_of, parameter_uses, statement_uses, target_uses}
 use Rattle.star_meaning.proofs.Agree.{Every}

@@ -7,10 +7,10 @@ use Rattle.star_store.specs.declared.values.Cell.TheVariants as cell
 use Rattle.star_store.specs.declared.values.Function.{Function}
 use Rattle.star_store.specs.declared.names.BuiltIn.{BuiltIn}
 use Rattle.star_store.specs.declared.names.Method.{Method}
-use Rattle.star_syntax.specs.declared.tree.Argument.{Argument}
-use Rattle.star_syntax.specs.declared.tree.Expression.{Expression}
-use Rattle.star_syntax.specs.declared.tree.Name.{Name}
-use Rattle.star_syntax.specs.declared.tree.Argument.TheOpen as tree
+use Rattle.star_tree.specs.declared.tree.Argument.{Argument}
+use Rattle.star_tree.specs.declared.tree.Expression.{Expression}
+use Rattle.star_tree.specs.declared.tree.Name.{Name}
+use Rattle.star_tree.specs.declared.tree.Argument.TheOpen as tree
 use Rattle.star_meaning.specs.declared.fault.Code.TheVariants as code
 use Rattle.star_meaning.specs.declared.place.Place.{Place}
 use Rattle.star_meaning.specs.declared.place.Flow.{Flow}

@@ -3,12 +3,12 @@ use Rattle.std.specs.Prelude.{ℕ, List, [], ◌∷◌, Some, if◌then◌else�
 use Rattle.star_store.specs.declared.values.Value.{Value}
 use Rattle.star_store.specs.declared.values.Cell.TheVariants as cell
 use Rattle.star_store.specs.declared.arena.write.Change.TheVariants as change_to
-use Rattle.star_syntax.specs.declared.tree.Target.{Target}
-use Rattle.star_syntax.specs.declared.tree.Expression.{Expression}
-use Rattle.star_syntax.specs.declared.tree.Clause.{Clause}
-use Rattle.star_syntax.specs.declared.tree.Clauses.{Clauses, out-Clauses}
-use Rattle.star_syntax.specs.declared.tree.Entry.{Entry, out-Entry}
-use Rattle.star_syntax.specs.declared.tree.Argument.TheOpen as tree
+use Rattle.star_tree.specs.declared.tree.Target.{Target}
+use Rattle.star_tree.specs.declared.tree.Expression.{Expression}
+use Rattle.star_tree.specs.declared.tree.Clause.{Clause}
+use Rattle.star_tree.specs.declared.tree.Clauses.{Clauses, out-Clauses}
+use Rattle.star_tree.specs.declared.tree.Entry.{Entry, out-Entry}
+use Rattle.star_tree.specs.declared.tree.Argument.TheOpen as tree
 use Rattle.star_meaning.specs.declared.place.Place.{Place}
 use Rattle.star_scope.specs.Syntax.{ClauseForm, clause}
 use Rattle.star_meaning.specs.Run.{Action, ◌>>=◌, give, pay, build}

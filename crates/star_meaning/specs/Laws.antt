@@ -6,8 +6,8 @@ use Rattle.star_store.specs.declared.values.Cell.TheVariants as cell
 use Rattle.star_store.specs.declared.values.Counted.{Counted}
 use Rattle.star_store.specs.declared.values.Frame.{Frame}
 use Rattle.star_store.specs.Store.{iterations_in}
-use Rattle.star_syntax.specs.declared.tree.Expression.{Expression}
-use Rattle.star_syntax.specs.declared.tree.Statement.{Statement}
+use Rattle.star_tree.specs.declared.tree.Expression.{Expression}
+use Rattle.star_tree.specs.declared.tree.Statement.{Statement}
 use Rattle.star_meaning.specs.declared.fault.Code.TheVariants as code
 use Rattle.star_meaning.specs.declared.place.Place.{Place}
 use Rattle.star_meaning.specs.declared.place.Flow.{Flow}

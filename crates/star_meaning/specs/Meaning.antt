@@ -2,10 +2,10 @@
 use Rattle.std.specs.Prelude.{ℕ, zero, suc, ◌+◌, List, [], ◌∷◌}
 use Rattle.star_store.specs.declared.values.Value.{Value}
 use Rattle.star_store.specs.declared.values.Function.{Function}
-use Rattle.star_syntax.specs.declared.tree.Expression.{Expression}
-use Rattle.star_syntax.specs.declared.tree.Target.{Target}
-use Rattle.star_syntax.specs.declared.tree.Statement.{Statement}
-use Rattle.star_syntax.specs.declared.tree.Name.{Name}
+use Rattle.star_tree.specs.declared.tree.Expression.{Expression}
+use Rattle.star_tree.specs.declared.tree.Target.{Target}
+use Rattle.star_tree.specs.declared.tree.Statement.{Statement}
+use Rattle.star_tree.specs.declared.tree.Name.{Name}
 use Rattle.star_meaning.specs.declared.place.Place.{Place}
 use Rattle.star_meaning.specs.declared.place.Flow.{Flow}
 use Rattle.star_meaning.specs.declared.place.Flow.TheVariants as flow

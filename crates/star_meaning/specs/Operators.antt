@@ -12,12 +12,12 @@ use Rattle.star_store.specs.declared.range.Range.{Range}
 use Rattle.star_store.specs.Range.{range_length}
 use Rattle.star_store.specs.Arithmetic.{floored, floored_by, left_over}
 use Rattle.star_store.specs.Write.{put}
-use Rattle.star_syntax.specs.declared.tree.UnaryOperator.{UnaryOperator}
-use Rattle.star_syntax.specs.declared.tree.UnaryOperator.TheVariants as unary
-use Rattle.star_syntax.specs.declared.tree.BinaryOperator.{BinaryOperator}
-use Rattle.star_syntax.specs.declared.tree.BinaryOperator.TheVariants as binary
-use Rattle.star_syntax.specs.declared.tree.Comparator.{Comparator}
-use Rattle.star_syntax.specs.declared.tree.Comparator.TheVariants as comparator
+use Rattle.star_tree.specs.declared.tree.UnaryOperator.{UnaryOperator}
+use Rattle.star_tree.specs.declared.tree.UnaryOperator.TheVariants as unary
+use Rattle.star_tree.specs.declared.tree.BinaryOperator.{BinaryOperator}
+use Rattle.star_tree.specs.declared.tree.BinaryOperator.TheVariants as binary
+use Rattle.star_tree.specs.declared.tree.Comparator.{Comparator}
+use Rattle.star_tree.specs.declared.tree.Comparator.TheVariants as comparator
 use Rattle.star_meaning.specs.declared.fault.Code.TheVariants as code
 use Rattle.star_meaning.specs.Run.{State, Action, ◌>>=◌, give, fail, pay, found, seeing, make}
 use Rattle.star_meaning.specs.Program.{Setting}

@@ -7,8 +7,8 @@ use Rattle.star_store.specs.declared.values.Cell.TheVariants as cell
 use Rattle.star_store.specs.declared.values.Frame.{Frame}
 use Rattle.star_store.specs.declared.values.Function.{Function}
 use Rattle.star_store.specs.Store.{Published, global_of}
-use Rattle.star_syntax.specs.declared.tree.Name.{Name}
-use Rattle.star_syntax.specs.declared.tree.Statement.{Statement}
+use Rattle.star_tree.specs.declared.tree.Name.{Name}
+use Rattle.star_tree.specs.declared.tree.Statement.{Statement}
 use Rattle.star_meaning.specs.declared.fault.Code.TheVariants as code
 use Rattle.star_meaning.specs.declared.place.Place.{Place}
 use Rattle.star_meaning.specs.Run.{State, Outcome, Done, Failed, Action, found, seeing, make}

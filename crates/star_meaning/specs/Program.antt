@@ -5,7 +5,7 @@ use Rattle.std.specs.Option.{option_and_then, option_map, option_flatten}
 use Rattle.star_store.specs.declared.values.Value.{Value}
 use Rattle.star_store.specs.declared.values.Cell.{Cell}
 use Rattle.star_store.specs.Store.{Shelf, Published, look}
-use Rattle.star_syntax.specs.declared.tree.Name.{Name}
+use Rattle.star_tree.specs.declared.tree.Name.{Name}
 use Rattle.star_scope.specs.Names.{Names}
 use Rattle.star_scope.specs.declared.blocks.Block.{Block}
 use Rattle.star_scope.specs.Definitions.{Definition, definition_in}

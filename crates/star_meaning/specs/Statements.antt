@@ -5,16 +5,16 @@ use Rattle.star_store.specs.declared.values.Value.{Value}
 use Rattle.star_store.specs.declared.values.Value.TheVariants as value
 use Rattle.star_store.specs.declared.values.Cell.TheVariants as cell
 use Rattle.star_store.specs.Store.{Published, global_of}
-use Rattle.star_syntax.specs.declared.tree.BinaryOperator.{BinaryOperator}
-use Rattle.star_syntax.specs.declared.tree.BinaryOperator.TheVariants as binary
-use Rattle.star_syntax.specs.declared.tree.Expression.{Expression}
-use Rattle.star_syntax.specs.declared.tree.Target.{Target}
-use Rattle.star_syntax.specs.declared.tree.Arm.{Arm, out-Arm}
-use Rattle.star_syntax.specs.declared.tree.Statement.{Statement}
-use Rattle.star_syntax.specs.declared.tree.LoadedName.{LoadedName}
-use Rattle.star_syntax.specs.declared.tree.Position.{Position}
-use Rattle.star_syntax.specs.declared.tree.Argument.TheOpen as tree
-use Rattle.star_syntax.specs.declared.tree.Form.TheOpen as form
+use Rattle.star_tree.specs.declared.tree.BinaryOperator.{BinaryOperator}
+use Rattle.star_tree.specs.declared.tree.BinaryOperator.TheVariants as binary
+use Rattle.star_tree.specs.declared.tree.Expression.{Expression}
+use Rattle.star_tree.specs.declared.tree.Target.{Target}
+use Rattle.star_tree.specs.declared.tree.Arm.{Arm, out-Arm}
+use Rattle.star_tree.specs.declared.tree.Statement.{Statement}
+use Rattle.star_tree.specs.declared.tree.LoadedName.{LoadedName}
+use Rattle.star_tree.specs.declared.tree.Position.{Position}
+use Rattle.star_tree.specs.declared.tree.Argument.TheOpen as tree
+use Rattle.star_tree.specs.declared.tree.Form.TheOpen as form
 use Rattle.star_meaning.specs.declared.fault.Code.TheVariants as code
 use Rattle.star_meaning.specs.declared.place.Place.{Place}
 use Rattle.star_meaning.specs.declared.place.Flow.{Flow}

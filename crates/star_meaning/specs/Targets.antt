@@ -1,9 +1,9 @@
 -- What a value is bound or written to.
 use Rattle.std.specs.Prelude.{ℕ, nat_eq, List, [], ◌∷◌, length}
 use Rattle.star_store.specs.declared.values.Value.{Value}
-use Rattle.star_syntax.specs.declared.tree.Target.{Target}
-use Rattle.star_syntax.specs.declared.tree.Expression.{Expression}
-use Rattle.star_syntax.specs.declared.tree.Argument.TheOpen as tree
+use Rattle.star_tree.specs.declared.tree.Target.{Target}
+use Rattle.star_tree.specs.declared.tree.Expression.{Expression}
+use Rattle.star_tree.specs.declared.tree.Argument.TheOpen as tree
 use Rattle.star_meaning.specs.declared.fault.Code.TheVariants as code
 use Rattle.star_meaning.specs.declared.place.Place.{Place}
 use Rattle.star_scope.specs.Syntax.{TargetForm, target}

@@ -153,7 +153,7 @@ fn replaced(
         left = one_less(left);
     }
     made.push_str(rest)?;
-    Ok(Text::from(made))
+    Text::of(made)
 }
 
 /// Two or three values. `Args` for fewer or more.

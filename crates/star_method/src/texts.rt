@@ -48,7 +48,7 @@ fn lowered(machine: &Machine, setting: &Setting, text: Value) -> Result<Text, Al
     let text = machine.copied_text(setting, text)?;
     let mut made = String::from_str(machine.alloc(), text.as_str())?;
     made.make_ascii_lowercase();
-    Ok(Text::from(made))
+    Text::of(made)
 }
 
 /// A copy of a string in large ASCII letters.
@@ -59,7 +59,7 @@ fn raised(machine: &Machine, setting: &Setting, text: Value) -> Result<Text, All
     let text = machine.copied_text(setting, text)?;
     let mut made = String::from_str(machine.alloc(), text.as_str())?;
     made.make_ascii_uppercase();
-    Ok(Text::from(made))
+    Text::of(made)
 }
 
 /// `lower()`: the bytes are paid, then a new string, whose ASCII letters are small.
@@ -330,7 +330,7 @@ fn want_set(
         return Ok(Set::Blanks);
     };
     let text = machine.want_text(setting, line, characters)?;
-    let text = Text::new(machine.alloc(), text.as_str())?;
+    let text = text.share()?;
     Ok(Set::Of(text))
 }
 
@@ -436,7 +436,7 @@ fn joined_texts(
     let text = machine.copied_text(setting, first)?;
     let mut made = String::from_str(machine.alloc(), text.as_str())?;
     push_each(machine, setting, &mut made, by, rest)?;
-    Ok(Text::from(made))
+    Text::of(made)
 }
 
 /// The strings that values are, with another one between them. `BadType` where one of them is no string.

@@ -2,7 +2,7 @@
 use Rattle.std.proofs.Common.{◌≡◌, ℕ, List, Vec, String, Global, Result, Ok, Err, IfOk, refl, sym, ap, ◌∙◌, subst}
 use Rattle.std.specs.declared.alloc.AllocError.{AllocError}
 use Rattle.star_store.specs.Store.{Published, put_up}
-use Rattle.star_syntax.specs.declared.tree.Statement.{Statement}
+use Rattle.star_tree.specs.declared.tree.Statement.{Statement}
 use Rattle.star_meaning.specs.declared.fault.Code.{Code}
 use Rattle.star_meaning.specs.declared.fault.Fault.{Fault}
 use Rattle.star_meaning.specs.Local.{outlines}

@@ -1,7 +1,7 @@
 -- How the run of a file ends, and what must be known of what it is given.
 use Rattle.std.specs.Prelude.{◌≡◌, ℕ, List}
 use Rattle.star_store.specs.Store.{put_up}
-use Rattle.star_syntax.specs.declared.tree.Statement.{Statement}
+use Rattle.star_tree.specs.declared.tree.Statement.{Statement}
 use Rattle.star_meaning.specs.Module.{Ended, Local, Good, Stopped, most_levels, run_file, start}
 use Rattle.star_meaning.specs.Places.{AllFit}
 use Rattle.star_meaning.specs.Program.{Setting}

@@ -9,7 +9,8 @@ ghost use Rattle.star_module.specs.Globals.{all_now, borrowed, in_slots, own_loa
 
 use star_eval::world::World;
 use star_machine::machine::Machine;
-use star_store::values::{Cell, Slots, Value};
+use star_store::slots::Slots;
+use star_store::values::{Cell, Value};
 use std::alloc::{AllocError, Global};
 
 /// What a slot of the running file's own frame gives the globals under its name: nothing where its variable is unbound, and where

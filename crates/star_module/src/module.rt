@@ -22,8 +22,8 @@ use star_meaning::place::Place;
 use star_scope::program::Program;
 use star_store::arena::{Frozen, freeze};
 use star_store::values::Value;
-use star_syntax::tree::Statement;
 use star_text::Text;
+use star_tree::tree::Statement;
 use std::alloc::{AllocError, Global};
 
 /// How many levels may be open at a time.

@@ -7,8 +7,8 @@ use Rattle.star_lex.specs.declared.token.SyntaxFault.TheVariants.{BadToken, BadI
 use Rattle.star_lex.specs.Values.{Text}
 use Rattle.star_lex.specs.Lines.{lexed}
 use Rattle.star_syntax.specs.declared.leaf.Leaf.{Leaf}
-use Rattle.star_syntax.specs.declared.tree.Statement.{Statement}
-use Rattle.star_syntax.specs.declared.tree.Tree.{Tree}
+use Rattle.star_tree.specs.declared.tree.Statement.{Statement}
+use Rattle.star_tree.specs.declared.tree.Tree.{Tree}
 use Rattle.star_syntax.specs.Leaves.{leaves_of}
 use Rattle.star_syntax.proofs.Once.{one_reading}
 use Rattle.star_parser.specs.Nesting.{too_nested}

@@ -3,7 +3,7 @@ use Rattle.std.specs.Prelude.{◌≡◌, Result, Err}
 use Rattle.star_lex.specs.declared.token.SyntaxFault.{SyntaxFault}
 use Rattle.star_lex.specs.declared.token.SyntaxFault.TheVariants.{Memory}
 use Rattle.star_lex.specs.Values.{Text}
-use Rattle.star_syntax.specs.declared.tree.Tree.{Tree}
+use Rattle.star_tree.specs.declared.tree.Tree.{Tree}
 use Rattle.star_parser.specs.Sources.{Parses}
 
 -- The law: a text has one answer, want of memory aside.

@@ -13,7 +13,7 @@ use star_syntax::expressions::{expression, parameters_at, targets_at, tests_at};
 use star_syntax::leaf::{Leaf, Word};
 use star_syntax::level::Level;
 use star_syntax::reader::{Read, keyword, name, sign};
-use star_syntax::tree::{Arm, Expression, Form, Parameter, Statement, Target};
+use star_tree::tree::{Arm, Expression, Form, Parameter, Statement, Target};
 use std::alloc::{AllocError, Global};
 
 /// The readers of statements, with others nested in them no deeper than a depth.
@@ -286,7 +286,7 @@ impl<F: Fn(Global, u128, &[Leaf]) -> Read<'_, Items<Statement>>> Nested<F> {
         let Some((_, rest)) = keyword(Keyword::Def, leaves) else {
             return Ok(None);
         };
-        let Some((name, rest)) = name(self.alloc, rest)? else {
+        let Some((name, rest)) = name(rest)? else {
             return Ok(None);
         };
         let Some((parameters, rest)) = self.parameters(rest)? else {

@@ -13,7 +13,7 @@ use nest::too_nested;
 use star_lex::lex;
 use star_lex::token::SyntaxFault;
 use star_syntax::leaf::leaves;
-use star_syntax::tree::Tree;
+use star_tree::tree::Tree;
 use std::alloc::Global;
 
 /// The tree of a text, by the grammar of `docs/LANGUAGE.md`, "Grammar" (this profile).

@@ -14,8 +14,8 @@ use star_syntax::leaf::{Leaf, Word};
 use star_syntax::make::{augmented_of, target_of};
 use star_syntax::name::is_name;
 use star_syntax::reader::{Read, keyword, name, sign};
-use star_syntax::tree::{BinaryOperator, Expression, Form, Literal, LoadedName, Name, Statement};
 use star_text::Text;
+use star_tree::tree::{BinaryOperator, Expression, Form, Literal, LoadedName, Name, Statement};
 use std::alloc::{AllocError, Global};
 
 /// The readers of small statements, with expressions nested in them no deeper than a depth.
@@ -39,13 +39,13 @@ pub fn newline(leaves: &[Leaf]) -> Option<((), &[Leaf])>
 }
 
 /// The string at the front of the leaves.
-fn literal(alloc: Global, leaves: &[Leaf]) -> Read<'_, Literal>
+fn literal(leaves: &[Leaf]) -> Read<'_, Literal>
     ensures { Gives (first (λ t. spec.literal_of t.position t.word) leaves.now) result }
 {
     match leaves {
         [leaf, rest @ ..] => match &leaf.word {
             Word::Text(text) => {
-                let text = Text::new(alloc, text.as_str())?;
+                let text = text.share()?;
                 let position = leaf.position;
                 Ok(Some((Literal { text, position }, rest)))
             }
@@ -95,30 +95,26 @@ fn augmenting(leaves: &[Leaf]) -> Option<(BinaryOperator, &[Leaf])>
     }
 }
 
-fn local_of(alloc: Global, local: Option<Name>, loaded: &Literal) -> Result<Name, AllocError>
+fn local_of(local: Option<Name>, loaded: &Literal) -> Result<Name, AllocError>
     ensures { IfOk result (λ bound. bound ≡ spec.local_of local loaded.now) }
 {
     match local {
         Some(bound) => Ok(bound),
         None => Ok(Name {
-            text: Text::new(alloc, loaded.text.as_str())?,
+            text: loaded.text.share()?,
             position: loaded.position,
         }),
     }
 }
 
 /// A loaded name's string has the form of a name that is no keyword.
-fn loaded_of(
-    alloc: Global,
-    local: Option<Name>,
-    loaded: Literal,
-) -> Result<Option<LoadedName>, AllocError>
+fn loaded_of(local: Option<Name>, loaded: Literal) -> Result<Option<LoadedName>, AllocError>
     ensures { IfOk result (λ made. made ≡ spec.loaded_of (local, loaded)) }
 {
     if !is_name(loaded.text.as_str().as_bytes()) {
         return Ok(None);
     }
-    let local = local_of(alloc, local, &loaded)?;
+    let local = local_of(local, &loaded)?;
     Ok(Some(LoadedName { local, loaded }))
 }
 
@@ -191,7 +187,7 @@ impl Simple {
     fn local<'a>(&self, leaves: &'a [Leaf]) -> Read<'a, Option<Name>>
         ensures { Gives (reads self.now.depth spec.local leaves.now) result }
     {
-        let Some((bound, rest)) = name(self.alloc, leaves)? else {
+        let Some((bound, rest)) = name(leaves)? else {
             return Ok(Some((None, leaves)));
         };
         match sign(Sign::Assign, rest) {
@@ -207,10 +203,10 @@ impl Simple {
         let Some((local, rest)) = self.local(leaves)? else {
             return Ok(None);
         };
-        let Some((text, rest)) = literal(self.alloc, rest)? else {
+        let Some((text, rest)) = literal(rest)? else {
             return Ok(None);
         };
-        match loaded_of(self.alloc, local, text)? {
+        match loaded_of(local, text)? {
             Some(loaded) => Ok(Some((loaded, rest))),
             None => Ok(None),
         }
@@ -249,7 +245,7 @@ impl Simple {
         let Some((_, rest)) = sign(Sign::LeftParen, leaves) else {
             return Ok(None);
         };
-        let Some((module, rest)) = literal(self.alloc, rest)? else {
+        let Some((module, rest)) = literal(rest)? else {
             return Ok(None);
         };
         let Some((names, rest)) = self.all_loaded(rest)? else {

@@ -9,7 +9,7 @@ use Rattle.star_store.specs.declared.values.Cell.TheVariants as cell
 use Rattle.star_store.specs.declared.values.Function.{Function}
 use Rattle.star_store.specs.Store.{Published, Shelf, is_taken, published_cells}
 use Rattle.star_store.specs.Write.{cell_at}
-use Rattle.star_syntax.specs.declared.tree.Statement.{Statement}
+use Rattle.star_tree.specs.declared.tree.Statement.{Statement}
 use Rattle.star_meaning.specs.Local.{reached}
 use Rattle.star_meaning.specs.Module.{Local, start, union}
 use Rattle.star_meaning.specs.Places.{AllFit, FitBehind, IsResolved, Loaded, Stands, Tables}

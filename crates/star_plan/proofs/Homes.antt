@@ -1,7 +1,7 @@
 -- The run of a file keeps its module.
 use Rattle.std.proofs.Common.{◌≡◌, ℕ, List, false, subst}
 use Rattle.star_store.specs.declared.values.Value.{Value}
-use Rattle.star_syntax.specs.declared.tree.Statement.{Statement}
+use Rattle.star_tree.specs.declared.tree.Statement.{Statement}
 use Rattle.star_meaning.specs.Run.{Done, State}
 use Rattle.star_meaning.specs.Program.{Setting, Variables}
 use Rattle.star_meaning.specs.Variables.{by_names}

@@ -4,7 +4,7 @@ use Rattle.std.specs.Prelude.{slice_get}
 use Rattle.std.specs.Option.{option_and_then, option_map}
 use Rattle.std.proofs.lemmas.Bool.{cases_order}
 use Rattle.star_cache.specs.State.{Loads}
-use Rattle.star_syntax.specs.declared.tree.Statement.{Statement}
+use Rattle.star_tree.specs.declared.tree.Statement.{Statement}
 use Rattle.star_meaning.specs.Module.{Local, Good, Stopped}
 use Rattle.star_plan.specs.Plan.{Plan, StaticFault, Faulty, loaded, loads_in, read_of, tree_in}
 use Rattle.star_plan.specs.Results.{AreGood, IsFirstBad, IsGoodAt, IsOutcome, Outcome, Static, Unloaded, Ran, all_good, if_good, ran, result, went_well}

@@ -14,8 +14,8 @@ use Rattle.star_label.specs.Label.{Reads, label_text, package_of}
 use Rattle.star_label.proofs.Colons.{tails}
 use Rattle.star_lex.specs.declared.token.SyntaxFault.{SyntaxFault}
 use Rattle.star_lex.specs.declared.token.SyntaxFault.TheVariants as syntax_fault
-use Rattle.star_syntax.specs.declared.tree.Statement.{Statement}
-use Rattle.star_syntax.specs.declared.tree.Tree.{Tree}
+use Rattle.star_tree.specs.declared.tree.Statement.{Statement}
+use Rattle.star_tree.specs.declared.tree.Tree.{Tree}
 use Rattle.star_parser.specs.Sources.{Parses}
 use Rattle.star_parser.proofs.Once.{one_answer}
 use Rattle.star_scope.specs.declared.error.ScopeFault.{ScopeFault}

@@ -7,7 +7,7 @@ use Rattle.star_cache.specs.State.{Loads}
 use Rattle.star_cache.specs.Walk.{IsOnCycle, LeadsTo}
 use Rattle.star_cache.proofs.Walks.{cycle-not_good, next_on_cycle}
 use Rattle.star_store.specs.Store.{Published, put_up}
-use Rattle.star_syntax.specs.declared.tree.Statement.{Statement}
+use Rattle.star_tree.specs.declared.tree.Statement.{Statement}
 use Rattle.star_meaning.specs.Run.{Done, Failed, Outcome, State}
 use Rattle.star_meaning.specs.Local.{reached, statements_of, statements_or_none}
 use Rattle.star_meaning.specs.Module.{Ended, Good, Local, Stopped, local_of, union}

@@ -3,7 +3,7 @@ use Rattle.std.proofs.Common.{arith, ◌≡◌, ◌<◌, ◌≤◌, ℕ, zero, s
 use Rattle.std.specs.Prelude.{slice_get}
 use Rattle.std.specs.Option.{option_and_then, option_map}
 use Rattle.std.proofs.lemmas.Option.{slice_get_within}
-use Rattle.star_syntax.specs.declared.tree.Statement.{Statement}
+use Rattle.star_tree.specs.declared.tree.Statement.{Statement}
 use Rattle.star_meaning.specs.Module.{Local}
 use Rattle.star_plan.specs.Plan.{Plan, Reading, Sound, Faulty, loaded, read_of, tree_in}
 use Rattle.star_plan.specs.Results.{IsFirstBad, IsGood, IsGoodAt, IsOutcome, Outcome, Ran, Static, Unloaded, all_good, if_good, ran, result}

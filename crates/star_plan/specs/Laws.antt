@@ -8,7 +8,7 @@ use Rattle.star_cache.specs.State.{Loads}
 use Rattle.star_meaning.specs.Module.{Good, Local, local, local_of, start}
 use Rattle.star_meaning.specs.Places.{AllFit, IsResolved, Stands}
 use Rattle.star_meaning.specs.Programs.{ArePrograms, Files, tables_of, trees_of}
-use Rattle.star_syntax.specs.declared.tree.Statement.{Statement}
+use Rattle.star_tree.specs.declared.tree.Statement.{Statement}
 use Rattle.std.specs.Prelude.{slice_get}
 use Rattle.star_store.specs.declared.values.Value.{Value}
 use Rattle.star_store.specs.Store.{Published, Shelf, put_up}

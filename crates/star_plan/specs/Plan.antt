@@ -2,7 +2,7 @@
 use Rattle.std.specs.Prelude.{ℕ, List, [], map, Option, Some, None, slice_get}
 use Rattle.std.specs.Option.{option_flatten}
 use Rattle.star_lex.specs.declared.token.SyntaxFault.{SyntaxFault}
-use Rattle.star_syntax.specs.declared.tree.Statement.{Statement}
+use Rattle.star_tree.specs.declared.tree.Statement.{Statement}
 use Rattle.star_scope.specs.declared.error.ScopeFault.{ScopeFault}
 use Rattle.star_scope.specs.declared.loads.Load.{Load}
 use Rattle.star_meaning.specs.Local.{Trees}

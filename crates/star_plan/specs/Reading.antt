@@ -3,8 +3,8 @@ use Rattle.std.specs.Prelude.{◌≡◌, ◌≢◌, ◌↔◌, ℕ, List, length
 use Rattle.star_label.specs.Files.{File, text_at}
 use Rattle.star_lex.specs.declared.token.SyntaxFault.{SyntaxFault}
 use Rattle.star_lex.specs.declared.token.SyntaxFault.TheVariants as syntax_fault
-use Rattle.star_syntax.specs.declared.tree.Statement.{Statement}
-use Rattle.star_syntax.specs.declared.tree.Tree.{Tree}
+use Rattle.star_tree.specs.declared.tree.Statement.{Statement}
+use Rattle.star_tree.specs.declared.tree.Tree.{Tree}
 use Rattle.star_parser.specs.Sources.{Parses}
 use Rattle.star_scope.specs.declared.error.ScopeFault.TheVariants as fault
 use Rattle.star_scope.specs.declared.program.Prelude.{Prelude}

@@ -3,7 +3,7 @@ use Rattle.std.specs.Prelude.{◌≡◌, ℕ, List, Option, Some, Ok}
 use Rattle.star_label.specs.Files.{File}
 use Rattle.star_store.specs.declared.values.Value.{Value}
 use Rattle.star_store.specs.Store.{Published, Shelf, put_up}
-use Rattle.star_syntax.specs.declared.tree.Statement.{Statement}
+use Rattle.star_tree.specs.declared.tree.Statement.{Statement}
 use Rattle.star_scope.specs.declared.program.Prelude.{Prelude}
 use Rattle.star_scope.specs.declared.program.Program.{Program}
 use Rattle.star_scope.specs.Resolve.{Resolves}

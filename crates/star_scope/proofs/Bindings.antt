@@ -14,11 +14,11 @@ use denote.Ref.{Bor}
 use Rattle.std.proofs.Math.ListN.{get_or}
 use Rattle.std.proofs.lemmas.List.{append_assoc, take_more}
 use Rattle.std.proofs.lemmas.Grind.{flat_map-append}
-use Rattle.star_syntax.specs.declared.tree.Parameter.{Parameter, out-Parameter, out-roll-Parameter}
-use Rattle.star_syntax.specs.declared.tree.Parameter.TheVariants as v
-use Rattle.star_syntax.specs.declared.tree.Argument.TheOpen as tree
-use Rattle.star_syntax.specs.declared.tree.Name.{Name}
-use Rattle.star_syntax.specs.declared.tree.Expression.{Expression}
+use Rattle.star_tree.specs.declared.tree.Parameter.{Parameter, out-Parameter, out-roll-Parameter}
+use Rattle.star_tree.specs.declared.tree.Parameter.TheVariants as v
+use Rattle.star_tree.specs.declared.tree.Argument.TheOpen as tree
+use Rattle.star_tree.specs.declared.tree.Name.{Name}
+use Rattle.star_tree.specs.declared.tree.Expression.{Expression}
 use Rattle.star_scope.specs.declared.conflicts.Bound.{Bound}
 use Rattle.star_scope.specs.Bound.{Binds, Knows, behind, is_in, names_of}
 use Rattle.star_scope.specs.Conflicts.{Binding, alone, conflict, conflict_at, conflicts, parameter_binding, parameter_bindings, parameter_form}

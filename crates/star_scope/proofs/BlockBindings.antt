@@ -5,22 +5,22 @@ use Rattle.std.proofs.Math.ListN.{get_or}
 use Rattle.std.proofs.Math.Seq.{take-length}
 use Rattle.std.proofs.lemmas.List.{append_assoc, take_more}
 use Rattle.std.proofs.lemmas.Grind.{flat_map-append}
-use Rattle.star_syntax.specs.declared.tree.Target.{Target}
-use Rattle.star_syntax.specs.declared.tree.Target.TheVariants as t
-use Rattle.star_syntax.specs.declared.tree.Expression.{Expression}
-use Rattle.star_syntax.specs.declared.tree.Parameter.{Parameter}
-use Rattle.star_syntax.specs.declared.tree.Argument.TheOpen as tree
-use Rattle.star_syntax.specs.declared.tree.Argument.TheFolds.{fold-roll-Target}
-use Rattle.star_syntax.specs.declared.tree.Form.{Form, roll-Form, map-Form}
-use Rattle.star_syntax.specs.declared.tree.Form.TheVariants as v
-use Rattle.star_syntax.specs.declared.tree.Arm.{Arm, out-Arm}
-use Rattle.star_syntax.specs.declared.tree.Statement.{Statement, out-Statement}
-use Rattle.star_syntax.specs.declared.tree.Form.TheOpen as form
-use Rattle.star_syntax.specs.declared.tree.Form.TheFolds.{fold-roll-Form, fold_out-Arm, fold_out-Statement}
-use Rattle.star_syntax.specs.declared.tree.Literal.{Literal}
-use Rattle.star_syntax.specs.declared.tree.LoadedName.{LoadedName}
-use Rattle.star_syntax.specs.declared.tree.BinaryOperator.{BinaryOperator}
-use Rattle.star_syntax.specs.declared.tree.Name.{Name}
+use Rattle.star_tree.specs.declared.tree.Target.{Target}
+use Rattle.star_tree.specs.declared.tree.Target.TheVariants as t
+use Rattle.star_tree.specs.declared.tree.Expression.{Expression}
+use Rattle.star_tree.specs.declared.tree.Parameter.{Parameter}
+use Rattle.star_tree.specs.declared.tree.Argument.TheOpen as tree
+use Rattle.star_tree.specs.declared.tree.Argument.TheFolds.{fold-roll-Target}
+use Rattle.star_tree.specs.declared.tree.Form.{Form, roll-Form, map-Form}
+use Rattle.star_tree.specs.declared.tree.Form.TheVariants as v
+use Rattle.star_tree.specs.declared.tree.Arm.{Arm, out-Arm}
+use Rattle.star_tree.specs.declared.tree.Statement.{Statement, out-Statement}
+use Rattle.star_tree.specs.declared.tree.Form.TheOpen as form
+use Rattle.star_tree.specs.declared.tree.Form.TheFolds.{fold-roll-Form, fold_out-Arm, fold_out-Statement}
+use Rattle.star_tree.specs.declared.tree.Literal.{Literal}
+use Rattle.star_tree.specs.declared.tree.LoadedName.{LoadedName}
+use Rattle.star_tree.specs.declared.tree.BinaryOperator.{BinaryOperator}
+use Rattle.star_tree.specs.declared.tree.Name.{Name}
 use Rattle.star_scope.specs.declared.conflicts.Bound.{Bound}
 use Rattle.star_scope.specs.Bound.{Binds}
 use Rattle.star_scope.specs.Conflicts.{Bindings, all_of, arm_bindings, arm_step, arms_bindings, form_bindings, form_step, loaded_binding, nothing, shared, statement_bindings, statement_step, statements_bindings, target_bindings, target_step, targets_bindings}

@@ -1,20 +1,20 @@
 -- The names that the parts of a file bind, one after another, and one level of the tree at a time.
 use Rattle.std.proofs.Common.{◌≡◌, ◌<◌, ◌≤◌, ◌+◌, ℕ, List, [], ◌∷◌, ◌++◌, refl, ap, sym, ◌∙◌, length, map, drop}
 use Rattle.std.proofs.Math.ListN.{get_or}
-use Rattle.star_syntax.specs.declared.tree.Target.{Target, out-Target, roll-Target, roll-out-Target}
-use Rattle.star_syntax.specs.declared.tree.Argument.TheOpen as tree
-use Rattle.star_syntax.specs.declared.tree.Argument.TheFolds.{fold-roll-Target}
-use Rattle.star_syntax.specs.declared.tree.Parameter.{out-Parameter, out-roll-Parameter}
-use Rattle.star_syntax.specs.declared.tree.Parameter.TheVariants as p
-use Rattle.star_syntax.specs.declared.tree.Clause.{out-Clause, out-roll-Clause}
-use Rattle.star_syntax.specs.declared.tree.Clause.TheVariants as c
-use Rattle.star_syntax.specs.declared.tree.Form.{Form, out-Form, roll-Form, roll-out-Form}
-use Rattle.star_syntax.specs.declared.tree.Arm.{Arm, out-Arm}
-use Rattle.star_syntax.specs.declared.tree.Statement.{Statement, out-Statement}
-use Rattle.star_syntax.specs.declared.tree.Form.TheOpen as form
-use Rattle.star_syntax.specs.declared.tree.Form.TheVariants as v
-use Rattle.star_syntax.specs.declared.tree.Expression.{Expression}
-use Rattle.star_syntax.specs.declared.tree.Form.TheFolds.{fold-roll-Form, fold_out-Arm, fold_out-Statement}
+use Rattle.star_tree.specs.declared.tree.Target.{Target, out-Target, roll-Target, roll-out-Target}
+use Rattle.star_tree.specs.declared.tree.Argument.TheOpen as tree
+use Rattle.star_tree.specs.declared.tree.Argument.TheFolds.{fold-roll-Target}
+use Rattle.star_tree.specs.declared.tree.Parameter.{out-Parameter, out-roll-Parameter}
+use Rattle.star_tree.specs.declared.tree.Parameter.TheVariants as p
+use Rattle.star_tree.specs.declared.tree.Clause.{out-Clause, out-roll-Clause}
+use Rattle.star_tree.specs.declared.tree.Clause.TheVariants as c
+use Rattle.star_tree.specs.declared.tree.Form.{Form, out-Form, roll-Form, roll-out-Form}
+use Rattle.star_tree.specs.declared.tree.Arm.{Arm, out-Arm}
+use Rattle.star_tree.specs.declared.tree.Statement.{Statement, out-Statement}
+use Rattle.star_tree.specs.declared.tree.Form.TheOpen as form
+use Rattle.star_tree.specs.declared.tree.Form.TheVariants as v
+use Rattle.star_tree.specs.declared.tree.Expression.{Expression}
+use Rattle.star_tree.specs.declared.tree.Form.TheFolds.{fold-roll-Form, fold_out-Arm, fold_out-Statement}
 use Rattle.star_scope.specs.Names.{Names, with_name, with_names}
 use Rattle.star_scope.specs.Syntax.{TargetForm}
 use Rattle.star_scope.specs.Outlines.{arm_step, arms_loaded, arms_names, block_names, bound_step, clause_names, clause_step, form_loaded, form_names, loaded_names, loads_step, local_name, names_step, no_names, parameter_names, parameter_step, target_names, target_step, targets_names}

@@ -8,14 +8,14 @@ use Rattle.star_label.specs.Files.{File}
 use Rattle.star_scope.specs.declared.error.Refusal.{Refusal}
 use Rattle.star_scope.specs.declared.loads.Lead.{Lead}
 use Rattle.star_scope.specs.declared.loads.Load.{Load}
-use Rattle.star_syntax.specs.declared.tree.Form.{Form, out-Form, roll-Form, roll-out-Form, out-roll-Form}
-use Rattle.star_syntax.specs.declared.tree.Arm.{Arm}
-use Rattle.star_syntax.specs.declared.tree.Statement.{Statement}
-use Rattle.star_syntax.specs.declared.tree.Form.TheOpen as form
-use Rattle.star_syntax.specs.declared.tree.Form.TheVariants as v
-use Rattle.star_syntax.specs.declared.tree.Position.{Position}
-use Rattle.star_syntax.specs.declared.tree.Literal.{Literal}
-use Rattle.star_syntax.specs.declared.tree.LoadedName.{LoadedName}
+use Rattle.star_tree.specs.declared.tree.Form.{Form, out-Form, roll-Form, roll-out-Form, out-roll-Form}
+use Rattle.star_tree.specs.declared.tree.Arm.{Arm}
+use Rattle.star_tree.specs.declared.tree.Statement.{Statement}
+use Rattle.star_tree.specs.declared.tree.Form.TheOpen as form
+use Rattle.star_tree.specs.declared.tree.Form.TheVariants as v
+use Rattle.star_tree.specs.declared.tree.Position.{Position}
+use Rattle.star_tree.specs.declared.tree.Literal.{Literal}
+use Rattle.star_tree.specs.declared.tree.LoadedName.{LoadedName}
 use Rattle.star_scope.specs.Faults.{first_from}
 use Rattle.star_scope.specs.Loads.{Adds, AllLead, LeadsTo, Read, Written, faults_of, load_at, load_in, load_of, module_fault, private_fault, written, written_in}
 use Rattle.star_scope.proofs.Faults.{first_joined, first_none}

@@ -1,7 +1,7 @@
 -- A definition or a comprehension more.
 use Rattle.std.proofs.Common.{◌≡◌, ◌+◌, ℕ, List, [], ◌∷◌, ◌++◌, ap, sym, ◌∙◌, append-nil}
-use Rattle.star_syntax.specs.declared.tree.Clauses.{Clauses}
-use Rattle.star_syntax.specs.declared.tree.Parameter.{Parameter}
+use Rattle.star_tree.specs.declared.tree.Clauses.{Clauses}
+use Rattle.star_tree.specs.declared.tree.Parameter.{Parameter}
 use Rattle.star_scope.specs.Names.{Names, once, with_names}
 use Rattle.star_scope.specs.Outlines.{Block, Body, Definition, Found, all_parameter_names, and, body_names, clauses_names, comprehension, definition}
 use Rattle.star_scope.proofs.BoundNames.{with_joined}

@@ -2,23 +2,23 @@
 use Rattle.std.proofs.Common.{◌≡◌, ◌<◌, ◌≤◌, ◌+◌, ℕ, List, [], ◌∷◌, ◌++◌, Some, None, refl, ap, sym, ◌∙◌, length, map, drop, append-nil, ◌⊎◌, inl, inr}
 use Rattle.std.proofs.Math.ListN.{get_or}
 use Rattle.std.proofs.lemmas.List.{append_assoc}
-use Rattle.star_syntax.specs.declared.tree.Argument.{Argument, out-Argument, roll-Argument, roll-out-Argument, para-roll-Argument}
-use Rattle.star_syntax.specs.declared.tree.Clause.{Clause, out-Clause, roll-Clause, roll-out-Clause, para-roll-Clause}
-use Rattle.star_syntax.specs.declared.tree.Clauses.{Clauses, out-Clauses, roll-out-Clauses, para-roll-Clauses}
-use Rattle.star_syntax.specs.declared.tree.Entry.{Entry, out-Entry, roll-out-Entry, para-roll-Entry}
-use Rattle.star_syntax.specs.declared.tree.Expression.{Expression, out-Expression, roll-Expression, roll-out-Expression, para-roll-Expression}
-use Rattle.star_syntax.specs.declared.tree.Parameter.{Parameter, out-Parameter, roll-Parameter, roll-out-Parameter, para-roll-Parameter}
-use Rattle.star_syntax.specs.declared.tree.Target.{Target, out-Target, roll-Target, roll-out-Target, para-roll-Target}
-use Rattle.star_syntax.specs.declared.tree.Argument.TheOpen as tree
-use Rattle.star_syntax.specs.declared.tree.Argument.TheVariants as a
-use Rattle.star_syntax.specs.declared.tree.Clause.TheVariants as c
-use Rattle.star_syntax.specs.declared.tree.Expression.TheVariants as v
-use Rattle.star_syntax.specs.declared.tree.Parameter.TheVariants as p
-use Rattle.star_syntax.specs.declared.tree.Target.TheVariants as t
-use Rattle.star_syntax.specs.declared.tree.Name.{Name}
-use Rattle.star_syntax.specs.declared.tree.BinaryOperator.{BinaryOperator}
-use Rattle.star_syntax.specs.declared.tree.Comparator.{Comparator}
-use Rattle.star_syntax.specs.declared.tree.UnaryOperator.{UnaryOperator}
+use Rattle.star_tree.specs.declared.tree.Argument.{Argument, out-Argument, roll-Argument, roll-out-Argument, para-roll-Argument}
+use Rattle.star_tree.specs.declared.tree.Clause.{Clause, out-Clause, roll-Clause, roll-out-Clause, para-roll-Clause}
+use Rattle.star_tree.specs.declared.tree.Clauses.{Clauses, out-Clauses, roll-out-Clauses, para-roll-Clauses}
+use Rattle.star_tree.specs.declared.tree.Entry.{Entry, out-Entry, roll-out-Entry, para-roll-Entry}
+use Rattle.star_tree.specs.declared.tree.Expression.{Expression, out-Expression, roll-Expression, roll-out-Expression, para-roll-Expression}
+use Rattle.star_tree.specs.declared.tree.Parameter.{Parameter, out-Parameter, roll-Parameter, roll-out-Parameter, para-roll-Parameter}
+use Rattle.star_tree.specs.declared.tree.Target.{Target, out-Target, roll-Target, roll-out-Target, para-roll-Target}
+use Rattle.star_tree.specs.declared.tree.Argument.TheOpen as tree
+use Rattle.star_tree.specs.declared.tree.Argument.TheVariants as a
+use Rattle.star_tree.specs.declared.tree.Clause.TheVariants as c
+use Rattle.star_tree.specs.declared.tree.Expression.TheVariants as v
+use Rattle.star_tree.specs.declared.tree.Parameter.TheVariants as p
+use Rattle.star_tree.specs.declared.tree.Target.TheVariants as t
+use Rattle.star_tree.specs.declared.tree.Name.{Name}
+use Rattle.star_tree.specs.declared.tree.BinaryOperator.{BinaryOperator}
+use Rattle.star_tree.specs.declared.tree.Comparator.{Comparator}
+use Rattle.star_tree.specs.declared.tree.UnaryOperator.{UnaryOperator}
 use Rattle.star_scope.specs.Syntax.{ArgumentForm, ClauseForm, ExpressionForm, ParameterForm, TargetForm}
 use Rattle.star_scope.specs.Outlines.{Answer, Found, and, argument_found, clause_found, clauses_found, comprehension, definition, entry_found, expression_found, firsts, in_argument, in_clause, in_clauses, in_each, in_entry, in_expression, in_expressions, in_optional, in_parameter, in_parameters, in_target, nothing, parameter_found, target_found}
 use Rattle.star_scope.proofs.Turns.{added, added_all}

@@ -1,16 +1,16 @@
 -- What is found in statements, one level of the tree at a time.
 use Rattle.std.proofs.Common.{◌≡◌, List, refl, ap, sym, ◌∙◌, ◌⊎◌, inl, inr}
-use Rattle.star_syntax.specs.declared.tree.Form.{Form, out-Form, roll-Form, roll-out-Form, out-roll-Form, para-roll-Form}
-use Rattle.star_syntax.specs.declared.tree.Arm.{Arm, out-Arm, roll-out-Arm, para-roll-Arm}
-use Rattle.star_syntax.specs.declared.tree.Statement.{Statement, out-Statement, roll-out-Statement, para-roll-Statement}
-use Rattle.star_syntax.specs.declared.tree.Form.TheOpen as form
-use Rattle.star_syntax.specs.declared.tree.Form.TheVariants as v
-use Rattle.star_syntax.specs.declared.tree.BinaryOperator.{BinaryOperator}
-use Rattle.star_syntax.specs.declared.tree.Expression.{Expression}
-use Rattle.star_syntax.specs.declared.tree.Name.{Name}
-use Rattle.star_syntax.specs.declared.tree.Parameter.{Parameter}
-use Rattle.star_syntax.specs.declared.tree.Position.{Position}
-use Rattle.star_syntax.specs.declared.tree.Target.{Target}
+use Rattle.star_tree.specs.declared.tree.Form.{Form, out-Form, roll-Form, roll-out-Form, out-roll-Form, para-roll-Form}
+use Rattle.star_tree.specs.declared.tree.Arm.{Arm, out-Arm, roll-out-Arm, para-roll-Arm}
+use Rattle.star_tree.specs.declared.tree.Statement.{Statement, out-Statement, roll-out-Statement, para-roll-Statement}
+use Rattle.star_tree.specs.declared.tree.Form.TheOpen as form
+use Rattle.star_tree.specs.declared.tree.Form.TheVariants as v
+use Rattle.star_tree.specs.declared.tree.BinaryOperator.{BinaryOperator}
+use Rattle.star_tree.specs.declared.tree.Expression.{Expression}
+use Rattle.star_tree.specs.declared.tree.Name.{Name}
+use Rattle.star_tree.specs.declared.tree.Parameter.{Parameter}
+use Rattle.star_tree.specs.declared.tree.Position.{Position}
+use Rattle.star_tree.specs.declared.tree.Target.{Target}
 use Rattle.star_scope.specs.Syntax.{StatementForm, form_of, position_of}
 use Rattle.star_scope.specs.Outlines.{Found, Statements, and, arm_found, definition, form_found, in_arm, in_arms, in_expression, in_form, in_optional, in_parameters, in_statement, in_statements, in_target, nothing, own_definition, statement_found}
 

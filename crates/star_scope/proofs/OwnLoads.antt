@@ -1,10 +1,10 @@
 -- The names that the load statements of a file itself load.
 use Rattle.std.proofs.Common.{◌≡◌, List, [], refl, ap, sym, ◌∙◌}
-use Rattle.star_syntax.specs.declared.tree.Form.{Form, out-Form, roll-Form, roll-out-Form}
-use Rattle.star_syntax.specs.declared.tree.Form.TheOpen as form
-use Rattle.star_syntax.specs.declared.tree.Form.TheVariants as v
-use Rattle.star_syntax.specs.declared.tree.Literal.{Literal}
-use Rattle.star_syntax.specs.declared.tree.LoadedName.{LoadedName}
+use Rattle.star_tree.specs.declared.tree.Form.{Form, out-Form, roll-Form, roll-out-Form}
+use Rattle.star_tree.specs.declared.tree.Form.TheOpen as form
+use Rattle.star_tree.specs.declared.tree.Form.TheVariants as v
+use Rattle.star_tree.specs.declared.tree.Literal.{Literal}
+use Rattle.star_tree.specs.declared.tree.LoadedName.{LoadedName}
 use Rattle.star_scope.specs.Syntax.{StatementForm}
 use Rattle.star_scope.specs.Outlines.{loaded_by}
 

@@ -1,12 +1,12 @@
 -- Misplaced statements, one level at a time.
 use Rattle.std.proofs.Common.{◌≡◌, List, [], ◌∷◌, ◌++◌, refl, ap, sym, ◌∙◌}
-use Rattle.star_syntax.specs.declared.tree.Form.{Form, out-Form, map-Form}
-use Rattle.star_syntax.specs.declared.tree.Arm.{Arm, out-Arm}
-use Rattle.star_syntax.specs.declared.tree.Statement.{Statement, out-Statement}
-use Rattle.star_syntax.specs.declared.tree.Form.TheFolds.{fold-roll-Form, fold_out-Form, fold_out-Arm, fold_out-Statement}
-use Rattle.star_syntax.specs.declared.tree.Form.TheOpen as form
-use Rattle.star_syntax.specs.declared.tree.Form.TheVariants as v
-use Rattle.star_syntax.specs.declared.tree.Position.{Position}
+use Rattle.star_tree.specs.declared.tree.Form.{Form, out-Form, map-Form}
+use Rattle.star_tree.specs.declared.tree.Arm.{Arm, out-Arm}
+use Rattle.star_tree.specs.declared.tree.Statement.{Statement, out-Statement}
+use Rattle.star_tree.specs.declared.tree.Form.TheFolds.{fold-roll-Form, fold_out-Form, fold_out-Arm, fold_out-Statement}
+use Rattle.star_tree.specs.declared.tree.Form.TheOpen as form
+use Rattle.star_tree.specs.declared.tree.Form.TheVariants as v
+use Rattle.star_tree.specs.declared.tree.Position.{Position}
 use Rattle.star_scope.specs.declared.placement.Standing.{Standing}
 use Rattle.star_scope.specs.Placement.{Misplaced, form_step, arm_step, statement_step, in_arm, in_arms, in_form, in_statement, in_statements, of_function, of_if, of_loop, only}
 

@@ -1,15 +1,15 @@
 -- The names of a statement, one level at a time.
 use Rattle.std.proofs.Common.{◌≡◌, ◌+◌, ℕ, List, [], ◌∷◌, ◌++◌, refl, ap, sym, ◌∙◌}
-use Rattle.star_syntax.specs.declared.tree.Arm.{Arm, out-Arm}
-use Rattle.star_syntax.specs.declared.tree.Form.{Form, roll-Form}
-use Rattle.star_syntax.specs.declared.tree.Form.TheFolds.{fold-roll-Form, fold_out-Arm, fold_out-Statement}
-use Rattle.star_syntax.specs.declared.tree.Form.TheOpen as form
-use Rattle.star_syntax.specs.declared.tree.Form.TheVariants as v
-use Rattle.star_syntax.specs.declared.tree.Literal.{Literal}
-use Rattle.star_syntax.specs.declared.tree.LoadedName.{LoadedName}
-use Rattle.star_syntax.specs.declared.tree.Name.{Name}
-use Rattle.star_syntax.specs.declared.tree.Parameter.{Parameter}
-use Rattle.star_syntax.specs.declared.tree.Statement.{Statement, out-Statement}
+use Rattle.star_tree.specs.declared.tree.Arm.{Arm, out-Arm}
+use Rattle.star_tree.specs.declared.tree.Form.{Form, roll-Form}
+use Rattle.star_tree.specs.declared.tree.Form.TheFolds.{fold-roll-Form, fold_out-Arm, fold_out-Statement}
+use Rattle.star_tree.specs.declared.tree.Form.TheOpen as form
+use Rattle.star_tree.specs.declared.tree.Form.TheVariants as v
+use Rattle.star_tree.specs.declared.tree.Literal.{Literal}
+use Rattle.star_tree.specs.declared.tree.LoadedName.{LoadedName}
+use Rattle.star_tree.specs.declared.tree.Name.{Name}
+use Rattle.star_tree.specs.declared.tree.Parameter.{Parameter}
+use Rattle.star_tree.specs.declared.tree.Statement.{Statement, out-Statement}
 use Rattle.star_scope.specs.Syntax.{StatementForm}
 use Rattle.star_scope.specs.Uses.{Defined, Named, OfForm, Within, all_uses, arm_uses, default_uses, form_uses, in_arm, in_expression, in_form, in_parameters, in_returned, in_statement, in_target, inner_of, loaded_use, loaded_uses, outer_of, parameter_name_uses, statement_uses, uses}
 

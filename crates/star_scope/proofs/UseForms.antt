@@ -1,22 +1,22 @@
 -- The names of a part of the tree, one level at a time.
 use Rattle.std.proofs.Common.{◌≡◌, ◌⊎◌, inl, inr, ◌+◌, ℕ, ℤ, List, [], ◌∷◌, ◌++◌, Some, None, refl, ap, sym, ◌∙◌, map}
 use Rattle.std.specs.Option.{option_map}
-use Rattle.star_syntax.specs.declared.tree.BinaryOperator.{BinaryOperator}
-use Rattle.star_syntax.specs.declared.tree.Clause.{Clause}
-use Rattle.star_syntax.specs.declared.tree.Clauses.{Clauses, out-Clauses}
-use Rattle.star_syntax.specs.declared.tree.Comparator.{Comparator}
-use Rattle.star_syntax.specs.declared.tree.Entry.{Entry, out-Entry}
-use Rattle.star_syntax.specs.declared.tree.Expression.{Expression, roll-Expression}
-use Rattle.star_syntax.specs.declared.tree.Parameter.{Parameter, out-Parameter, roll-Parameter, roll-out-Parameter}
-use Rattle.star_syntax.specs.declared.tree.Target.{Target}
-use Rattle.star_syntax.specs.declared.tree.Argument.TheOpen as tree
-use Rattle.star_syntax.specs.declared.tree.Argument.TheFolds.{fold-roll-Clause, fold-roll-Expression, fold-roll-Parameter, fold-roll-Target, fold_out-Clauses, fold_out-Entry}
-use Rattle.star_syntax.specs.declared.tree.Expression.TheVariants as e
-use Rattle.star_syntax.specs.declared.tree.Clause.TheVariants as c
-use Rattle.star_syntax.specs.declared.tree.Parameter.TheVariants as p
-use Rattle.star_syntax.specs.declared.tree.Target.TheVariants as t
-use Rattle.star_syntax.specs.declared.tree.Name.{Name}
-use Rattle.star_syntax.specs.declared.tree.Position.{Position}
+use Rattle.star_tree.specs.declared.tree.BinaryOperator.{BinaryOperator}
+use Rattle.star_tree.specs.declared.tree.Clause.{Clause}
+use Rattle.star_tree.specs.declared.tree.Clauses.{Clauses, out-Clauses}
+use Rattle.star_tree.specs.declared.tree.Comparator.{Comparator}
+use Rattle.star_tree.specs.declared.tree.Entry.{Entry, out-Entry}
+use Rattle.star_tree.specs.declared.tree.Expression.{Expression, roll-Expression}
+use Rattle.star_tree.specs.declared.tree.Parameter.{Parameter, out-Parameter, roll-Parameter, roll-out-Parameter}
+use Rattle.star_tree.specs.declared.tree.Target.{Target}
+use Rattle.star_tree.specs.declared.tree.Argument.TheOpen as tree
+use Rattle.star_tree.specs.declared.tree.Argument.TheFolds.{fold-roll-Clause, fold-roll-Expression, fold-roll-Parameter, fold-roll-Target, fold_out-Clauses, fold_out-Entry}
+use Rattle.star_tree.specs.declared.tree.Expression.TheVariants as e
+use Rattle.star_tree.specs.declared.tree.Clause.TheVariants as c
+use Rattle.star_tree.specs.declared.tree.Parameter.TheVariants as p
+use Rattle.star_tree.specs.declared.tree.Target.TheVariants as t
+use Rattle.star_tree.specs.declared.tree.Name.{Name}
+use Rattle.star_tree.specs.declared.tree.Position.{Position}
 use Rattle.star_scope.specs.Syntax.{ExpressionForm, ParameterForm}
 use Rattle.star_scope.specs.Uses.{ClauseUses, Defined, ParameterUses, Within, all_uses, argument_uses, clause_uses, clauses_uses, default_uses, entry_uses, expression_uses, in_argument, in_clause, in_clauses, in_entry, in_expression, in_parameter, in_target, inner_of, maybe_use, one_use, outer_of, parameter_name_uses, parameter_uses, target_uses}
 

@@ -1,9 +1,9 @@
 -- The definitions of a file.
 use Rattle.std.specs.Prelude.{ℕ, nat_eq, List, [], ◌∷◌, Option}
 use Rattle.std.specs.List.{Contains, find}
-use Rattle.star_syntax.specs.declared.tree.Expression.{Expression}
-use Rattle.star_syntax.specs.declared.tree.Parameter.{Parameter}
-use Rattle.star_syntax.specs.declared.tree.Statement.{Statement}
+use Rattle.star_tree.specs.declared.tree.Expression.{Expression}
+use Rattle.star_tree.specs.declared.tree.Parameter.{Parameter}
+use Rattle.star_tree.specs.declared.tree.Statement.{Statement}
 use Rattle.star_scope.specs.declared.outline.Body.{Body as OneBody}
 use Rattle.star_scope.specs.declared.outline.Body.TheVariants as one
 use Rattle.star_scope.specs.declared.outline.Definition.{Definition as OneDefinition}

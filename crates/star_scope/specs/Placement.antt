@@ -1,11 +1,11 @@
 -- Statements that stand where they must not.
 use Rattle.std.specs.Prelude.{Bool, true, false, List, [], ◌∷◌, ◌++◌, map}
-use Rattle.star_syntax.specs.declared.tree.Form.{Form}
-use Rattle.star_syntax.specs.declared.tree.Arm.{Arm}
-use Rattle.star_syntax.specs.declared.tree.Statement.{Statement}
-use Rattle.star_syntax.specs.declared.tree.Form.TheOpen as form
-use Rattle.star_syntax.specs.declared.tree.Form.TheFolds as form_folds
-use Rattle.star_syntax.specs.declared.tree.Position.{Position}
+use Rattle.star_tree.specs.declared.tree.Form.{Form}
+use Rattle.star_tree.specs.declared.tree.Arm.{Arm}
+use Rattle.star_tree.specs.declared.tree.Statement.{Statement}
+use Rattle.star_tree.specs.declared.tree.Form.TheOpen as form
+use Rattle.star_tree.specs.declared.tree.Form.TheFolds as form_folds
+use Rattle.star_tree.specs.declared.tree.Position.{Position}
 use Rattle.star_scope.specs.declared.error.ScopeFault.TheVariants as fault
 use Rattle.star_scope.specs.declared.error.Refusal.{Refusal}
 use Rattle.star_scope.specs.declared.placement.Standing.{Standing}

@@ -2,7 +2,7 @@
 use Rattle.std.specs.Prelude.{◌≡◌, ◌≤◌, ℕ, ◌+◌, Bool, true, false, not, ◌&&◌, List, [], ◌∷◌, length, Option, Some, None, if◌then◌else◌, codes, slice_get}
 use Rattle.std.specs.List.{flat_map}
 use Rattle.std.specs.Option.{option_and_then}
-use Rattle.star_syntax.specs.declared.tree.Name.{Name}
+use Rattle.star_tree.specs.declared.tree.Name.{Name}
 use Rattle.star_scope.specs.declared.error.ScopeFault.TheVariants as fault
 use Rattle.star_scope.specs.declared.error.Refusal.{Refusal}
 use Rattle.star_scope.specs.declared.spot.Spot.{Spot}

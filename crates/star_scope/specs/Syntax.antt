@@ -1,17 +1,17 @@
 -- One layer of the tree of a file: what an expression, a target or a statement is made of.
-use Rattle.star_syntax.specs.declared.tree.Argument.{Argument, out-Argument}
-use Rattle.star_syntax.specs.declared.tree.Clause.{Clause, out-Clause}
-use Rattle.star_syntax.specs.declared.tree.Clauses.{Clauses}
-use Rattle.star_syntax.specs.declared.tree.Entry.{Entry}
-use Rattle.star_syntax.specs.declared.tree.Expression.{Expression, out-Expression}
-use Rattle.star_syntax.specs.declared.tree.Parameter.{Parameter, out-Parameter}
-use Rattle.star_syntax.specs.declared.tree.Target.{Target, out-Target}
-use Rattle.star_syntax.specs.declared.tree.Argument.TheOpen as tree
-use Rattle.star_syntax.specs.declared.tree.Form.{Form, out-Form}
-use Rattle.star_syntax.specs.declared.tree.Arm.{Arm}
-use Rattle.star_syntax.specs.declared.tree.Statement.{Statement, out-Statement}
-use Rattle.star_syntax.specs.declared.tree.Form.TheOpen as statement
-use Rattle.star_syntax.specs.declared.tree.Position.{Position}
+use Rattle.star_tree.specs.declared.tree.Argument.{Argument, out-Argument}
+use Rattle.star_tree.specs.declared.tree.Clause.{Clause, out-Clause}
+use Rattle.star_tree.specs.declared.tree.Clauses.{Clauses}
+use Rattle.star_tree.specs.declared.tree.Entry.{Entry}
+use Rattle.star_tree.specs.declared.tree.Expression.{Expression, out-Expression}
+use Rattle.star_tree.specs.declared.tree.Parameter.{Parameter, out-Parameter}
+use Rattle.star_tree.specs.declared.tree.Target.{Target, out-Target}
+use Rattle.star_tree.specs.declared.tree.Argument.TheOpen as tree
+use Rattle.star_tree.specs.declared.tree.Form.{Form, out-Form}
+use Rattle.star_tree.specs.declared.tree.Arm.{Arm}
+use Rattle.star_tree.specs.declared.tree.Statement.{Statement, out-Statement}
+use Rattle.star_tree.specs.declared.tree.Form.TheOpen as statement
+use Rattle.star_tree.specs.declared.tree.Position.{Position}
 
 -- an expression, opened
 abbrev pub ExpressionForm : Type 0

@@ -1,22 +1,22 @@
 -- The names and the definitions that stand in a file, each with the chain of the blocks in which it stands.
 use Rattle.std.specs.Prelude.{ℕ, ◌+◌, List, [], ◌∷◌, ◌++◌, map, Option, Some, None}
 use Rattle.std.specs.List.{flat_map}
-use Rattle.star_syntax.specs.declared.tree.Argument.{Argument}
-use Rattle.star_syntax.specs.declared.tree.Clause.{Clause}
-use Rattle.star_syntax.specs.declared.tree.Clauses.{Clauses}
-use Rattle.star_syntax.specs.declared.tree.Entry.{Entry}
-use Rattle.star_syntax.specs.declared.tree.Expression.{Expression}
-use Rattle.star_syntax.specs.declared.tree.Target.{Target}
-use Rattle.star_syntax.specs.declared.tree.Parameter.{Parameter}
-use Rattle.star_syntax.specs.declared.tree.Name.{Name}
-use Rattle.star_syntax.specs.declared.tree.LoadedName.{LoadedName}
-use Rattle.star_syntax.specs.declared.tree.Form.{Form}
-use Rattle.star_syntax.specs.declared.tree.Arm.{Arm}
-use Rattle.star_syntax.specs.declared.tree.Statement.{Statement}
-use Rattle.star_syntax.specs.declared.tree.Argument.TheOpen as tree
-use Rattle.star_syntax.specs.declared.tree.Argument.TheFolds as folds
-use Rattle.star_syntax.specs.declared.tree.Form.TheOpen as form
-use Rattle.star_syntax.specs.declared.tree.Form.TheFolds as form_folds
+use Rattle.star_tree.specs.declared.tree.Argument.{Argument}
+use Rattle.star_tree.specs.declared.tree.Clause.{Clause}
+use Rattle.star_tree.specs.declared.tree.Clauses.{Clauses}
+use Rattle.star_tree.specs.declared.tree.Entry.{Entry}
+use Rattle.star_tree.specs.declared.tree.Expression.{Expression}
+use Rattle.star_tree.specs.declared.tree.Target.{Target}
+use Rattle.star_tree.specs.declared.tree.Parameter.{Parameter}
+use Rattle.star_tree.specs.declared.tree.Name.{Name}
+use Rattle.star_tree.specs.declared.tree.LoadedName.{LoadedName}
+use Rattle.star_tree.specs.declared.tree.Form.{Form}
+use Rattle.star_tree.specs.declared.tree.Arm.{Arm}
+use Rattle.star_tree.specs.declared.tree.Statement.{Statement}
+use Rattle.star_tree.specs.declared.tree.Argument.TheOpen as tree
+use Rattle.star_tree.specs.declared.tree.Argument.TheFolds as folds
+use Rattle.star_tree.specs.declared.tree.Form.TheOpen as form
+use Rattle.star_tree.specs.declared.tree.Form.TheFolds as form_folds
 
 -- a name where it is read or bound, or a definition by its number, with the numbers of the blocks around it, the innermost first
 pub data Use : Type 0 where

@@ -11,7 +11,7 @@ ghost use Rattle.star_scope.specs.Conflicts.{arms_bindings, block_conflicts, con
 ghost use Rattle.star_scope.specs.Faults.{first, first_from};
 
 use crate::error::{Refusal, ScopeFault, earlier};
-use star_syntax::tree::{Arm, Form, LoadedName, Name, Parameter, Position, Statement, Target};
+use star_tree::tree::{Arm, Form, LoadedName, Name, Parameter, Position, Statement, Target};
 use std::alloc::{AllocError, Global};
 use std::collections::BTreeSet;
 

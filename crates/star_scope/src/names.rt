@@ -5,9 +5,7 @@ ghost use Rattle.star_scope.specs.Names.{with_names};
 ghost use Rattle.star_scope.specs.Outlines.{all_parameter_names, arms_loaded, arms_names, block_names, clause_names, clauses_names, form_loaded, form_names, loaded_names, local_name, more_names, parameter_names, target_names, targets_names};
 
 use crate::blocks::BlockNames;
-use star_syntax::tree::{
-    Arm, Clause, Clauses, Form, LoadedName, Name, Parameter, Statement, Target,
-};
+use star_tree::tree::{Arm, Clause, Clauses, Form, LoadedName, Name, Parameter, Statement, Target};
 use std::alloc::AllocError;
 
 #[tactic(auto, unfolding(crate::specs::Names::with_names))]

@@ -11,7 +11,7 @@ use crate::blocks::{BlockNames, Blocks};
 use crate::index::Index;
 use crate::names::{add_clauses, add_parameters, add_statements};
 use sqlite_items::Boxed;
-use star_syntax::tree::{
+use star_tree::tree::{
     Argument, Arm, Clause, Clauses, Entry, Expression, Form, Parameter, Statement, Target,
 };
 use std::alloc::{AllocError, Global};
@@ -45,9 +45,9 @@ impl<'t> Model for Definitions<'t> {
     ghost use Rattle.std.specs.Prelude.{List, map};
     ghost use Rattle.star_scope.specs.Definitions.{AllDiffer, Definition as OneDefinition, definition_of};
     ghost use Rattle.star_scope.specs.Index.{Finds};
-    ghost use Rattle.star_syntax.specs.contracts.tree.Expression as expression;
-    ghost use Rattle.star_syntax.specs.contracts.tree.Parameter as parameter;
-    ghost use Rattle.star_syntax.specs.contracts.tree.Statement as statement;
+    ghost use Rattle.star_tree.specs.contracts.tree.Expression as expression;
+    ghost use Rattle.star_tree.specs.contracts.tree.Parameter as parameter;
+    ghost use Rattle.star_tree.specs.contracts.tree.Statement as statement;
     ghost use Rattle.std.specs.Coded.{codes};
 
     ghost Value = { List OneDefinition };

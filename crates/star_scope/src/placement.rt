@@ -5,7 +5,7 @@ ghost use Rattle.star_scope.specs.Faults.{at, first, first_from};
 ghost use Rattle.star_scope.specs.Placement.{in_arm, in_arms, in_form, in_statement, in_statements, misplaced, of_file, of_function, of_if, of_loop, only};
 
 use crate::error::{Refusal, ScopeFault, earlier};
-use star_syntax::tree::{Arm, Form, Position, Statement};
+use star_tree::tree::{Arm, Form, Position, Statement};
 
 /// Where a statement stands.
 #[derive(Clone, Copy, Debug, PartialEq, Eq)]

@@ -25,7 +25,7 @@ use crate::spot::Spot;
 use crate::spots::Spots;
 use crate::uses::place_names;
 use star_label::files::Files;
-use star_syntax::tree::{Form, Statement, Tree};
+use star_tree::tree::{Form, Statement, Tree};
 use std::alloc::{AllocError, Global};
 
 /// The file that every other file loads first, and the names that its block binds.

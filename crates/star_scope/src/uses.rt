@@ -16,7 +16,7 @@ use crate::chain::{Chain, Scope};
 use crate::error::{Refusal, ScopeFault, earlier};
 use crate::spots::Spots;
 use sqlite_items::Boxed;
-use star_syntax::tree::{
+use star_tree::tree::{
     Argument, Arm, Clause, Clauses, Entry, Expression, Form, LoadedName, Name, Parameter, Position,
     Statement, Target,
 };

@@ -1,7 +1,10 @@
+pub mod Contents
 pub mod Equals
+pub mod GlobalNames
 pub mod Ints
 pub mod Keys
 pub mod Orders
+pub mod Rows
 pub mod Store
 pub mod Texts
 pub mod Writing

@@ -1,9 +1,11 @@
 pub mod Arithmetic
+pub mod Content
 pub mod Equal
 pub mod Key
 pub mod Names
 pub mod Order
 pub mod Range
+pub mod Slots
 pub mod Spend
 pub mod Store
 pub mod Text

@@ -1,7 +1,9 @@
 -- The stores: the cells that a running module has made, those of the published modules, and what a value leads to.
 use Rattle.std.specs.Prelude.{ℕ, zero, suc, ◌+◌, ◌-◌, nat_eq, Bool, true, false, List, [], ◌∷◌, ◌++◌, Option, Some, None, length, replicate, slice_get, slice_set, if◌then◌else◌}
 use Rattle.std.specs.Option.{option_map}
-use Rattle.std.specs.Cmp.Lexicographic.{pointwise}
+use Rattle.std.specs.Cmp.Lexicographic.{pointwise, slice_cmp}
+use Rattle.std.specs.List.Sorted.{IsStrictlySortedBy}
+use Rattle.std.specs.Ordering.{nat_cmp}
 use Rattle.star_store.specs.declared.values.Value.{Value}
 use Rattle.star_store.specs.declared.values.Value.TheVariants as value
 use Rattle.star_store.specs.declared.values.Cell.{Cell}
@@ -112,6 +114,10 @@ is_taken _ = false
 -- puts a published module on the shelf, at the place of its file; a module that stands there stays
 abbrev pub put_up : ℕ → Published → Shelf → Shelf
 put_up home p shelf = if is_taken (slice_get shelf home) then shelf else slice_set (widened (home + 1) shelf) home (Some p)
+
+-- each name is below those after it, by their bytes
+abbrev pub ascend : List (List ℕ) → Type 0
+ascend = IsStrictlySortedBy (slice_cmp nat_cmp)
 
 -- the value of the first global with a name
 abbrev pub global_of : List ℕ → List (List ℕ × Value) → Option Value

@@ -8,6 +8,7 @@ ghost use Rattle.star_store.specs.declared.fault.StoreFault.TheVariants.{Memory}
 pub mod write;
 
 use crate::fault::StoreFault;
+use crate::globals::{ascend, global_among, global_in};
 use crate::values::{Cell, Counted, Value};
 use std::alloc::{AllocError, Global};
 use std::marker::Model;
@@ -32,15 +33,18 @@ impl Model for Arena {
 pub struct Frozen {
     cells: Vec<Counted>,
     globals: Vec<(String, Value)>,
+    is_ordered: bool,
 }
 
 impl Model for Frozen {
-    ghost use Rattle.std.specs.Prelude.{map, string_bytes};
-    ghost use Rattle.star_store.specs.Store.{Published};
+    ghost use Rattle.std.specs.Prelude.{◌≡◌, map, string_bytes, true};
+    ghost use Rattle.star_store.specs.Store.{Published, ascend};
 
     ghost Value = { Published };
 
     ghost view = { λ f. record { cells = f.cells.items; globals = map (λ g. (string_bytes g.0, g.1)) f.globals.items } };
+
+    ghost invariant = { λ f. f.is_ordered ≡ true → ascend (map (λ g. string_bytes g.0) f.globals.items) };
 }
 
 /// The published stores that a module reaches, each under the number of its file.
@@ -155,15 +159,20 @@ impl Arena {
         }
     }
 
-    /// Gives a slot of a frame of this arena a value. Where there is no such slot, nothing changes.
-    pub fn bind(&mut self, frame: Value, slot: usize, value: Value)
-        ensures { self.new ≡ bound frame slot value self.old }
+    /// Gives a slot of a frame of this arena a value. Where there is no such slot, nothing changes. `Memory` where a
+    /// growth is refused: then nothing has changed.
+    pub fn bind(&mut self, frame: Value, slot: usize, value: Value) -> Result<(), StoreFault>
+        ensures bound { OnOk result (self.new ≡ bound frame slot value self.old) }
+        ensures refused { IfErr result (λ e. (e ≡ Memory) × (self.new ≡ self.old)) }
     {
-        if let Value::Ref { home, at } = frame {
-            if home == self.home {
-                bind_at(&mut self.cells, at, slot, value);
-            }
+        let Value::Ref { home, at } = frame else {
+            return Ok(());
+        };
+        if home != self.home {
+            return Ok(());
         }
+        bind_at(&mut self.cells, at, slot, value)?;
+        Ok(())
     }
 
     /// Opens an iteration of a list or dictionary of this module. For another value nothing changes.
@@ -235,7 +244,12 @@ pub fn freeze(arena: Arena, globals: Vec<(String, Value)>) -> Frozen
     ensures { result ≡ record { cells = arena.cells; globals = map (λ g. (string_bytes g.0, g.1)) globals.items } }
 {
     let Arena { home: _, cells } = arena;
-    Frozen { cells, globals }
+    let is_ordered = ascend(&globals);
+    Frozen {
+        cells,
+        globals,
+        is_ordered,
+    }
 }
 
 impl Frozen {
@@ -243,35 +257,32 @@ impl Frozen {
     pub fn global(&self, name: &str) -> Option<Value>
         ensures { result ≡ global_of name.now self.now.globals }
     {
+        if self.is_ordered {
+            return global_among(&self.globals, name);
+        }
         global_in(&self.globals, name)
     }
 }
 
-fn global_in(globals: &[(String, Value)], name: &str) -> Option<Value>
-    ensures { result ≡ global_of name.now (map (λ g. (string_bytes g.0, g.1)) globals.now) }
-{
-    for global in globals {
-        if global.0.as_str() == name {
-            return Some(global.1);
-        }
-    }
-    None
-}
-
 #[tactic(auto, using(crate::proofs::Store::changed_in, crate::proofs::Store::changed_out))]
-fn bind_at(cells: &mut [Counted], at: u32, slot: usize, value: Value)
-    ensures { cells.new ≡ changed_at (λ e. record e { cell = bound_cell slot value e.cell }) cells.old at }
+fn bind_at(cells: &mut [Counted], at: u32, slot: usize, value: Value) -> Result<(), AllocError>
+    ensures bound { OnOk result (cells.new ≡ changed_at (λ e. record e { cell = bound_cell slot value e.cell }) cells.old at) }
+    ensures refused { OnErr result (cells.new ≡ cells.old) }
 {
-    if (at as usize) < cells.len() {
-        bind_in(&mut cells[at as usize], slot, value);
+    if (at as usize) >= cells.len() {
+        return Ok(());
     }
+    bind_in(&mut cells[at as usize], slot, value)?;
+    Ok(())
 }
 
-fn bind_in(counted: &mut Counted, slot: usize, value: Value)
-    ensures { counted.new ≡ record counted.old { cell = bound_cell slot value counted.old.cell } }
+fn bind_in(counted: &mut Counted, slot: usize, value: Value) -> Result<(), AllocError>
+    ensures bound { OnOk result (counted.new ≡ record counted.old { cell = bound_cell slot value counted.old.cell }) }
+    ensures refused { OnErr result (counted.new ≡ counted.old) }
 {
-    if let Cell::Frame(frame) = &mut counted.cell {
-        frame.slots.set(slot, value);
+    match &mut counted.cell {
+        Cell::Frame(frame) => frame.slots.set(slot, value),
+        _ => Ok(()),
     }
 }
 

@@ -12,7 +12,7 @@ use crate::fault::StoreFault;
 use crate::values::{Cell, Entries, Value, Values};
 
 /// A key's tuples nest at most 400 deep, and a value that is no tuple may stand inside.
-const KEY_LEVELS: u32 = 401;
+pub(crate) const KEY_LEVELS: u32 = 401;
 
 /// Whether a value is a key: None, a bool, an int, a string or a tuple of keys.
 pub fn may_be_key(arena: &Arena, homes: &Homes, value: Value) -> bool

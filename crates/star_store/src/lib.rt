@@ -5,12 +5,15 @@
 pub mod arena;
 pub mod arithmetic;
 pub mod budget;
+pub mod content;
 pub mod equal;
 pub mod fault;
+mod globals;
 pub mod key;
 pub mod names;
 pub mod order;
 pub mod range;
+pub mod slots;
 pub mod text;
 pub mod truth;
 pub mod values;

@@ -48,7 +48,7 @@ pub fn repr(
     let answer = put_text(arena, homes, budget.levels, &mut page, value);
     budget.steps = page.steps;
     answer?;
-    Ok(Text::from(page.out))
+    Ok(Text::of(page.out)?)
 }
 
 #[cycle(text)]

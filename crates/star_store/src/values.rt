@@ -5,6 +5,7 @@ ghost use Rattle.std.specs.List.{insert, remove};
 
 use crate::names::{BuiltIn, Method};
 use crate::range::Range;
+use crate::slots::Slots;
 use star_text::Text;
 use std::alloc::{AllocError, Global};
 use std::marker::Model;
@@ -48,21 +49,6 @@ impl Model for Entries {
     ghost Value = { List (AnyValue × AnyValue) };
 
     ghost view = { λ d. d.pairs.items };
-}
-
-/// The variables of a frame by their slots, each with a value or unbound.
-#[derive(Drop)]
-pub struct Slots {
-    values: Vec<Option<Value>>,
-}
-
-impl Model for Slots {
-    ghost use Rattle.std.specs.Prelude.{List, Option};
-    ghost use Rattle.star_store.specs.declared.values.Value.{Value as AnyValue};
-
-    ghost Value = { List (Option AnyValue) };
-
-    ghost view = { λ s. s.values.items };
 }
 
 /// A function: the file and the number of its definition, its name, the defaults of its parameters, and the frame in
@@ -238,37 +224,5 @@ impl Entries {
         ensures { self.new ≡ [] }
     {
         self.pairs.clear();
-    }
-}
-
-impl Slots {
-    /// The variables with these values, in order of their slots.
-    pub fn new(values: Vec<Option<Value>>) -> Slots
-        ensures { result ≡ values.items }
-    {
-        Slots { values }
-    }
-
-    /// How many slots there are.
-    pub fn len(&self) -> usize
-        ensures { result ≡ length self.now }
-    {
-        self.values.len()
-    }
-
-    /// What a slot has: none where there is no such slot, and none inside where its variable is unbound.
-    pub fn get(&self, at: usize) -> Option<Option<Value>>
-        ensures { result ≡ slice_get self.now at }
-    {
-        self.values.get(at).copied()
-    }
-
-    /// Gives a slot a value. Where there is no such slot, nothing changes.
-    pub fn set(&mut self, at: usize, value: Value)
-        ensures { self.new ≡ slice_set self.old at (Some value) }
-    {
-        if at < self.values.len() {
-            self.values[at] = Some(value);
-        }
     }
 }

@@ -7,13 +7,13 @@ use Rattle.star_syntax.specs.declared.level.Level.{Level}
 use Rattle.star_syntax.specs.declared.level.Level.TheVariants as levels
 use Rattle.star_syntax.specs.declared.level.Suffix.{Suffix}
 use Rattle.star_syntax.specs.declared.level.Suffix.TheVariants as suffixes
-use Rattle.star_syntax.specs.declared.tree.Position.{Position}
-use Rattle.star_syntax.specs.declared.tree.Name.{Name}
-use Rattle.star_syntax.specs.declared.tree.UnaryOperator.TheVariants as unaries
-use Rattle.star_syntax.specs.declared.tree.Comparator.{Comparator}
-use Rattle.star_syntax.specs.declared.tree.Clauses.{Clauses}
-use Rattle.star_syntax.specs.declared.tree.Entry.{Entry}
-use Rattle.star_syntax.specs.declared.tree.Expression.{Expression}
+use Rattle.star_tree.specs.declared.tree.Position.{Position}
+use Rattle.star_tree.specs.declared.tree.Name.{Name}
+use Rattle.star_tree.specs.declared.tree.UnaryOperator.TheVariants as unaries
+use Rattle.star_tree.specs.declared.tree.Comparator.{Comparator}
+use Rattle.star_tree.specs.declared.tree.Clauses.{Clauses}
+use Rattle.star_tree.specs.declared.tree.Entry.{Entry}
+use Rattle.star_tree.specs.declared.tree.Expression.{Expression}
 use Rattle.star_syntax.specs.Sorts.{Val, both, maybe, list}
 use Rattle.star_syntax.specs.Sorts as sorts
 use Rattle.star_syntax.specs.Grammar.{level, the, Knot}

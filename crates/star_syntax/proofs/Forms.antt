@@ -9,15 +9,15 @@ use Rattle.star_syntax.specs.declared.leaf.Word.TheVariants as word
 use Rattle.star_syntax.specs.declared.leaf.Leaf.{Leaf}
 use Rattle.star_syntax.specs.declared.level.Level.TheVariants as levels
 use Rattle.star_syntax.specs.declared.level.Suffix.TheVariants as suffixes
-use Rattle.star_syntax.specs.declared.tree.Position.{Position}
-use Rattle.star_syntax.specs.declared.tree.Name.{Name}
-use Rattle.star_syntax.specs.declared.tree.UnaryOperator.{UnaryOperator}
-use Rattle.star_syntax.specs.declared.tree.UnaryOperator.TheVariants as unaries
-use Rattle.star_syntax.specs.declared.tree.BinaryOperator.{BinaryOperator}
-use Rattle.star_syntax.specs.declared.tree.Comparator.{Comparator}
-use Rattle.star_syntax.specs.declared.tree.Comparator.TheVariants as comparators
-use Rattle.star_syntax.specs.declared.tree.Expression.{Expression}
-use Rattle.star_syntax.specs.declared.tree.Expression.TheVariants as e
+use Rattle.star_tree.specs.declared.tree.Position.{Position}
+use Rattle.star_tree.specs.declared.tree.Name.{Name}
+use Rattle.star_tree.specs.declared.tree.UnaryOperator.{UnaryOperator}
+use Rattle.star_tree.specs.declared.tree.UnaryOperator.TheVariants as unaries
+use Rattle.star_tree.specs.declared.tree.BinaryOperator.{BinaryOperator}
+use Rattle.star_tree.specs.declared.tree.Comparator.{Comparator}
+use Rattle.star_tree.specs.declared.tree.Comparator.TheVariants as comparators
+use Rattle.star_tree.specs.declared.tree.Expression.{Expression}
+use Rattle.star_tree.specs.declared.tree.Expression.TheVariants as e
 use Rattle.star_syntax.specs.Sorts as sorts
 use Rattle.star_syntax.specs.Grammar.{level, the, Reads, hit, miss, free, seq-some, seq-first, seq-second, alt-first, alt-second, fold-none, fold-some, act-none, act-some, itself, Rounds, stop, more}
 use Rattle.star_syntax.specs.Expressions.{same_sign, same_keyword, is_sign, is_keyword, binary_operator, snoc, next_test, list_of_tests, for_clause, all_clauses, inside, parentheses, further_tests, behind_element, elements, list_display, atom, operand, attribute, call, stop_and_stride, behind_start, from_test, in_brackets, subscript, suffix, primary, signed, unary, bit_or, comparator, compared, comparison, denied, negation, next_negation, conjunction, next_conjunction, disjunction, choice, conditional}

@@ -1,23 +1,23 @@
 -- What is put together of parts that are in order is in order.
 use Rattle.std.proofs.Common.{◌≡◌, ℕ, ℤ, Bool, true, ◌&&◌, List, [], ◌∷◌, map, Option, Some, None, refl, ap, sym, ◌∙◌}
-use Rattle.star_syntax.specs.declared.tree.Position.{Position}
-use Rattle.star_syntax.specs.declared.tree.Name.{Name}
-use Rattle.star_syntax.specs.declared.tree.UnaryOperator.{UnaryOperator}
-use Rattle.star_syntax.specs.declared.tree.BinaryOperator.{BinaryOperator}
-use Rattle.star_syntax.specs.declared.tree.Comparator.{Comparator}
-use Rattle.star_syntax.specs.declared.tree.Argument.{Argument}
-use Rattle.star_syntax.specs.declared.tree.Clause.{Clause}
-use Rattle.star_syntax.specs.declared.tree.Expression.{Expression}
-use Rattle.star_syntax.specs.declared.tree.Parameter.{Parameter}
-use Rattle.star_syntax.specs.declared.tree.Target.{Target}
-use Rattle.star_syntax.specs.declared.tree.Clauses.{Clauses, roll-Clauses}
-use Rattle.star_syntax.specs.declared.tree.Entry.{Entry, roll-Entry}
-use Rattle.star_syntax.specs.declared.tree.Argument.TheVariants as arguments
-use Rattle.star_syntax.specs.declared.tree.Clause.TheVariants as clauses
-use Rattle.star_syntax.specs.declared.tree.Expression.TheVariants as e
-use Rattle.star_syntax.specs.declared.tree.Parameter.TheVariants as parameters
-use Rattle.star_syntax.specs.declared.tree.Target.TheVariants as targets
-use Rattle.star_syntax.specs.declared.tree.Argument.TheOpen as tree
+use Rattle.star_tree.specs.declared.tree.Position.{Position}
+use Rattle.star_tree.specs.declared.tree.Name.{Name}
+use Rattle.star_tree.specs.declared.tree.UnaryOperator.{UnaryOperator}
+use Rattle.star_tree.specs.declared.tree.BinaryOperator.{BinaryOperator}
+use Rattle.star_tree.specs.declared.tree.Comparator.{Comparator}
+use Rattle.star_tree.specs.declared.tree.Argument.{Argument}
+use Rattle.star_tree.specs.declared.tree.Clause.{Clause}
+use Rattle.star_tree.specs.declared.tree.Expression.{Expression}
+use Rattle.star_tree.specs.declared.tree.Parameter.{Parameter}
+use Rattle.star_tree.specs.declared.tree.Target.{Target}
+use Rattle.star_tree.specs.declared.tree.Clauses.{Clauses, roll-Clauses}
+use Rattle.star_tree.specs.declared.tree.Entry.{Entry, roll-Entry}
+use Rattle.star_tree.specs.declared.tree.Argument.TheVariants as arguments
+use Rattle.star_tree.specs.declared.tree.Clause.TheVariants as clauses
+use Rattle.star_tree.specs.declared.tree.Expression.TheVariants as e
+use Rattle.star_tree.specs.declared.tree.Parameter.TheVariants as parameters
+use Rattle.star_tree.specs.declared.tree.Target.TheVariants as targets
+use Rattle.star_tree.specs.declared.tree.Argument.TheOpen as tree
 use Rattle.star_syntax.specs.Keeps.{arguments_in_order, parameters_in_order}
 use Rattle.star_syntax.specs.InOrder.{each_in_order, firsts, in_order, parameter_in_order, target_in_order}
 use Rattle.star_syntax.proofs.Makes.{Each, Maybe}

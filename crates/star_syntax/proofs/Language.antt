@@ -1,7 +1,7 @@
 -- The grammar is sound: its rounds take leaves, and it comes back to itself only behind a leaf or at a lower rank.
 use Rattle.std.proofs.Common.{◌≡◌, ℕ, ◌+◌, ◌*◌, ◌<◌, ◌≤◌, true, List, length, [], ◌∷◌, Some, None, refl, ap, sym, ◌∙◌, subst, append-nil, arith}
 use Rattle.star_syntax.specs.declared.leaf.Leaf.{Leaf}
-use Rattle.star_syntax.specs.declared.tree.Statement.{Statement}
+use Rattle.star_tree.specs.declared.tree.Statement.{Statement}
 use Rattle.star_syntax.specs.Sorts.{Sort, list, Val}
 use Rattle.star_syntax.specs.Sorts as sorts
 use Rattle.star_syntax.specs.Grammar.{Rule, level, statement, Answer, Reads, Spells, step, run}

@@ -1,6 +1,6 @@
 -- Leaves have one reading.
 use Rattle.std.proofs.Common.{ℕ, ◌+◌, ◌*◌, List, length, [], Some, None, ap, sym, ◌∙◌, arith}
-use Rattle.star_syntax.specs.declared.tree.Statement.{Statement}
+use Rattle.star_tree.specs.declared.tree.Statement.{Statement}
 use Rattle.star_syntax.specs.Grammar.{Answer}
 use Rattle.star_syntax.specs.Laws.{OneReading}
 use Rattle.star_syntax.proofs.Language.{file-only}

@@ -1,14 +1,14 @@
 -- One level of what is in order.
 use Rattle.std.proofs.Common.{◌≡◌, Bool, true, false, ◌&&◌, refl}
-use Rattle.star_syntax.specs.declared.tree.Argument.{Argument, roll-Argument, para-roll-Argument}
-use Rattle.star_syntax.specs.declared.tree.Clause.{Clause, roll-Clause, para-roll-Clause}
-use Rattle.star_syntax.specs.declared.tree.Expression.{Expression, roll-Expression, para-roll-Expression}
-use Rattle.star_syntax.specs.declared.tree.Parameter.{Parameter, roll-Parameter, para-roll-Parameter}
-use Rattle.star_syntax.specs.declared.tree.Target.{Target, roll-Target, para-roll-Target}
-use Rattle.star_syntax.specs.declared.tree.Clauses.{Clauses, roll-Clauses, para-roll-Clauses}
-use Rattle.star_syntax.specs.declared.tree.Entry.{Entry, roll-Entry, para-roll-Entry}
-use Rattle.star_syntax.specs.declared.tree.Argument.TheOpen as tree
-use Rattle.star_syntax.specs.declared.tree.Argument.TheFolds as folds
+use Rattle.star_tree.specs.declared.tree.Argument.{Argument, roll-Argument, para-roll-Argument}
+use Rattle.star_tree.specs.declared.tree.Clause.{Clause, roll-Clause, para-roll-Clause}
+use Rattle.star_tree.specs.declared.tree.Expression.{Expression, roll-Expression, para-roll-Expression}
+use Rattle.star_tree.specs.declared.tree.Parameter.{Parameter, roll-Parameter, para-roll-Parameter}
+use Rattle.star_tree.specs.declared.tree.Target.{Target, roll-Target, para-roll-Target}
+use Rattle.star_tree.specs.declared.tree.Clauses.{Clauses, roll-Clauses, para-roll-Clauses}
+use Rattle.star_tree.specs.declared.tree.Entry.{Entry, roll-Entry, para-roll-Entry}
+use Rattle.star_tree.specs.declared.tree.Argument.TheOpen as tree
+use Rattle.star_tree.specs.declared.tree.Argument.TheFolds as folds
 use Rattle.star_syntax.specs.InOrder.{argument_step, clause_step, expression_step, parameter_step, target_step, clauses_step, entry_step, in_order, parameter_in_order, target_in_order}
 
 pub both-true : (a b : Bool) → (a && b) ≡ true → (a ≡ true) × (b ≡ true)

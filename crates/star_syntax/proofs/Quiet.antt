@@ -5,7 +5,7 @@ use Rattle.star_lex.specs.declared.token.Keyword.TheVariants as k
 use Rattle.star_syntax.specs.declared.leaf.Word.{Word}
 use Rattle.star_syntax.specs.declared.leaf.Leaf.{Leaf}
 use Rattle.star_syntax.specs.declared.level.Level.TheVariants as levels
-use Rattle.star_syntax.specs.declared.tree.Position.{Position}
+use Rattle.star_tree.specs.declared.tree.Position.{Position}
 use Rattle.star_syntax.specs.Grammar.{level, the, Reads, miss, over, seq-first, alt-second, fold-none, act-none, itself}
 use Rattle.star_syntax.specs.Expressions.{same_sign, same_keyword, is_sign, is_keyword, unary_word, binary_word, comparator_word, atom_of, placed_at, binary_operator, parentheses, list_display, dict_display, atom, operand, lambda, attribute, call, subscript, suffix, primary, signed, unary, climb, bit_or, comparator, comparison, denied, negation, next_negation, conjunction, next_conjunction, disjunction, choice, conditional, any_test}
 use Rattle.star_syntax.specs.Language.{rule}

@@ -2,20 +2,20 @@
 use Rattle.std.proofs.Common.{◌≡◌, Bool, true, ◌&&◌, List, [], ◌∷◌, map, Option, Some, None, refl, ap, sym, ◌∙◌, subst}
 use Rattle.star_syntax.specs.declared.level.Level.{Level}
 use Rattle.star_syntax.specs.declared.level.Level.TheVariants as levels
-use Rattle.star_syntax.specs.declared.tree.Position.{Position}
-use Rattle.star_syntax.specs.declared.tree.Name.{Name}
-use Rattle.star_syntax.specs.declared.tree.Literal.{Literal}
-use Rattle.star_syntax.specs.declared.tree.LoadedName.{LoadedName}
-use Rattle.star_syntax.specs.declared.tree.BinaryOperator.{BinaryOperator}
-use Rattle.star_syntax.specs.declared.tree.Expression.{Expression}
-use Rattle.star_syntax.specs.declared.tree.Parameter.{Parameter}
-use Rattle.star_syntax.specs.declared.tree.Target.{Target}
-use Rattle.star_syntax.specs.declared.tree.Form.{Form, roll-Form, map-Form}
-use Rattle.star_syntax.specs.declared.tree.Form.TheVariants as f
-use Rattle.star_syntax.specs.declared.tree.Form.TheOpen as form
-use Rattle.star_syntax.specs.declared.tree.Form.TheFolds as form_folds
-use Rattle.star_syntax.specs.declared.tree.Arm.{Arm, roll-Arm}
-use Rattle.star_syntax.specs.declared.tree.Statement.{Statement, roll-Statement}
+use Rattle.star_tree.specs.declared.tree.Position.{Position}
+use Rattle.star_tree.specs.declared.tree.Name.{Name}
+use Rattle.star_tree.specs.declared.tree.Literal.{Literal}
+use Rattle.star_tree.specs.declared.tree.LoadedName.{LoadedName}
+use Rattle.star_tree.specs.declared.tree.BinaryOperator.{BinaryOperator}
+use Rattle.star_tree.specs.declared.tree.Expression.{Expression}
+use Rattle.star_tree.specs.declared.tree.Parameter.{Parameter}
+use Rattle.star_tree.specs.declared.tree.Target.{Target}
+use Rattle.star_tree.specs.declared.tree.Form.{Form, roll-Form, map-Form}
+use Rattle.star_tree.specs.declared.tree.Form.TheVariants as f
+use Rattle.star_tree.specs.declared.tree.Form.TheOpen as form
+use Rattle.star_tree.specs.declared.tree.Form.TheFolds as form_folds
+use Rattle.star_tree.specs.declared.tree.Arm.{Arm, roll-Arm}
+use Rattle.star_tree.specs.declared.tree.Statement.{Statement, roll-Statement}
 use Rattle.star_syntax.specs.Sorts.{Val, both, maybe, list}
 use Rattle.star_syntax.specs.Sorts as sorts
 use Rattle.star_syntax.specs.Grammar.{level, statement, the, Knot}

@@ -2,18 +2,18 @@
 use Rattle.std.proofs.Common.{◌≡◌, ◌≤◌, ℕ, max, arith, List, [], ◌∷◌, ◌++◌, Option, Some, None, map, reverse, refl, ap, sym, ◌∙◌, append-nil}
 use Rattle.std.proofs.lemmas.List.{reverse-append}
 use denote.Param.Weighed.{most, most-append}
-use Rattle.star_syntax.specs.declared.tree.Name.{Name}
-use Rattle.star_syntax.specs.declared.tree.Expression.TheVariants as e
+use Rattle.star_tree.specs.declared.tree.Name.{Name}
+use Rattle.star_tree.specs.declared.tree.Expression.TheVariants as e
 use Rattle.star_syntax.specs.Keeps.{all_of, target_of, targets_of, tuple_target, list_target}
-use Rattle.star_syntax.specs.declared.tree.Argument.{Argument}
-use Rattle.star_syntax.specs.declared.tree.Argument.TheOpen.{Expression-F}
-use Rattle.star_syntax.specs.declared.tree.Clause.{Clause}
-use Rattle.star_syntax.specs.declared.tree.Clauses.{Clauses}
-use Rattle.star_syntax.specs.declared.tree.Entry.{Entry}
-use Rattle.star_syntax.specs.declared.tree.Parameter.{Parameter}
-use Rattle.star_syntax.specs.declared.tree.Target.{Target}
-use Rattle.star_syntax.specs.declared.tree.Expression.{Expression, para-roll-Expression, roll-Expression, out-Expression, roll-out-Expression}
-use Rattle.star_syntax.specs.declared.tree.Target.TheVariants as target
+use Rattle.star_tree.specs.declared.tree.Argument.{Argument}
+use Rattle.star_tree.specs.declared.tree.Argument.TheOpen.{Expression-F}
+use Rattle.star_tree.specs.declared.tree.Clause.{Clause}
+use Rattle.star_tree.specs.declared.tree.Clauses.{Clauses}
+use Rattle.star_tree.specs.declared.tree.Entry.{Entry}
+use Rattle.star_tree.specs.declared.tree.Parameter.{Parameter}
+use Rattle.star_tree.specs.declared.tree.Target.{Target}
+use Rattle.star_tree.specs.declared.tree.Expression.{Expression, para-roll-Expression, roll-Expression, out-Expression, roll-out-Expression}
+use Rattle.star_tree.specs.declared.tree.Target.TheVariants as target
 
 -- what a function gives for each of a list, where it gives something for each
 abbrev pub all : {A B : Type 0} → (A → Option B) → List A → Option (List B)

@@ -3,27 +3,27 @@ use Rattle.std.proofs.Common.{◌≡◌, Bool, true, ◌&&◌, List, [], ◌∷�
 use Rattle.star_lex.specs.declared.token.Sign.TheVariants as s
 use Rattle.star_lex.specs.declared.token.Keyword.TheVariants as keyword
 use Rattle.star_syntax.specs.declared.leaf.Leaf.{Leaf}
-use Rattle.star_syntax.specs.declared.tree.Position.{Position}
-use Rattle.star_syntax.specs.declared.tree.UnaryOperator.{UnaryOperator}
-use Rattle.star_syntax.specs.declared.tree.UnaryOperator.TheVariants as unaries
-use Rattle.star_syntax.specs.declared.tree.BinaryOperator.{BinaryOperator}
-use Rattle.star_syntax.specs.declared.tree.BinaryOperator.TheVariants as binaries
-use Rattle.star_syntax.specs.declared.tree.Comparator.{Comparator}
-use Rattle.star_syntax.specs.declared.tree.Comparator.TheVariants as comparators
-use Rattle.star_syntax.specs.declared.tree.Argument.{Argument, roll-Argument}
-use Rattle.star_syntax.specs.declared.tree.Clause.{Clause, roll-Clause}
-use Rattle.star_syntax.specs.declared.tree.Expression.{Expression, roll-Expression, ind-Expression}
-use Rattle.star_syntax.specs.declared.tree.Parameter.{Parameter, roll-Parameter}
-use Rattle.star_syntax.specs.declared.tree.Target.{Target, roll-Target}
-use Rattle.star_syntax.specs.declared.tree.Clauses.{Clauses, roll-Clauses}
-use Rattle.star_syntax.specs.declared.tree.Entry.{Entry, roll-Entry}
-use Rattle.star_syntax.specs.declared.tree.Argument.TheVariants as arguments
-use Rattle.star_syntax.specs.declared.tree.Parameter.TheVariants as parameters
-use Rattle.star_syntax.specs.declared.tree.Clause.TheVariants as clauses
-use Rattle.star_syntax.specs.declared.tree.Target.TheVariants as targets
-use Rattle.star_syntax.specs.declared.tree.Expression.TheVariants as e
-use Rattle.star_syntax.specs.declared.tree.Argument.TheOpen as tree
-use Rattle.star_syntax.specs.declared.tree.Argument.TheFolds as folds
+use Rattle.star_tree.specs.declared.tree.Position.{Position}
+use Rattle.star_tree.specs.declared.tree.UnaryOperator.{UnaryOperator}
+use Rattle.star_tree.specs.declared.tree.UnaryOperator.TheVariants as unaries
+use Rattle.star_tree.specs.declared.tree.BinaryOperator.{BinaryOperator}
+use Rattle.star_tree.specs.declared.tree.BinaryOperator.TheVariants as binaries
+use Rattle.star_tree.specs.declared.tree.Comparator.{Comparator}
+use Rattle.star_tree.specs.declared.tree.Comparator.TheVariants as comparators
+use Rattle.star_tree.specs.declared.tree.Argument.{Argument, roll-Argument}
+use Rattle.star_tree.specs.declared.tree.Clause.{Clause, roll-Clause}
+use Rattle.star_tree.specs.declared.tree.Expression.{Expression, roll-Expression, ind-Expression}
+use Rattle.star_tree.specs.declared.tree.Parameter.{Parameter, roll-Parameter}
+use Rattle.star_tree.specs.declared.tree.Target.{Target, roll-Target}
+use Rattle.star_tree.specs.declared.tree.Clauses.{Clauses, roll-Clauses}
+use Rattle.star_tree.specs.declared.tree.Entry.{Entry, roll-Entry}
+use Rattle.star_tree.specs.declared.tree.Argument.TheVariants as arguments
+use Rattle.star_tree.specs.declared.tree.Parameter.TheVariants as parameters
+use Rattle.star_tree.specs.declared.tree.Clause.TheVariants as clauses
+use Rattle.star_tree.specs.declared.tree.Target.TheVariants as targets
+use Rattle.star_tree.specs.declared.tree.Expression.TheVariants as e
+use Rattle.star_tree.specs.declared.tree.Argument.TheOpen as tree
+use Rattle.star_tree.specs.declared.tree.Argument.TheFolds as folds
 use Rattle.star_syntax.specs.Keeps.{target_of, targets_of, tuple_target, list_target, arguments_in_order, parameters_in_order}
 use Rattle.star_syntax.specs.InOrder.{each_in_order, firsts, in_order, parameter_in_order, target_in_order, Writable, AllWritable}
 use Rattle.star_syntax.specs.Written.{a-name, an-int, a-text, a-sign, a-denial, a-binary, a-comparison, an-absence, an-and, an-or, a-conditional, an-attribute, an-index, an-empty-tuple, a-tuple, an-empty-list, a-list, an-empty-dict, a-dict, a-list-comprehension, a-dict-comprehension, a-call, a-slice, a-lambda, Enclosed, enclosed, Further, no-further, one-further, Optional, left-out, put, OneEntry, an-entry, FurtherEntries, no-entry, next-entry, OneArgument, positional, by-name, with-star, with-two-stars, FurtherArguments, no-argument, next-argument, Arguments, none-given, some-given, OneParameter, plain, default, starred, bare-star, twice-starred, FurtherParameters, no-parameter, next-parameter, Parameters, none-taken, some-taken, ForPart, for-each, OneClause, each, only-if, FurtherClauses, no-clause, next-clause, AllClauses, clauses-from, positive, negative, inverted, times, divided, modulo, plus, minus, to-left, to-right, bits-and, bits-xor, bits-or, equal, unequal, less, greater, at-most, at-least, contained, mark, spelt}

@@ -1,7 +1,7 @@
 -- Grammars as data: what they spell, what they read, and how reading is computed.
 use Rattle.std.specs.Prelude.{◌≡◌, ℕ, zero, suc, List, [], ◌∷◌, ◌++◌, length, Option, Some, None}
 use Rattle.star_syntax.specs.declared.leaf.Leaf.{Leaf}
-use Rattle.star_syntax.specs.declared.tree.Position.{Position}
+use Rattle.star_tree.specs.declared.tree.Position.{Position}
 use Rattle.star_syntax.specs.declared.level.Level.{Level}
 use Rattle.star_syntax.specs.Sorts.{Sort, Val, both}
 use Rattle.star_syntax.specs.Sorts as sorts

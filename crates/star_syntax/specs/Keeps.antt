@@ -1,13 +1,13 @@
 -- What a tree has to keep beside the grammar: the order of parameters and of arguments, and what may be a target.
 use Rattle.std.specs.Prelude.{Bool, true, false, ◌&&◌, if◌then◌else◌, List, [], ◌∷◌, map, Option, Some, None}
-use Rattle.star_syntax.specs.declared.tree.Argument.TheOpen.{Expression-F}
-use Rattle.star_syntax.specs.declared.tree.Expression.{Expression, out-Expression, para-Expression}
-use Rattle.star_syntax.specs.declared.tree.Argument.{Argument}
-use Rattle.star_syntax.specs.declared.tree.Argument.TheVariants as argument
-use Rattle.star_syntax.specs.declared.tree.Parameter.{Parameter}
-use Rattle.star_syntax.specs.declared.tree.Parameter.TheVariants as parameter
-use Rattle.star_syntax.specs.declared.tree.Target.{Target}
-use Rattle.star_syntax.specs.declared.tree.Target.TheVariants as target
+use Rattle.star_tree.specs.declared.tree.Argument.TheOpen.{Expression-F}
+use Rattle.star_tree.specs.declared.tree.Expression.{Expression, out-Expression, para-Expression}
+use Rattle.star_tree.specs.declared.tree.Argument.{Argument}
+use Rattle.star_tree.specs.declared.tree.Argument.TheVariants as argument
+use Rattle.star_tree.specs.declared.tree.Parameter.{Parameter}
+use Rattle.star_tree.specs.declared.tree.Parameter.TheVariants as parameter
+use Rattle.star_tree.specs.declared.tree.Target.{Target}
+use Rattle.star_tree.specs.declared.tree.Target.TheVariants as target
 
 -- what passes a test
 abbrev pub keep : {A : Type 0} → (A → Bool) → A → Option A

@@ -1,7 +1,7 @@
 -- What is known of every reading.
 use Rattle.std.specs.Prelude.{◌≡◌, List}
 use Rattle.star_syntax.specs.declared.leaf.Leaf.{Leaf}
-use Rattle.star_syntax.specs.declared.tree.Statement.{Statement}
+use Rattle.star_tree.specs.declared.tree.Statement.{Statement}
 use Rattle.star_syntax.specs.Language.{Reading}
 
 -- The law: leaves have one reading at most.

@@ -1,22 +1,22 @@
 -- What the parts of the grammar stand for.
 use Rattle.std.specs.Prelude.{List, Option}
-use Rattle.star_syntax.specs.declared.tree.Position.{Position}
-use Rattle.star_syntax.specs.declared.tree.Name.{Name}
-use Rattle.star_syntax.specs.declared.tree.Literal.{Literal}
-use Rattle.star_syntax.specs.declared.tree.UnaryOperator.{UnaryOperator}
-use Rattle.star_syntax.specs.declared.tree.BinaryOperator.{BinaryOperator}
-use Rattle.star_syntax.specs.declared.tree.Comparator.{Comparator}
-use Rattle.star_syntax.specs.declared.tree.Expression.{Expression}
-use Rattle.star_syntax.specs.declared.tree.Entry.{Entry}
-use Rattle.star_syntax.specs.declared.tree.Argument.{Argument}
-use Rattle.star_syntax.specs.declared.tree.Parameter.{Parameter}
-use Rattle.star_syntax.specs.declared.tree.Target.{Target}
-use Rattle.star_syntax.specs.declared.tree.Clauses.{Clauses}
-use Rattle.star_syntax.specs.declared.tree.Clause.{Clause}
-use Rattle.star_syntax.specs.declared.tree.Statement.{Statement}
-use Rattle.star_syntax.specs.declared.tree.Form.{Form}
-use Rattle.star_syntax.specs.declared.tree.Arm.{Arm}
-use Rattle.star_syntax.specs.declared.tree.LoadedName.{LoadedName}
+use Rattle.star_tree.specs.declared.tree.Position.{Position}
+use Rattle.star_tree.specs.declared.tree.Name.{Name}
+use Rattle.star_tree.specs.declared.tree.Literal.{Literal}
+use Rattle.star_tree.specs.declared.tree.UnaryOperator.{UnaryOperator}
+use Rattle.star_tree.specs.declared.tree.BinaryOperator.{BinaryOperator}
+use Rattle.star_tree.specs.declared.tree.Comparator.{Comparator}
+use Rattle.star_tree.specs.declared.tree.Expression.{Expression}
+use Rattle.star_tree.specs.declared.tree.Entry.{Entry}
+use Rattle.star_tree.specs.declared.tree.Argument.{Argument}
+use Rattle.star_tree.specs.declared.tree.Parameter.{Parameter}
+use Rattle.star_tree.specs.declared.tree.Target.{Target}
+use Rattle.star_tree.specs.declared.tree.Clauses.{Clauses}
+use Rattle.star_tree.specs.declared.tree.Clause.{Clause}
+use Rattle.star_tree.specs.declared.tree.Statement.{Statement}
+use Rattle.star_tree.specs.declared.tree.Form.{Form}
+use Rattle.star_tree.specs.declared.tree.Arm.{Arm}
+use Rattle.star_tree.specs.declared.tree.LoadedName.{LoadedName}
 use Rattle.star_syntax.specs.declared.level.Suffix.{Suffix}
 
 pub data Sort : Type 0 where

@@ -5,19 +5,19 @@ use Rattle.star_lex.specs.declared.token.Sign.TheVariants as s
 use Rattle.star_lex.specs.declared.token.Keyword.TheVariants as k
 use Rattle.star_syntax.specs.declared.leaf.Word.{Word}
 use Rattle.star_syntax.specs.declared.leaf.Word.TheVariants as word
-use Rattle.star_syntax.specs.declared.tree.Position.{Position}
-use Rattle.star_syntax.specs.declared.tree.Name.{Name}
-use Rattle.star_syntax.specs.declared.tree.Literal.{Literal}
-use Rattle.star_syntax.specs.declared.tree.BinaryOperator.{BinaryOperator}
-use Rattle.star_syntax.specs.declared.tree.BinaryOperator.TheVariants as binaries
-use Rattle.star_syntax.specs.declared.tree.Expression.{Expression}
-use Rattle.star_syntax.specs.declared.tree.Parameter.{Parameter}
-use Rattle.star_syntax.specs.declared.tree.Target.{Target}
-use Rattle.star_syntax.specs.declared.tree.Statement.{Statement, roll-Statement}
-use Rattle.star_syntax.specs.declared.tree.Form.{Form}
-use Rattle.star_syntax.specs.declared.tree.Form.TheVariants as f
-use Rattle.star_syntax.specs.declared.tree.Arm.{Arm, roll-Arm}
-use Rattle.star_syntax.specs.declared.tree.LoadedName.{LoadedName}
+use Rattle.star_tree.specs.declared.tree.Position.{Position}
+use Rattle.star_tree.specs.declared.tree.Name.{Name}
+use Rattle.star_tree.specs.declared.tree.Literal.{Literal}
+use Rattle.star_tree.specs.declared.tree.BinaryOperator.{BinaryOperator}
+use Rattle.star_tree.specs.declared.tree.BinaryOperator.TheVariants as binaries
+use Rattle.star_tree.specs.declared.tree.Expression.{Expression}
+use Rattle.star_tree.specs.declared.tree.Parameter.{Parameter}
+use Rattle.star_tree.specs.declared.tree.Target.{Target}
+use Rattle.star_tree.specs.declared.tree.Statement.{Statement, roll-Statement}
+use Rattle.star_tree.specs.declared.tree.Form.{Form}
+use Rattle.star_tree.specs.declared.tree.Form.TheVariants as f
+use Rattle.star_tree.specs.declared.tree.Arm.{Arm, roll-Arm}
+use Rattle.star_tree.specs.declared.tree.LoadedName.{LoadedName}
 use Rattle.star_syntax.specs.Names.{is_name}
 use Rattle.star_syntax.specs.Sorts.{Sort, Val, both, maybe, list}
 use Rattle.star_syntax.specs.Sorts as sorts

@@ -8,9 +8,9 @@ ghost use Rattle.star_syntax.specs.Language.{Gives, Nests, reads};
 use crate::leaf::Leaf;
 use crate::level::{Level, Suffix};
 use crate::reader::{Grammar, Read, keyword_at, name, sign};
-use crate::tree::{Argument, Expression, Name, Parameter};
 use sqlite_items::{Boxed, Items};
 use star_lex::token::{Keyword, Sign};
+use star_tree::tree::{Argument, Expression, Name, Parameter};
 use std::alloc::Global;
 
 /// Whether what stands behind the positional arguments is in order.
@@ -115,7 +115,7 @@ impl<F: Fn(Global, u128, Level, &[Leaf]) -> Read<'_, Boxed<Expression>>> Grammar
         requires { Nests self.now.depth (F.pre self.now.expression) (F.post self.now.expression) }
         ensures { Gives (reads self.now.depth spec.named leaves.now) result }
     {
-        let Some((name, rest)) = name(self.alloc, leaves)? else {
+        let Some((name, rest)) = name(leaves)? else {
             return Ok(None);
         };
         let Some((_, rest)) = sign(Sign::Assign, rest) else {
@@ -250,7 +250,7 @@ impl<F: Fn(Global, u128, Level, &[Leaf]) -> Read<'_, Boxed<Expression>>> Grammar
         requires { Nests self.now.depth (F.pre self.now.expression) (F.post self.now.expression) }
         ensures { Gives (reads self.now.depth spec.named_parameter leaves.now) result }
     {
-        let Some((name, rest)) = name(self.alloc, leaves)? else {
+        let Some((name, rest)) = name(leaves)? else {
             return Ok(None);
         };
         match self.default(rest)? {
@@ -270,7 +270,7 @@ impl<F: Fn(Global, u128, Level, &[Leaf]) -> Read<'_, Boxed<Expression>>> Grammar
         let Some((_, rest)) = sign(Sign::Star, leaves) else {
             return Ok(None);
         };
-        match name(self.alloc, rest)? {
+        match name(rest)? {
             Some((name, rest)) => Ok(Some((Parameter::Star(name), rest))),
             None => Ok(Some((Parameter::BareStar, rest))),
         }
@@ -284,7 +284,7 @@ impl<F: Fn(Global, u128, Level, &[Leaf]) -> Read<'_, Boxed<Expression>>> Grammar
         let Some((_, rest)) = sign(Sign::StarStar, leaves) else {
             return Ok(None);
         };
-        match name(self.alloc, rest)? {
+        match name(rest)? {
             Some((name, rest)) => Ok(Some((Parameter::StarStar(name), rest))),
             None => Ok(None),
         }

@@ -8,9 +8,9 @@ use crate::leaf::Leaf;
 use crate::level::Level;
 use crate::make::target_of;
 use crate::reader::{Grammar, Read, keyword, onto, sign, sign_at, tuple_unless_one};
-use crate::tree::{Clause, Clauses, Entry, Expression, Position, Target};
 use sqlite_items::{Boxed, Items};
 use star_lex::token::{Keyword, Sign};
+use star_tree::tree::{Clause, Clauses, Entry, Expression, Position, Target};
 use std::alloc::{AllocError, Global};
 
 /// What stands behind the first element or entry of a display: clauses, or further ones.

@@ -8,8 +8,8 @@ ghost use Rattle.star_syntax.specs.Language.{Gives, reads, rule};
 use crate::leaf::Leaf;
 use crate::level::Level;
 use crate::reader::{Grammar, Read};
-use crate::tree::{Expression, Parameter, Target};
 use sqlite_items::{Boxed, Items};
+use star_tree::tree::{Expression, Parameter, Target};
 use std::alloc::Global;
 
 /// An expression of a level, with others nested in it no deeper than `depth`.

@@ -3,11 +3,11 @@
 ghost use Rattle.std.specs.Prelude.{◌≡◌, IfOk};
 ghost use Rattle.star_syntax.specs.Leaves as spec;
 
-use crate::tree::Position;
 use sqlite_items::Items;
 use star_lex::token::{Keyword, Kind, Sign, Token};
 use star_lex::value::{int_value, string_value, text_at};
 use star_text::Text;
+use star_tree::tree::Position;
 use std::alloc::{AllocError, Global};
 
 /// What a leaf says.
@@ -38,7 +38,7 @@ fn text_of(bytes: Vec<u8>) -> Result<Text, AllocError>
     ensures { IfOk result (λ text. text ≡ bytes.items) }
 {
     match String::from_utf8(bytes) {
-        Ok(text) => Ok(Text::from(text)),
+        Ok(text) => Text::of(text),
         Err(_) => Err(AllocError),
     }
 }

@@ -1,7 +1,7 @@
 //! The parts of the grammar of expressions that hold themselves, and what stands behind an operand.
 
-use crate::tree::{Argument, Expression, Name};
 use sqlite_items::{Boxed, Items};
+use star_tree::tree::{Argument, Expression, Name};
 
 /// A level of expressions, the loosest first: each holds the ones below it.
 #[derive(Clone, Copy)]

@@ -1,4 +1,4 @@
-//! The syntax tree of a Starlark file, its grammar, and the readers of expressions.
+//! The grammar of a Starlark file, and the readers of expressions.
 #![tactic(auto)]
 
 mod call;
@@ -12,4 +12,3 @@ pub mod name;
 mod operators;
 mod primary;
 pub mod reader;
-pub mod tree;

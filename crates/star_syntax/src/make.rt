@@ -3,8 +3,8 @@
 ghost use Rattle.std.specs.Prelude.{◌≡◌, IfOk, reverse};
 ghost use Rattle.star_syntax.specs.Keeps as keeps;
 
-use crate::tree::{Expression, Target};
 use sqlite_items::Items;
+use star_tree::tree::{Expression, Target};
 use std::alloc::{AllocError, Global};
 
 /// The targets, the last first.

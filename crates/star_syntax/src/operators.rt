@@ -8,9 +8,9 @@ ghost use Rattle.star_syntax.specs.Language.{Finds, Gives, Nests, reads};
 use crate::leaf::{Leaf, Word};
 use crate::level::Level;
 use crate::reader::{Grammar, Read, keyword};
-use crate::tree::{BinaryOperator, Comparator, Expression, UnaryOperator};
 use sqlite_items::Boxed;
 use star_lex::token::{Keyword, Sign};
+use star_tree::tree::{BinaryOperator, Comparator, Expression, UnaryOperator};
 use std::alloc::{AllocError, Global};
 
 fn unary_sign(sign: Sign) -> Option<UnaryOperator>

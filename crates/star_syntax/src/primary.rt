@@ -7,9 +7,9 @@ ghost use Rattle.star_syntax.specs.Language.{Gives, Nests, reads};
 use crate::leaf::Leaf;
 use crate::level::{Level, Suffix};
 use crate::reader::{Grammar, Read, atom, name, onto, sign, tuple_unless_one};
-use crate::tree::Expression;
 use sqlite_items::{Boxed, Items};
 use star_lex::token::Sign;
+use star_tree::tree::Expression;
 use std::alloc::Global;
 
 /// Where a slice stops, and its stride.
@@ -70,7 +70,7 @@ impl<F: Fn(Global, u128, Level, &[Leaf]) -> Read<'_, Boxed<Expression>>> Grammar
         let Some((_, rest)) = sign(Sign::Dot, leaves) else {
             return Ok(None);
         };
-        let Some((found, rest)) = name(self.alloc, rest)? else {
+        let Some((found, rest)) = name(rest)? else {
             return Ok(None);
         };
         Ok(Some((Suffix::Attribute(found), rest)))

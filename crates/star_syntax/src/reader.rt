@@ -7,10 +7,10 @@ ghost use Rattle.star_syntax.specs.Language.{Finds, Gives, Nests, reads, rule};
 
 use crate::leaf::{Leaf, Word};
 use crate::level::Level;
-use crate::tree::{Expression, Name, Position};
 use sqlite_items::{Boxed, Items};
 use star_lex::token::{Keyword, Sign};
 use star_text::Text;
+use star_tree::tree::{Expression, Name, Position};
 use std::alloc::{AllocError, Global};
 
 /// What a reader answers: the value at the front of the leaves and the leaves behind it, or nothing where it reads none.
@@ -99,13 +99,13 @@ pub fn keyword_at(expected: Keyword, leaves: &[Leaf]) -> Option<(Position, &[Lea
 }
 
 /// The name at the front of the leaves.
-pub fn name(alloc: Global, leaves: &[Leaf]) -> Read<'_, Name>
+pub fn name(leaves: &[Leaf]) -> Read<'_, Name>
     ensures { Gives (first (λ t. spec.name_of t.position t.word) leaves.now) result }
 {
     match leaves {
         [leaf, rest @ ..] => match &leaf.word {
             Word::Name(text) => {
-                let text = Text::new(alloc, text.as_str())?;
+                let text = text.share()?;
                 let position = leaf.position;
                 Ok(Some((Name { text, position }, rest)))
             }
@@ -122,14 +122,14 @@ pub fn atom(alloc: Global, leaves: &[Leaf]) -> Read<'_, Boxed<Expression>>
     match leaves {
         [leaf, rest @ ..] => match &leaf.word {
             Word::Name(text) => {
-                let text = Text::new(alloc, text.as_str())?;
+                let text = text.share()?;
                 let position = leaf.position;
                 let found = Expression::Name(Name { text, position });
                 Ok(Some((Boxed::new(alloc, found)?, rest)))
             }
             Word::Int(value) => Ok(Some((Boxed::new(alloc, Expression::Int(*value))?, rest))),
             Word::Text(text) => {
-                let text = Text::new(alloc, text.as_str())?;
+                let text = text.share()?;
                 Ok(Some((Boxed::new(alloc, Expression::Text(text))?, rest)))
             }
             _ => Ok(None),

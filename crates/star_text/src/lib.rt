@@ -1,32 +1,58 @@
 //! The text of a name or of a string.
 #![tactic(auto)]
 
-ghost use Rattle.std.specs.Prelude.{◌≡◌, IfOk, string_bytes};
+ghost use Rattle.std.specs.Prelude.{◌≡◌, IfOk, nat_eq, string_bytes};
+ghost use Rattle.std.specs.Cmp.{partial_equiv_from_equiv};
+ghost use Rattle.std.specs.Cmp.Lexicographic.{pointwise, nat_list_eq_equiv};
+ghost use Rattle.std.specs.Cmp.Rules.{hashing};
+ghost use Rattle.std.specs.Hash as fed;
+ghost use Rattle.std.proofs.Common.{rules};
 
 use std::alloc::{AllocError, Global};
+use std::hash::{Hash, Hasher};
 use std::marker::Model;
+use std::sync::ArcStr;
 
-/// A `String` that contracts see as its bytes, so that a copy equals what it copies. It is UTF-8 by its type.
+/// A text that its copies share. Contracts see its bytes, so that a copy equals what it copies. It is UTF-8 by its type.
 #[derive(Debug, Drop)]
 pub struct Text {
-    inner: String,
+    inner: ArcStr,
 }
 
 impl Model for Text {
-    ghost use Rattle.std.specs.Prelude.{List, ℕ, string_bytes};
+    ghost use Rattle.std.specs.Prelude.{List, ℕ};
+    ghost use Rattle.std.specs.Arc.{arc_str_bytes};
 
     ghost Value = { List ℕ };
 
-    ghost view = { λ text. string_bytes text.inner };
+    ghost view = { λ text. arc_str_bytes text.inner };
 }
 
 impl Text {
-    /// A copy of the text.
+    /// A text with these bytes.
     pub fn new(alloc: Global, text: &str) -> Result<Text, AllocError>
         ensures { IfOk result (λ made. made ≡ text.now) }
     {
         Ok(Text {
-            inner: String::from_str(alloc, text)?,
+            inner: ArcStr::from_str(alloc, text)?,
+        })
+    }
+
+    /// A text with the bytes of a `String`, which are not copied.
+    pub fn of(text: String) -> Result<Text, AllocError>
+        ensures { IfOk result (λ made. made ≡ string_bytes text) }
+    {
+        Ok(Text {
+            inner: ArcStr::from_string(text)?,
+        })
+    }
+
+    /// The same text, with the bytes shared.
+    pub fn share(&self) -> Result<Text, AllocError>
+        ensures { IfOk result (λ made. made ≡ self.now) }
+    {
+        Ok(Text {
+            inner: self.inner.clone()?,
         })
     }
 
@@ -37,25 +63,54 @@ impl Text {
     }
 }
 
-impl From<String> for Text {
-    ghost use Rattle.std.specs.Prelude.{◌≡◌, string_bytes};
+impl PartialEq for Text {
+    ghost eq = { λ x y. pointwise nat_eq x y };
 
-    ghost from_gives = { λ inner text. text ≡ string_bytes inner };
+    ghost laws = { partial_equiv_from_equiv nat_list_eq_equiv };
 
-    fn from(inner: String) -> Text {
-        Text { inner }
+    fn eq(&self, other: &Text) -> bool {
+        self.as_str() == other.as_str()
+    }
+}
+
+impl Eq for Text {
+    ghost laws = { nat_list_eq_equiv };
+}
+
+impl Hash for Text {
+    ghost hash_input = { λ text. fed.str text };
+
+    ghost respects_eq = { Prim.search (hashing, rules) };
+
+    fn hash<H: Hasher>(&self, state: &mut H) {
+        self.as_str().hash(state);
     }
 }
 
 #[cfg(test)]
 mod tests {
     use super::*;
+    use std::hash::DefaultHasher;
     use std::test::Fail;
+
+    fn hash_of(text: &Text) -> u64 {
+        let mut state = DefaultHasher::new();
+        text.hash(&mut state);
+        state.finish()
+    }
 
     #[test]
     fn text_of_a_string(rt: HostRuntime) -> Result<(), Fail> {
         let text = Text::new(rt.alloc(), "aé")?;
         assert_eq!(rt; text.as_str(), "aé");
+        let copy = text.share()?;
+        assert!(rt; text == copy);
+        assert!(rt; hash_of(&text) == hash_of(&copy));
+        drop(text);
+        assert_eq!(rt; copy.as_str(), "aé");
+        let text = Text::of(String::from_str(rt.alloc(), "b")?)?;
+        assert_eq!(rt; text.as_str(), "b");
+        assert!(rt; text != copy);
         Ok(())
     }
 }

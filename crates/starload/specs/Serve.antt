@@ -1,6 +1,6 @@
 -- What the program answers.
 use Rattle.std.specs.Prelude.{◌≡◌, ⊤, ℕ, ◌≤◌, List, length, Bool, true, false, Option, Result, Ok, Err}
-use Rattle.starload.specs.Stream.{Adds}
+use Rattle.starload.specs.Stream.{Adds, GivesAll, Said}
 use Rattle.star_bundle.specs.Bundle.{Asked}
 use Rattle.star_host.specs.Kept.{AllGood, AreModulesOf, KeptView}
 use Rattle.star_host.specs.Shown.{IsReportOf}
@@ -12,8 +12,8 @@ abbrev pub input_limit : ℕ
 input_limit = 268435456
 
 -- the input was read up to its end
-abbrev pub ReadsAll : Option (List ℕ) → Option (List ℕ) → Bool → List ℕ → Type 0
-ReadsAll before after ended input = Adds before after input × (ended ≡ true) × (length input ≤ input_limit)
+abbrev pub ReadsAll : Said → Said → List ℕ → Type 0
+ReadsAll old new input = GivesAll old new input × (length input ≤ input_limit)
 
 -- Between old and new the report of what is asked for was written, and nothing else; and the answer is whether each of the modules, which
 -- are those of exactly the reached files, each with its file's outcome, is good.

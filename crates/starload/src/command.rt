@@ -116,6 +116,10 @@ fn value_of(alloc: Global, matches: &ArgMatches<'_>, id: &str) -> Result<Option<
 pub fn options(alloc: Global, matches: &ArgMatches<'_>) -> Result<Options, AllocError>
     ensures loaders { IfOk result (λ o. (1 ≤ o.loaders) × (o.loaders ≤ 64)) }
     ensures steps { IfOk result (λ o. (1 ≤ o.steps) × (o.steps ≤ 100000000)) }
+    ensures loaders_given { IfOk result (λ o.
+        spec.IsNumberOf (one_text (found_of matches.now) (codes "loaders")) 1 64 4 o.loaders) }
+    ensures steps_given { IfOk result (λ o.
+        spec.IsNumberOf (one_text (found_of matches.now) (codes "steps")) 1 100000000 1000000 o.steps) }
     ensures roots { IfOk result (λ o. map string_bytes o.roots.items ≡ spec.values_of matches.now (codes "ROOT")) }
     ensures prelude { IfOk result (λ o. option_map string_bytes o.prelude
         ≡ first_value (found_of matches.now) (codes "prelude")) }

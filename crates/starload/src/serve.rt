@@ -8,7 +8,7 @@ ghost use Rattle.star_bundle.specs.Refusal.{reads_failed, writes_failed};
 ghost use Rattle.star_host.specs.Kept.{AllGood, AreModulesOf};
 ghost use Rattle.star_host.specs.Shown.{IsReportOf};
 ghost use Rattle.starload.specs.Serve.{IsRefused, IsRefusedRun, ReadsAll, Reports, input_limit};
-ghost use Rattle.starload.specs.Stream.{Adds};
+ghost use Rattle.starload.specs.Stream.{GaveFirst, Gives};
 
 use crate::read::read_all;
 use crate::stream::{Sink, Source};
@@ -48,7 +48,7 @@ struct Answer {
     all_ok: bool,
 }
 
-/// Runs what is asked for. `Memory`, or `Unpublished` where a cell did not take its module.
+/// Runs what is asked for. `Memory`, or `Unpublished` where a module was not published.
 fn answered<H: Threads + Wait + Sync>(
     rt: &H,
     alloc: Global,
@@ -206,7 +206,7 @@ pub fn serve<H: Threads + Wait + Sync, R: Source, W: Sink, E: Sink>(
 
     // All was read, it is a bundle that has each root and the prelude, and its report was written, and nothing else.
     ensures ok { IfOk result (λ all_ok. (input : List ℕ)
-        × ReadsAll (R.given reader.old) (R.given reader.new) (R.ended reader.new) input
+        × ReadsAll (R.said reader.old) (R.said reader.new) input
         × (asked : bundle.Asked)
         × (bundle.asked_of (map string_bytes options.now.roots.items) (option_map string_bytes options.now.prelude) input ≡ Ok asked)
         × Reports asked options.now.steps (W.taken writer.old) (W.taken writer.new) all_ok) }
@@ -214,11 +214,11 @@ pub fn serve<H: Threads + Wait + Sync, R: Source, W: Sink, E: Sink>(
     // What was read is refused so, and nothing was written.
     ensures refused { IfErr result (IsRefused
         (λ given. (input : List ℕ)
-        × ReadsAll (R.given reader.old) (R.given reader.new) (R.ended reader.new) input
+        × ReadsAll (R.said reader.old) (R.said reader.new) input
         × (bundle.asked_of (map string_bytes options.now.roots.items) (option_map string_bytes options.now.prelude) input ≡ given))
-        ((input : List ℕ) × Adds (R.given reader.old) (R.given reader.new) input
+        ((input : List ℕ) × GaveFirst (R.said reader.old) (R.said reader.new) input
         × (length input ≤ input_limit))
-        ((input : List ℕ) × Adds (R.given reader.old) (R.given reader.new) input
+        ((input : List ℕ) × Gives (R.said reader.old) (R.said reader.new) input
         × (input_limit < length input))
         (writer.new ≡ writer.old)) }
 

@@ -3,6 +3,12 @@
 ghost use Rattle.std.specs.Prelude.{◌≤◌, IfOk, None, Some, false, ◌==◌, if◌then◌else◌};
 ghost use Rattle.star_folder.specs.Memory.{contents_of, rows_of};
 
+mod bundles;
+mod faults;
+mod more_values;
+mod static_faults;
+mod values;
+
 use crate::dir::serve_dir;
 use crate::serve::{Options, serve};
 use crate::stream::{Failed, Sink, Source};
@@ -17,40 +23,48 @@ use std::sync::Wait;
 use std::test::Fail;
 use std::thread::Threads;
 
-/// Gives bytes, at most so many at a time; a read fails where so many were given.
+/// A bundle with the words that ask for its files, and what comes of it.
+struct Case {
+    bundle: &'static str,
+    roots: &'static [&'static str],
+    prelude: Option<&'static str>,
+    steps: u32,
+    /// What one loader writes to standard error, where the trace is asked for.
+    trace: Option<&'static str>,
+    answer: Result<bool, ServeError>,
+    report: &'static str,
+}
+
+/// Gives bytes, at most so many at a time. The read with a given number fails, counted from 0.
 #[derive(Drop)]
 struct Script<'a> {
-    given: Vec<u8>,
     rest: &'a [u8],
     piece: usize,
-    breaks_at: Option<usize>,
+    calls: usize,
+    fails_at: usize,
     failed: u64,
     ended: bool,
 }
 
 impl<'a> Source for Script<'a> {
-    ghost given = { λ s. Some s.given.items };
+    ghost said = { λ s. record { given = None; left = Some s.rest.now; ended = s.ended } };
 
     ghost failed = { λ s. s.failed };
 
-    ghost ended = { λ s. s.ended };
-
     fn read(&mut self, buffer: &mut [u8]) -> Result<usize, Failed> {
-        if self.failed == u64::MAX {
-            self.ended = true;
-            return Ok(0);
-        }
-        if self.breaks_at == Some(self.given.len()) {
+        let call = self.calls;
+        self.calls = usize::saturating_add(call, 1);
+        if call == self.fails_at && self.failed < u64::MAX {
             self.failed += 1;
             return Err(Failed);
         }
-        let count = self.rest.len().min(buffer.len()).min(self.piece);
+        let count = self
+            .rest
+            .len()
+            .min(buffer.len())
+            .min(usize::max(self.piece, 1));
         let (front, rest) = self.rest.split_at(count);
         buffer[..count].copy_from_slice(front);
-        if self.given.extend_from_slice(&buffer[..count]).is_err() {
-            self.failed += 1;
-            return Err(Failed);
-        }
         self.rest = rest;
         self.ended = count == 0;
         Ok(count)
@@ -62,11 +76,9 @@ impl<'a> Source for Script<'a> {
 struct Spaces;
 
 impl Source for Spaces {
-    ghost given = { λ s. None };
+    ghost said = { λ s. record { given = None; left = None; ended = false } };
 
     ghost failed = { λ s. 0 };
-
-    ghost ended = { λ s. false };
 
     fn read(&mut self, buffer: &mut [u8]) -> Result<usize, Failed> {
         buffer.fill(b' ');
@@ -74,11 +86,12 @@ impl Source for Spaces {
     }
 }
 
-/// Keeps what it takes, or fails.
+/// Keeps what it takes. The write with a given number fails, counted from 0.
 #[derive(Drop)]
 struct Kept {
     bytes: Vec<u8>,
-    fails: bool,
+    calls: usize,
+    fails_at: usize,
     failed: u64,
 }
 
@@ -91,7 +104,9 @@ impl Sink for Kept {
         if self.failed == u64::MAX {
             return Ok(());
         }
-        if !self.fails && self.bytes.extend_from_slice(bytes).is_ok() {
+        let call = self.calls;
+        self.calls = usize::saturating_add(call, 1);
+        if call != self.fails_at && self.bytes.extend_from_slice(bytes).is_ok() {
             return Ok(());
         }
         self.failed += 1;
@@ -99,19 +114,26 @@ impl Sink for Kept {
     }
 }
 
-fn scripted<'a>(
-    alloc: Global,
-    bytes: &'a [u8],
-    piece: usize,
-    breaks_at: Option<usize>,
-) -> Script<'a> {
+/// More calls than are made: none fails.
+const NEVER: usize = 1_000_000;
+
+fn scripted(bytes: &[u8], piece: usize, fails_at: usize) -> Script<'_> {
     Script {
-        given: Vec::new(alloc),
         rest: bytes,
         piece,
-        breaks_at,
+        calls: 0,
+        fails_at,
         failed: 0,
         ended: false,
+    }
+}
+
+fn writer_of(alloc: Global, fails_at: usize) -> Kept {
+    Kept {
+        bytes: Vec::new(alloc),
+        calls: 0,
+        fails_at,
+        failed: 0,
     }
 }
 
@@ -132,30 +154,19 @@ fn options_of(alloc: Global, loaders: usize) -> Result<Options, AllocError>
     })
 }
 
-/// What `serve` answers for the root `//:a.star` with so many loaders, and what it wrote.
+/// What `serve` answers for the root `//:a.star`, and what it wrote. The write of the report fails where that is wanted.
 fn served<H: Threads + Wait + Sync, R: Source>(
     rt: &H,
     alloc: Global,
     reader: &mut R,
     fails: bool,
-    loaders: usize,
-) -> Result<(Result<bool, ServeError>, Vec<u8>), AllocError>
-    requires { (1 ≤ loaders) × (loaders ≤ 64) }
-{
-    let mut writer = writer_of(alloc, fails);
-    let mut errors = writer_of(alloc, false);
-    let options = options_of(alloc, loaders)?;
+) -> Result<(Result<bool, ServeError>, Vec<u8>), AllocError> {
+    let mut writer = writer_of(alloc, if fails { 0 } else { NEVER });
+    let mut errors = writer_of(alloc, NEVER);
+    let options = options_of(alloc, 2)?;
     let outcome = serve(rt, alloc, reader, &mut writer, &mut errors, &options);
     let Kept { bytes, .. } = writer;
     Ok((outcome, bytes))
-}
-
-fn writer_of(alloc: Global, fails: bool) -> Kept {
-    Kept {
-        bytes: Vec::new(alloc),
-        fails,
-        failed: 0,
-    }
 }
 
 /// The input is refused so, and nothing is written.
@@ -165,25 +176,101 @@ fn refuses<H: Abort + Threads + Wait + Sync>(
     input: &[u8],
     want: ServeError,
 ) -> Result<(), Fail> {
-    let (outcome, written) = served(rt, alloc, &mut scripted(alloc, input, 7, None), false, 1)?;
+    let (outcome, written) = served(rt, alloc, &mut scripted(input, 7, NEVER), false)?;
     assert_eq!(rt; outcome, Err(want));
     assert!(rt; written.is_empty());
     Ok(())
 }
 
-/// This bundle has this report, with 1 loader and with 3.
-fn reports<H: Abort + Threads + Wait + Sync>(
+fn asked_by(alloc: Global, case: &Case, loaders: usize) -> Result<Options, AllocError>
+    ensures { IfOk result (λ o. (1 ≤ o.loaders) × (o.loaders ≤ 64) × (1 ≤ o.steps) × (o.steps ≤ 100000000)) }
+{
+    let mut roots = Vec::new(alloc);
+    for root in case.roots {
+        roots.push(String::from_str(alloc, *root)?)?;
+    }
+    let prelude = match case.prelude {
+        Some(prelude) => Some(String::from_str(alloc, prelude)?),
+        None => None,
+    };
+    Ok(Options {
+        loaders: loaders.clamp(1, 64),
+        steps: case.steps.clamp(1, 100_000_000),
+        roots,
+        prelude,
+        trace: case.trace.is_some(),
+        dir: None,
+    })
+}
+
+/// What the case says is answered and written. The lines of the trace are those of one loader.
+fn comes_of<H: Abort + Threads + Wait + Sync>(
     rt: &H,
     alloc: Global,
-    input: &str,
-    all_ok: bool,
-    want: &str,
+    case: &Case,
+    loaders: usize,
 ) -> Result<(), Fail> {
-    for loaders in [1, 3] {
-        let mut reader = scripted(alloc, input.as_bytes(), 3, None);
-        let (outcome, written) = served(rt, alloc, &mut reader, false, loaders)?;
-        assert_eq!(rt; outcome, Ok(all_ok));
-        assert_eq!(rt; written.as_slice(), want.as_bytes());
+    let options = asked_by(alloc, case, loaders)?;
+    let mut reader = scripted(case.bundle.as_bytes(), 5, NEVER);
+    let (mut writer, mut errors) = (writer_of(alloc, NEVER), writer_of(alloc, NEVER));
+    let answer = serve(rt, alloc, &mut reader, &mut writer, &mut errors, &options);
+    assert_eq!(rt; answer, case.answer);
+    assert_eq!(rt; writer.bytes.as_slice(), case.report.as_bytes());
+    if loaders == 1 || case.trace.is_none() {
+        assert_eq!(rt;
+            errors.bytes.as_slice(),
+            case.trace.unwrap_or("").as_bytes()
+        );
+    }
+    Ok(())
+}
+
+#[test]
+fn files_that_end_well(rt: HostRuntime) -> Result<(), Fail> {
+    for case in &values::VALUES {
+        for loaders in [1, 3] {
+            comes_of(&rt, rt.alloc(), case, loaders)?;
+        }
+    }
+    Ok(())
+}
+
+#[test]
+fn more_files_that_end_well(rt: HostRuntime) -> Result<(), Fail> {
+    for case in &more_values::MORE_VALUES {
+        for loaders in [1, 3] {
+            comes_of(&rt, rt.alloc(), case, loaders)?;
+        }
+    }
+    Ok(())
+}
+
+#[test]
+fn files_with_a_static_fault(rt: HostRuntime) -> Result<(), Fail> {
+    for case in &static_faults::STATIC_FAULTS {
+        for loaders in [1, 3] {
+            comes_of(&rt, rt.alloc(), case, loaders)?;
+        }
+    }
+    Ok(())
+}
+
+#[test]
+fn files_that_stop(rt: HostRuntime) -> Result<(), Fail> {
+    for case in &faults::FAULTS {
+        for loaders in [1, 3] {
+            comes_of(&rt, rt.alloc(), case, loaders)?;
+        }
+    }
+    Ok(())
+}
+
+#[test]
+fn many_files(rt: HostRuntime) -> Result<(), Fail> {
+    for case in &bundles::BUNDLES {
+        for loaders in [1, 2, 3, 4, 64] {
+            comes_of(&rt, rt.alloc(), case, loaders)?;
+        }
     }
     Ok(())
 }
@@ -229,22 +316,26 @@ fn a_text_that_is_too_long(rt: HostRuntime) -> Result<(), Fail> {
     refuses(&rt, rt.alloc(), input.as_bytes(), ServeError::TooLong)
 }
 
+/// Sixteen bytes are given in six reads, and a seventh finds the end.
 #[test]
-fn a_reader_that_fails(rt: HostRuntime) -> Result<(), Fail> {
+fn a_reader_that_fails_at_each_call(rt: HostRuntime) -> Result<(), Fail> {
     let alloc = rt.alloc();
-    for breaks_at in [0, 6] {
-        let mut reader = scripted(alloc, b"{\"//:a.star\":\"\"}", 3, Some(breaks_at));
-        let (outcome, written) = served(&rt, alloc, &mut reader, false, 1)?;
+    for fails_at in 0..7 {
+        let mut reader = scripted(b"{\"//:a.star\":\"\"}", 3, fails_at);
+        let (outcome, written) = served(&rt, alloc, &mut reader, false)?;
         assert_eq!(rt; outcome, Err(ServeError::Read));
         assert!(rt; written.is_empty());
         assert_eq!(rt; reader.failed, 1);
     }
+    let mut reader = scripted(b"{\"//:a.star\":\"\"}", 3, 7);
+    let (outcome, _) = served(&rt, alloc, &mut reader, false)?;
+    assert_eq!(rt; outcome, Ok(true));
     Ok(())
 }
 
 #[test]
 fn a_reader_that_never_ends(rt: HostRuntime) -> Result<(), Fail> {
-    let (outcome, written) = served(&rt, rt.alloc(), &mut Spaces, false, 1)?;
+    let (outcome, written) = served(&rt, rt.alloc(), &mut Spaces, false)?;
     assert_eq!(rt; outcome, Err(ServeError::TooBig));
     assert!(rt; written.is_empty());
     Ok(())
@@ -252,10 +343,30 @@ fn a_reader_that_never_ends(rt: HostRuntime) -> Result<(), Fail> {
 
 #[test]
 fn a_writer_that_fails(rt: HostRuntime) -> Result<(), Fail> {
-    let alloc = rt.alloc();
-    let mut reader = scripted(alloc, b"{\"//:a.star\":\"\"}", 9, None);
-    let (outcome, _) = served(&rt, alloc, &mut reader, true, 2)?;
+    let mut reader = scripted(b"{\"//:a.star\":\"\"}", 9, NEVER);
+    let (outcome, written) = served(&rt, rt.alloc(), &mut reader, true)?;
     assert_eq!(rt; outcome, Err(ServeError::Write));
+    assert!(rt; written.is_empty());
+    Ok(())
+}
+
+/// The line that cannot be written ends the trace, and the report stands.
+#[test]
+fn a_trace_that_fails(rt: HostRuntime) -> Result<(), Fail> {
+    let alloc = rt.alloc();
+    let bundle =
+        "{\"//:a.star\":\"load(':a.star', 'x')\\nload(':b.star', 'y')\",\"//:b.star\":\"load(':b.star', 'z')\"}";
+    let line = "starload: cycle: //:a.star loads //:a.star\n";
+    for (fails_at, want) in [(0, ""), (1, line)] {
+        let options = options_of(alloc, 1)?;
+        let mut reader = scripted(bundle.as_bytes(), 9, NEVER);
+        let (mut writer, mut errors) = (writer_of(alloc, NEVER), writer_of(alloc, fails_at));
+        let outcome = serve(&rt, alloc, &mut reader, &mut writer, &mut errors, &options);
+        assert_eq!(rt; outcome, Ok(false));
+        assert!(rt; !writer.bytes.is_empty());
+        assert_eq!(rt; errors.bytes.as_slice(), want.as_bytes());
+        assert_eq!(rt; errors.failed, 1);
+    }
     Ok(())
 }
 
@@ -266,31 +377,6 @@ fn statuses(rt: HostRuntime) -> Result<(), Fail> {
     assert_eq!(rt; status(&Err(ServeError::NoRoot)), 2);
     assert_eq!(rt; ServeError::NoRoot.text(), "no such root");
     Ok(())
-}
-
-#[test]
-fn files_that_load_one_another(rt: HostRuntime) -> Result<(), Fail> {
-    reports(
-        &rt,
-        rt.alloc(),
-        "{\"//:a.star\":\"load('//:b.star', 'f')\\nx = [f(i) for i in range(3)]\",\"//:b.star\":\"def f(i): return i * i\"}",
-        true,
-        "{\"begun\":2,\"modules\":[{\"globals\":{\"x\":\"[0, 1, 4]\"},\"label\":\"//:a.star\",\"lines\":[],\"status\":\"ok\"},{\"globals\":{\"f\":\"<function f>\"},\"label\":\"//:b.star\",\"lines\":[],\"status\":\"ok\"}]}\n",
-    )?;
-    reports(
-        &rt,
-        rt.alloc(),
-        "{\"//:a.star\":\"load(':b.star', 'y')\",\"//:b.star\":\"load(':a.star', 'x')\"}",
-        false,
-        "{\"begun\":2,\"modules\":[{\"cycle\":[\"//:a.star\",\"//:b.star\"],\"label\":\"//:a.star\",\"line\":1,\"lines\":[],\"status\":\"load\"},{\"cycle\":[\"//:b.star\",\"//:a.star\"],\"label\":\"//:b.star\",\"line\":1,\"lines\":[],\"status\":\"load\"}]}\n",
-    )?;
-    reports(
-        &rt,
-        rt.alloc(),
-        "{\"//:a.star\":\"print('a')\\nx = 1 // 0\"}",
-        false,
-        "{\"begun\":1,\"modules\":[{\"fault\":\"zero\",\"label\":\"//:a.star\",\"line\":2,\"lines\":[\"a\"],\"status\":\"fault\"}]}\n",
-    )
 }
 
 /// A folder in memory whose call with this number fails, counted from 0.
@@ -358,8 +444,8 @@ fn served_dir<H: Threads + Wait + Sync>(
         failed_listings: 0,
         failed_reads: 0,
     };
-    let mut writer = writer_of(alloc, fails);
-    let mut errors = writer_of(alloc, false);
+    let mut writer = writer_of(alloc, if fails { 0 } else { NEVER });
+    let mut errors = writer_of(alloc, NEVER);
     let options = options_of(alloc, loaders)?;
     let outcome = serve_dir(rt, alloc, &mut folder, &mut writer, &mut errors, &options);
     let Kept { bytes, .. } = writer;

@@ -11,8 +11,8 @@ use star_meaning::fault::Code;
 use star_meaning::given::{Given, NamedValue};
 use star_store::arena::Homes;
 use star_store::values::{Entries, Value, Values};
-use star_syntax::tree::{Expression, Name, Parameter, Position};
 use star_text::Text;
+use star_tree::tree::{Expression, Name, Parameter, Position};
 use std::alloc::Global;
 use std::process::Abort;
 use std::test::Fail;
@@ -185,6 +185,15 @@ fn dict(alloc: Global, machine: &mut Machine, key: Value, value: Value) -> Resul
     Ok(machine.new_dict(1, entries)?)
 }
 
+/// So many names that they are looked for in a map.
+fn many_names(alloc: Global) -> Result<Vec<Passed<'static>>, Fail> {
+    let mut names = Vec::new(alloc);
+    for name in ["c", "a", "j", "b", "d", "e", "i", "f", "h", "g"] {
+        names.push(Passed::Named(name, Value::Int(1)))?;
+    }
+    Ok(names)
+}
+
 /// The values by place and by name, or the fault, at its line.
 fn given_text(
     alloc: Global,
@@ -238,6 +247,9 @@ fn a_call_gives_its_values_in(
     assert_eq!(rt; none.as_str(), "");
     let keys = given_text(alloc, machine, setting, &[Passed::Star(names)])?;
     assert_eq!(rt; keys.as_str(), "\"k\" ");
+    let many = many_names(alloc)?;
+    let many = given_text(alloc, machine, setting, many.as_slice())?;
+    assert_eq!(rt; many.as_str(), "c=1 a=1 j=1 b=1 d=1 e=1 i=1 f=1 h=1 g=1 ");
     Ok(())
 }
 
@@ -277,6 +289,10 @@ fn a_call_is_refused_in(
     let stop = refusal(machine, setting, &[named, Passed::StarStar(names)]);
     assert_eq!(rt; stop, twice);
     let stop = refusal(machine, setting, &[named, Passed::Named("k", row)]);
+    assert_eq!(rt; stop, twice);
+    let mut many = many_names(alloc)?;
+    many.push(Passed::Named("a", row))?;
+    let stop = refusal(machine, setting, many.as_slice());
     assert_eq!(rt; stop, twice);
     Ok(())
 }

@@ -15,8 +15,8 @@ use star_scope::loads::Load;
 use star_store::arena::{Arena, Homes, freeze};
 use star_store::range::Range;
 use star_store::values::{Cell, Function, Value, Values};
-use star_syntax::tree::{BinaryOperator, Comparator, UnaryOperator};
 use star_text::Text;
+use star_tree::tree::{BinaryOperator, Comparator, UnaryOperator};
 use std::alloc::Global;
 use std::process::Abort;
 use std::test::Fail;
@@ -648,7 +648,7 @@ fn what_is_made_by_itself_pays_nothing(rt: HostRuntime) -> Result<(), Fail> {
     let alloc = rt.alloc();
     let mut machine = Machine::new(alloc, 0, 10);
     let made = machine.make(Cell::List(Values::new(Vec::new(alloc))))?;
-    machine.bind(made, 0, Value::Int(5));
+    machine.bind(made, 0, Value::Int(5))?;
     assert!(rt; machine.afford(1, 10).is_ok());
     Ok(())
 }

@@ -4,15 +4,17 @@ use star_store::arena::write::Change;
 use star_store::arena::{Arena, Homes, freeze};
 use star_store::arithmetic::{add, floor_div, floor_mod, mul, neg, shl, sub};
 use star_store::budget::Budget;
+use star_store::content::{Atom, content};
 use star_store::equal::equal;
 use star_store::fault::StoreFault;
 use star_store::key::check_key;
 use star_store::names::{BuiltIn, Method};
 use star_store::order::order;
 use star_store::range::Range;
+use star_store::slots::Slots;
 use star_store::text::repr;
 use star_store::truth::is_true;
-use star_store::values::{Cell, Entries, Frame, Function, Slots, Value, Values};
+use star_store::values::{Cell, Entries, Frame, Function, Value, Values};
 use star_text::Text;
 use std::alloc::Global;
 use std::cmp::Ordering;
@@ -700,22 +702,46 @@ fn texts_of_what_holds_itself(rt: HostRuntime) -> Result<(), Fail> {
     Ok(())
 }
 
+// Slots are bound in any order, near ones and far ones, and another value takes the place of the first.
+#[test]
+fn slots_near_and_far(rt: HostRuntime) -> Result<(), Fail> {
+    let mut slots = Slots::unbound(rt.alloc(), 100)?;
+    for (at, number) in [
+        (99, 1),
+        (0, 2),
+        (50, 3),
+        (15, 4),
+        (27, 5),
+        (39, 6),
+        (50, 7),
+        (99, 8),
+        (100, 9),
+    ] {
+        slots.set(at, Value::Int(number))?;
+    }
+    for (at, number) in [(0, 2), (15, 4), (27, 5), (39, 6), (50, 7), (99, 8)] {
+        assert_eq!(rt; slots.get(at), Some(Some(Value::Int(number))));
+    }
+    assert_eq!(rt; slots.get(16), Some(None));
+    assert_eq!(rt; slots.get(98), Some(None));
+    assert_eq!(rt; slots.get(100), None);
+    Ok(())
+}
+
 // A frame's slot is bound, and a function shows its name.
 #[test]
 fn frames_and_functions(rt: HostRuntime) -> Result<(), Fail> {
     let alloc = rt.alloc();
     let homes = Homes::new(alloc);
     let mut arena = Arena::new(alloc, 0);
-    let mut slots = Vec::new(alloc);
-    slots.push(None)?;
     let frame = Frame {
         file: 0,
         block: 0,
         parent: None,
-        slots: Slots::new(slots),
+        slots: Slots::unbound(alloc, 100)?,
     };
     let frame = made(&rt, &mut arena, Cell::Frame(frame))?;
-    arena.bind(frame, 0, Value::Int(7));
+    arena.bind(frame, 0, Value::Int(7))?;
     let slot = match arena.read(&homes, frame) {
         Some(Cell::Frame(found)) => found.slots.get(0),
         _ => None,
@@ -731,5 +757,33 @@ fn frames_and_functions(rt: HostRuntime) -> Result<(), Fail> {
     let function = made(&rt, &mut arena, Cell::Func(function))?;
     shows(alloc, &rt, &arena, &homes, function, "<function f>")?;
     assert!(rt; is_true(&arena, &homes, function));
+    Ok(())
+}
+
+#[test]
+fn a_key_has_its_content(rt: HostRuntime) -> Result<(), Fail> {
+    let alloc = rt.alloc();
+    let homes = Homes::new(alloc);
+    let mut arena = Arena::new(alloc, 1);
+    let word = text(alloc, &rt, &mut arena, "a")?;
+    let inner = tuple(
+        alloc,
+        &rt,
+        &mut arena,
+        &[Value::Bool(true), Value::NoneValue],
+    )?;
+    let key = tuple(alloc, &rt, &mut arena, &[word, inner, Value::Int(-7)])?;
+    let wanted = vec![in alloc;
+        Atom::Row(3),
+        Atom::Text(Text::new(alloc, "a")?),
+        Atom::Row(2),
+        Atom::Bool(true),
+        Atom::Nothing,
+        Atom::Int(-7),
+    ]?;
+    assert!(rt; content(alloc, &arena, &homes, key)? == Some(wanted));
+    let items = list(alloc, &rt, &mut arena, &[word])?;
+    let other = tuple(alloc, &rt, &mut arena, &[word, items])?;
+    assert!(rt; content(alloc, &arena, &homes, other)?.is_none());
     Ok(())
 }

@@ -5,8 +5,8 @@ use Rattle.star_machine.specs.Gives.{with_front}
 use Rattle.star_meaning.specs.Meaning.{block, turns}
 use Rattle.star_meaning.specs.Run.{Action, and_then, each}
 use Rattle.star_meaning.specs.declared.place.Flow.{Flow}
-use Rattle.star_syntax.specs.declared.tree.Arm.{Arm}
-use Rattle.star_syntax.specs.declared.tree.Clause.{Clause}
+use Rattle.star_tree.specs.declared.tree.Arm.{Arm}
+use Rattle.star_tree.specs.declared.tree.Clause.{Clause}
 use Rattle.star_meaning.specs.Statements.{arms, loop_turn}
 use Rattle.star_meaning.specs.Targets.{to_each}
 use Rattle.star_eval.specs.World.{meant, variables}

@@ -22,4 +22,4 @@ loop-before-preserved c =
 
 pub returns : goal.returns
 returns c =
-    rw (c.from.ensures, c.in_ok-push_str-2.ensures.bytes) (sym c.loop-before.invariant.rest ∙ outside_last c.args.setting.now c.args.levels c.args.line c.args.given.now c.loop-before.rest.now (as_numbering c.loop-before.numbering) (string_bytes c.loop-before.out) c.loop-before.machine c.in_default.ensures)
+    rw (c.in_ok-of.ensures, c.in_ok-push_str-2.ensures.bytes) (sym c.loop-before.invariant.rest ∙ outside_last c.args.setting.now c.args.levels c.args.line c.args.given.now c.loop-before.rest.now (as_numbering c.loop-before.numbering) (string_bytes c.loop-before.out) c.loop-before.machine c.in_default.ensures)

@@ -1,9 +1,7 @@
-use Rattle.std.proofs.Common.{◌≡◌, length}
+use Rattle.std.proofs.Common.{◌≡◌, drop}
 use Rattle.star_meaning.specs.Arguments.{comes_twice}
+use Rattle.star_call.specs.Seen.{twice_after}
 use Rattle.star_call.proofs.names.comes_twice.Given as goal
 
-abbrev pub invariant-loop-rest : goal.invariant-loop-rest
-invariant-loop-rest l = comes_twice l.rest ≡ comes_twice l.named
-
-abbrev pub decreases-loop-rest : goal.decreases-loop-rest
-decreases-loop-rest l = length l.rest
+abbrev pub invariant-loop-value : goal.invariant-loop-value
+invariant-loop-value l = twice_after l.seen (drop l.value-index l.named) ≡ comes_twice l.named

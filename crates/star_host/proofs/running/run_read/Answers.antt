@@ -32,3 +32,9 @@ returns-clause-modules g c =
     let plan : Plan = record { roots = c.args.roots.now; prelude = c.args.prelude; steps = c.args.steps; reads = readings c.args.reads.now } in
     let is = c.requires.read in
     if_ok c.run_named.result (λ x all. (plan, planned_so c.args.files.now is.0 c.args.reads.now plan refl is.1 is.2, refl, refl, refl, all)) c.run_named.ensures.modules
+
+pub returns-clause-refused : goal.returns-clause-refused
+returns-clause-refused g c =
+    let plan : Plan = record { roots = c.args.roots.now; prelude = c.args.prelude; steps = c.args.steps; reads = readings c.args.reads.now } in
+    let is = c.requires.read in
+    if_ok c.run_named.result (λ x all. (plan, planned_so c.args.files.now is.0 c.args.reads.now plan refl is.1 is.2, refl, refl, refl, all)) c.run_named.ensures.refused

@@ -4,8 +4,8 @@ use Rattle.std.specs.Prelude.{Contains}
 use Rattle.star_store.specs.Store.{Shelf}
 use Rattle.star_plan.specs.Shelves.{HoldsNeeds, Needs}
 use Rattle.star_host.specs.Bodies.{AreNeeded, IsGathered, IsRan}
+use Rattle.star_host.specs.Reaches.{ReachView, row_of}
 use Rattle.star_host.specs.declared.module.Module.{Module}
-use Rattle.star_host.specs.declared.module.Reach.{Reach}
 use Rattle.star_host.proofs.Bodies.{body_may_run, loads_in_row, ran_so}
 use Rattle.star_host.proofs.work.run.Goals as goal
 
@@ -15,7 +15,7 @@ ended_of-requires-clause-ran g c =
     let program = c.args.program.now in
     let world = c.requires.world in
     let shelf : Shelf = c.parts-homes.result.0 in
-    let rows : List Reach = c.parts-homes.result.1.items in
+    let rows : List ReachView = row_of c.parts-homes.result.1 in
     let at = c.file_number-home.ensures in
     let mine : IsGathered g.J.Naming.plan c.args.n shelf rows = subst (λ k. IsGathered g.J.Naming.plan k shelf rows) c.in_ok-given.ensures.file c.parts-homes.ensures.gathered in
     let holds : HoldsNeeds g.J.Naming.plan c.args.n shelf = subst (HoldsNeeds g.J.Naming.plan c.args.n) (sym c.parts-homes.ensures.shelf) c.in_ok-given.ensures.holds in
@@ -27,10 +27,10 @@ ended_of-requires-clause-ran g c =
 pub ended_of-requires-clause-needed : goal.ended_of-requires-clause-needed
 ended_of-requires-clause-needed g c =
     let shelf : Shelf = c.parts-homes.result.0 in
-    let rows : List Reach = c.parts-homes.result.1.items in
+    let rows : List ReachView = row_of c.parts-homes.result.1 in
     let mine : IsGathered g.J.Naming.plan c.args.n shelf rows = subst (λ k. IsGathered g.J.Naming.plan k shelf rows) c.in_ok-given.ensures.file c.parts-homes.ensures.gathered in
     subst (λ k. AreNeeded g.J.Naming.plan k rows) (sym c.file_number-home.ensures) mine.reaches
 
 pub ended_of-requires-clause-all : goal.ended_of-requires-clause-all
 ended_of-requires-clause-all g c = λ k needs.
-    subst (λ rs. Contains (map (λ (r : Reach). r.number) rs) k) (sym c.parts-homes.ensures.reaches) (c.in_ok-given.ensures.listed k (subst (λ m. Needs g.J.Naming.plan m k) c.file_number-home.ensures needs))
+    subst (λ rs. Contains (map (λ (r : ReachView). r.number) rs) k) (sym c.parts-homes.ensures.reaches) (c.in_ok-given.ensures.listed k (subst (λ m. Needs g.J.Naming.plan m k) c.file_number-home.ensures needs))

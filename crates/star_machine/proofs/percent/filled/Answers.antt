@@ -27,7 +27,7 @@ returns-then-used-values c =
 pub returns : goal.returns
 returns c =
     let k : length (drop c.loop-before.used c.args.values.now) ≤ 0 = simp length-drop (omega arith) in
-    rw (c.from.ensures, c.in_ok-push_str-2.ensures.bytes) (sym c.loop-before.invariant.rest ∙ filled_well c.args.setting.now c.args.levels c.args.line c.loop-before.rest.now _ (string_bytes c.loop-before.out) c.loop-before.machine c.in_default.ensures k)
+    rw (c.in_ok-of.ensures, c.in_ok-push_str-2.ensures.bytes) (sym c.loop-before.invariant.rest ∙ filled_well c.args.setting.now c.args.levels c.args.line c.loop-before.rest.now _ (string_bytes c.loop-before.out) c.loop-before.machine c.in_default.ensures k)
 
 pub returns-in_err-used : goal.returns-in_err-used
 returns-in_err-used c =

@@ -1,6 +1,6 @@
 use Rattle.std.proofs.Common.{rules, ◌≡◌, [], ◌∷◌, ap, sym, ◌∙◌, subst}
-use Rattle.star_syntax.specs.declared.tree.Form.{out-Form}
-use Rattle.star_syntax.specs.declared.tree.Statement.{out-Statement}
+use Rattle.star_tree.specs.declared.tree.Form.{out-Form}
+use Rattle.star_tree.specs.declared.tree.Statement.{out-Statement}
 use Rattle.std.specs.List.{flat_map}
 use Rattle.star_scope.specs.Faults.{first_from}
 use Rattle.star_scope.specs.Loads.{Adds, LeadsTo, Written, load_in, module_fault, private_fault, written_in}

@@ -1,6 +1,6 @@
 use Rattle.std.proofs.Common.{rules, refl, ap, ◌∙◌}
-use Rattle.star_syntax.specs.declared.tree.Arm.{out-Arm}
-use Rattle.star_syntax.specs.declared.tree.Statement.{out-Statement}
+use Rattle.star_tree.specs.declared.tree.Arm.{out-Arm}
+use Rattle.star_tree.specs.declared.tree.Statement.{out-Statement}
 use Rattle.star_scope.specs.Names.{with_names}
 use Rattle.star_scope.specs.Outlines.{arms_names, block_names, form_names, target_names}
 use Rattle.star_scope.proofs.BoundNames.{arms_next, form_For, form_If, names_both, names_turn, names_done, statements_next}

@@ -1,6 +1,6 @@
 use Rattle.std.proofs.Common.{rules, refl, ap, ◌∙◌}
-use Rattle.star_syntax.specs.declared.tree.Arm.{out-Arm}
-use Rattle.star_syntax.specs.declared.tree.Statement.{out-Statement}
+use Rattle.star_tree.specs.declared.tree.Arm.{out-Arm}
+use Rattle.star_tree.specs.declared.tree.Statement.{out-Statement}
 use Rattle.star_scope.specs.Names.{with_names}
 use Rattle.star_scope.specs.Outlines.{arms_loaded, form_loaded, loaded_names}
 use Rattle.star_scope.proofs.BoundNames.{loading_arms_next, loads_If, loads_next, names_both, names_turn, names_done}

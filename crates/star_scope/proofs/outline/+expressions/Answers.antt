@@ -1,6 +1,6 @@
 use Rattle.std.proofs.Common.{rules, refl, ap, sym, ◌∙◌}
-use Rattle.star_syntax.specs.declared.tree.Argument.TheOpen as tree
-use Rattle.star_syntax.specs.declared.tree.Expression.TheVariants as v
+use Rattle.star_tree.specs.declared.tree.Argument.TheOpen as tree
+use Rattle.star_tree.specs.declared.tree.Expression.TheVariants as v
 use Rattle.star_scope.specs.Outlines.{Answer, and, comprehension, definition, in_argument, in_clause, in_clauses, in_each, in_entry, in_expression, in_expressions, in_optional, in_parameter, in_parameters, in_target}
 use Rattle.star_scope.proofs.OutlineLevels.{and_nothing, expression_at, found_both, found_done, found_four, found_one, found_three, found_turn, of_Default, of_For, of_If, of_Index, of_argument, of_display, of_one, of_others, of_targets, of_two}
 use Rattle.star_scope.proofs.outline.+expressions.Goals as goal

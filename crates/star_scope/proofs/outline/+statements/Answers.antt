@@ -1,8 +1,8 @@
 use Rattle.std.proofs.Common.{rules, refl, sym, ◌∙◌}
-use Rattle.star_syntax.specs.declared.tree.Arm.{out-Arm}
-use Rattle.star_syntax.specs.declared.tree.Statement.{out-Statement}
-use Rattle.star_syntax.specs.declared.tree.Form.TheOpen as form
-use Rattle.star_syntax.specs.declared.tree.Form.TheVariants as v
+use Rattle.star_tree.specs.declared.tree.Arm.{out-Arm}
+use Rattle.star_tree.specs.declared.tree.Statement.{out-Statement}
+use Rattle.star_tree.specs.declared.tree.Form.TheOpen as form
+use Rattle.star_tree.specs.declared.tree.Form.TheVariants as v
 use Rattle.star_scope.specs.Syntax.{form_of, position_of}
 use Rattle.star_scope.specs.Outlines.{in_arm, in_arms, in_expression, in_form, in_optional, in_parameters, in_statement, in_statements, in_target, own_definition}
 use Rattle.star_scope.proofs.OutlineLevels.{found_both, found_done, found_one, found_three, found_turn}

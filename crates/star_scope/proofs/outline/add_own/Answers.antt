@@ -1,5 +1,5 @@
 use Rattle.std.proofs.Common.{ap, sym, ◌∙◌}
-use Rattle.star_syntax.specs.declared.tree.Statement.{out-Statement}
+use Rattle.star_tree.specs.declared.tree.Statement.{out-Statement}
 use Rattle.star_scope.specs.Syntax.{position_of}
 use Rattle.star_scope.specs.Outlines.{and}
 use Rattle.star_scope.proofs.OutlineLevels.{and_nothing}

@@ -1,6 +1,6 @@
 use Rattle.std.proofs.Common.{rules, ◌≡◌, ap, sym, refl, ◌∙◌, ◌++◌}
-use Rattle.star_syntax.specs.declared.tree.Arm.{out-Arm}
-use Rattle.star_syntax.specs.declared.tree.Statement.{out-Statement}
+use Rattle.star_tree.specs.declared.tree.Arm.{out-Arm}
+use Rattle.star_tree.specs.declared.tree.Statement.{out-Statement}
 use Rattle.star_scope.specs.Faults.{first_from}
 use Rattle.star_scope.specs.Placement.{in_arms, in_form, in_statements, of_if}
 use Rattle.star_scope.proofs.Faults.{first_joined, turn, done}

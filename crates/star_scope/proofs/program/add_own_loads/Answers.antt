@@ -1,5 +1,5 @@
 use Rattle.std.proofs.Common.{ap, sym, ◌∙◌}
-use Rattle.star_syntax.specs.declared.tree.Statement.{out-Statement}
+use Rattle.star_tree.specs.declared.tree.Statement.{out-Statement}
 use Rattle.star_scope.specs.Names.{with_names}
 use Rattle.star_scope.proofs.BoundNames.{with_none}
 use Rattle.star_scope.proofs.OwnLoads.{loads_none}

@@ -1,8 +1,8 @@
 use Rattle.std.proofs.Common.{[], ◌++◌, ap, sym, ◌∙◌}
 use Rattle.std.specs.Option.{option_map}
-use Rattle.star_syntax.specs.declared.tree.Clauses.{out-Clauses}
-use Rattle.star_syntax.specs.declared.tree.Argument.TheOpen as tree
-use Rattle.star_syntax.specs.declared.tree.Expression.TheVariants as e
+use Rattle.star_tree.specs.declared.tree.Clauses.{out-Clauses}
+use Rattle.star_tree.specs.declared.tree.Argument.TheOpen as tree
+use Rattle.star_tree.specs.declared.tree.Expression.TheVariants as e
 use Rattle.star_scope.specs.Uses.{all_uses, default_uses, in_argument, in_clause, in_clauses, in_entry, in_expression, in_target, maybe_use, parameter_name_uses}
 use Rattle.star_scope.proofs.Placing.{place_as, place_both, place_defined, place_done, place_none, place_part, place_third, place_turn}
 use Rattle.star_scope.proofs.UseForms.{of, of_entry, of_first, of_for, of_index, of_lambda, of_no_default, of_pair, of_plain, of_rest}

@@ -1,6 +1,6 @@
 use Rattle.std.proofs.Common.{rules, ◌≡◌, [], ◌++◌, sym, ◌∙◌}
-use Rattle.star_syntax.specs.declared.tree.Form.TheOpen as form
-use Rattle.star_syntax.specs.declared.tree.Form.TheVariants as v
+use Rattle.star_tree.specs.declared.tree.Form.TheOpen as form
+use Rattle.star_tree.specs.declared.tree.Form.TheVariants as v
 use Rattle.star_scope.specs.Uses.{all_uses, default_uses, in_arm, in_statement, loaded_use, one_use, parameter_name_uses}
 use Rattle.star_scope.proofs.Placing.{place_as, place_both, place_defined, place_done, place_none, place_part, place_turn}
 use Rattle.star_scope.proofs.StatementForms.{arm_opened, of, of_def, of_load, statement_opened}

@@ -3,7 +3,7 @@ use Rattle.std.specs.Option.{option_map}
 use Rattle.std.proofs.lemmas.Result.{IfOk-weaker}
 use Rattle.star_bundle.specs.Bundle.{asked_of}
 use Rattle.starload.specs.Serve.{ReadsAll, input_limit}
-use Rattle.starload.specs.Stream.{Adds}
+use Rattle.starload.specs.Stream.{GaveFirst, Gives}
 use Rattle.star_bundle.specs.View.{asked_view}
 use Rattle.starload.proofs.Refusals.{asked_kind, refused_by, run_refused, run_reads, if_err, no_read_failed, no_write_failed}
 use Rattle.starload.proofs.Spoken.{words_of}
@@ -18,13 +18,13 @@ returns-in-Err-asked_for-clause-refused g c =
     let same : asked_of (map string_bytes c.args.options.now.roots.items) (option_map string_bytes c.args.options.now.prelude) c.in-Ok.bytes.items ≡ given =
     rw (c.as_slice.ensures.value, c.as_slice-2.ensures.value, words) refl in
     refused_by
-    (λ r. (x : List ℕ) × ReadsAll (g.R.Source.given c.args.reader.now) (g.R.Source.given c.read_all.new.reader) (g.R.Source.ended c.read_all.new.reader) x
+    (λ r. (x : List ℕ) × ReadsAll (g.R.Source.said c.args.reader.now) (g.R.Source.said c.read_all.new.reader) x
     × (asked_of (map string_bytes c.args.options.now.roots.items) (option_map string_bytes c.args.options.now.prelude) x ≡ r))
-    ((x : List ℕ) × Adds (g.R.Source.given c.args.reader.now) (g.R.Source.given c.read_all.new.reader) x × (length x ≤ input_limit))
-    ((x : List ℕ) × Adds (g.R.Source.given c.args.reader.now) (g.R.Source.given c.read_all.new.reader) x × (input_limit < length x))
+    ((x : List ℕ) × GaveFirst (g.R.Source.said c.args.reader.now) (g.R.Source.said c.read_all.new.reader) x × (length x ≤ input_limit))
+    ((x : List ℕ) × Gives (g.R.Source.said c.args.reader.now) (g.R.Source.said c.read_all.new.reader) x × (input_limit < length x))
     (c.args.writer.now ≡ c.args.writer.now)
     c.in-Err-asked_for.error given c.in-Err-asked_for.ensures.asked (asked_kind roots prelude c.as_slice.result.now)
-    (c.in-Ok.bytes.items, (c.in-Ok.ensures.ok.0, c.in-Ok.ensures.ok.1, c.in-Ok.ensures.within), same) refl
+    (c.in-Ok.bytes.items, (c.in-Ok.ensures.ok, c.in-Ok.ensures.within), same) refl
 
 pub returns-in-Err-asked_for-clause-reads : goal.returns-in-Err-asked_for-clause-reads
 returns-in-Err-asked_for-clause-reads g c =
@@ -51,12 +51,12 @@ returns-clause-refused g c =
     let found = same ∙ c.in-Ok-asked_for.ensures.asked in
     if_err c.reported.result _ _
     (λ e h. run_refused
-    (λ r. (x : List ℕ) × ReadsAll (g.R.Source.given c.args.reader.now) (g.R.Source.given c.read_all.new.reader) (g.R.Source.ended c.read_all.new.reader) x
+    (λ r. (x : List ℕ) × ReadsAll (g.R.Source.said c.args.reader.now) (g.R.Source.said c.read_all.new.reader) x
     × (asked_of (map string_bytes c.args.options.now.roots.items) (option_map string_bytes c.args.options.now.prelude) x ≡ r))
-    ((x : List ℕ) × Adds (g.R.Source.given c.args.reader.now) (g.R.Source.given c.read_all.new.reader) x × (length x ≤ input_limit))
-    ((x : List ℕ) × Adds (g.R.Source.given c.args.reader.now) (g.R.Source.given c.read_all.new.reader) x × (input_limit < length x))
+    ((x : List ℕ) × GaveFirst (g.R.Source.said c.args.reader.now) (g.R.Source.said c.read_all.new.reader) x × (length x ≤ input_limit))
+    ((x : List ℕ) × Gives (g.R.Source.said c.args.reader.now) (g.R.Source.said c.read_all.new.reader) x × (input_limit < length x))
     (c.reported.new.writer ≡ c.args.writer.now)
-    e asked h (c.in-Ok.bytes.items, (c.in-Ok.ensures.ok.0, c.in-Ok.ensures.ok.1, c.in-Ok.ensures.within), found))
+    e asked h (c.in-Ok.bytes.items, (c.in-Ok.ensures.ok, c.in-Ok.ensures.within), found))
     c.reported.ensures.refused
 
 pub returns-clause-reads : goal.returns-clause-reads
@@ -72,5 +72,5 @@ returns-clause-ok g c =
     let asked = asked_view c.in-Ok-asked_for.asked in
     let found = same ∙ c.in-Ok-asked_for.ensures.asked in
     IfOk-weaker c.reported.result _ _
-    (λ all_ok h. (c.in-Ok.bytes.items, (c.in-Ok.ensures.ok.0, c.in-Ok.ensures.ok.1, c.in-Ok.ensures.within), asked, found, h))
+    (λ all_ok h. (c.in-Ok.bytes.items, (c.in-Ok.ensures.ok, c.in-Ok.ensures.within), asked, found, h))
     c.reported.ensures.ok

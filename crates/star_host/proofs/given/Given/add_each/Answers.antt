@@ -1,6 +1,6 @@
 use Rattle.std.proofs.Common.{◌∙◌}
 use Rattle.star_host.proofs.Stores.{more_there}
-use Rattle.star_host.proofs.given.Given.add_all.Goals as goal
+use Rattle.star_host.proofs.given.Given.add_each.Goals as goal
 
 pub loop-reach-preserved : goal.loop-reach-preserved
 loop-reach-preserved g c = record {

@@ -1,0 +1,136 @@
+// The variables of a frame.
+
+ghost use Rattle.std.specs.Prelude.{◌≡◌, ◌+◌, ◌^◌, ◌<◌, ◌≤◌, ℕ, None, Some, if◌then◌else◌, length, nat_eq, replicate, slice_get, slice_set, IfOk, OnErr, OnOk};
+ghost use Rattle.star_store.specs.Slots.{far_at, slot_at, widened};
+
+use crate::values::Value;
+use std::alloc::{AllocError, Global};
+use std::collections::BTreeMap;
+use std::marker::Model;
+
+/// A slot makes room for all slots before it where it stands at most so far after those that have room.
+const REACH: usize = 12;
+
+/// The variables of a frame by their slots, each with a value or unbound. First slots have room in a row, and the others
+/// stand in a map once they are bound: so the memory is in proportion to the number of slots that were bound.
+#[derive(Drop)]
+pub struct Slots {
+    alloc: Global,
+    count: usize,
+    near: Vec<Option<Value>>,
+    far: Option<Box<BTreeMap<usize, Value>>>,
+}
+
+impl Model for Slots {
+    ghost use Rattle.std.specs.Prelude.{List, Option};
+    ghost use Rattle.star_store.specs.Slots.{row, slot_at};
+    ghost use Rattle.star_store.specs.declared.values.Value.{Value as AnyValue};
+
+    ghost Value = { List (Option AnyValue) };
+
+    ghost view = { λ s. row (slot_at s.near.items s.far) s.count };
+}
+
+impl Slots {
+    /// So many slots, all of them unbound.
+    #[tactic(auto, using(crate::proofs::Rows::row_unbound))]
+    pub fn unbound(alloc: Global, count: usize) -> Result<Slots, AllocError>
+        ensures { IfOk result (λ slots. slots ≡ replicate count None) }
+    {
+        let mut near = Vec::new(alloc);
+        near.resize(count.min(REACH), None)?;
+        Ok(Slots {
+            alloc,
+            count,
+            near,
+            far: None,
+        })
+    }
+
+    /// What a slot has: none where there is no such slot, and none inside where its variable is unbound.
+    #[tactic(auto, using(crate::proofs::Rows::row_at, crate::proofs::Rows::row_past))]
+    pub fn get(&self, at: usize) -> Option<Option<Value>>
+        ensures { result ≡ slice_get self.now at }
+    {
+        if at < self.count {
+            return Some(slot_at(&self.near, &self.far, at));
+        }
+        None
+    }
+
+    /// Gives a slot a value. Where there is no such slot, nothing changes.
+    #[tactic(auto, using(crate::proofs::Rows::row_beyond, crate::proofs::Rows::row_put_here, crate::proofs::Rows::row_put_near, crate::proofs::Rows::row_put_far, crate::proofs::Rows::row_kept))]
+    pub fn set(&mut self, at: usize, value: Value) -> Result<(), AllocError>
+        ensures set { OnOk result (self.new ≡ slice_set self.old at (Some value)) }
+        ensures refused { OnErr result (self.new ≡ self.old) }
+    {
+        if at >= self.count {
+            return Ok(());
+        }
+        if at < self.near.len() {
+            self.near[at] = Some(value);
+            return Ok(());
+        }
+        if at - self.near.len() < REACH {
+            put_near(&mut self.near, at, value)?;
+            return Ok(());
+        }
+        put_far(&mut self.far, self.alloc, at, value)
+    }
+}
+
+/// What a slot has.
+fn slot_at(
+    near: &[Option<Value>],
+    far: &Option<Box<BTreeMap<usize, Value>>>,
+    at: usize,
+) -> Option<Value>
+    ensures { result ≡ slot_at near.now far.now at }
+{
+    match near.get(at) {
+        Some(Some(value)) => Some(*value),
+        _ => far_at(far, at),
+    }
+}
+
+/// The value of a slot in the map.
+fn far_at(far: &Option<Box<BTreeMap<usize, Value>>>, at: usize) -> Option<Value>
+    ensures { result ≡ far_at far.now at }
+{
+    match far {
+        Some(map) => map.get(&at).copied(),
+        None => None,
+    }
+}
+
+/// Makes room up to a slot, and gives it a value.
+fn put_near(near: &mut Vec<Option<Value>>, at: usize, value: Value) -> Result<(), AllocError>
+    requires fits { at + 1 < 2 ^ 64 }
+    requires beyond { length near.old.items ≤ at }
+    ensures put { OnOk result (near.new.items ≡ slice_set (widened (at + 1) near.old.items) at (Some value)) }
+    ensures refused { OnErr result (near.new.items ≡ near.old.items) }
+{
+    near.resize(at + 1, None)?;
+    near[at] = Some(value);
+    Ok(())
+}
+
+/// Gives a slot a value in the map.
+fn put_far(
+    far: &mut Option<Box<BTreeMap<usize, Value>>>,
+    alloc: Global,
+    at: usize,
+    value: Value,
+) -> Result<(), AllocError>
+    ensures put { OnOk result ((i : ℕ) → far_at far.new i ≡ (if nat_eq i at then Some value else far_at far.old i)) }
+    ensures refused { OnErr result ((i : ℕ) → far_at far.new i ≡ far_at far.old i) }
+{
+    let Some(map) = far else {
+        let mut first = BTreeMap::new(alloc);
+        first.insert(at, value)?;
+        *far = Some(Box::new(alloc, first)?);
+        return Ok(());
+    };
+    map.insert(at, value)?;
+    Ok(())
+}

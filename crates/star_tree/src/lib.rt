@@ -1,0 +1,4 @@
+//! The syntax tree of a Starlark file.
+#![tactic(auto)]
+
+pub mod tree;
