@@ -73,10 +73,9 @@ fn give(
     place: Place,
     at: (&str, usize),
     value: Value,
-) -> Result<(), AllocError> {
+) -> Result<(), Stop> {
     let name = name(alloc, at.0, at.1)?;
-    bind(machine, world, place, &name, value);
-    Ok(())
+    bind(machine, world, place, &name, value)
 }
 
 fn names_are_read_and_bound_by_their_places_in(
