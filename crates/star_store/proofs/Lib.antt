@@ -1,6 +1,7 @@
 pub mod Contents
 pub mod Equals
 pub mod GlobalNames
+pub mod Indexes
 pub mod Ints
 pub mod Keys
 pub mod Orders

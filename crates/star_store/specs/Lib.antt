@@ -1,6 +1,7 @@
 pub mod Arithmetic
 pub mod Content
 pub mod Equal
+pub mod Index
 pub mod Key
 pub mod Names
 pub mod Order

@@ -5,46 +5,62 @@ ghost use Rattle.std.specs.Option.{option_copied, option_flatten};
 ghost use Rattle.star_store.specs.Store.{bound, bound_cell, changed_at, closed, closed_in, counted_at, global_of, is_container, is_taken, iterations_in, iterations_of, look, made, next_value, opened, opened_in, published_cells, put_up};
 ghost use Rattle.star_store.specs.declared.fault.StoreFault.TheVariants.{Memory};
 
+mod places;
+mod rows;
 pub mod write;
 
 use crate::fault::StoreFault;
 use crate::globals::{ascend, global_among, global_in};
+use crate::index::Index;
 use crate::values::{Cell, Counted, Value};
 use std::alloc::{AllocError, Global};
 use std::marker::Model;
 
-/// The store of a module while it runs. Its cells can change.
+/// The store of a module while it runs. Its cells can change. A dictionary may have an index, which stands at the
+/// dictionary's address.
 #[derive(Drop)]
 pub struct Arena {
+    alloc: Global,
     home: u32,
     cells: Vec<Counted>,
+    rows: Vec<Option<Box<Index>>>,
 }
 
 impl Model for Arena {
+    ghost use Rattle.star_store.specs.Index.{AreIndexed};
     ghost use Rattle.star_store.specs.Store.{Store};
 
     ghost Value = { Store };
 
     ghost view = { λ a. record { home = a.home; cells = a.cells.items } };
+
+    ghost invariant = { λ a. AreIndexed (record { home = a.home; cells = a.cells.items }) a.rows.items };
 }
 
-/// The store of a published module: its cells and its globals, which nothing changes any more.
+/// The store of a published module: its cells and its globals, which nothing changes any more. The values of a module
+/// with this number lead to its cells.
 #[derive(Drop)]
 pub struct Frozen {
+    home: u32,
     cells: Vec<Counted>,
+    rows: Vec<Option<Box<Index>>>,
     globals: Vec<(String, Value)>,
     is_ordered: bool,
 }
 
 impl Model for Frozen {
     ghost use Rattle.std.specs.Prelude.{◌≡◌, map, string_bytes, true};
+    ghost use Rattle.star_store.specs.Index.{AreIndexed};
     ghost use Rattle.star_store.specs.Store.{Published, ascend};
 
     ghost Value = { Published };
 
     ghost view = { λ f. record { cells = f.cells.items; globals = map (λ g. (string_bytes g.0, g.1)) f.globals.items } };
 
-    ghost invariant = { λ f. f.is_ordered ≡ true → ascend (map (λ g. string_bytes g.0) f.globals.items) };
+    ghost invariant = { λ f. record {
+      ordered : f.is_ordered ≡ true → ascend (map (λ g. string_bytes g.0) f.globals.items);
+      indexed : AreIndexed (record { home = f.home; cells = f.cells.items }) f.rows.items;
+    } };
 }
 
 /// The published stores that a module reaches, each under the number of its file.
@@ -109,8 +125,10 @@ impl Arena {
         ensures { result ≡ record { home = home; cells = [] } }
     {
         Arena {
+            alloc,
             home,
             cells: Vec::new(alloc),
+            rows: Vec::new(alloc),
         }
     }
 
@@ -127,15 +145,14 @@ impl Arena {
         ensures made { IfOk result (λ v. (v ≡ next_value self.old) × (self.new ≡ made cell self.old)) }
         ensures refused { IfErr result (λ e. (e ≡ Memory) × (self.new ≡ self.old)) }
     {
+        let home = self.home;
         let at = self.cells.len() as u32;
         self.cells.push(Counted {
             iterations: 0,
             cell,
         })?;
-        Ok(Value::Ref {
-            home: self.home,
-            at,
-        })
+        self.add_index(at);
+        Ok(Value::Ref { home, at })
     }
 
     /// The cell that a value leads to, with its open iterations.
@@ -243,10 +260,17 @@ fn widen<'a>(stores: &mut Vec<Option<&'a Frozen>>, count: usize) -> Result<(), A
 pub fn freeze(arena: Arena, globals: Vec<(String, Value)>) -> Frozen
     ensures { result ≡ record { cells = arena.cells; globals = map (λ g. (string_bytes g.0, g.1)) globals.items } }
 {
-    let Arena { home: _, cells } = arena;
+    let Arena {
+        alloc: _,
+        home,
+        cells,
+        rows,
+    } = arena;
     let is_ordered = ascend(&globals);
     Frozen {
+        home,
         cells,
+        rows,
         globals,
         is_ordered,
     }

@@ -1,7 +1,7 @@
 // Equality of values, which pays a step for each pair that it visits.
 
 ghost use Rattle.std.specs.Prelude.{◌≡◌, List, ℕ, ◌≤◌, ◌&&◌, ◌-◌, nat_eq, length, slice_get};
-ghost use Rattle.std.specs.Option.{option_copied};
+ghost use Rattle.star_store.specs.Index.{entries_of};
 ghost use Rattle.star_store.specs.Store.{look};
 ghost use Rattle.star_store.specs.Spend.{Spends};
 ghost use Rattle.star_store.specs.Equal.{same, same_cells, same_entries, same_entry, same_items, same_place, same_values};
@@ -10,9 +10,8 @@ ghost use Rattle.star_store.specs.Range.{same_range};
 use crate::arena::{Arena, Homes};
 use crate::budget::Budget;
 use crate::fault::StoreFault;
-use crate::key::value_of;
 use crate::range::Range;
-use crate::values::{Cell, Entries, Value, Values};
+use crate::values::{Cell, Value, Values};
 
 /// Whether two values are equal. It visits the pair, and in lists, tuples and dictionaries the pairs that they hold, up
 /// to the first difference: a visit opens a level (else `Deep`) and then pays a step (else `Steps`).
@@ -71,9 +70,7 @@ fn same_values<'a>(
         (Value::Int(m), Value::Int(n)) => Ok(m == n),
         (Value::Builtin(f), Value::Builtin(g)) => Ok(f.number() == g.number()),
         (Value::Ref { home: h, at: a }, Value::Ref { home: k, at: b }) => {
-            let left = arena.read(homes, x);
-            let right = arena.read(homes, y);
-            same_cells(arena, homes, levels, steps, h == k && a == b, left, right)
+            same_cells(arena, homes, levels, steps, h == k && a == b, x, y)
         }
         _ => Ok(false),
     }
@@ -86,13 +83,13 @@ fn same_cells<'a>(
     levels: u32,
     steps: &mut u64,
     one: bool,
-    left: Option<&'a Cell>,
-    right: Option<&'a Cell>,
+    x: Value,
+    y: Value,
 ) -> Result<bool, StoreFault>
-    ensures answer { Spends (same_cells (look arena.now homes.now) (same (look arena.now homes.now) levels) one (option_copied left.entry) (option_copied right.entry) steps.old) result steps.new }
+    ensures answer { Spends (same_cells (look arena.now homes.now) (same (look arena.now homes.now) levels) one (look arena.now homes.now x) (look arena.now homes.now y) steps.old) result steps.new }
     ensures less { steps.new ≤ steps.old }
 {
-    match (left, right) {
+    match (arena.read(homes, x), arena.read(homes, y)) {
         (Some(Cell::Text(t)), Some(Cell::Text(u))) => Ok(
             t.as_str().as_bytes() == u.as_str().as_bytes(),
         ),
@@ -103,8 +100,8 @@ fn same_cells<'a>(
         (Some(Cell::List(xs)), Some(Cell::List(ys))) => {
             same_items(arena, homes, levels, steps, xs, ys)
         }
-        (Some(Cell::Dict(xs)), Some(Cell::Dict(ys))) => {
-            same_entries(arena, homes, levels, steps, xs, ys)
+        (Some(Cell::Dict(_)), Some(Cell::Dict(_))) => {
+            same_entries(arena, homes, levels, steps, x, y)
         }
         (Some(Cell::Func(_)), Some(Cell::Func(_))) => Ok(one),
         (Some(Cell::Bound(_, _)), Some(Cell::Bound(_, _))) => Ok(one),
@@ -172,18 +169,18 @@ fn same_entries<'a>(
     homes: &'a Homes<'a>,
     levels: u32,
     steps: &mut u64,
-    xs: &'a Entries,
-    ys: &'a Entries,
+    x: Value,
+    y: Value,
 ) -> Result<bool, StoreFault>
-    ensures answer { Spends (same_entries (look arena.now homes.now) (same (look arena.now homes.now) levels) xs.now ys.now steps.old) result steps.new }
+    ensures answer { Spends (same_entries (look arena.now homes.now) (same (look arena.now homes.now) levels) (entries_of (look arena.now homes.now x)) (entries_of (look arena.now homes.now y)) steps.old) result steps.new }
     ensures less { steps.new ≤ steps.old }
 {
-    let count = xs.len();
-    if count != ys.len() {
+    let count = arena.dict_len(homes, x);
+    if count != arena.dict_len(homes, y) {
         return Ok(false);
     }
     for i in 0..count {
-        if !same_entry(arena, homes, levels, steps, xs, ys, i)? {
+        if !same_entry(arena, homes, levels, steps, x, y, i)? {
             return Ok(false);
         }
     }
@@ -191,23 +188,22 @@ fn same_entries<'a>(
 }
 
 #[cycle(same)]
+#[tactic(auto, using(crate::proofs::Indexes::same_beside))]
 fn same_entry<'a>(
     arena: &'a Arena,
     homes: &'a Homes<'a>,
     levels: u32,
     steps: &mut u64,
-    xs: &'a Entries,
-    ys: &'a Entries,
+    x: Value,
+    y: Value,
     i: usize,
 ) -> Result<bool, StoreFault>
-    ensures answer { Spends (same_entry (look arena.now homes.now) (same (look arena.now homes.now) levels) xs.now ys.now i steps.old) result steps.new }
+    ensures answer { Spends (same_entry (look arena.now homes.now) (same (look arena.now homes.now) levels) (entries_of (look arena.now homes.now x)) (entries_of (look arena.now homes.now y)) i steps.old) result steps.new }
     ensures less { steps.new ≤ steps.old }
 {
-    let Some((key, value)) = xs.get(i) else {
-        return Ok(true);
-    };
-    match value_of(arena, homes, key, ys) {
-        Some(other) => same(arena, homes, levels, steps, value, other),
-        None => Ok(false),
+    match arena.beside(homes, x, i, y) {
+        Some((value, Some(other))) => same(arena, homes, levels, steps, value, other),
+        Some((_value, None)) => Ok(false),
+        None => Ok(true),
     }
 }

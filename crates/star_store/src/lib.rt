@@ -9,6 +9,7 @@ pub mod content;
 pub mod equal;
 pub mod fault;
 mod globals;
+mod index;
 pub mod key;
 pub mod names;
 pub mod order;

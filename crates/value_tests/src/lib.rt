@@ -10,6 +10,8 @@ mod built_ins;
 #[cfg(test)]
 mod callees;
 #[cfg(test)]
+mod indexes;
+#[cfg(test)]
 mod methods;
 #[cfg(test)]
 mod operations;

@@ -7,9 +7,10 @@ ghost use Rattle.star_store.specs.Spend.{Answers};
 ghost use Rattle.star_store.specs.Store.{iterations_of, look};
 ghost use Rattle.star_store.specs.Write.{Writes, allowed, cell_at, change_cell, change_entries, change_items, delete, in_cells, is_good_key, is_own, key_of, leads_to_container, may_change, may_write, place_in, put, suits, write};
 
+use crate::arena::rows::change_row;
 use crate::arena::{Arena, Homes, is_container};
 use crate::fault::StoreFault;
-use crate::key::{may_be_key, place_of, value_of};
+use crate::key::may_be_key;
 use crate::values::{Cell, Counted, Entries, Value, Values};
 
 /// A change of a list or of a dictionary. Positions are counted from the front, from 0 on.
@@ -32,7 +33,7 @@ pub enum Change {
 }
 
 impl Change {
-    fn key(self) -> Option<Value>
+    pub(crate) fn key(self) -> Option<Value>
         ensures { result ≡ key_of self }
     {
         match self {
@@ -59,13 +60,13 @@ impl Arena {
     pub fn find(&self, homes: &Homes, dict: Value, key: Value) -> Result<Option<Value>, StoreFault>
         ensures { Answers (find_in (look self.now homes.now) (look self.now homes.now dict) key) result }
     {
-        let Some(Cell::Dict(entries)) = self.read(homes, dict) else {
+        let Some(Cell::Dict(_)) = self.read(homes, dict) else {
             return Err(StoreFault::BadType);
         };
         if !may_be_key(self, homes, key) {
             return Err(StoreFault::BadType);
         }
-        Ok(value_of(self, homes, key, entries))
+        Ok(self.key_value(homes, dict, key))
     }
 
     /// Whether a list or dictionary may be written. `BadType` for another value, `Frozen` where another module made
@@ -125,9 +126,9 @@ impl Arena {
     fn place_in(&self, homes: &Homes, change: Change, target: Value) -> Option<usize>
         ensures { result ≡ place_in (look self.now homes.now) (key_of change) (look self.now homes.now target) }
     {
-        match (change.key(), self.read(homes, target)) {
-            (Some(key), Some(Cell::Dict(entries))) => place_of(self, homes, key, entries),
-            _ => None,
+        match change.key() {
+            Some(key) => self.key_place(homes, target, key),
+            None => None,
         }
     }
 
@@ -166,7 +167,11 @@ impl Arena {
         let Value::Ref { at, .. } = target else {
             return Err(StoreFault::BadType);
         };
-        change_at(&mut self.cells, at, change, place)
+        let content = self.new_content(at, change, place);
+        let old = change_at(&mut self.cells, at, change, place)?;
+        change_row(&mut self.rows, at, change, place, content);
+        self.index_if_due(at);
+        Ok(old)
     }
 }
 

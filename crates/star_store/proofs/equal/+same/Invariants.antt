@@ -1,5 +1,6 @@
 use Rattle.std.proofs.Common.{◌≡◌, ◌≤◌, ◌+◌, ◌*◌, ◌-◌}
 use Rattle.star_store.specs.Equal.{same, same_entry, same_place}
+use Rattle.star_store.specs.Index.{entries_of}
 use Rattle.star_store.specs.Spend.{all_places}
 use Rattle.star_store.specs.Store.{look}
 use Rattle.star_store.proofs.equal.+same.Given as goal
@@ -35,7 +36,7 @@ invariant-same_items-loop-i l =
 
 abbrev pub invariant-same_entries-loop-i : goal.invariant-same_entries-loop-i
 invariant-same_entries-loop-i l =
-    let f = same_entry (look l.arena l.homes) (same (look l.arena l.homes) l.levels) l.xs l.ys in
+    let f = same_entry (look l.arena l.homes) (same (look l.arena l.homes) l.levels) (entries_of (look l.arena l.homes l.x)) (entries_of (look l.arena l.homes l.y)) in
     record {
       rest : all_places f (l.count - l.i) l.i l.steps ≡ all_places f l.count 0 l.fn.steps;
       less : l.steps ≤ l.fn.steps;

@@ -1,0 +1,80 @@
+-- Indexes of dictionaries: the contents of the keys, in order, by which the place of a key is found at once.
+use Rattle.std.specs.Prelude.{◌≡◌, ℕ, ◌≤◌, List, [], ◌∷◌, ◌++◌, length, map, Option, Some, None, slice_get, position, option_and_then}
+use Rattle.std.specs.List.{remove}
+use Rattle.std.specs.Option.{option_map, option_flatten}
+use Rattle.std.specs.Cmp.Lexicographic.{pointwise}
+use Rattle.std.specs.Global.{Box}
+use Rattle.star_store.specs.declared.values.Value.{Value}
+use Rattle.star_store.specs.declared.values.Cell.{Cell}
+use Rattle.star_store.specs.declared.values.Cell.TheVariants as cell
+use Rattle.star_store.specs.declared.content.Atom.{Atom}
+use Rattle.star_store.specs.declared.arena.write.Change.{Change}
+use Rattle.star_store.specs.declared.arena.write.Change.TheVariants as change
+use Rattle.star_store.specs.Content.{content, same_atom}
+use Rattle.star_store.specs.Key.{key_levels, place_of, value_of}
+use Rattle.star_store.specs.Store.{Store, look}
+use Rattle.star_store.specs.Write.{cell_at}
+
+-- the contents of the keys of entries, in order
+abbrev pub contents_of : (Value → Option Cell) → List (Value × Value) → List (Option (List Atom))
+contents_of look es = map (λ e. content look key_levels e.0) es
+
+-- An index of a dictionary has the contents of its keys, in order. Of what is no dictionary nothing is asked.
+abbrev pub IsIndexed : (Value → Option Cell) → Option Cell → List (List Atom) → Type 0
+IsIndexed look (Some (cell.Dict es)) index = contents_of look es ≡ map Some index
+IsIndexed look _ index = Unit {0}
+
+-- the place of a content in an index
+abbrev pub place_by : List Atom → List (List Atom) → Option ℕ
+place_by atoms index = position (pointwise same_atom atoms) index
+
+-- a place is the one of a key in a dictionary
+abbrev pub Places : (Value → Option Cell) → Value → Option Cell → Option ℕ → Type 0
+Places look key c place = (es : List (Value × Value)) → c ≡ Some (cell.Dict es) → place ≡ place_of look key es
+
+-- the indexes of a store's dictionaries, each at the address of its dictionary
+abbrev pub Indexes : Type 0
+Indexes = List (Option (Box (List (List Atom))))
+
+-- the index at an address
+abbrev pub index_at : Indexes → ℕ → Option (List (List Atom))
+index_at rows at = option_map (λ b. b.value) (option_flatten (slice_get rows at))
+
+-- what a value leads to in a store, where no published one is reached
+abbrev pub alone : Store → Value → Option Cell
+alone s = look s []
+
+-- each index of a store is one of the dictionary at its address
+pub record AreIndexed (s : Store) (rows : Indexes) : Type 0 where
+  pub each : (at : ℕ) (index : List (List Atom)) → index_at rows at ≡ Some index → IsIndexed (alone s) (cell_at s.cells at) index
+  pub within : length rows ≤ length s.cells
+
+-- the entries of a dictionary, and none of another cell
+abbrev pub entries_of : Option Cell → List (Value × Value)
+entries_of (Some (cell.Dict es)) = es
+entries_of _ = []
+
+-- what a change of a dictionary makes of its index, where it leaves one: a new key's content comes after all others
+abbrev pub index_after : Change → Option ℕ → Option (List Atom) → List (List Atom) → Option (List (List Atom))
+index_after (change.Put k v) None (Some atoms) index = Some (index ++ atoms ∷ [])
+index_after (change.Put k v) (Some i) atoms index = Some index
+index_after (change.Delete k) (Some i) atoms index = Some (remove index i)
+index_after _ place atoms index = None
+
+-- the other indexes stay, and the one at an address is what the change makes of it, or there is none any more
+pub record AreChanged (at : ℕ) (c : Change) (place : Option ℕ) (atoms : Option (List Atom)) (old new : Indexes) : Type 0 where
+  pub others : (i : ℕ) → (i ≡ at → ⊥) → index_at new i ≡ index_at old i
+  pub here : (index : List (List Atom)) → index_at new at ≡ Some index → (before : List (List Atom)) × (index_at old at ≡ Some before) × (index_after c place atoms before ≡ Some index)
+  pub as_long : length new ≡ length old
+
+-- the value of an entry, and the value that another dictionary has for its key
+abbrev pub beside : (Value → Option Cell) → Option Cell → Value × Value → Value × Option Value
+beside look other e = (e.1, value_of look e.0 (entries_of other))
+
+-- a place is the one at which another dictionary has the key of the entry at a place
+abbrev pub PlacesAt : (Value → Option Cell) → Option Cell → ℕ → Option Cell → Option ℕ → Type 0
+PlacesAt look c at other place = (e : Value × Value) → slice_get (entries_of c) at ≡ Some e → Places look e.0 other place
+
+-- the value of the entry at a place, where there is one
+abbrev pub value_at : List (Value × Value) → Option ℕ → Option Value
+value_at es place = option_and_then (λ i. option_map (λ e. e.1) (slice_get es i)) place

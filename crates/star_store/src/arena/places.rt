@@ -1,0 +1,159 @@
+// The places at which dictionaries have their keys: by an index where there is one, else by a walk.
+
+ghost use Rattle.std.specs.Prelude.{◌≡◌, IfSome, length, slice_get};
+ghost use Rattle.std.specs.Option.{option_copied, option_map};
+ghost use Rattle.star_store.specs.Index.{IsIndexed, Places, PlacesAt, alone, beside, entries_of, index_at, value_at};
+ghost use Rattle.star_store.specs.Key.{place_of, value_of};
+ghost use Rattle.star_store.specs.Store.{look};
+ghost use Rattle.star_store.specs.Write.{cell_at};
+
+use crate::arena::{Arena, Frozen, Homes};
+use crate::content::content;
+use crate::index::Index;
+use crate::key::{place_of, value_of};
+use crate::values::{Cell, Value};
+
+impl Arena {
+    /// The place of the entry of a dictionary with this key: none where the value is no dictionary.
+    pub fn key_place(&self, homes: &Homes, dict: Value, key: Value) -> Option<usize>
+        ensures { result ≡ place_of (look self.now homes.now) key (entries_of (look self.now homes.now dict)) }
+    {
+        let Some(Cell::Dict(entries)) = self.read(homes, dict) else {
+            return None;
+        };
+        match self.indexed_place(homes, dict, key) {
+            Some(place) => place,
+            None => place_of(self, homes, key, entries),
+        }
+    }
+
+    /// The value that a dictionary has for this key: none where the value is no dictionary.
+    pub fn key_value(&self, homes: &Homes, dict: Value, key: Value) -> Option<Value>
+        ensures { result ≡ value_of (look self.now homes.now) key (entries_of (look self.now homes.now dict)) }
+    {
+        let place = self.key_place(homes, dict, key);
+        self.entry_value(homes, dict, place)
+    }
+
+    /// The place of the entry of a dictionary with this key, where the dictionary's index can tell it.
+    fn indexed_place(&self, homes: &Homes, dict: Value, key: Value) -> Option<Option<usize>>
+        ensures { IfSome result (Places (look self.now homes.now) key (look self.now homes.now dict)) }
+    {
+        let index = self.index(homes, dict)?;
+        match content(self.alloc, self, homes, key) {
+            Ok(Some(atoms)) => Some(index.place(&atoms)),
+            Ok(None) => Some(None),
+            Err(_) => None,
+        }
+    }
+
+    /// How many entries a dictionary has: none where the value is no dictionary.
+    pub(crate) fn dict_len(&self, homes: &Homes, dict: Value) -> usize
+        ensures { result ≡ length (entries_of (look self.now homes.now dict)) }
+    {
+        match self.read(homes, dict) {
+            Some(Cell::Dict(entries)) => entries.len(),
+            _ => 0,
+        }
+    }
+
+    /// The key and the value of the entry of a dictionary at a place.
+    fn dict_entry(&self, homes: &Homes, dict: Value, at: usize) -> Option<(Value, Value)>
+        ensures { result ≡ slice_get (entries_of (look self.now homes.now dict)) at }
+    {
+        match self.read(homes, dict) {
+            Some(Cell::Dict(entries)) => entries.get(at),
+            _ => None,
+        }
+    }
+
+    /// The value of the entry of a dictionary at a place, and the value that another has for its key.
+    pub(crate) fn beside(
+        &self,
+        homes: &Homes,
+        dict: Value,
+        at: usize,
+        other: Value,
+    ) -> Option<(Value, Option<Value>)>
+        ensures { result ≡ option_map (beside (look self.now homes.now) (look self.now homes.now other)) (slice_get (entries_of (look self.now homes.now dict)) at) }
+    {
+        let (key, value) = self.dict_entry(homes, dict, at)?;
+        if let Some(place) = self.indexed_beside(homes, dict, at, other) {
+            return Some((value, self.entry_value(homes, other, place)));
+        }
+        Some((value, self.walked_value(homes, other, key)))
+    }
+
+    /// The value of the entry of a dictionary at a place, where there is one.
+    fn entry_value(&self, homes: &Homes, dict: Value, place: Option<usize>) -> Option<Value>
+        ensures { result ≡ value_at (entries_of (look self.now homes.now dict)) place }
+    {
+        match place {
+            Some(at) => match self.dict_entry(homes, dict, at) {
+                Some((_key, value)) => Some(value),
+                None => None,
+            },
+            None => None,
+        }
+    }
+
+    /// The value that a dictionary has for this key, by a walk: which takes no memory.
+    fn walked_value(&self, homes: &Homes, dict: Value, key: Value) -> Option<Value>
+        ensures { result ≡ value_of (look self.now homes.now) key (entries_of (look self.now homes.now dict)) }
+    {
+        match self.read(homes, dict) {
+            Some(Cell::Dict(entries)) => value_of(self, homes, key, entries),
+            _ => None,
+        }
+    }
+
+    /// The place at which one dictionary has the key of another's entry, where both have an index: by the content that
+    /// stands there, so that no memory is taken.
+    fn indexed_beside(
+        &self,
+        homes: &Homes,
+        dict: Value,
+        at: usize,
+        other: Value,
+    ) -> Option<Option<usize>>
+        ensures { IfSome result (PlacesAt (look self.now homes.now) (look self.now homes.now dict) at (look self.now homes.now other)) }
+    {
+        let content = self.index(homes, dict)?.get(at)?;
+        let index = self.index(homes, other)?;
+        Some(index.place(content))
+    }
+
+    /// The index of a dictionary.
+    fn index<'a>(&'a self, homes: &'a Homes, dict: Value) -> Option<&'a Index>
+        ensures { IfSome result (λ index. IsIndexed (look self.now homes.now) (look self.now homes.now dict) index.now) }
+    {
+        let Value::Ref { home, at } = dict else {
+            return None;
+        };
+        if home == self.home {
+            return index_in(&self.rows, at);
+        }
+        homes.published(home as usize)?.index(home, at)
+    }
+}
+
+impl Frozen {
+    /// The index of the dictionary at an address, where values of this number lead to this module's cells.
+    fn index(&self, home: u32, at: u32) -> Option<&Index>
+        ensures { IfSome result (λ index. IsIndexed (alone (record { home = home; cells = self.now.cells })) (cell_at self.now.cells at) index.now) }
+    {
+        if self.home != home {
+            return None;
+        }
+        index_in(&self.rows, at)
+    }
+}
+
+fn index_in(rows: &[Option<Box<Index>>], at: u32) -> Option<&Index>
+    ensures { option_copied result ≡ index_at rows.now at }
+{
+    match rows.get(at as usize) {
+        Some(Some(index)) => Some(index),
+        _ => None,
+    }
+}

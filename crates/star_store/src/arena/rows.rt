@@ -1,0 +1,185 @@
+// The indexes of an arena's dictionaries, and how they follow what is written.
+
+ghost use Rattle.std.specs.Prelude.{◌≡◌, ◌≤◌, ◌+◌, ℕ, List, Some, None, map, max, length, IfSome, OnOk, ◌⊎◌, option_and_then};
+ghost use Rattle.std.specs.Bool.{OnTrue};
+ghost use Rattle.std.specs.Option.{option_map};
+ghost use Rattle.star_store.specs.Content.{content};
+ghost use Rattle.star_store.specs.Index.{AreChanged, IsIndexed, alone, contents_of, index_after, index_at};
+ghost use Rattle.star_store.specs.Key.{key_levels};
+ghost use Rattle.star_store.specs.Write.{cell_at, key_of};
+ghost use Rattle.star_store.specs.declared.content.Atom.{Atom as AnyAtom};
+
+use crate::arena::write::Change;
+use crate::arena::{Arena, Homes};
+use crate::content::{Atom, content};
+use crate::index::Index;
+use crate::values::{Cell, Entries};
+use std::alloc::AllocError;
+
+/// A dictionary of so many entries has an index; among fewer a walk is as fast.
+const FEW: usize = 8;
+
+impl Arena {
+    /// How many entries the dictionary at an address has: none where no dictionary stands there.
+    fn entry_count(&self, at: u32) -> usize {
+        match self.cells.get(at as usize) {
+            Some(counted) => match &counted.cell {
+                Cell::Dict(entries) => entries.len(),
+                _ => 0,
+            },
+            None => 0,
+        }
+    }
+
+    fn has_index(&self, at: u32) -> bool {
+        matches!(self.rows.get(at as usize), Some(Some(_)))
+    }
+
+    /// Makes an index of the dictionary at an address where it lacks one and is due: so that a dictionary in which some
+    /// key has none is gone through no more often than it doubles.
+    pub(crate) fn index_if_due(&mut self, at: u32)
+        ensures { self.new ≡ self.old }
+    {
+        if !self.has_index(at) && self.entry_count(at).is_power_of_two() {
+            self.add_index(at);
+        }
+    }
+
+    /// Makes an index of the dictionary at an address, where it has enough entries, all keys have their content in this
+    /// store, and memory suffices. No value changes.
+    pub(crate) fn add_index(&mut self, at: u32)
+        ensures { self.new ≡ self.old }
+    {
+        if let Some(index) = self.made_index(at) {
+            let _put = put_row(&mut self.rows, at, index);
+        }
+    }
+
+    fn made_index(&self, at: u32) -> Option<Box<Index>>
+        ensures found { IfSome result (λ index. IsIndexed (alone self.now) (cell_at self.now.cells at) index.value) }
+        ensures within { IfSome result (λ index. at + 1 ≤ length self.now.cells) }
+    {
+        let Cell::Dict(entries) = &self.cells.get(at as usize)?.cell else {
+            return None;
+        };
+        if entries.len() < FEW {
+            return None;
+        }
+        let index = index_of(self, entries)?;
+        Box::new(self.alloc, index).ok()
+    }
+
+    /// The content of the key that a change adds to a dictionary with an index.
+    pub(crate) fn new_content(
+        &self,
+        at: u32,
+        change: Change,
+        place: Option<usize>,
+    ) -> Option<Vec<Atom>>
+        ensures { IfSome result (λ atoms. option_and_then (content (alone self.now) key_levels) (key_of change) ≡ Some atoms.items) }
+    {
+        if place.is_some() || !self.has_index(at) {
+            return None;
+        }
+        let homes = Homes::new(self.alloc);
+        match content(self.alloc, self, &homes, change.key()?) {
+            Ok(atoms) => atoms,
+            Err(_) => None,
+        }
+    }
+}
+
+/// The index of entries, where each key has its content in this store, and none stands twice.
+fn index_of(arena: &Arena, entries: &Entries) -> Option<Index>
+    ensures { IfSome result (λ index. contents_of (alone arena.now) entries.now ≡ map Some index) }
+{
+    let homes = Homes::new(arena.alloc);
+    let mut index = Index::new(arena.alloc);
+    for entry in entries.as_slice() {
+        let Ok(Some(atoms)) = content(arena.alloc, arena, &homes, entry.0) else {
+            return None;
+        };
+        if !index.push(atoms) {
+            return None;
+        }
+    }
+    Some(index)
+}
+
+/// Puts an index at an address.
+fn put_row(rows: &mut Vec<Option<Box<Index>>>, at: u32, index: Box<Index>) -> Result<(), AllocError>
+    ensures each { (i : ℕ) (found : List (List AnyAtom)) → index_at rows.new.items i ≡ Some found → (index_at rows.old.items i ≡ Some found) ⊎ ((i ≡ at) × (found ≡ index.value)) }
+    ensures within { length rows.new.items ≤ max (length rows.old.items) (at + 1) }
+{
+    widen(rows, at)?;
+    rows[at as usize] = Some(index);
+    Ok(())
+}
+
+#[tactic(auto, using(crate::proofs::Indexes::row_grown))]
+/// Adds places with no index up to an address.
+fn widen(rows: &mut Vec<Option<Box<Index>>>, at: u32) -> Result<(), AllocError>
+    ensures same { (i : ℕ) → index_at rows.new.items i ≡ index_at rows.old.items i }
+    ensures within { length rows.new.items ≤ max (length rows.old.items) (at + 1) }
+    ensures wide { OnOk result (at + 1 ≤ length rows.new.items) }
+{
+    for _i in rows.len()..at as usize + 1 {
+        rows.push(None)?;
+    }
+    Ok(())
+}
+
+/// Changes the index at an address as its dictionary was changed.
+pub(crate) fn change_row(
+    rows: &mut [Option<Box<Index>>],
+    at: u32,
+    change: Change,
+    place: Option<usize>,
+    content: Option<Vec<Atom>>,
+)
+    ensures { AreChanged at change place (option_map (λ c. c.items) content) rows.old rows.new }
+{
+    if (at as usize) < rows.len() {
+        change_index(&mut rows[at as usize], change, place, content);
+    }
+}
+
+fn change_index(
+    row: &mut Option<Box<Index>>,
+    change: Change,
+    place: Option<usize>,
+    content: Option<Vec<Atom>>,
+)
+    ensures { IfSome row.new (λ index. option_and_then (λ b. index_after change place (option_map (λ c. c.items) content) b.value) row.old ≡ Some index.value) }
+{
+    let keeps = match row {
+        Some(index) => follow(index, change, place, content),
+        None => false,
+    };
+    if !keeps {
+        *row = None;
+    }
+}
+
+/// Changes an index as its dictionary was changed, and says whether that could be done.
+fn follow(
+    index: &mut Index,
+    change: Change,
+    place: Option<usize>,
+    content: Option<Vec<Atom>>,
+) -> bool
+    ensures { OnTrue result (index_after change place (option_map (λ c. c.items) content) index.old ≡ Some index.new) }
+{
+    match (change, place) {
+        (Change::Put(_, _), None) => match content {
+            Some(atoms) => index.push(atoms),
+            None => false,
+        },
+        (Change::Put(_, _), Some(_)) => true,
+        (Change::Delete(_), Some(at)) => {
+            index.remove(at);
+            true
+        }
+        _ => false,
+    }
+}

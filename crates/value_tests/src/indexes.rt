@@ -1,0 +1,204 @@
+// Dictionaries with so many entries that they have an index.
+
+use star_store::arena::write::Change;
+use star_store::arena::{Arena, Homes, freeze};
+use star_store::budget::Budget;
+use star_store::equal::equal;
+use star_store::fault::StoreFault;
+use star_store::values::{Cell, Entries, Value, Values};
+use star_text::Text;
+use std::alloc::Global;
+use std::process::Abort;
+use std::test::Fail;
+
+/// A new cell, in an arena that has room.
+fn made(rt: &impl Abort, arena: &mut Arena, cell: Cell) -> Result<Value, Fail> {
+    assert!(rt; arena.len() < 1_000_000);
+    Ok(arena.make(cell)?)
+}
+
+fn text(alloc: Global, rt: &impl Abort, arena: &mut Arena, content: &str) -> Result<Value, Fail> {
+    made(rt, arena, Cell::Text(Text::new(alloc, content)?))
+}
+
+fn tuple(
+    alloc: Global,
+    rt: &impl Abort,
+    arena: &mut Arena,
+    items: &[Value],
+) -> Result<Value, Fail> {
+    let items = Vec::from_slice(alloc, items)?;
+    made(rt, arena, Cell::Tuple(Values::new(items)))
+}
+
+/// A dictionary from the ints below a number, the last first, to their opposites.
+fn counted(
+    alloc: Global,
+    rt: &impl Abort,
+    arena: &mut Arena,
+    homes: &Homes,
+    count: i64,
+) -> Result<Value, Fail> {
+    let dict = made(rt, arena, Cell::Dict(Entries::new(alloc)))?;
+    for n in (0..count).rev() {
+        let change = Change::Put(Value::Int(n), Value::Int(n.wrapping_neg()));
+        assert!(rt; arena.write(homes, dict, change) == Ok(None));
+    }
+    Ok(dict)
+}
+
+fn finds(
+    rt: &impl Abort,
+    arena: &Arena,
+    homes: &Homes,
+    dict: Value,
+    key: Value,
+    want: Option<i64>,
+) {
+    let want = want.map(Value::Int);
+    assert!(rt; arena.find(homes, dict, key) == Ok(want));
+    assert!(rt; arena.key_value(homes, dict, key) == want);
+}
+
+#[test]
+fn entries_are_found_and_taken_out_in_order(rt: HostRuntime) -> Result<(), Fail> {
+    let alloc = rt.alloc();
+    let homes = Homes::new(alloc);
+    let mut arena = Arena::new(alloc, 3);
+    let dict = counted(alloc, &rt, &mut arena, &homes, 40)?;
+    finds(&rt, &arena, &homes, dict, Value::Int(39), Some(-39));
+    finds(&rt, &arena, &homes, dict, Value::Int(0), Some(0));
+    finds(&rt, &arena, &homes, dict, Value::Int(40), None);
+    finds(&rt, &arena, &homes, dict, Value::Bool(true), None);
+    assert!(rt; arena.key_place(&homes, dict, Value::Int(39)) == Some(0));
+    let gone = arena.write(&homes, dict, Change::Delete(Value::Int(38)));
+    assert!(rt; gone == Ok(Some(Value::Int(-38))));
+    assert!(rt; arena.key_place(&homes, dict, Value::Int(37)) == Some(1));
+    assert!(rt; arena.key_place(&homes, dict, Value::Int(0)) == Some(38));
+    let absent = arena.write(&homes, dict, Change::Delete(Value::Int(38)));
+    assert!(rt; absent == Err(StoreFault::Key));
+    let put = Change::Put(Value::Int(38), Value::Int(1));
+    assert!(rt; arena.write(&homes, dict, put) == Ok(None));
+    assert!(rt; arena.key_place(&homes, dict, Value::Int(38)) == Some(39));
+    let other = Change::Put(Value::Int(0), Value::Int(2));
+    assert!(rt; arena.write(&homes, dict, other) == Ok(Some(Value::Int(0))));
+    finds(&rt, &arena, &homes, dict, Value::Int(0), Some(2));
+    assert!(rt; arena.write(&homes, dict, Change::Clear) == Ok(None));
+    finds(&rt, &arena, &homes, dict, Value::Int(0), None);
+    Ok(())
+}
+
+#[test]
+fn texts_and_tuples_are_found_by_what_they_hold(rt: HostRuntime) -> Result<(), Fail> {
+    let alloc = rt.alloc();
+    let homes = Homes::new(alloc);
+    let mut arena = Arena::new(alloc, 0);
+    let dict = counted(alloc, &rt, &mut arena, &homes, 20)?;
+    let name = text(alloc, &rt, &mut arena, "name")?;
+    let pair = tuple(alloc, &rt, &mut arena, &[name, Value::Int(1)])?;
+    let of_name = Change::Put(name, Value::Int(100));
+    assert!(rt; arena.write(&homes, dict, of_name) == Ok(None));
+    let of_pair = Change::Put(pair, Value::Int(101));
+    assert!(rt; arena.write(&homes, dict, of_pair) == Ok(None));
+    let again = text(alloc, &rt, &mut arena, "name")?;
+    let like = tuple(alloc, &rt, &mut arena, &[again, Value::Int(1)])?;
+    let unlike = tuple(alloc, &rt, &mut arena, &[again, Value::Bool(true)])?;
+    finds(&rt, &arena, &homes, dict, again, Some(100));
+    finds(&rt, &arena, &homes, dict, like, Some(101));
+    finds(&rt, &arena, &homes, dict, unlike, None);
+    let of_like = Change::Put(like, Value::Int(102));
+    assert!(rt; arena.write(&homes, dict, of_like) == Ok(Some(Value::Int(101))));
+    finds(&rt, &arena, &homes, dict, pair, Some(102));
+    Ok(())
+}
+
+#[test]
+fn published_entries_are_found(rt: HostRuntime) -> Result<(), Fail> {
+    let alloc = rt.alloc();
+    let none = Homes::new(alloc);
+    let mut first = Arena::new(alloc, 1);
+    let dict = counted(alloc, &rt, &mut first, &none, 30)?;
+    let far = text(alloc, &rt, &mut first, "far")?;
+    let put = Change::Put(far, Value::Int(7));
+    assert!(rt; first.write(&none, dict, put) == Ok(None));
+    let store = freeze(first, Vec::new(alloc));
+    let mut homes = Homes::new(alloc);
+    homes.add(1, &store)?;
+    let mut arena = Arena::new(alloc, 2);
+    let near = text(alloc, &rt, &mut arena, "far")?;
+    finds(&rt, &arena, &homes, dict, Value::Int(29), Some(-29));
+    finds(&rt, &arena, &homes, dict, Value::Int(30), None);
+    finds(&rt, &arena, &homes, dict, near, Some(7));
+    finds(&rt, &arena, &homes, dict, far, Some(7));
+    // A key of the published module in a dictionary of the running one.
+    let own = counted(alloc, &rt, &mut arena, &homes, 30)?;
+    let of_far = Change::Put(far, Value::Int(8));
+    assert!(rt; arena.write(&homes, own, of_far) == Ok(None));
+    finds(&rt, &arena, &homes, own, near, Some(8));
+    let of_near = Change::Put(near, Value::Int(9));
+    assert!(rt; arena.write(&homes, own, of_near) == Ok(Some(Value::Int(8))));
+    finds(&rt, &arena, &homes, own, far, Some(9));
+    finds(&rt, &arena, &homes, own, Value::Int(5), Some(-5));
+    Ok(())
+}
+
+#[test]
+fn a_store_under_another_number_is_searched_by_a_walk(rt: HostRuntime) -> Result<(), Fail> {
+    let alloc = rt.alloc();
+    let none = Homes::new(alloc);
+    let mut first = Arena::new(alloc, 1);
+    let dict = counted(alloc, &rt, &mut first, &none, 30)?;
+    let store = freeze(first, Vec::new(alloc));
+    let mut homes = Homes::new(alloc);
+    homes.add(5, &store)?;
+    let arena = Arena::new(alloc, 2);
+    assert!(rt; arena.find(&homes, dict, Value::Int(3)) == Err(StoreFault::BadType));
+    assert!(rt; arena.key_value(&homes, dict, Value::Int(3)).is_none());
+    let moved = Value::Ref { home: 5, at: 0 };
+    finds(&rt, &arena, &homes, moved, Value::Int(3), Some(-3));
+    Ok(())
+}
+
+#[test]
+fn equal_dictionaries_have_the_same_entries(rt: HostRuntime) -> Result<(), Fail> {
+    let alloc = rt.alloc();
+    let homes = Homes::new(alloc);
+    let mut arena = Arena::new(alloc, 0);
+    let dict = counted(alloc, &rt, &mut arena, &homes, 25)?;
+    let other = made(&rt, &mut arena, Cell::Dict(Entries::new(alloc)))?;
+    for n in 0..25 {
+        let change = Change::Put(Value::Int(n), Value::Int(n.wrapping_neg()));
+        assert!(rt; arena.write(&homes, other, change) == Ok(None));
+    }
+    let mut budget = Budget {
+        steps: 100,
+        levels: 10,
+    };
+    assert!(rt; equal(&arena, &homes, &mut budget, dict, other) == Ok(true));
+    assert!(rt; budget.steps == 74);
+    let change = Change::Put(Value::Int(24), Value::Int(0));
+    assert!(rt; arena.write(&homes, other, change) == Ok(Some(Value::Int(-24))));
+    assert!(rt; equal(&arena, &homes, &mut budget, dict, other) == Ok(false));
+    assert!(rt; budget.steps == 72);
+    Ok(())
+}
+
+#[test]
+fn a_key_is_nested_400_deep(rt: HostRuntime) -> Result<(), Fail> {
+    let alloc = rt.alloc();
+    let homes = Homes::new(alloc);
+    let mut arena = Arena::new(alloc, 0);
+    let dict = counted(alloc, &rt, &mut arena, &homes, 20)?;
+    let mut key = Value::NoneValue;
+    let mut like = Value::NoneValue;
+    for _ in 0..400 {
+        key = tuple(alloc, &rt, &mut arena, &[key])?;
+        like = tuple(alloc, &rt, &mut arena, &[like])?;
+    }
+    let change = Change::Put(key, Value::Int(1));
+    assert!(rt; arena.write(&homes, dict, change) == Ok(None));
+    finds(&rt, &arena, &homes, dict, like, Some(1));
+    let deeper = tuple(alloc, &rt, &mut arena, &[like])?;
+    assert!(rt; arena.find(&homes, dict, deeper) == Err(StoreFault::BadType));
+    Ok(())
+}
