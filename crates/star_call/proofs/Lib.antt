@@ -1,3 +1,4 @@
+pub mod Found
 pub mod Kept
 pub mod Seen
 pub mod Steps

@@ -43,7 +43,8 @@ with_one : (b : Bool) (o : Option (Unit {0})) → is_some (cond b (Some tt) o) �
 with_one true o = refl
 with_one false o = refl
 
-has_more : (old new : BTreeMap (Bor (List ℕ)) (Unit {0})) (name : Bor (List ℕ)) (q : List ℕ) → Updates (λ x y. slice_cmp nat_cmp x.now y.now) old new name (Some tt) → has new q ≡ (bytes_eq q name.now || has old q)
+-- one name more was seen
+pub has_more : (old new : BTreeMap (Bor (List ℕ)) (Unit {0})) (name : Bor (List ℕ)) (q : List ℕ) → Updates (λ x y. slice_cmp nat_cmp x.now y.now) old new name (Some tt) → has new q ≡ (bytes_eq q name.now || has old q)
 has_more old new name q u =
     ap is_some (btree_map_updates_str name.now old new (Some tt) u q) ∙ with_one (bytes_eq name.now q) (get_by (λ k. slice_cmp nat_cmp q k.now) old)
     ∙ ap (λ b. b || has old q) (same name.now q)
@@ -65,5 +66,5 @@ one_seen old new name n ns e absent u =
 pub seen_before : (seen : BTreeMap (Bor (List ℕ)) (Unit {0})) (n : NamedValue) (ns : List NamedValue) → has seen n.name ≡ true → twice_after seen (n ∷ ns) ≡ true
 seen_before seen n ns h = ap (λ b. (b || list_any (λ m. has seen m.name) ns) || comes_twice (n ∷ ns)) h
 
-pub drop_next : (ns : List NamedValue) (i : ℕ) (n : NamedValue) → i < length ns → n ≡ get_or ns i n → drop i ns ≡ n ∷ drop (i + 1) ns
+pub drop_next : {A : Type 0} (ns : List A) (i : ℕ) (n : A) → i < length ns → n ≡ get_or ns i n → drop i ns ≡ n ∷ drop (i + 1) ns
 drop_next ns i n h e = drop-cons ns i n h ∙ ap (λ m. m ∷ drop (suc i) ns) (sym e) ∙ ap (λ k. n ∷ drop k ns) (let s : suc i ≡ i + 1 = omega arith in s)

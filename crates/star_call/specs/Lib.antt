@@ -1,4 +1,5 @@
 pub mod Callees
+pub mod Found
 pub mod Passed
 pub mod Seen
 pub mod Shares

@@ -1,20 +1,22 @@
 //! How the values of a call are bound to the parameters of a definition.
 
-ghost use Rattle.std.specs.Prelude.{◌≡◌, IfOk, map};
+ghost use Rattle.std.specs.Prelude.{◌≡◌, ℕ, IfOk, List, map};
 ghost use Rattle.std.specs.List.{list_any};
 ghost use Rattle.std.specs.Option.{option_map};
 ghost use Rattle.star_meaning.specs.Binding as spec;
 ghost use Rattle.star_scope.specs.Names.{same_name};
 ghost use Rattle.star_scope.specs.Syntax as form;
+ghost use Rattle.star_call.specs.Seen.{has};
 ghost use Rattle.star_call.specs.Shares.{all_named};
 ghost use Rattle.star_call.specs.Steps.{progress_of, turn_of};
 
-use crate::names::{is_given, value_named};
+use crate::names::{ByName, FEW};
 use crate::shares::{Share, Shares};
 use star_meaning::given::{Given, NamedValue};
 use star_store::values::Value;
 use star_tree::tree::{Name, Parameter};
 use std::alloc::{AllocError, Global};
+use std::collections::BTreeMap;
 
 /// Where binding stands: whether values by place can still be taken, those that are left, and the defaults that are left.
 #[derive(Clone, Copy)]
@@ -34,7 +36,7 @@ struct Turn<'t, 'g, 'd> {
 /// The values by name, and those of them that are no parameter's.
 #[derive(Drop)]
 struct Names<'g> {
-    all: &'g [NamedValue],
+    all: ByName<'g>,
     left: Vec<&'g NamedValue>,
 }
 
@@ -65,8 +67,24 @@ fn is_own(parameters: &[Parameter], name: &str) -> bool
     false
 }
 
-/// The values by name that are no parameter's.
-fn unclaimed<'g>(
+/// The names by which parameters can be given.
+fn names_of<'t>(
+    alloc: Global,
+    parameters: &'t [Parameter],
+) -> Result<BTreeMap<&'t str, ()>, AllocError>
+    ensures { IfOk result (λ names. (name : List ℕ) → has names name ≡ list_any (same_name name) (spec.own_names parameters.now)) }
+{
+    let mut names = BTreeMap::new(alloc);
+    for parameter in parameters {
+        if let Some(name) = own_name(parameter) {
+            names.insert(name, ())?;
+        }
+    }
+    Ok(names)
+}
+
+/// The values by name that are no parameter's, where they or the parameters are few: each is compared with all parameters.
+fn few_unclaimed<'g>(
     alloc: Global,
     parameters: &[Parameter],
     named: &'g [NamedValue],
@@ -76,6 +94,27 @@ fn unclaimed<'g>(
     let mut left = Vec::new(alloc);
     for value in named {
         if !is_own(parameters, value.name.as_str()) {
+            left.push(value)?;
+        }
+    }
+    Ok(left)
+}
+
+/// The values by name that are no parameter's: many are looked for in a map of the parameters' names.
+fn unclaimed<'g>(
+    alloc: Global,
+    parameters: &[Parameter],
+    named: &'g [NamedValue],
+) -> Result<Vec<&'g NamedValue>, AllocError>
+    ensures { IfOk result (λ v. all_named v.items ≡ spec.unclaimed parameters.now named.now) }
+{
+    if named.len() <= FEW || parameters.len() <= FEW {
+        return few_unclaimed(alloc, parameters, named);
+    }
+    let names = names_of(alloc, parameters)?;
+    let mut left = Vec::new(alloc);
+    for value in named {
+        if !names.contains_key(value.name.as_str()) {
             left.push(value)?;
         }
     }
@@ -121,12 +160,12 @@ impl<'g> Names<'g> {
         default: Option<Value>,
         progress: Progress<'g, 'd>,
     ) -> Option<Turn<'t, 'g, 'd>>
-        ensures { option_map (turn_of (all_named self.now.left.items)) result ≡ spec.share_by name.now self.now.all.now default (progress_of progress.entry) }
+        ensures { option_map (turn_of (all_named self.now.left.items)) result ≡ spec.share_by name.now self.now.all default (progress_of progress.entry) }
     {
         let own = name.text.as_str();
         match progress.plain {
             [first, rest @ ..] if !progress.by_name => {
-                if is_given(own, self.all) {
+                if self.all.has(own) {
                     return None;
                 }
                 let progress = Progress {
@@ -135,7 +174,7 @@ impl<'g> Names<'g> {
                 };
                 self.shared(name, progress, Some(*first))
             }
-            _ => self.shared(name, progress, value_named(own, self.all).or(default)),
+            _ => self.shared(name, progress, self.all.value(own).or(default)),
         }
     }
 
@@ -145,7 +184,7 @@ impl<'g> Names<'g> {
         parameter: &'t Parameter,
         progress: Progress<'g, 'd>,
     ) -> Option<Turn<'t, 'g, 'd>>
-        ensures { option_map (turn_of (all_named self.now.left.items)) result ≡ spec.step self.now.all.now (all_named self.now.left.items) (progress_of progress.entry) (form.parameter parameter.now) }
+        ensures { option_map (turn_of (all_named self.now.left.items)) result ≡ spec.step self.now.all (all_named self.now.left.items) (progress_of progress.entry) (form.parameter parameter.now) }
     {
         match parameter {
             Parameter::Plain(name) => self.share_by(name, None, progress),
@@ -178,7 +217,7 @@ impl<'g> Names<'g> {
         name: &'t Name,
         progress: Progress<'g, 'd>,
     ) -> Option<Turn<'t, 'g, 'd>>
-        ensures { option_map (turn_of (all_named self.now.left.items)) result ≡ spec.share_by name.now self.now.all.now (spec.first_of_row progress.entry.defaults.now) (record (progress_of progress.entry) { defaults = spec.rest_of_row progress.entry.defaults.now }) }
+        ensures { option_map (turn_of (all_named self.now.left.items)) result ≡ spec.share_by name.now self.now.all (spec.first_of_row progress.entry.defaults.now) (record (progress_of progress.entry) { defaults = spec.rest_of_row progress.entry.defaults.now }) }
     {
         match progress.defaults {
             [] => self.share_by(name, None, progress),
@@ -199,7 +238,7 @@ impl<'g> Names<'g> {
         parameters: &'t [Parameter],
         progress: Progress<'g, 'd>,
     ) -> Result<Option<Shares<'t, 'g>>, AllocError>
-        ensures { IfOk result (λ shares. shares ≡ spec.shares self.entry.all.now (all_named self.entry.left.items) parameters.now (progress_of progress.entry)) }
+        ensures { IfOk result (λ shares. shares ≡ spec.shares self.entry.all (all_named self.entry.left.items) parameters.now (progress_of progress.entry)) }
     {
         let mut progress = progress;
         let mut shares = Vec::new(alloc);
@@ -239,5 +278,6 @@ pub fn bound_to<'t, 'g>(
         plain: given.plain.as_slice(),
         defaults,
     };
+    let all = ByName::of(alloc, all, parameters.len())?;
     Names { all, left }.shares(alloc, parameters, progress)
 }

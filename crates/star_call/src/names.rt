@@ -1,13 +1,18 @@
 //! Values that are given by name.
 
-ghost use Rattle.std.specs.Prelude.{◌≡◌, IfOk};
+ghost use Rattle.std.specs.Prelude.{◌≡◌, ℕ, IfOk, List};
 ghost use Rattle.star_meaning.specs.Arguments as spec;
 ghost use Rattle.star_meaning.specs.Binding.{value_named};
+ghost use Rattle.star_call.specs.Found.{value_in};
 
 use star_meaning::given::NamedValue;
 use star_store::values::Value;
 use std::alloc::{AllocError, Global};
 use std::collections::BTreeMap;
+use std::marker::Model;
+
+/// So many names are compared one by one; more are looked for in a map.
+pub(crate) const FEW: usize = 8;
 
 /// Whether a name is among those given.
 pub(crate) fn is_given(name: &str, named: &[NamedValue]) -> bool
@@ -32,9 +37,6 @@ pub(crate) fn value_named(name: &str, named: &[NamedValue]) -> Option<Value>
     }
     None
 }
-
-/// So many names are compared pair by pair; more are looked for in a map.
-const FEW: usize = 8;
 
 /// Whether a name comes twice: each is compared with all after it.
 fn few_come_twice(named: &[NamedValue]) -> bool
@@ -64,4 +66,75 @@ pub(crate) fn comes_twice(alloc: Global, named: &[NamedValue]) -> Result<bool, A
         }
     }
     Ok(false)
+}
+
+/// The first value of each name.
+fn first_values<'g>(
+    alloc: Global,
+    named: &'g [NamedValue],
+) -> Result<BTreeMap<&'g str, Value>, AllocError>
+    ensures { IfOk result (λ first. (name : List ℕ) → value_in first name ≡ value_named name named.now) }
+{
+    let mut first = BTreeMap::new(alloc);
+    for value in named {
+        let name = value.name.as_str();
+        if !first.contains_key(name) {
+            first.insert(name, value.value)?;
+        }
+    }
+    Ok(first)
+}
+
+/// Values that are given by name, which are found by their names: few by going through them, many by a map.
+#[derive(Drop)]
+pub(crate) struct ByName<'g> {
+    all: &'g [NamedValue],
+    first: Option<BTreeMap<&'g str, Value>>,
+}
+
+impl<'g> Model for ByName<'g> {
+    ghost use Rattle.std.specs.Prelude.{List};
+    ghost use Rattle.star_meaning.specs.declared.given.NamedValue.{NamedValue as OneNamed};
+    ghost use Rattle.star_call.specs.Found.{AreFound};
+
+    ghost Value = { List OneNamed };
+
+    ghost view = { λ b. b.all.now };
+
+    ghost invariant = { λ b. AreFound b.all.now b.first };
+}
+
+impl<'g> ByName<'g> {
+    /// These values, in their order, among which so many names are looked for.
+    pub(crate) fn of(
+        alloc: Global,
+        all: &'g [NamedValue],
+        names: usize,
+    ) -> Result<ByName<'g>, AllocError>
+        ensures { IfOk result (λ named. named ≡ all.now) }
+    {
+        if all.len() <= FEW || names <= FEW {
+            return Ok(ByName { all, first: None });
+        }
+        let first = Some(first_values(alloc, all)?);
+        Ok(ByName { all, first })
+    }
+
+    /// The value that is given by name: the first of this name.
+    pub(crate) fn value(&self, name: &str) -> Option<Value>
+        ensures { result ≡ value_named name.now self.now }
+    {
+        match &self.first {
+            Some(first) => first.get(name).copied(),
+            None => value_named(name, self.all),
+        }
+    }
+
+    /// Whether a name is among those given.
+    #[tactic(auto, using(crate::proofs::Found::given_found))]
+    pub(crate) fn has(&self, name: &str) -> bool
+        ensures { result ≡ spec.is_given name.now self.now }
+    {
+        self.value(name).is_some()
+    }
 }

@@ -1,11 +1,14 @@
 //! Strings, character by character.
 
-ghost use Rattle.std.specs.Prelude.{◌≡◌, ◌∷◌, ◌++◌, ◌<◌, ◌≤◌, ◌+◌, [], MatchOption, drop, false, get_or, length, take, true};
+ghost use Rattle.std.specs.Prelude.{◌≡◌, ◌∷◌, ◌++◌, ◌<◌, ◌≤◌, ◌+◌, ℕ, IfOk, List, [], MatchOption, drop, false, get_or, length, take, true};
 ghost use Rattle.std.specs.List.{list_all};
 ghost use Rattle.star_meaning.specs.Texts as spec;
-ghost use Rattle.star_method.specs.Sets.{test_of};
+ghost use Rattle.star_method.specs.Sets.{has, test_of};
 
 use star_text::Text;
+use std::alloc::{AllocError, Global};
+use std::collections::BTreeMap;
+use std::marker::Model;
 
 /// Whether a byte goes on with a character.
 fn goes_on(byte: u8) -> bool
@@ -112,9 +115,68 @@ impl Set {
     }
 }
 
+/// Where a string or a set has no more bytes than this, going through the set is quicker than making a map of it.
+const FEW: usize = 32;
+
+/// The characters of a string.
+fn characters_of<'s>(alloc: Global, text: &'s str) -> Result<BTreeMap<&'s str, ()>, AllocError>
+    ensures { IfOk result (λ found. (character : List ℕ) → has found character ≡ spec.is_in text.now character) }
+{
+    let mut found = BTreeMap::new(alloc);
+    let mut rest = text;
+    while let Some((first, more)) = first_character(rest) {
+        found.insert(first, ())?;
+        rest = more;
+    }
+    Ok(found)
+}
+
+/// A set of characters that are looked for: few by going through them, many in a map.
+#[derive(Drop)]
+pub struct Lookup<'s> {
+    set: &'s Set,
+    found: Option<BTreeMap<&'s str, ()>>,
+}
+
+impl<'s> Model for Lookup<'s> {
+    ghost use Rattle.star_method.specs.declared.characters.Set.{Set as AnySet};
+    ghost use Rattle.star_method.specs.Sets.{AreFound};
+
+    ghost Value = { AnySet };
+
+    ghost view = { λ l. l.set.now };
+
+    ghost invariant = { λ l. AreFound l.set.now l.found };
+}
+
+impl<'s> Lookup<'s> {
+    /// The characters of this set, which are looked for in a string of so many bytes.
+    pub fn of(alloc: Global, set: &'s Set, bytes: usize) -> Result<Lookup<'s>, AllocError>
+        ensures { IfOk result (λ lookup. lookup ≡ set.now) }
+    {
+        match set {
+            Set::Of(text) if bytes > FEW && text.as_str().len() > FEW => {
+                let found = Some(characters_of(alloc, text.as_str())?);
+                Ok(Lookup { set, found })
+            }
+            _ => Ok(Lookup { set, found: None }),
+        }
+    }
+
+    /// Whether a character is in the set.
+    pub fn has(&self, character: &str) -> bool
+        ensures { result ≡ test_of self.now character.now }
+    {
+        match &self.found {
+            Some(found) => found.contains_key(character),
+            None => self.set.has(character),
+        }
+    }
+}
+
 /// What is left behind the characters at the front that are in a set.
 #[tactic(auto, using(crate::proofs::OneByOne::front_stays))]
-pub fn without_front<'a>(text: &'a str, set: &Set) -> &'a str
+pub fn without_front<'a>(text: &'a str, set: &Lookup<'_>) -> &'a str
     ensures { spec.characters result.now ≡ spec.without_front (test_of set.now) (spec.characters text.now) }
 {
     let mut rest = text;
@@ -129,7 +191,7 @@ pub fn without_front<'a>(text: &'a str, set: &Set) -> &'a str
 
 /// What is left before the characters at the end that are in a set.
 #[tactic(auto, using(crate::proofs::OneByOne::end_goes, crate::proofs::OneByOne::end_stays))]
-pub fn without_end<'a>(text: &'a str, set: &Set) -> &'a str
+pub fn without_end<'a>(text: &'a str, set: &Lookup<'_>) -> &'a str
     ensures { spec.characters result.now ≡ spec.without_end (test_of set.now) (spec.characters text.now) }
 {
     let mut rest = text;

@@ -14,7 +14,7 @@ ghost use Rattle.star_meaning.specs.Values.{content, text_of};
 ghost use Rattle.star_method.specs.Ends.{at_edge, bytes_each, each_behind, found_between};
 ghost use Rattle.star_method.specs.Sets.{test_of};
 
-use crate::characters::{Set, without_end, without_front};
+use crate::characters::{Lookup, Set, without_end, without_front};
 use star_machine::content::Content;
 use star_machine::fault::{Stop, faulted};
 use star_machine::machine::Machine;
@@ -335,7 +335,7 @@ fn want_set(
 }
 
 /// What `lstrip` and `strip` leave at the front.
-fn front_stripped<'a>(text: &'a str, front: bool, set: &Set) -> &'a str
+fn front_stripped<'a>(text: &'a str, front: bool, set: &Lookup<'_>) -> &'a str
     ensures { characters result.now ≡ (if front then without_front (test_of set.now) else (λ cs. cs)) (characters text.now) }
 {
     if front {
@@ -345,7 +345,7 @@ fn front_stripped<'a>(text: &'a str, front: bool, set: &Set) -> &'a str
 }
 
 /// What `rstrip` and `strip` leave at the end.
-fn end_stripped<'a>(text: &'a str, end: bool, set: &Set) -> &'a str
+fn end_stripped<'a>(text: &'a str, end: bool, set: &Lookup<'_>) -> &'a str
     ensures { characters result.now ≡ (if end then without_end (test_of set.now) else (λ cs. cs)) (characters text.now) }
 {
     if end {
@@ -367,8 +367,9 @@ fn stripped(
     ensures { IfOk result (λ t. t ≡ spec.stripped front end (test_of set.now) (bytes_of (content setting.now machine.now text))) }
 {
     let text = machine.copied_text(setting, text)?;
-    let kept = end_stripped(text.as_str(), end, set);
-    let kept = front_stripped(kept, front, set);
+    let set = Lookup::of(machine.alloc(), set, text.as_str().len())?;
+    let kept = end_stripped(text.as_str(), end, &set);
+    let kept = front_stripped(kept, front, &set);
     Text::new(machine.alloc(), kept)
 }
 

@@ -9,7 +9,7 @@ pub loop-parameter-preserved : goal.loop-parameter-preserved
 loop-parameter-preserved c =
     let i = c.loop-parameter.parameter-index in
     let ps = c.args.parameters.now in
-    let ns = c.args.self.all.now in
+    let ns = c.args.self.all in
     let left = all_named c.args.self.left.items in
     let q = progress_of c.loop-parameter.progress in
     let t = c.in-Some.turn in

@@ -7,5 +7,5 @@ use Rattle.star_call.proofs.binding.Names.shares.Given as goal
 abbrev pub invariant-loop-parameter : goal.invariant-loop-parameter
 invariant-loop-parameter l =
     let left = all_named l.self.left.items in
-    let f = shares l.self.all.now left in
+    let f = shares l.self.all left in
     also (all_shown left l.shares.items) (f (drop l.parameter-index l.parameters) (progress_of l.progress)) ≡ f l.parameters (progress_of l.fn.progress)
