@@ -3,7 +3,6 @@
 ghost use Rattle.star_meaning.specs.Programs.{IsOfFile};
 
 use crate::variables::{published, two};
-use star_eval::context::Context;
 use star_eval::evaluate::evaluate;
 use star_eval::execute::{execute, execute_each};
 use star_eval::files::{Files, program_of};
@@ -38,7 +37,8 @@ struct Sample<'s> {
 fn text_of_last(
     machine: &mut Machine,
     world: &World,
-    context: Context,
+    levels: u32,
+    place: &Place,
     statement: &Statement,
 ) -> Result<Text, Stop> {
     let line = statement.position.line;
@@ -46,14 +46,14 @@ fn text_of_last(
         Form::Expression(expression) => {
             let place = Place {
                 file: 0,
-                frame: context.place.frame,
+                frame: place.frame,
                 line,
             };
-            let value = evaluate(machine, world, context.at(place), expression)?;
+            let value = evaluate(machine, world, levels, &place, expression)?;
             machine.repr(world.setting(), 400, line, value)
         }
         _ => {
-            let _flow = execute(machine, world, context, statement)?;
+            let _flow = execute(machine, world, levels, place, statement)?;
             Ok(Text::new(machine.alloc(), "")?)
         }
     }
@@ -63,13 +63,14 @@ fn text_of_last(
 fn text_of(
     machine: &mut Machine,
     world: &World,
-    context: Context,
+    levels: u32,
+    place: &Place,
     statements: &[Statement],
 ) -> Result<Text, Stop> {
-    let place = statements.len().saturating_sub(1);
-    let _flow = execute_each(machine, world, context, &statements[..place])?;
-    match statements.get(place) {
-        Some(last) => text_of_last(machine, world, context, last),
+    let before = statements.len().saturating_sub(1);
+    let _flow = execute_each(machine, world, levels, place, &statements[..before])?;
+    match statements.get(before) {
+        Some(last) => text_of_last(machine, world, levels, place, last),
         None => Err(Stop::Memory),
     }
 }
@@ -82,15 +83,12 @@ fn sample_is_as_wanted_in(
     statements: &[Statement],
     sample: Sample<'_>,
 ) -> Result<(), Fail> {
-    let context = Context {
-        levels: sample.levels,
-        place: Place {
-            file: 0,
-            frame,
-            line: 1,
-        },
+    let place = Place {
+        file: 0,
+        frame,
+        line: 1,
     };
-    let made = text_of(machine, world, context, statements);
+    let made = text_of(machine, world, sample.levels, &place, statements);
     let made = match &made {
         Ok(text) => Ok(text.as_str()),
         Err(stop) => Err(*stop),

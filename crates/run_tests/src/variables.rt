@@ -62,7 +62,7 @@ fn is(
     want: Result<Value, Stop>,
 ) -> Result<(), AllocError> {
     let name = name(alloc, at.0, at.1)?;
-    assert_eq!(rt; read(machine, world, place, &name), want, "{}", at.0);
+    assert_eq!(rt; read(machine, world, &place, &name), want, "{}", at.0);
     Ok(())
 }
 
@@ -75,7 +75,7 @@ fn give(
     value: Value,
 ) -> Result<(), Stop> {
     let name = name(alloc, at.0, at.1)?;
-    bind(machine, world, place, &name, value)
+    bind(machine, world, &place, &name, value)
 }
 
 fn names_are_read_and_bound_by_their_places_in(

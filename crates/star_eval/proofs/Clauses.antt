@@ -183,7 +183,7 @@ filled_well c levels p o cs v n more w x s t u same all opens run shown =
 
 ends_then : {A B : Type 0} (o : Outcome A) (f : A → Action B) (e : Stop) (u : State) → Ends o e u → Ends (and_then o f) e u
 ends_then o f Memory u h = tt
-ends_then {A = A} o f (Faulted x) u h = ap (λ (r : Outcome A). and_then r f) h
+ends_then {A = A} o f (Faulted x n) u h = ap (λ (r : Outcome A). and_then r f) h
 
 pub filled_ends : (c : World) (levels : ℕ) (p : Place) (o : Output) (cs : Clauses) (v : Value) (n : ℕ) (more : List Clause) (w : Setting) (e : Stop) (s t u : State) → w ≡ c.setting → more ≡ (out-Clauses cs).more → iterate w p.line v s ≡ Done n t
     → Ends (all_turns c levels p o (out-Clauses cs).target v more (n - 0) t) e u → Ends (filled c levels p cs v o s) e u

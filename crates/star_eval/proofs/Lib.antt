@@ -1,3 +1,4 @@
+pub mod ByPlace
 pub mod Called
 pub mod Clauses
 pub mod Entering

@@ -1,2 +1,4 @@
+pub mod ByPlace
+pub mod Forms
 pub mod Steps
 pub mod World

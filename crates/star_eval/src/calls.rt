@@ -1,6 +1,6 @@
 //! Parts of calls that run nothing themselves.
 
-ghost use Rattle.std.specs.Prelude.{◌≡◌, map};
+ghost use Rattle.std.specs.Prelude.{◌≡◌, map, true};
 ghost use Rattle.std.specs.Option.{option_map};
 ghost use Rattle.star_scope.specs.Definitions.{definition_of};
 ghost use Rattle.star_meaning.specs.Calls as spec;
@@ -9,18 +9,22 @@ ghost use Rattle.star_meaning.specs.Run.{Done, give};
 ghost use Rattle.star_meaning.specs.Values.{content};
 ghost use Rattle.star_call.specs.Callees.{definition_for, shown};
 ghost use Rattle.star_call.specs.Shares.{bound_value};
+ghost use Rattle.std.specs.List.{list_all};
+ghost use Rattle.star_eval.specs.ByPlace.{FitByPlace, by_place, expression_of, is_plain, is_positional};
 ghost use Rattle.star_eval.specs.Steps.{bind_all, entering, framed};
 
+use crate::parts::split_first;
 use crate::variables::{bind, paid_frame};
 use crate::world::World;
 use star_call::callee::{Called, Callee, definition_number};
 use star_call::shares::{Shares, make_shares};
 use star_machine::fault::Stop;
 use star_machine::machine::Machine;
+use star_meaning::given::Given;
 use star_meaning::place::Place;
 use star_scope::outline::Definition;
 use star_store::values::Value;
-use star_tree::tree::Name;
+use star_tree::tree::{Argument, Expression, Name, Parameter};
 
 /// The definition of a function: none of another value, or where its file has none.
 fn definition_of<'t>(
@@ -53,15 +57,103 @@ pub(crate) fn callee_of<'t>(
 pub(crate) fn bind_all(
     machine: &mut Machine,
     world: &World,
-    place: Place,
+    place: &Place,
     values: &[(&Name, Value)],
 ) -> Result<(), Stop>
-    ensures { Gives (bind_all world.now place (map bound_value values.now) machine.old) result machine.new }
+    ensures { Gives (bind_all world.now place.now (map bound_value values.now) machine.old) result machine.new }
 {
     for (name, value) in values {
         bind(machine, world, place, *name, *value)?;
     }
     Ok(())
+}
+
+/// The expression of an argument.
+pub(crate) fn expression_of(argument: &Argument) -> &Expression
+    ensures { result.now ≡ expression_of argument.now }
+{
+    match argument {
+        Argument::Positional(value) | Argument::Star(value) | Argument::StarStar(value) => value,
+        Argument::Named { value, .. } => value,
+    }
+}
+
+/// Whether all arguments of a call stand by place.
+pub(crate) fn are_positional(arguments: &[Argument]) -> bool
+    ensures { result ≡ list_all is_positional arguments.now }
+{
+    for argument in arguments {
+        let Argument::Positional(_) = argument else {
+            return false;
+        };
+    }
+    true
+}
+
+/// Whether each parameter has a name alone.
+fn are_plain(parameters: &[Parameter]) -> bool
+    ensures { result ≡ list_all is_plain parameters.now }
+{
+    for parameter in parameters {
+        let Parameter::Plain(_) = parameter else {
+            return false;
+        };
+    }
+    true
+}
+
+/// Whether a call gives a value by place for each parameter, which all have names alone, and nothing else.
+pub(crate) fn fit_by_place(parameters: &[Parameter], given: &Given) -> bool
+    ensures { result ≡ true → FitByPlace parameters.now given.now }
+{
+    given.named.len() == 0 && parameters.len() == given.plain.len() && are_plain(parameters)
+}
+
+/// Binds parameters that have names alone to the values at their places, in order.
+fn bind_by_place(
+    machine: &mut Machine,
+    world: &World,
+    place: &Place,
+    parameters: &[Parameter],
+    values: &[Value],
+) -> Result<(), Stop>
+    ensures { Gives (bind_all world.now place.now (by_place parameters.now values.now) machine.old) result machine.new }
+{
+    let mut rest = values;
+    for parameter in parameters {
+        let Some((value, more)) = split_first(rest) else {
+            return Ok(());
+        };
+        if let Parameter::Plain(name) = parameter {
+            bind(machine, world, place, name, value)?;
+        }
+        rest = more;
+    }
+    Ok(())
+}
+
+/// The place in which the body of a call runs, each of whose parameters gets the value at its own place: its frame, which pays 1,
+/// with the parameters in it; then its definition is active.
+#[tactic(auto, unfolding(crate::specs::Steps::begin))]
+pub(crate) fn enter_by_place(
+    machine: &mut Machine,
+    world: &World,
+    line: usize,
+    called: Called<'_>,
+    values: &[Value],
+) -> Result<Place, Stop>
+    ensures { Gives (framed world.now line called.entry.file called.entry.number called.entry.frame (by_place called.entry.definition.parameters.now values.now) give machine.old) result machine.new }
+{
+    let block = 1 + called.number as usize;
+    let frame = paid_frame(machine, world, line, called.file, block, Some(called.frame))?;
+    let place = Place {
+        file: called.file,
+        frame,
+        line,
+    };
+    bind_by_place(machine, world, &place, called.definition.parameters, values)?;
+    machine.activate(place.file, called.number)?;
+    Ok(place)
 }
 
 /// The place in which the body of a call runs, whose parameters have these values: its frame, which pays 1, with the parameters in
@@ -83,7 +175,7 @@ fn enter_with(
         frame,
         line,
     };
-    bind_all(machine, world, place, values)?;
+    bind_all(machine, world, &place, values)?;
     machine.activate(called.file, called.number)?;
     Ok(place)
 }

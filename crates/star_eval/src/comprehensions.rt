@@ -6,7 +6,6 @@ ghost use Rattle.star_meaning.specs.Comprehensions.{dict_comprehension, list_com
 ghost use Rattle.star_eval.specs.World.{meant, variables};
 ghost use Rattle.star_eval.specs.Steps.{Leads, behind, filled, filled_dict, filled_list, last, opened_left, turn_of, turns_left};
 
-use crate::context::Context;
 use crate::evaluate::{evaluate, evaluate_entry};
 use crate::execute::assign_to;
 use crate::open_clause::OpenClause;
@@ -16,6 +15,7 @@ use crate::world::World;
 use star_machine::fault::Stop;
 use star_machine::machine::Machine;
 use star_machine::subscript::put_entry;
+use star_meaning::place::Place;
 use star_store::arena::write::Change;
 use star_store::values::Value;
 use star_tree::tree::{Clause, Clauses, Entry, Expression};
@@ -25,24 +25,19 @@ use star_tree::tree::{Clause, Clauses, Entry, Expression};
 pub(crate) fn make_list(
     machine: &mut Machine,
     world: &World,
-    context: Context,
+    levels: u32,
+    place: &Place,
     token: usize,
     element: &Expression,
     clauses: &Clauses,
 ) -> Result<Value, Stop>
-    ensures { Gives (list_comprehension (variables world.now) world.now.setting (meant world.now context.levels) context.place (1 + token) element.now clauses.now machine.old) result machine.new }
+    ensures { Gives (list_comprehension (variables world.now) world.now.setting (meant world.now levels) place.now (1 + token) element.now clauses.now machine.old) result machine.new }
 {
-    let value = evaluate(machine, world, context, clauses.iterable.get())?;
-    let line = context.place.line;
-    let place = enter(machine, world, context, token)?;
+    let value = evaluate(machine, world, levels, place, clauses.iterable.get())?;
+    let line = place.line;
+    let place = enter(machine, world, place, token)?;
     fill_list(
-        machine,
-        world,
-        context.at(place),
-        line,
-        element,
-        clauses,
-        value,
+        machine, world, levels, &place, line, element, clauses, value,
     )
 }
 
@@ -51,17 +46,18 @@ pub(crate) fn make_list(
 fn fill_list(
     machine: &mut Machine,
     world: &World,
-    context: Context,
+    levels: u32,
+    place: &Place,
     line: usize,
     element: &Expression,
     clauses: &Clauses,
     value: Value,
 ) -> Result<Value, Stop>
-    ensures { Gives (filled_list world.now context.levels line context.place element.entry clauses.now value machine.old) result machine.new }
+    ensures { Gives (filled_list world.now levels line place.now element.entry clauses.now value machine.old) result machine.new }
 {
     let list = new_row(machine, line)?;
     let output = Output::Element { element, list };
-    fill(machine, world, context, clauses, value, output)
+    fill(machine, world, levels, place, clauses, value, output)
 }
 
 /// A dictionary comprehension: the first iterable, its frame, the dictionary, the clauses.
@@ -69,25 +65,18 @@ fn fill_list(
 pub(crate) fn make_dict(
     machine: &mut Machine,
     world: &World,
-    context: Context,
+    levels: u32,
+    place: &Place,
     token: usize,
     entry: &Entry,
     clauses: &Clauses,
 ) -> Result<Value, Stop>
-    ensures { Gives (dict_comprehension (variables world.now) world.now.setting context.levels (meant world.now context.levels) context.place (1 + token) entry.now clauses.now machine.old) result machine.new }
+    ensures { Gives (dict_comprehension (variables world.now) world.now.setting levels (meant world.now levels) place.now (1 + token) entry.now clauses.now machine.old) result machine.new }
 {
-    let value = evaluate(machine, world, context, clauses.iterable.get())?;
-    let line = context.place.line;
-    let place = enter(machine, world, context, token)?;
-    fill_dict(
-        machine,
-        world,
-        context.at(place),
-        line,
-        entry,
-        clauses,
-        value,
-    )
+    let value = evaluate(machine, world, levels, place, clauses.iterable.get())?;
+    let line = place.line;
+    let place = enter(machine, world, place, token)?;
+    fill_dict(machine, world, levels, &place, line, entry, clauses, value)
 }
 
 /// A new dictionary to which the clauses add, over the first iterable.
@@ -95,17 +84,18 @@ pub(crate) fn make_dict(
 fn fill_dict(
     machine: &mut Machine,
     world: &World,
-    context: Context,
+    levels: u32,
+    place: &Place,
     line: usize,
     entry: &Entry,
     clauses: &Clauses,
     value: Value,
 ) -> Result<Value, Stop>
-    ensures { Gives (filled_dict world.now context.levels line context.place entry.entry clauses.now value machine.old) result machine.new }
+    ensures { Gives (filled_dict world.now levels line place.now entry.entry clauses.now value machine.old) result machine.new }
 {
     let dict = new_table(machine, line)?;
     let output = Output::Entry { entry, dict };
-    fill(machine, world, context, clauses, value, output)
+    fill(machine, world, levels, place, clauses, value, output)
 }
 
 /// All clauses over the first iterable; then the list or dictionary to which they add.
@@ -114,14 +104,15 @@ fn fill_dict(
 fn fill(
     machine: &mut Machine,
     world: &World,
-    context: Context,
+    levels: u32,
+    place: &Place,
     clauses: &Clauses,
     value: Value,
     output: Output<'_>,
 ) -> Result<Value, Stop>
-    ensures { Gives (filled world.now context.levels context.place clauses.now value output.entry machine.old) result machine.new }
+    ensures { Gives (filled world.now levels place.now clauses.now value output.entry machine.old) result machine.new }
 {
-    let count = machine.iterate(world.setting(), context.place.line, value)?;
+    let count = machine.iterate(world.setting(), place.line, value)?;
     let first = OpenClause {
         target: &clauses.target,
         value,
@@ -129,7 +120,7 @@ fn fill(
         next: 0,
         more: clauses.more.as_slice(),
     };
-    run_turns(machine, world, context, first, output)?;
+    run_turns(machine, world, levels, place, first, output)?;
     Ok(output.container())
 }
 
@@ -139,11 +130,12 @@ fn fill(
 fn run_turns<'t>(
     machine: &mut Machine,
     world: &World,
-    context: Context,
+    levels: u32,
+    place: &Place,
     first: OpenClause<'t>,
     output: Output<'_>,
 ) -> Result<(), Stop>
-    ensures { Gives (turns_left world.now context.levels context.place output.entry first.entry machine.old) result machine.new }
+    ensures { Gives (turns_left world.now levels place.now output.entry first.entry machine.old) result machine.new }
 {
     let mut outer = Vec::new(machine.alloc());
     let mut clause = first;
@@ -156,7 +148,7 @@ fn run_turns<'t>(
             clause = around;
             continue;
         }
-        let opened = run_turn(machine, world, context, clause, output)?;
+        let opened = run_turn(machine, world, levels, place, clause, output)?;
         clause = clause.past_item();
         if let Some(inner) = opened {
             outer.push(clause)?;
@@ -172,19 +164,20 @@ fn run_turns<'t>(
 fn run_turn<'t>(
     machine: &mut Machine,
     world: &World,
-    context: Context,
+    levels: u32,
+    place: &Place,
     clause: OpenClause<'t>,
     output: Output<'_>,
 ) -> Result<Option<OpenClause<'t>>, Stop>
-    ensures turn { let rest = opened_left world.now context.levels context.place output.entry in
-        let turn = turn_of world.now context.levels context.place output.entry clause.entry in
+    ensures turn { let rest = opened_left world.now levels place.now output.entry in
+        let turn = turn_of world.now levels place.now output.entry clause.entry in
         Leads rest (turn clause.entry.next machine.old) result machine.new }
     ensures paid { OnOk result (machine.new.steps < machine.old.steps) }
 {
-    let line = context.place.line;
+    let line = place.line;
     let item = machine.take_item(world.setting(), line, clause.value, clause.next)?;
-    assign_to(machine, world, context, clause.target, item)?;
-    let opened = run_clauses(machine, world, context, clause.more, output)?;
+    assign_to(machine, world, levels, place, clause.target, item)?;
+    let opened = run_clauses(machine, world, levels, place, clause.more, output)?;
     Ok(opened)
 }
 
@@ -195,20 +188,21 @@ fn run_turn<'t>(
 fn run_clauses<'t>(
     machine: &mut Machine,
     world: &World,
-    context: Context,
+    levels: u32,
+    place: &Place,
     clauses: &'t [Clause],
     output: Output<'_>,
 ) -> Result<Option<OpenClause<'t>>, Stop>
-    ensures run { let rest = opened_left world.now context.levels context.place output.entry in
-        Leads rest (behind world.now context.levels context.place clauses.now output.entry machine.old) result machine.new }
+    ensures run { let rest = opened_left world.now levels place.now output.entry in
+        Leads rest (behind world.now levels place.now clauses.now output.entry machine.old) result machine.new }
     ensures spent { OnOk result (machine.new.steps ≤ machine.old.steps) }
 {
     let mut rest = clauses;
     while let [clause, others @ ..] = rest {
         match clause {
             Clause::For { target, iterable } => {
-                let value = evaluate(machine, world, context, iterable)?;
-                let count = machine.iterate(world.setting(), context.place.line, value)?;
+                let value = evaluate(machine, world, levels, place, iterable)?;
+                let count = machine.iterate(world.setting(), place.line, value)?;
                 return Ok(Some(OpenClause {
                     target,
                     value,
@@ -218,7 +212,7 @@ fn run_clauses<'t>(
                 }));
             }
             Clause::If(condition) => {
-                let value = evaluate(machine, world, context, condition)?;
+                let value = evaluate(machine, world, levels, place, condition)?;
                 if !machine.is_true(world.setting(), value) {
                     return Ok(None);
                 }
@@ -226,7 +220,7 @@ fn run_clauses<'t>(
         }
         rest = others;
     }
-    add(machine, world, context, output)?;
+    add(machine, world, levels, place, output)?;
     Ok(None)
 }
 
@@ -235,22 +229,23 @@ fn run_clauses<'t>(
 fn add(
     machine: &mut Machine,
     world: &World,
-    context: Context,
+    levels: u32,
+    place: &Place,
     output: Output<'_>,
 ) -> Result<(), Stop>
-    ensures { Gives (last world.now context.levels context.place output.entry machine.old) result machine.new }
+    ensures { Gives (last world.now levels place.now output.entry machine.old) result machine.new }
 {
-    let line = context.place.line;
+    let line = place.line;
     match output {
         Output::Element { element, list } => {
-            let value = evaluate(machine, world, context, element)?;
+            let value = evaluate(machine, world, levels, place, element)?;
             machine.pay(line, 1)?;
             let _old = machine.change(world.setting(), line, list, Change::Append(value))?;
             Ok(())
         }
         Output::Entry { entry, dict } => {
-            let (key, value) = evaluate_entry(machine, world, context, entry)?;
-            machine.check_key(world.setting(), context.levels, line, key)?;
+            let (key, value) = evaluate_entry(machine, world, levels, place, entry)?;
+            machine.check_key(world.setting(), levels, line, key)?;
             put_entry(machine, world.setting(), line, dict, key, value)
         }
     }

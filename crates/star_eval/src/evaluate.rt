@@ -7,15 +7,18 @@ ghost use Rattle.star_meaning.specs.Expressions.{defaults, entry_of, maybe, new_
 ghost use Rattle.star_meaning.specs.Run.{each};
 ghost use Rattle.star_scope.specs.Definitions.{body_of, definition_of};
 ghost use Rattle.star_scope.specs.Syntax as form;
+ghost use Rattle.star_meaning.specs.Calls.{AFunction};
+ghost use Rattle.star_eval.specs.ByPlace.{called_by_place, called_with, expression_of, shares_by_place};
 ghost use Rattle.star_eval.specs.Steps.{left};
 ghost use Rattle.star_eval.specs.World.{meant, variables};
 ghost use Rattle.star_meaning.specs.Values.{content};
 ghost use Rattle.star_call.specs.Callees.{function_of, shown};
 ghost use Rattle.star_call.specs.Passed as passing;
 
-use crate::calls::{callee_of, enter_call};
+use crate::calls::{
+    are_positional, callee_of, enter_by_place, enter_call, expression_of, fit_by_place,
+};
 use crate::comprehensions::{make_dict, make_list};
-use crate::context::Context;
 use crate::execute::execute_each;
 use crate::nodes::{
     evaluate_and, evaluate_attribute, evaluate_binary, evaluate_choice, evaluate_comparison,
@@ -25,7 +28,7 @@ use crate::nodes::{
 use crate::parts::{answer_of, new_closure, new_string};
 use crate::variables::read;
 use crate::world::World;
-use sqlite_items::Boxed;
+use sqlite_items::{Boxed, Items};
 use star_attribute::methods::call_method;
 use star_builtin::calls::call_built_in;
 use star_call::callee::{Called, Callee};
@@ -35,6 +38,7 @@ use star_machine::fault::{Stop, faulted};
 use star_machine::machine::Machine;
 use star_meaning::fault::Code;
 use star_meaning::given::Given;
+use star_meaning::place::Place;
 use star_scope::outline::{Body, Definition};
 use star_store::values::{Entries, Value, Values};
 use star_tree::tree::{Argument, Entry, Expression, Parameter};
@@ -45,16 +49,17 @@ use star_tree::tree::{Argument, Entry, Expression, Parameter};
 pub fn evaluate(
     machine: &mut Machine,
     world: &World,
-    context: Context,
+    levels: u32,
+    place: &Place,
     expression: &Expression,
 ) -> Result<Value, Stop>
-    ensures { Gives ((meant world.now context.levels).expr context.place expression.now machine.old) result machine.new }
+    ensures { Gives ((meant world.now levels).expr place.now expression.now machine.old) result machine.new }
 {
-    if context.levels == 0 {
-        return Err(faulted(Code::Deep, context.place.line));
+    if levels == 0 {
+        return Err(faulted(Code::Deep, place.line));
     }
-    machine.pay(context.place.line, 1)?;
-    evaluate_node(machine, world, context.within(), expression)
+    machine.pay(place.line, 1)?;
+    evaluate_node(machine, world, levels - 1, place, expression)
 }
 
 /// The value of a node, whose parts may open so many levels.
@@ -62,18 +67,25 @@ pub fn evaluate(
 fn evaluate_node(
     machine: &mut Machine,
     world: &World,
-    context: Context,
+    levels: u32,
+    place: &Place,
     expression: &Expression,
 ) -> Result<Value, Stop>
-    ensures { Gives (node (variables world.now) world.now.setting context.levels (meant world.now context.levels) context.place (form.expression expression.now) machine.old) result machine.new }
+    ensures { Gives (node (variables world.now) world.now.setting levels (meant world.now levels) place.now (form.expression expression.now) machine.old) result machine.new }
 {
     match expression {
-        Expression::Name(name) => read(machine, world, context.place, name),
+        Expression::Name(name) => read(machine, world, place, name),
         Expression::Int(int) => Ok(Value::Int(*int)),
-        Expression::Text(text) => new_string(machine, context.place.line, text),
-        Expression::Tuple(items) => evaluate_tuple(machine, world, context, items.as_slice()),
-        Expression::List(items) => evaluate_list(machine, world, context, items.as_slice()),
-        Expression::Dict(entries) => evaluate_dict(machine, world, context, entries.as_slice()),
+        Expression::Text(text) => new_string(machine, place.line, text),
+        Expression::Tuple(items) => evaluate_tuple(machine, world, levels, place, items.as_slice()),
+        Expression::List(items) => evaluate_list(machine, world, levels, place, items.as_slice()),
+        Expression::Dict(entries) => evaluate_dict(
+            machine,
+            world,
+            levels,
+            place,
+            entries.as_slice(),
+        ),
         Expression::ListComprehension {
             position,
             element,
@@ -81,7 +93,8 @@ fn evaluate_node(
         } => make_list(
             machine,
             world,
-            context,
+            levels,
+            place,
             position.token,
             element.get(),
             clauses,
@@ -93,19 +106,28 @@ fn evaluate_node(
         } => make_dict(
             machine,
             world,
-            context,
+            levels,
+            place,
             position.token,
             entry.get(),
             clauses,
         ),
         Expression::Unary { operator, operand } => {
-            evaluate_unary(machine, world, context, *operator, operand.get())
+            evaluate_unary(machine, world, levels, place, *operator, operand.get())
         }
         Expression::Binary {
             operator,
             left,
             right,
-        } => evaluate_binary(machine, world, context, *operator, left.get(), right.get()),
+        } => evaluate_binary(
+            machine,
+            world,
+            levels,
+            place,
+            *operator,
+            left.get(),
+            right.get(),
+        ),
         Expression::Compare {
             comparator,
             left,
@@ -113,16 +135,17 @@ fn evaluate_node(
         } => evaluate_comparison(
             machine,
             world,
-            context,
+            levels,
+            place,
             *comparator,
             left.get(),
             right.get(),
         ),
         Expression::And { left, right } => {
-            evaluate_and(machine, world, context, left.get(), right.get())
+            evaluate_and(machine, world, levels, place, left.get(), right.get())
         }
         Expression::Or { left, right } => {
-            evaluate_or(machine, world, context, left.get(), right.get())
+            evaluate_or(machine, world, levels, place, left.get(), right.get())
         }
         Expression::Conditional {
             condition,
@@ -131,7 +154,8 @@ fn evaluate_node(
         } => evaluate_choice(
             machine,
             world,
-            context,
+            levels,
+            place,
             condition.get(),
             chosen.get(),
             otherwise.get(),
@@ -143,7 +167,8 @@ fn evaluate_node(
         } => make_function(
             machine,
             world,
-            context,
+            levels,
+            place,
             position.token,
             "lambda",
             parameters.as_slice(),
@@ -154,22 +179,32 @@ fn evaluate_node(
         } => call(
             machine,
             world,
-            context,
+            levels,
+            place,
             function.get(),
             arguments.as_slice(),
         ),
         Expression::Attribute { value, name } => {
-            evaluate_attribute(machine, world, context, value.get(), name)
+            evaluate_attribute(machine, world, levels, place, value.get(), name)
         }
         Expression::Index { value, index } => {
-            evaluate_index(machine, world, context, value.get(), index.get())
+            evaluate_index(machine, world, levels, place, value.get(), index.get())
         }
         Expression::Slice {
             value,
             start,
             stop,
             stride,
-        } => evaluate_slice(machine, world, context, value.get(), start, stop, stride),
+        } => evaluate_slice(
+            machine,
+            world,
+            levels,
+            place,
+            value.get(),
+            start,
+            stop,
+            stride,
+        ),
     }
 }
 
@@ -178,14 +213,15 @@ fn evaluate_node(
 pub(crate) fn evaluate_each(
     machine: &mut Machine,
     world: &World,
-    context: Context,
+    levels: u32,
+    place: &Place,
     expressions: &[Expression],
 ) -> Result<Values, Stop>
-    ensures { Gives (each ((meant world.now context.levels).expr context.place) expressions.now machine.old) result machine.new }
+    ensures { Gives (each ((meant world.now levels).expr place.now) expressions.now machine.old) result machine.new }
 {
     let mut values = Values::new(Vec::new(machine.alloc()));
     for expression in expressions {
-        let value = evaluate(machine, world, context, expression)?;
+        let value = evaluate(machine, world, levels, place, expression)?;
         values.push(value)?;
     }
     Ok(values)
@@ -196,14 +232,15 @@ pub(crate) fn evaluate_each(
 pub(crate) fn evaluate_maybe(
     machine: &mut Machine,
     world: &World,
-    context: Context,
+    levels: u32,
+    place: &Place,
     expression: &Option<Boxed<Expression>>,
 ) -> Result<Option<Value>, Stop>
-    ensures { Gives (maybe (meant world.now context.levels) context.place expression.now machine.old) result machine.new }
+    ensures { Gives (maybe (meant world.now levels) place.now expression.now machine.old) result machine.new }
 {
     match expression {
         Some(expression) => {
-            let value = evaluate(machine, world, context, expression.get())?;
+            let value = evaluate(machine, world, levels, place, expression.get())?;
             Ok(Some(value))
         }
         None => Ok(None),
@@ -215,13 +252,14 @@ pub(crate) fn evaluate_maybe(
 pub(crate) fn evaluate_entry(
     machine: &mut Machine,
     world: &World,
-    context: Context,
+    levels: u32,
+    place: &Place,
     entry: &Entry,
 ) -> Result<(Value, Value), Stop>
-    ensures { Gives (entry_of (meant world.now context.levels) context.place entry.now machine.old) result machine.new }
+    ensures { Gives (entry_of (meant world.now levels) place.now entry.now machine.old) result machine.new }
 {
-    let key = evaluate(machine, world, context, entry.key.get())?;
-    let value = evaluate(machine, world, context, entry.value.get())?;
+    let key = evaluate(machine, world, levels, place, entry.key.get())?;
+    let value = evaluate(machine, world, levels, place, entry.value.get())?;
     Ok((key, value))
 }
 
@@ -230,14 +268,15 @@ pub(crate) fn evaluate_entry(
 pub(crate) fn evaluate_entries(
     machine: &mut Machine,
     world: &World,
-    context: Context,
+    levels: u32,
+    place: &Place,
     entries: &[Entry],
 ) -> Result<Entries, Stop>
-    ensures { Gives (each (entry_of (meant world.now context.levels) context.place) entries.now machine.old) result machine.new }
+    ensures { Gives (each (entry_of (meant world.now levels) place.now) entries.now machine.old) result machine.new }
 {
     let mut found = Entries::new(machine.alloc());
     for entry in entries {
-        let (key, value) = evaluate_entry(machine, world, context, entry)?;
+        let (key, value) = evaluate_entry(machine, world, levels, place, entry)?;
         found.push(key, value)?;
     }
     Ok(found)
@@ -248,15 +287,16 @@ pub(crate) fn evaluate_entries(
 fn evaluate_defaults(
     machine: &mut Machine,
     world: &World,
-    context: Context,
+    levels: u32,
+    place: &Place,
     parameters: &[Parameter],
 ) -> Result<Values, Stop>
-    ensures { Gives (defaults (meant world.now context.levels) context.place parameters.now machine.old) result machine.new }
+    ensures { Gives (defaults (meant world.now levels) place.now parameters.now machine.old) result machine.new }
 {
     let mut values = Values::new(Vec::new(machine.alloc()));
     for parameter in parameters {
         if let Parameter::Default { default, .. } = parameter {
-            let value = evaluate(machine, world, context, default)?;
+            let value = evaluate(machine, world, levels, place, default)?;
             values.push(value)?;
         }
     }
@@ -268,15 +308,16 @@ fn evaluate_defaults(
 pub(crate) fn make_function(
     machine: &mut Machine,
     world: &World,
-    context: Context,
+    levels: u32,
+    place: &Place,
     token: usize,
     name: &str,
     parameters: &[Parameter],
 ) -> Result<Value, Stop>
-    ensures { Gives (new_function (meant world.now context.levels) context.place token name.now parameters.now machine.old) result machine.new }
+    ensures { Gives (new_function (meant world.now levels) place.now token name.now parameters.now machine.old) result machine.new }
 {
-    let defaults = evaluate_defaults(machine, world, context, parameters)?;
-    new_closure(machine, context.place, token, name, defaults)
+    let defaults = evaluate_defaults(machine, world, levels, place, parameters)?;
+    new_closure(machine, place, token, name, defaults)
 }
 
 /// The value of an argument.
@@ -284,22 +325,44 @@ pub(crate) fn make_function(
 fn pass<'t>(
     machine: &mut Machine,
     world: &World,
-    context: Context,
+    levels: u32,
+    place: &Place,
     argument: &'t Argument,
 ) -> Result<Passed<'t>, Stop>
-    ensures { GivesBy passing.shown (calls.pass (meant world.now context.levels) context.place argument.now machine.old) result machine.new }
+    ensures { GivesBy passing.shown (calls.pass (meant world.now levels) place.now argument.now machine.old) result machine.new }
 {
     match argument {
-        Argument::Positional(value) => Ok(Passed::Plain(evaluate(machine, world, context, value)?)),
+        Argument::Positional(value) => Ok(Passed::Plain(evaluate(
+            machine, world, levels, place, value,
+        )?)),
         Argument::Named { name, value } => {
-            let value = evaluate(machine, world, context, value)?;
+            let value = evaluate(machine, world, levels, place, value)?;
             Ok(Passed::Named(name.text.as_str(), value))
         }
-        Argument::Star(value) => Ok(Passed::Star(evaluate(machine, world, context, value)?)),
+        Argument::Star(value) => Ok(Passed::Star(evaluate(machine, world, levels, place, value)?)),
         Argument::StarStar(value) => Ok(Passed::StarStar(evaluate(
-            machine, world, context, value,
+            machine, world, levels, place, value,
         )?)),
     }
+}
+
+/// The values of the expressions of arguments, one after another.
+#[cycle(run)]
+fn evaluate_arguments(
+    machine: &mut Machine,
+    world: &World,
+    levels: u32,
+    place: &Place,
+    arguments: &[Argument],
+) -> Result<Values, Stop>
+    ensures { Gives (each (λ a. (meant world.now levels).expr place.now (expression_of a)) arguments.now machine.old) result machine.new }
+{
+    let mut values = Values::new(Vec::new(machine.alloc()));
+    for argument in arguments {
+        let value = evaluate(machine, world, levels, place, expression_of(argument))?;
+        values.push(value)?;
+    }
+    Ok(values)
 }
 
 /// The values of arguments, one after another.
@@ -307,14 +370,15 @@ fn pass<'t>(
 fn pass_each<'t>(
     machine: &mut Machine,
     world: &World,
-    context: Context,
+    levels: u32,
+    place: &Place,
     arguments: &'t [Argument],
 ) -> Result<Vec<Passed<'t>>, Stop>
-    ensures { GivesBy (λ ps. passing.all_shown ps.items) (each (calls.pass (meant world.now context.levels) context.place) arguments.now machine.old) result machine.new }
+    ensures { GivesBy (λ ps. passing.all_shown ps.items) (each (calls.pass (meant world.now levels) place.now) arguments.now machine.old) result machine.new }
 {
     let mut values = Vec::new(machine.alloc());
     for argument in arguments {
-        let value = pass(machine, world, context, argument)?;
+        let value = pass(machine, world, levels, place, argument)?;
         values.push(value)?;
     }
     Ok(values)
@@ -322,22 +386,62 @@ fn pass_each<'t>(
 
 /// A call: the callee, the arguments in source order, then the checks in order, then the work.
 #[cycle(run)]
-#[tactic(auto, using(crate::proofs::Called::callee_kept))]
 fn call(
     machine: &mut Machine,
     world: &World,
-    context: Context,
+    levels: u32,
+    place: &Place,
     function: &Expression,
     arguments: &[Argument],
 ) -> Result<Value, Stop>
-    ensures { Gives (calls.call_node world.now.setting context.levels (meant world.now context.levels) context.place function.now arguments.now machine.old) result machine.new }
+    ensures { Gives (calls.call_node world.now.setting levels (meant world.now levels) place.now function.now arguments.now machine.old) result machine.new }
 {
-    let line = context.place.line;
-    let value = evaluate(machine, world, context, function)?;
-    let passed = pass_each(machine, world, context, arguments)?;
+    let value = evaluate(machine, world, levels, place, function)?;
+    if are_positional(arguments) {
+        return call_by_place(machine, world, levels, place, value, arguments);
+    }
+    call_with(machine, world, levels, place, value, arguments)
+}
+
+/// A call of a value whose arguments all stand by place: they are what is given, as they are.
+#[cycle(run)]
+fn call_by_place(
+    machine: &mut Machine,
+    world: &World,
+    levels: u32,
+    place: &Place,
+    value: Value,
+    arguments: &[Argument],
+) -> Result<Value, Stop>
+    ensures { Gives (called_by_place world.now levels place.now value arguments.now machine.old) result machine.new }
+{
+    let plain = evaluate_arguments(machine, world, levels, place, arguments)?;
+    let callee = callee_of(machine, world, place.line, value)?;
+    let given = Given {
+        plain,
+        named: Items::new(machine.alloc()),
+    };
+    call_on(machine, world, levels, place, callee, &given)
+}
+
+/// A call of a value with arguments of any kind.
+#[cycle(run)]
+#[tactic(auto, using(crate::proofs::Called::callee_kept))]
+fn call_with(
+    machine: &mut Machine,
+    world: &World,
+    levels: u32,
+    place: &Place,
+    value: Value,
+    arguments: &[Argument],
+) -> Result<Value, Stop>
+    ensures { Gives (called_with world.now levels place.now value arguments.now machine.old) result machine.new }
+{
+    let line = place.line;
+    let passed = pass_each(machine, world, levels, place, arguments)?;
     let callee = callee_of(machine, world, line, value)?;
     let given = given(machine, world.setting(), line, &passed)?;
-    call_on(machine, world, context, callee, &given)
+    call_on(machine, world, levels, place, callee, &given)
 }
 
 /// A call on what is given: a function's arguments are bound, or `Args`; then it runs, at a level of its own.
@@ -345,33 +449,24 @@ fn call(
 fn call_on(
     machine: &mut Machine,
     world: &World,
-    context: Context,
+    levels: u32,
+    place: &Place,
     callee: Callee<'_>,
     given: &Given,
 ) -> Result<Value, Stop>
-    ensures { Gives (calls.called world.now.setting context.levels (meant world.now context.levels) context.place (shown (content world.now.setting machine.old) callee.entry) given.now machine.old) result machine.new }
+    ensures { Gives (calls.called world.now.setting levels (meant world.now levels) place.now (shown (content world.now.setting machine.old) callee.entry) given.now machine.old) result machine.new }
 {
-    let line = context.place.line;
+    let line = place.line;
     match callee {
-        Callee::AFunction(called) => {
-            let shares = called.bind(machine, world.setting(), line, given)?;
-            run_function(machine, world, context, called, &shares)
-        }
+        Callee::AFunction(called) => call_function(machine, world, levels, place, called, given),
         Callee::ABuiltIn(function) => {
-            call_built_in(
-                machine,
-                world.setting(),
-                context.levels,
-                line,
-                function,
-                given,
-            )
+            call_built_in(machine, world.setting(), levels, line, function, given)
         }
         Callee::AMethod(method, receiver) => {
             call_method(
                 machine,
                 world.setting(),
-                context.levels,
+                levels,
                 line,
                 method,
                 receiver,
@@ -381,28 +476,71 @@ fn call_on(
     }
 }
 
+/// A call of a function: its arguments are bound, or `Args`; then it runs.
+#[cycle(run)]
+#[tactic(auto, using(crate::proofs::ByPlace::bound_by_place))]
+fn call_function(
+    machine: &mut Machine,
+    world: &World,
+    levels: u32,
+    place: &Place,
+    called: Called<'_>,
+    given: &Given,
+) -> Result<Value, Stop>
+    ensures { Gives (calls.called world.now.setting levels (meant world.now levels) place.now (AFunction (function_of (content world.now.setting machine.old called.entry.value) called.entry) (definition_of called.entry.definition)) given.now machine.old) result machine.new }
+{
+    if fit_by_place(called.definition.parameters, given) {
+        return run_by_place(
+            machine,
+            world,
+            levels,
+            place,
+            called,
+            given.plain.as_slice(),
+        );
+    }
+    let shares = called.bind(machine, world.setting(), place.line, given)?;
+    run_function(machine, world, levels, place, called, &shares)
+}
+
+/// The run of a function each of whose parameters gets the value at its own place. `Deep` where no level is left.
+#[cycle(run)]
+#[tactic(auto, using(star_meaning::proofs::Levels::call_at, star_meaning::proofs::Levels::call_at_none, crate::proofs::ByPlace::run_by_place_is))]
+fn run_by_place(
+    machine: &mut Machine,
+    world: &World,
+    levels: u32,
+    place: &Place,
+    called: Called<'_>,
+    values: &[Value],
+) -> Result<Value, Stop>
+    ensures { Gives ((meant world.now levels).call place.now (function_of (content world.now.setting machine.old called.entry.value) called.entry) (definition_of called.entry.definition) (shares_by_place called.entry.definition.parameters.now values.now) machine.old) result machine.new }
+{
+    if levels == 0 {
+        return Err(faulted(Code::Deep, place.line));
+    }
+    let place = enter_by_place(machine, world, place.line, called, values)?;
+    run_left(machine, world, levels - 1, &place, called.definition)
+}
+
 /// The run of a function: the values of its parameters, its frame, the parameters in it, its body. `Deep` where no level is left.
 #[cycle(run)]
 #[tactic(auto, using(star_meaning::proofs::Levels::call_at, star_meaning::proofs::Levels::call_at_none, crate::proofs::Entering::run_is))]
 fn run_function(
     machine: &mut Machine,
     world: &World,
-    context: Context,
+    levels: u32,
+    place: &Place,
     called: Called<'_>,
     shares: &Shares<'_, '_>,
 ) -> Result<Value, Stop>
-    ensures { Gives ((meant world.now context.levels).call context.place (function_of (content world.now.setting machine.old called.entry.value) called.entry) (definition_of called.entry.definition) shares.now machine.old) result machine.new }
+    ensures { Gives ((meant world.now levels).call place.now (function_of (content world.now.setting machine.old called.entry.value) called.entry) (definition_of called.entry.definition) shares.now machine.old) result machine.new }
 {
-    if context.levels == 0 {
-        return Err(faulted(Code::Deep, context.place.line));
+    if levels == 0 {
+        return Err(faulted(Code::Deep, place.line));
     }
-    let place = enter_call(machine, world, context.place.line, called, shares)?;
-    run_left(
-        machine,
-        world,
-        context.within().at(place),
-        called.definition,
-    )
+    let place = enter_call(machine, world, place.line, called, shares)?;
+    run_left(machine, world, levels - 1, &place, called.definition)
 }
 
 /// What is left of a call: the body runs, and its definition ceases to be active.
@@ -410,12 +548,13 @@ fn run_function(
 fn run_left(
     machine: &mut Machine,
     world: &World,
-    context: Context,
+    levels: u32,
+    place: &Place,
     definition: Definition<'_>,
 ) -> Result<Value, Stop>
-    ensures { Gives (left (meant world.now context.levels) (definition_of definition.entry) context.place machine.old) result machine.new }
+    ensures { Gives (left (meant world.now levels) (definition_of definition.entry) place.now machine.old) result machine.new }
 {
-    let answer = run_body(machine, world, context, definition.body)?;
+    let answer = run_body(machine, world, levels, place, definition.body)?;
     machine.deactivate();
     Ok(answer)
 }
@@ -425,16 +564,17 @@ fn run_left(
 fn run_body(
     machine: &mut Machine,
     world: &World,
-    context: Context,
+    levels: u32,
+    place: &Place,
     body: Body<'_>,
 ) -> Result<Value, Stop>
-    ensures { Gives (calls.run_body (meant world.now context.levels) context.place (body_of body.entry) machine.old) result machine.new }
+    ensures { Gives (calls.run_body (meant world.now levels) place.now (body_of body.entry) machine.old) result machine.new }
 {
     match body {
         Body::Statements(statements) => {
-            let flow = execute_each(machine, world, context, statements)?;
+            let flow = execute_each(machine, world, levels, place, statements)?;
             Ok(answer_of(flow))
         }
-        Body::Answer(expression) => evaluate(machine, world, context, expression),
+        Body::Answer(expression) => evaluate(machine, world, levels, place, expression),
     }
 }

@@ -1,6 +1,6 @@
 //! Statements, and what values are assigned to.
 
-ghost use Rattle.std.specs.Prelude.{◌≡◌};
+ghost use Rattle.std.specs.Prelude.{◌≡◌, Some};
 ghost use Rattle.star_machine.specs.Gives.{Gives, GivesBy};
 ghost use Rattle.star_meaning.specs.Meaning.{block, turns};
 ghost use Rattle.star_meaning.specs.Statements as spec;
@@ -8,8 +8,8 @@ ghost use Rattle.star_meaning.specs.Targets.{target_node, to_each, to_target, un
 ghost use Rattle.star_scope.specs.Syntax as form;
 ghost use Rattle.star_eval.specs.World.{meant, variables};
 ghost use Rattle.star_eval.specs.Steps.{shown_parts};
+ghost use Rattle.star_eval.specs.Forms.{alone, assigned, augmented_by, defined, loaded, looped};
 
-use crate::context::Context;
 use crate::evaluate::{evaluate, make_function};
 use crate::loads::load_names;
 use crate::parts::{augmented, place_of, split_first};
@@ -20,9 +20,11 @@ use star_machine::fault::{Stop, faulted};
 use star_machine::machine::Machine;
 use star_machine::subscript::{index, set_index};
 use star_meaning::fault::Code;
-use star_meaning::place::Flow;
+use star_meaning::place::{Flow, Place};
 use star_store::values::Value;
-use star_tree::tree::{Arm, BinaryOperator, Expression, Form, Statement, Target};
+use star_tree::tree::{
+    Arm, BinaryOperator, Expression, Form, LoadedName, Name, Parameter, Position, Statement, Target,
+};
 
 /// How a statement ends. `Deep` where no level is left; it pays 1 as it begins. One of the running module's own file gives a fault
 /// its line.
@@ -31,17 +33,18 @@ use star_tree::tree::{Arm, BinaryOperator, Expression, Form, Statement, Target};
 pub fn execute(
     machine: &mut Machine,
     world: &World,
-    context: Context,
+    levels: u32,
+    place: &Place,
     statement: &Statement,
 ) -> Result<Flow, Stop>
-    ensures { Gives ((meant world.now context.levels).stmt context.place statement.now machine.old) result machine.new }
+    ensures { Gives ((meant world.now levels).stmt place.now statement.now machine.old) result machine.new }
 {
-    let place = place_of(world, context, statement);
-    if context.levels == 0 {
+    let place = place_of(world, place, statement);
+    if levels == 0 {
         return Err(faulted(Code::Deep, place.line));
     }
     machine.pay(place.line, 1)?;
-    execute_form(machine, world, context.within().at(place), statement)
+    execute_form(machine, world, levels - 1, &place, statement)
 }
 
 /// How a statement ends, whose parts may open so many levels.
@@ -49,49 +52,36 @@ pub fn execute(
 fn execute_form(
     machine: &mut Machine,
     world: &World,
-    context: Context,
+    levels: u32,
+    place: &Place,
     statement: &Statement,
 ) -> Result<Flow, Stop>
-    ensures { Gives (spec.statement (variables world.now) world.now.setting context.levels (meant world.now context.levels) context.place (form.position_of statement.now) (form.form_of statement.now) machine.old) result machine.new }
+    ensures { Gives (spec.statement (variables world.now) world.now.setting levels (meant world.now levels) place.now (form.position_of statement.now) (form.form_of statement.now) machine.old) result machine.new }
 {
     match &statement.form {
-        Form::Expression(value) => {
-            let _value = evaluate(machine, world, context, value)?;
-            Ok(Flow::Next)
-        }
-        Form::Assign { target, value } => {
-            let value = evaluate(machine, world, context, value)?;
-            assign_to(machine, world, context, target, value)?;
-            Ok(Flow::Next)
-        }
+        Form::Expression(value) => execute_expression(machine, world, levels, place, value),
+        Form::Assign { target, value } => execute_assign(
+            machine, world, levels, place, target, value,
+        ),
         Form::Augment {
             target,
             operator,
             value,
-        } => {
-            augment_target(machine, world, context, *operator, value, target)?;
-            Ok(Flow::Next)
-        }
+        } => execute_augment(machine, world, levels, place, *operator, value, target),
         Form::Pass => Ok(Flow::Next),
         Form::Break => Ok(Flow::Break),
         Form::Continue => Ok(Flow::Continue),
-        Form::Return(Some(value)) => Ok(Flow::Return(evaluate(machine, world, context, value)?)),
+        Form::Return(Some(value)) => execute_return(machine, world, levels, place, value),
         Form::Return(None) => Ok(Flow::Return(Value::NoneValue)),
         Form::Load { names, .. } => {
-            load_names(
-                machine,
-                world,
-                context,
-                statement.position,
-                names.as_slice(),
-            )?;
-            Ok(Flow::Next)
+            execute_load(machine, world, place, statement.position, names.as_slice())
         }
         Form::If { arms, otherwise } => {
             execute_arms(
                 machine,
                 world,
-                context,
+                levels,
+                place,
                 arms.as_slice(),
                 otherwise.as_slice(),
             )
@@ -100,22 +90,146 @@ fn execute_form(
             target,
             iterable,
             body,
-        } => {
-            let value = evaluate(machine, world, context, iterable)?;
-            execute_loop(machine, world, context, target, body.as_slice(), value)
-        }
+        } => execute_for(
+            machine,
+            world,
+            levels,
+            place,
+            target,
+            iterable,
+            body.as_slice(),
+        ),
         Form::Def {
             name,
             parameters,
             ..
         } => {
             let token = statement.position.token;
-            let text = name.text.as_str();
-            let value = make_function(machine, world, context, token, text, parameters.as_slice())?;
-            bind(machine, world, context.place, name, value)?;
-            Ok(Flow::Next)
+            execute_def(
+                machine,
+                world,
+                levels,
+                place,
+                token,
+                name,
+                parameters.as_slice(),
+            )
         }
     }
+}
+
+/// An expression that stands alone: its value is dropped.
+#[cycle(run)]
+fn execute_expression(
+    machine: &mut Machine,
+    world: &World,
+    levels: u32,
+    place: &Place,
+    value: &Expression,
+) -> Result<Flow, Stop>
+    ensures { Gives (alone world.now levels place.now value.now machine.old) result machine.new }
+{
+    let _value = evaluate(machine, world, levels, place, value)?;
+    Ok(Flow::Next)
+}
+
+/// `target = value`: the value first.
+#[cycle(run)]
+fn execute_assign(
+    machine: &mut Machine,
+    world: &World,
+    levels: u32,
+    place: &Place,
+    target: &Target,
+    value: &Expression,
+) -> Result<Flow, Stop>
+    ensures { Gives (assigned world.now levels place.now target.now value.now machine.old) result machine.new }
+{
+    let value = evaluate(machine, world, levels, place, value)?;
+    assign_to(machine, world, levels, place, target, value)?;
+    Ok(Flow::Next)
+}
+
+/// `target operator= value`.
+#[cycle(run)]
+fn execute_augment(
+    machine: &mut Machine,
+    world: &World,
+    levels: u32,
+    place: &Place,
+    operator: BinaryOperator,
+    value: &Expression,
+    target: &Target,
+) -> Result<Flow, Stop>
+    ensures { Gives (augmented_by world.now levels place.now operator value.now target.now machine.old) result machine.new }
+{
+    augment_target(machine, world, levels, place, operator, value, target)?;
+    Ok(Flow::Next)
+}
+
+/// `return value`.
+#[cycle(run)]
+fn execute_return(
+    machine: &mut Machine,
+    world: &World,
+    levels: u32,
+    place: &Place,
+    value: &Expression,
+) -> Result<Flow, Stop>
+    ensures { Gives (spec.returned (meant world.now levels) place.now (Some value.now) machine.old) result machine.new }
+{
+    let value = evaluate(machine, world, levels, place, value)?;
+    Ok(Flow::Return(value))
+}
+
+/// A load statement at a position.
+fn execute_load(
+    machine: &mut Machine,
+    world: &World,
+    place: &Place,
+    position: Position,
+    names: &[LoadedName],
+) -> Result<Flow, Stop>
+    ensures { Gives (loaded world.now place.now position names.now machine.old) result machine.new }
+{
+    load_names(machine, world, place, position, names)?;
+    Ok(Flow::Next)
+}
+
+/// `for`: the value that is gone over, and then the loop.
+#[cycle(run)]
+fn execute_for(
+    machine: &mut Machine,
+    world: &World,
+    levels: u32,
+    place: &Place,
+    target: &Target,
+    iterable: &Expression,
+    body: &[Statement],
+) -> Result<Flow, Stop>
+    ensures { Gives (looped world.now levels place.now target.now iterable.now body.now machine.old) result machine.new }
+{
+    let value = evaluate(machine, world, levels, place, iterable)?;
+    execute_loop(machine, world, levels, place, target, body, value)
+}
+
+/// `def`: the function that begins at a token, which its name is bound to.
+#[cycle(run)]
+fn execute_def(
+    machine: &mut Machine,
+    world: &World,
+    levels: u32,
+    place: &Place,
+    token: usize,
+    name: &Name,
+    parameters: &[Parameter],
+) -> Result<Flow, Stop>
+    ensures { Gives (defined world.now levels place.now token name.now parameters.now machine.old) result machine.new }
+{
+    let text = name.text.as_str();
+    let value = make_function(machine, world, levels, place, token, text, parameters)?;
+    bind(machine, world, place, name, value)?;
+    Ok(Flow::Next)
 }
 
 /// Statements in order, up to the first behind which the next one does not follow.
@@ -123,13 +237,14 @@ fn execute_form(
 pub fn execute_each(
     machine: &mut Machine,
     world: &World,
-    context: Context,
+    levels: u32,
+    place: &Place,
     statements: &[Statement],
 ) -> Result<Flow, Stop>
-    ensures { Gives (block ((meant world.now context.levels).stmt context.place) statements.now machine.old) result machine.new }
+    ensures { Gives (block ((meant world.now levels).stmt place.now) statements.now machine.old) result machine.new }
 {
     for statement in statements {
-        let flow = execute(machine, world, context, statement)?;
+        let flow = execute(machine, world, levels, place, statement)?;
         if flow != Flow::Next {
             return Ok(flow);
         }
@@ -142,19 +257,20 @@ pub fn execute_each(
 fn execute_arms(
     machine: &mut Machine,
     world: &World,
-    context: Context,
+    levels: u32,
+    place: &Place,
     arms: &[Arm],
     otherwise: &[Statement],
 ) -> Result<Flow, Stop>
-    ensures { Gives (spec.arms world.now.setting (meant world.now context.levels) context.place arms.now (block ((meant world.now context.levels).stmt context.place) otherwise.now) machine.old) result machine.new }
+    ensures { Gives (spec.arms world.now.setting (meant world.now levels) place.now arms.now (block ((meant world.now levels).stmt place.now) otherwise.now) machine.old) result machine.new }
 {
     for arm in arms {
-        let value = evaluate(machine, world, context, &arm.condition)?;
+        let value = evaluate(machine, world, levels, place, &arm.condition)?;
         if machine.is_true(world.setting(), value) {
-            return execute_each(machine, world, context, arm.body.as_slice());
+            return execute_each(machine, world, levels, place, arm.body.as_slice());
         }
     }
-    execute_each(machine, world, context, otherwise)
+    execute_each(machine, world, levels, place, otherwise)
 }
 
 /// `for`: the value is being iterated while the turns run.
@@ -162,15 +278,16 @@ fn execute_arms(
 fn execute_loop(
     machine: &mut Machine,
     world: &World,
-    context: Context,
+    levels: u32,
+    place: &Place,
     target: &Target,
     body: &[Statement],
     value: Value,
 ) -> Result<Flow, Stop>
-    ensures { Gives (spec.loop (variables world.now) world.now.setting (meant world.now context.levels) context.place target.now body.now value machine.old) result machine.new }
+    ensures { Gives (spec.loop (variables world.now) world.now.setting (meant world.now levels) place.now target.now body.now value machine.old) result machine.new }
 {
-    let count = machine.iterate(world.setting(), context.place.line, value)?;
-    let flow = execute_turns(machine, world, context, target, body, value, count)?;
+    let count = machine.iterate(world.setting(), place.line, value)?;
+    let flow = execute_turns(machine, world, levels, place, target, body, value, count)?;
     machine.leave(value);
     Ok(flow)
 }
@@ -181,16 +298,17 @@ fn execute_loop(
 fn execute_turns(
     machine: &mut Machine,
     world: &World,
-    context: Context,
+    levels: u32,
+    place: &Place,
     target: &Target,
     body: &[Statement],
     value: Value,
     count: usize,
 ) -> Result<Flow, Stop>
-    ensures { Gives (turns (spec.loop_turn (variables world.now) world.now.setting (meant world.now context.levels) context.place target.now body.now value) count 0 machine.old) result machine.new }
+    ensures { Gives (turns (spec.loop_turn (variables world.now) world.now.setting (meant world.now levels) place.now target.now body.now value) count 0 machine.old) result machine.new }
 {
     for i in 0..count {
-        match execute_turn(machine, world, context, target, body, value, i)? {
+        match execute_turn(machine, world, levels, place, target, body, value, i)? {
             Flow::Next | Flow::Continue => {}
             Flow::Break => return Ok(Flow::Next),
             Flow::Return(answer) => return Ok(Flow::Return(answer)),
@@ -204,17 +322,18 @@ fn execute_turns(
 fn execute_turn(
     machine: &mut Machine,
     world: &World,
-    context: Context,
+    levels: u32,
+    place: &Place,
     target: &Target,
     body: &[Statement],
     value: Value,
     i: usize,
 ) -> Result<Flow, Stop>
-    ensures { Gives (spec.loop_turn (variables world.now) world.now.setting (meant world.now context.levels) context.place target.now body.now value i machine.old) result machine.new }
+    ensures { Gives (spec.loop_turn (variables world.now) world.now.setting (meant world.now levels) place.now target.now body.now value i machine.old) result machine.new }
 {
-    let item = machine.take_item(world.setting(), context.place.line, value, i)?;
-    assign_to(machine, world, context, target, item)?;
-    execute_each(machine, world, context, body)
+    let item = machine.take_item(world.setting(), place.line, value, i)?;
+    assign_to(machine, world, levels, place, target, item)?;
+    execute_each(machine, world, levels, place, body)
 }
 
 /// `target operator= value`: the target's parts are evaluated once, it is read, the value is evaluated, then it is computed and
@@ -223,36 +342,37 @@ fn execute_turn(
 fn augment_target(
     machine: &mut Machine,
     world: &World,
-    context: Context,
+    levels: u32,
+    place: &Place,
     operator: BinaryOperator,
     value: &Expression,
     target: &Target,
 ) -> Result<(), Stop>
-    ensures { Gives (spec.augment (variables world.now) world.now.setting context.levels (meant world.now context.levels) context.place operator value.now (form.target target.now) machine.old) result machine.new }
+    ensures { Gives (spec.augment (variables world.now) world.now.setting levels (meant world.now levels) place.now operator value.now (form.target target.now) machine.old) result machine.new }
 {
     match target {
         Target::Name(name) => {
-            let old = read(machine, world, context.place, name)?;
-            let by = evaluate(machine, world, context, value)?;
-            let new = augmented(machine, world, context, operator, old, by)?;
-            bind(machine, world, context.place, name, new)
+            let old = read(machine, world, place, name)?;
+            let by = evaluate(machine, world, levels, place, value)?;
+            let new = augmented(machine, world, levels, place.line, operator, old, by)?;
+            bind(machine, world, place, name, new)
         }
         Target::Index { value: base, index } => {
-            let parts = read_target(machine, world, context, base.get(), index.get())?;
-            let by = evaluate(machine, world, context, value)?;
-            let new = augmented(machine, world, context, operator, parts.old, by)?;
-            let line = context.place.line;
+            let parts = read_target(machine, world, levels, place, base.get(), index.get())?;
+            let by = evaluate(machine, world, levels, place, value)?;
+            let new = augmented(machine, world, levels, place.line, operator, parts.old, by)?;
+            let line = place.line;
             set_index(
                 machine,
                 world.setting(),
-                context.levels,
+                levels,
                 line,
                 parts.base,
                 parts.index,
                 new,
             )
         }
-        _ => Err(faulted(Code::BadType, context.place.line)),
+        _ => Err(faulted(Code::BadType, place.line)),
     }
 }
 
@@ -261,16 +381,17 @@ fn augment_target(
 pub(crate) fn assign_to(
     machine: &mut Machine,
     world: &World,
-    context: Context,
+    levels: u32,
+    place: &Place,
     target: &Target,
     value: Value,
 ) -> Result<(), Stop>
-    ensures { Gives (to_target (variables world.now) (meant world.now context.levels) context.place target.now value machine.old) result machine.new }
+    ensures { Gives (to_target (variables world.now) (meant world.now levels) place.now target.now value machine.old) result machine.new }
 {
     if let Target::Name(name) = target {
-        return bind(machine, world, context.place, name, value);
+        return bind(machine, world, place, name, value);
     }
-    assign(machine, world, context, target, value)
+    assign(machine, world, levels, place, target, value)
 }
 
 /// A value to a target that is no plain name. `Deep` where no level is left; it pays 1 as it begins.
@@ -279,17 +400,18 @@ pub(crate) fn assign_to(
 fn assign(
     machine: &mut Machine,
     world: &World,
-    context: Context,
+    levels: u32,
+    place: &Place,
     target: &Target,
     value: Value,
 ) -> Result<(), Stop>
-    ensures { Gives ((meant world.now context.levels).assign context.place target.now value machine.old) result machine.new }
+    ensures { Gives ((meant world.now levels).assign place.now target.now value machine.old) result machine.new }
 {
-    if context.levels == 0 {
-        return Err(faulted(Code::Deep, context.place.line));
+    if levels == 0 {
+        return Err(faulted(Code::Deep, place.line));
     }
-    machine.pay(context.place.line, 1)?;
-    assign_node(machine, world, context.within(), target, value)
+    machine.pay(place.line, 1)?;
+    assign_node(machine, world, levels - 1, place, target, value)
 }
 
 /// The node of a target that is no plain name.
@@ -297,29 +419,30 @@ fn assign(
 fn assign_node(
     machine: &mut Machine,
     world: &World,
-    context: Context,
+    levels: u32,
+    place: &Place,
     target: &Target,
     value: Value,
 ) -> Result<(), Stop>
-    ensures { Gives (target_node (variables world.now) world.now.setting context.levels (meant world.now context.levels) context.place (form.target target.now) value machine.old) result machine.new }
+    ensures { Gives (target_node (variables world.now) world.now.setting levels (meant world.now levels) place.now (form.target target.now) value machine.old) result machine.new }
 {
     match target {
-        Target::Name(name) => { bind(machine, world, context.place, name, value) }
+        Target::Name(name) => { bind(machine, world, place, name, value) }
         Target::Index { value: base, index } => {
-            let base = evaluate(machine, world, context, base.get())?;
-            let at = evaluate(machine, world, context, index.get())?;
+            let base = evaluate(machine, world, levels, place, base.get())?;
+            let at = evaluate(machine, world, levels, place, index.get())?;
             set_index(
                 machine,
                 world.setting(),
-                context.levels,
-                context.place.line,
+                levels,
+                place.line,
                 base,
                 at,
                 value,
             )
         }
         Target::Tuple(targets) | Target::List(targets) => {
-            unpack_to(machine, world, context, targets.as_slice(), value)
+            unpack_to(machine, world, levels, place, targets.as_slice(), value)
         }
     }
 }
@@ -329,17 +452,18 @@ fn assign_node(
 fn unpack_to(
     machine: &mut Machine,
     world: &World,
-    context: Context,
+    levels: u32,
+    place: &Place,
     targets: &[Target],
     value: Value,
 ) -> Result<(), Stop>
-    ensures { Gives (unpack (variables world.now) world.now.setting (meant world.now context.levels) context.place targets.now value machine.old) result machine.new }
+    ensures { Gives (unpack (variables world.now) world.now.setting (meant world.now levels) place.now targets.now value machine.old) result machine.new }
 {
-    let items = machine.take_all(world.setting(), context.place.line, value)?;
+    let items = machine.take_all(world.setting(), place.line, value)?;
     if items.len() != targets.len() {
-        return Err(faulted(Code::BadValue, context.place.line));
+        return Err(faulted(Code::BadValue, place.line));
     }
-    assign_each(machine, world, context, targets, items.as_slice())
+    assign_each(machine, world, levels, place, targets, items.as_slice())
 }
 
 /// Values to as many targets, in order. `BadValue` for another number.
@@ -347,22 +471,23 @@ fn unpack_to(
 fn assign_each(
     machine: &mut Machine,
     world: &World,
-    context: Context,
+    levels: u32,
+    place: &Place,
     targets: &[Target],
     values: &[Value],
 ) -> Result<(), Stop>
-    ensures { Gives (to_each (variables world.now) (meant world.now context.levels) context.place targets.now values.now machine.old) result machine.new }
+    ensures { Gives (to_each (variables world.now) (meant world.now levels) place.now targets.now values.now machine.old) result machine.new }
 {
     let mut rest = values;
     for target in targets {
         let Some((value, more)) = split_first(rest) else {
-            return Err(faulted(Code::BadValue, context.place.line));
+            return Err(faulted(Code::BadValue, place.line));
         };
-        assign_to(machine, world, context, target, value)?;
+        assign_to(machine, world, levels, place, target, value)?;
         rest = more;
     }
     if !rest.is_empty() {
-        return Err(faulted(Code::BadValue, context.place.line));
+        return Err(faulted(Code::BadValue, place.line));
     }
     Ok(())
 }
@@ -373,27 +498,21 @@ fn assign_each(
 fn read_target(
     machine: &mut Machine,
     world: &World,
-    context: Context,
+    levels: u32,
+    place: &Place,
     base: &Expression,
     at: &Expression,
 ) -> Result<TargetParts, Stop>
-    ensures { GivesBy shown_parts ((meant world.now context.levels).parts context.place base.now at.now machine.old) result machine.new }
+    ensures { GivesBy shown_parts ((meant world.now levels).parts place.now base.now at.now machine.old) result machine.new }
 {
-    if context.levels == 0 {
-        return Err(faulted(Code::Deep, context.place.line));
+    if levels == 0 {
+        return Err(faulted(Code::Deep, place.line));
     }
-    machine.pay(context.place.line, 1)?;
-    let context = context.within();
-    let base = evaluate(machine, world, context, base)?;
-    let at = evaluate(machine, world, context, at)?;
-    let old = index(
-        machine,
-        world.setting(),
-        context.levels,
-        context.place.line,
-        base,
-        at,
-    )?;
+    machine.pay(place.line, 1)?;
+    let levels = levels - 1;
+    let base = evaluate(machine, world, levels, place, base)?;
+    let at = evaluate(machine, world, levels, place, at)?;
+    let old = index(machine, world.setting(), levels, place.line, base, at)?;
     Ok(TargetParts {
         base,
         index: at,

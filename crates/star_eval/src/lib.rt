@@ -3,7 +3,6 @@
 
 mod calls;
 mod comprehensions;
-pub mod context;
 pub mod evaluate;
 pub mod execute;
 pub mod files;

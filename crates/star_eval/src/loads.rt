@@ -8,12 +8,12 @@ ghost use Rattle.star_meaning.specs.Run.{all_of};
 ghost use Rattle.star_meaning.specs.Statements as spec;
 ghost use Rattle.star_eval.specs.World.{variables};
 
-use crate::context::Context;
 use crate::variables::bind;
 use crate::world::World;
 use star_machine::fault::{Stop, faulted};
 use star_machine::machine::Machine;
 use star_meaning::fault::Code;
+use star_meaning::place::Place;
 use star_store::arena::Frozen;
 use star_store::values::Value;
 use star_tree::tree::{LoadedName, Position};
@@ -42,30 +42,30 @@ fn global(published: Option<&Frozen>, name: &LoadedName) -> Option<Value>
 fn load_name(
     machine: &mut Machine,
     world: &World,
-    context: Context,
+    place: &Place,
     published: Option<&Frozen>,
     name: &LoadedName,
 ) -> Result<(), Stop>
-    ensures { Gives (spec.load_name (variables world.now) context.place (option_copied published.entry) name.now machine.old) result machine.new }
+    ensures { Gives (spec.load_name (variables world.now) place.now (option_copied published.entry) name.now machine.old) result machine.new }
 {
     let Some(value) = global(published, name) else {
-        return Err(faulted(Code::NoName, context.place.line));
+        return Err(faulted(Code::NoName, place.line));
     };
-    bind(machine, world, context.place, &name.local, value)
+    bind(machine, world, place, &name.local, value)
 }
 
 /// Binds loaded names, one after another.
 fn load_each(
     machine: &mut Machine,
     world: &World,
-    context: Context,
+    place: &Place,
     published: Option<&Frozen>,
     names: &[LoadedName],
 ) -> Result<(), Stop>
-    ensures { Gives (all_of (spec.load_name (variables world.now) context.place (option_copied published.entry)) names.now machine.old) result machine.new }
+    ensures { Gives (all_of (spec.load_name (variables world.now) place.now (option_copied published.entry)) names.now machine.old) result machine.new }
 {
     for name in names {
-        load_name(machine, world, context, published, name)?;
+        load_name(machine, world, place, published, name)?;
     }
     Ok(())
 }
@@ -74,12 +74,12 @@ fn load_each(
 pub(crate) fn load_names(
     machine: &mut Machine,
     world: &World,
-    context: Context,
+    place: &Place,
     position: Position,
     names: &[LoadedName],
 ) -> Result<(), Stop>
-    ensures { Gives (all_of (spec.load_name (variables world.now) context.place (spec.module_of world.now.setting position)) names.now machine.old) result machine.new }
+    ensures { Gives (all_of (spec.load_name (variables world.now) place.now (spec.module_of world.now.setting position)) names.now machine.old) result machine.new }
 {
     let published = published(world, position);
-    load_each(machine, world, context, published, names)
+    load_each(machine, world, place, published, names)
 }

@@ -6,7 +6,6 @@ ghost use Rattle.star_meaning.specs.Expressions.{node};
 ghost use Rattle.star_tree.specs.declared.tree.Argument.TheOpen as tree;
 ghost use Rattle.star_eval.specs.World.{meant, variables};
 
-use crate::context::Context;
 use crate::evaluate::{evaluate, evaluate_each, evaluate_entries, evaluate_maybe};
 use crate::parts::fresh_entries;
 use crate::world::World;
@@ -18,6 +17,7 @@ use star_machine::machine::Machine;
 use star_machine::operators::{operate, prefix};
 use star_machine::slices::slice;
 use star_machine::subscript::index;
+use star_meaning::place::Place;
 use star_store::values::Value;
 use star_tree::tree::{BinaryOperator, Comparator, Entry, Expression, Name, UnaryOperator};
 
@@ -26,13 +26,14 @@ use star_tree::tree::{BinaryOperator, Comparator, Entry, Expression, Name, Unary
 pub(crate) fn evaluate_tuple(
     machine: &mut Machine,
     world: &World,
-    context: Context,
+    levels: u32,
+    place: &Place,
     items: &[Expression],
 ) -> Result<Value, Stop>
-    ensures { Gives (node (variables world.now) world.now.setting context.levels (meant world.now context.levels) context.place (tree.Expression-F.Expression::Tuple items.now) machine.old) result machine.new }
+    ensures { Gives (node (variables world.now) world.now.setting levels (meant world.now levels) place.now (tree.Expression-F.Expression::Tuple items.now) machine.old) result machine.new }
 {
-    let values = evaluate_each(machine, world, context, items)?;
-    machine.new_tuple(context.place.line, values)
+    let values = evaluate_each(machine, world, levels, place, items)?;
+    machine.new_tuple(place.line, values)
 }
 
 /// A list: its items in order, then 1 and one for each.
@@ -40,13 +41,14 @@ pub(crate) fn evaluate_tuple(
 pub(crate) fn evaluate_list(
     machine: &mut Machine,
     world: &World,
-    context: Context,
+    levels: u32,
+    place: &Place,
     items: &[Expression],
 ) -> Result<Value, Stop>
-    ensures { Gives (node (variables world.now) world.now.setting context.levels (meant world.now context.levels) context.place (tree.Expression-F.Expression::List items.now) machine.old) result machine.new }
+    ensures { Gives (node (variables world.now) world.now.setting levels (meant world.now levels) place.now (tree.Expression-F.Expression::List items.now) machine.old) result machine.new }
 {
-    let values = evaluate_each(machine, world, context, items)?;
-    machine.new_list(context.place.line, values)
+    let values = evaluate_each(machine, world, levels, place, items)?;
+    machine.new_list(place.line, values)
 }
 
 /// A dictionary: its entries in order, whose keys are then checked and must differ, then 1 and one for each.
@@ -54,14 +56,15 @@ pub(crate) fn evaluate_list(
 pub(crate) fn evaluate_dict(
     machine: &mut Machine,
     world: &World,
-    context: Context,
+    levels: u32,
+    place: &Place,
     entries: &[Entry],
 ) -> Result<Value, Stop>
-    ensures { Gives (node (variables world.now) world.now.setting context.levels (meant world.now context.levels) context.place (tree.Dict entries.now) machine.old) result machine.new }
+    ensures { Gives (node (variables world.now) world.now.setting levels (meant world.now levels) place.now (tree.Dict entries.now) machine.old) result machine.new }
 {
-    let found = evaluate_entries(machine, world, context, entries)?;
-    let fresh = fresh_entries(machine, world, context, &found)?;
-    machine.new_dict(context.place.line, fresh)
+    let found = evaluate_entries(machine, world, levels, place, entries)?;
+    let fresh = fresh_entries(machine, world, levels, place.line, &found)?;
+    machine.new_dict(place.line, fresh)
 }
 
 /// A sign before an operand.
@@ -69,20 +72,15 @@ pub(crate) fn evaluate_dict(
 pub(crate) fn evaluate_unary(
     machine: &mut Machine,
     world: &World,
-    context: Context,
+    levels: u32,
+    place: &Place,
     operator: UnaryOperator,
     operand: &Expression,
 ) -> Result<Value, Stop>
-    ensures { Gives (node (variables world.now) world.now.setting context.levels (meant world.now context.levels) context.place (tree.Unary operator operand.now) machine.old) result machine.new }
+    ensures { Gives (node (variables world.now) world.now.setting levels (meant world.now levels) place.now (tree.Unary operator operand.now) machine.old) result machine.new }
 {
-    let value = evaluate(machine, world, context, operand)?;
-    prefix(
-        machine,
-        world.setting(),
-        context.place.line,
-        operator,
-        value,
-    )
+    let value = evaluate(machine, world, levels, place, operand)?;
+    prefix(machine, world.setting(), place.line, operator, value)
 }
 
 /// A sign between two operands: the left one first.
@@ -90,25 +88,18 @@ pub(crate) fn evaluate_unary(
 pub(crate) fn evaluate_binary(
     machine: &mut Machine,
     world: &World,
-    context: Context,
+    levels: u32,
+    place: &Place,
     operator: BinaryOperator,
     left: &Expression,
     right: &Expression,
 ) -> Result<Value, Stop>
-    ensures { Gives (node (variables world.now) world.now.setting context.levels (meant world.now context.levels) context.place (tree.Binary operator left.now right.now) machine.old) result machine.new }
+    ensures { Gives (node (variables world.now) world.now.setting levels (meant world.now levels) place.now (tree.Binary operator left.now right.now) machine.old) result machine.new }
 {
-    let x = evaluate(machine, world, context, left)?;
-    let y = evaluate(machine, world, context, right)?;
-    let line = context.place.line;
-    operate(
-        machine,
-        world.setting(),
-        context.levels,
-        line,
-        operator,
-        x,
-        y,
-    )
+    let x = evaluate(machine, world, levels, place, left)?;
+    let y = evaluate(machine, world, levels, place, right)?;
+    let line = place.line;
+    operate(machine, world.setting(), levels, line, operator, x, y)
 }
 
 /// A comparison: the left operand first.
@@ -116,25 +107,18 @@ pub(crate) fn evaluate_binary(
 pub(crate) fn evaluate_comparison(
     machine: &mut Machine,
     world: &World,
-    context: Context,
+    levels: u32,
+    place: &Place,
     comparator: Comparator,
     left: &Expression,
     right: &Expression,
 ) -> Result<Value, Stop>
-    ensures { Gives (node (variables world.now) world.now.setting context.levels (meant world.now context.levels) context.place (tree.Compare comparator left.now right.now) machine.old) result machine.new }
+    ensures { Gives (node (variables world.now) world.now.setting levels (meant world.now levels) place.now (tree.Compare comparator left.now right.now) machine.old) result machine.new }
 {
-    let x = evaluate(machine, world, context, left)?;
-    let y = evaluate(machine, world, context, right)?;
-    let line = context.place.line;
-    compared(
-        machine,
-        world.setting(),
-        context.levels,
-        line,
-        comparator,
-        x,
-        y,
-    )
+    let x = evaluate(machine, world, levels, place, left)?;
+    let y = evaluate(machine, world, levels, place, right)?;
+    let line = place.line;
+    compared(machine, world.setting(), levels, line, comparator, x, y)
 }
 
 /// `and`: the right operand only where the left one is true.
@@ -142,15 +126,16 @@ pub(crate) fn evaluate_comparison(
 pub(crate) fn evaluate_and(
     machine: &mut Machine,
     world: &World,
-    context: Context,
+    levels: u32,
+    place: &Place,
     left: &Expression,
     right: &Expression,
 ) -> Result<Value, Stop>
-    ensures { Gives (node (variables world.now) world.now.setting context.levels (meant world.now context.levels) context.place (tree.And left.now right.now) machine.old) result machine.new }
+    ensures { Gives (node (variables world.now) world.now.setting levels (meant world.now levels) place.now (tree.And left.now right.now) machine.old) result machine.new }
 {
-    let x = evaluate(machine, world, context, left)?;
+    let x = evaluate(machine, world, levels, place, left)?;
     if machine.is_true(world.setting(), x) {
-        return evaluate(machine, world, context, right);
+        return evaluate(machine, world, levels, place, right);
     }
     Ok(x)
 }
@@ -160,17 +145,18 @@ pub(crate) fn evaluate_and(
 pub(crate) fn evaluate_or(
     machine: &mut Machine,
     world: &World,
-    context: Context,
+    levels: u32,
+    place: &Place,
     left: &Expression,
     right: &Expression,
 ) -> Result<Value, Stop>
-    ensures { Gives (node (variables world.now) world.now.setting context.levels (meant world.now context.levels) context.place (tree.Or left.now right.now) machine.old) result machine.new }
+    ensures { Gives (node (variables world.now) world.now.setting levels (meant world.now levels) place.now (tree.Or left.now right.now) machine.old) result machine.new }
 {
-    let x = evaluate(machine, world, context, left)?;
+    let x = evaluate(machine, world, levels, place, left)?;
     if machine.is_true(world.setting(), x) {
         return Ok(x);
     }
-    evaluate(machine, world, context, right)
+    evaluate(machine, world, levels, place, right)
 }
 
 /// `chosen if condition else otherwise`: the condition, then one of the two.
@@ -178,18 +164,19 @@ pub(crate) fn evaluate_or(
 pub(crate) fn evaluate_choice(
     machine: &mut Machine,
     world: &World,
-    context: Context,
+    levels: u32,
+    place: &Place,
     condition: &Expression,
     chosen: &Expression,
     otherwise: &Expression,
 ) -> Result<Value, Stop>
-    ensures { Gives (node (variables world.now) world.now.setting context.levels (meant world.now context.levels) context.place (tree.Conditional condition.now chosen.now otherwise.now) machine.old) result machine.new }
+    ensures { Gives (node (variables world.now) world.now.setting levels (meant world.now levels) place.now (tree.Conditional condition.now chosen.now otherwise.now) machine.old) result machine.new }
 {
-    let x = evaluate(machine, world, context, condition)?;
+    let x = evaluate(machine, world, levels, place, condition)?;
     if machine.is_true(world.setting(), x) {
-        return evaluate(machine, world, context, chosen);
+        return evaluate(machine, world, levels, place, chosen);
     }
-    evaluate(machine, world, context, otherwise)
+    evaluate(machine, world, levels, place, otherwise)
 }
 
 /// `value[at]`: the value first.
@@ -197,22 +184,16 @@ pub(crate) fn evaluate_choice(
 pub(crate) fn evaluate_index(
     machine: &mut Machine,
     world: &World,
-    context: Context,
+    levels: u32,
+    place: &Place,
     value: &Expression,
     at: &Expression,
 ) -> Result<Value, Stop>
-    ensures { Gives (node (variables world.now) world.now.setting context.levels (meant world.now context.levels) context.place (tree.Expression-F.Expression::Index value.now at.now) machine.old) result machine.new }
+    ensures { Gives (node (variables world.now) world.now.setting levels (meant world.now levels) place.now (tree.Expression-F.Expression::Index value.now at.now) machine.old) result machine.new }
 {
-    let value = evaluate(machine, world, context, value)?;
-    let at = evaluate(machine, world, context, at)?;
-    index(
-        machine,
-        world.setting(),
-        context.levels,
-        context.place.line,
-        value,
-        at,
-    )
+    let value = evaluate(machine, world, levels, place, value)?;
+    let at = evaluate(machine, world, levels, place, at)?;
+    index(machine, world.setting(), levels, place.line, value, at)
 }
 
 /// `value[start:stop:stride]`: the value, then the parts that are there, in order.
@@ -220,19 +201,20 @@ pub(crate) fn evaluate_index(
 pub(crate) fn evaluate_slice(
     machine: &mut Machine,
     world: &World,
-    context: Context,
+    levels: u32,
+    place: &Place,
     value: &Expression,
     start: &Option<Boxed<Expression>>,
     stop: &Option<Boxed<Expression>>,
     stride: &Option<Boxed<Expression>>,
 ) -> Result<Value, Stop>
-    ensures { Gives (node (variables world.now) world.now.setting context.levels (meant world.now context.levels) context.place (tree.Slice value.now start.now stop.now stride.now) machine.old) result machine.new }
+    ensures { Gives (node (variables world.now) world.now.setting levels (meant world.now levels) place.now (tree.Slice value.now start.now stop.now stride.now) machine.old) result machine.new }
 {
-    let value = evaluate(machine, world, context, value)?;
-    let start = evaluate_maybe(machine, world, context, start)?;
-    let stop = evaluate_maybe(machine, world, context, stop)?;
-    let stride = evaluate_maybe(machine, world, context, stride)?;
-    let line = context.place.line;
+    let value = evaluate(machine, world, levels, place, value)?;
+    let start = evaluate_maybe(machine, world, levels, place, start)?;
+    let stop = evaluate_maybe(machine, world, levels, place, stop)?;
+    let stride = evaluate_maybe(machine, world, levels, place, stride)?;
+    let line = place.line;
     slice(machine, world.setting(), line, value, start, stop, stride)
 }
 
@@ -241,17 +223,18 @@ pub(crate) fn evaluate_slice(
 pub(crate) fn evaluate_attribute(
     machine: &mut Machine,
     world: &World,
-    context: Context,
+    levels: u32,
+    place: &Place,
     value: &Expression,
     name: &Name,
 ) -> Result<Value, Stop>
-    ensures { Gives (node (variables world.now) world.now.setting context.levels (meant world.now context.levels) context.place (tree.Attribute value.now name.now) machine.old) result machine.new }
+    ensures { Gives (node (variables world.now) world.now.setting levels (meant world.now levels) place.now (tree.Attribute value.now name.now) machine.old) result machine.new }
 {
-    let value = evaluate(machine, world, context, value)?;
+    let value = evaluate(machine, world, levels, place, value)?;
     attribute(
         machine,
         world.setting(),
-        context.place.line,
+        place.line,
         value,
         name.text.as_str(),
     )

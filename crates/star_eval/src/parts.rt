@@ -12,7 +12,6 @@ ghost use Rattle.star_meaning.specs.Statements as spec;
 ghost use Rattle.star_store.specs.declared.values.Cell.TheVariants as cell;
 ghost use Rattle.star_eval.specs.World.{variables};
 
-use crate::context::Context;
 use crate::variables::paid_frame;
 use crate::world::World;
 use star_machine::content::Kind;
@@ -28,15 +27,15 @@ use star_text::Text;
 use star_tree::tree::{BinaryOperator, Statement};
 
 /// Where a statement runs: one of the running module's own file gives a fault its line.
-pub(crate) fn place_of(world: &World, context: Context, statement: &Statement) -> Place
-    ensures { result ≡ at_line world.now.setting context.place statement.now }
+pub(crate) fn place_of(world: &World, place: &Place, statement: &Statement) -> Place
+    ensures { result ≡ at_line world.now.setting place.now statement.now }
 {
-    if context.place.file != world.setting().home() {
-        return context.place;
+    if place.file != world.setting().home() {
+        return *place;
     }
     Place {
-        file: context.place.file,
-        frame: context.place.frame,
+        file: place.file,
+        frame: place.frame,
         line: statement.position.line,
     }
 }
@@ -72,12 +71,12 @@ pub(crate) fn new_string(machine: &mut Machine, line: usize, text: &Text) -> Res
 /// A new function, which pays 1.
 pub(crate) fn new_closure(
     machine: &mut Machine,
-    place: Place,
+    place: &Place,
     token: usize,
     name: &str,
     defaults: Values,
 ) -> Result<Value, Stop>
-    ensures { Gives (build place.line 1 (cell.Func (record { file = place.file; definition = token; name = name.now; defaults = defaults; frame = place.frame })) machine.old) result machine.new }
+    ensures { Gives (build place.now.line 1 (cell.Func (record { file = place.now.file; definition = token; name = name.now; defaults = defaults; frame = place.now.frame })) machine.old) result machine.new }
 {
     let Ok(definition) = u32::try_from(token) else {
         return Err(Stop::Memory);
@@ -112,12 +111,11 @@ pub(crate) fn new_table(machine: &mut Machine, line: usize) -> Result<Value, Sto
 pub(crate) fn enter(
     machine: &mut Machine,
     world: &World,
-    context: Context,
+    place: &Place,
     token: usize,
 ) -> Result<Place, Stop>
-    ensures { Gives (inner (variables world.now) context.place (1 + token) machine.old) result machine.new }
+    ensures { Gives (inner (variables world.now) place.now (1 + token) machine.old) result machine.new }
 {
-    let place = context.place;
     let Some(block) = token.checked_add(1) else {
         return Err(Stop::Memory);
     };
@@ -140,16 +138,16 @@ pub(crate) fn enter(
 fn with_fresh(
     machine: &mut Machine,
     world: &World,
-    context: Context,
+    levels: u32,
+    line: usize,
     entries: Entries,
     entry: (Value, Value),
 ) -> Result<Entries, Stop>
-    ensures { Gives (fresh_entry world.now.setting context.levels context.place.line entries entry machine.old) result machine.new }
+    ensures { Gives (fresh_entry world.now.setting levels line entries entry machine.old) result machine.new }
 {
     let mut entries = entries;
     let setting = world.setting();
-    let line = context.place.line;
-    machine.check_key(setting, context.levels, line, entry.0)?;
+    machine.check_key(setting, levels, line, entry.0)?;
     if machine.place_of(setting, entry.0, &entries).is_some() {
         return Err(faulted(Code::Key, line));
     }
@@ -161,14 +159,15 @@ fn with_fresh(
 pub(crate) fn fresh_entries(
     machine: &mut Machine,
     world: &World,
-    context: Context,
+    levels: u32,
+    line: usize,
     found: &Entries,
 ) -> Result<Entries, Stop>
-    ensures { Gives (fresh_entries world.now.setting context.levels context.place.line [] found.now machine.old) result machine.new }
+    ensures { Gives (fresh_entries world.now.setting levels line [] found.now machine.old) result machine.new }
 {
     let mut entries = Entries::new(machine.alloc());
     for entry in found.as_slice() {
-        entries = with_fresh(machine, world, context, entries, *entry)?;
+        entries = with_fresh(machine, world, levels, line, entries, *entry)?;
     }
     Ok(entries)
 }
@@ -178,14 +177,14 @@ pub(crate) fn fresh_entries(
 pub(crate) fn augmented(
     machine: &mut Machine,
     world: &World,
-    context: Context,
+    levels: u32,
+    line: usize,
     operator: BinaryOperator,
     x: Value,
     y: Value,
 ) -> Result<Value, Stop>
-    ensures { Gives (spec.augmented world.now.setting context.levels context.place.line operator x y machine.old) result machine.new }
+    ensures { Gives (spec.augmented world.now.setting levels line operator x y machine.old) result machine.new }
 {
-    let line = context.place.line;
     let setting = world.setting();
     match (operator, machine.kind(setting, x)) {
         (BinaryOperator::Add, Kind::List) => {
@@ -193,9 +192,9 @@ pub(crate) fn augmented(
             Ok(x)
         }
         (BinaryOperator::BitOr, Kind::Dict) => {
-            update_with(machine, setting, context.levels, line, x, Some(y), &[])?;
+            update_with(machine, setting, levels, line, x, Some(y), &[])?;
             Ok(x)
         }
-        _ => operate(machine, setting, context.levels, line, operator, x, y),
+        _ => operate(machine, setting, levels, line, operator, x, y),
     }
 }

@@ -92,6 +92,7 @@ fn value_in(
 }
 
 /// The value of a name among the globals of the prelude.
+#[inline(never)]
 fn prelude_value(setting: &Setting, name: &str) -> Option<Value>
     ensures { result ≡ option_and_then (λ q. global_of name.now q.globals) (option_and_then (published_of setting.now) setting.now.prelude) }
 {
@@ -149,6 +150,7 @@ fn built_in(name: &str) -> Option<Value>
 }
 
 /// The value of a name of the outermost block.
+#[inline(never)]
 fn outermost_value(name: &str) -> Option<Value>
     ensures { result ≡ global_of name.now outermost }
 {
@@ -168,11 +170,11 @@ fn outermost_value(name: &str) -> Option<Value>
 fn at_spot(
     machine: &Machine,
     setting: &Setting,
-    place: Place,
+    place: &Place,
     name: &str,
     spot: Option<Spot>,
 ) -> Option<Value>
-    ensures { result ≡ at_spot setting.now machine.now place name.now spot }
+    ensures { result ≡ at_spot setting.now machine.now place.now name.now spot }
 {
     match spot {
         Some(Spot::Frame { up, slot }) => {
@@ -186,9 +188,10 @@ fn at_spot(
 }
 
 /// The value of a name. `Unbound` where it has none.
+#[inline(always)]
 #[tactic(auto, unfolding(star_meaning::specs::Places::read_spot))]
-pub fn read(machine: &Machine, world: &World, place: Place, name: &Name) -> Result<Value, Stop>
-    ensures { Gives (read_spot (tables_of world.now.files) world.now.setting place name.now machine.now) result machine.now }
+pub fn read(machine: &Machine, world: &World, place: &Place, name: &Name) -> Result<Value, Stop>
+    ensures { Gives (read_spot (tables_of world.now.files) world.now.setting place.now name.now machine.now) result machine.now }
 {
     let spot = world.spot(place.file, name.position.token);
     match at_spot(machine, world.setting(), place, name.text.as_str(), spot) {
@@ -212,11 +215,11 @@ fn own_spot(spot: Option<Spot>) -> Option<usize>
 pub fn bind(
     machine: &mut Machine,
     world: &World,
-    place: Place,
+    place: &Place,
     name: &Name,
     value: Value,
 ) -> Result<(), Stop>
-    ensures { Gives (bind_spot (tables_of world.now.files) place name.now value machine.old) result machine.new }
+    ensures { Gives (bind_spot (tables_of world.now.files) place.now name.now value machine.old) result machine.new }
 {
     match own_spot(world.spot(place.file, name.position.token)) {
         Some(slot) => machine.bind(place.frame, slot, value),

@@ -1,6 +1,7 @@
 pub mod Bytes
 pub mod Cells
 pub mod Contents
+pub mod Dicts
 pub mod Filling
 pub mod FirstEqual
 pub mod KindCases

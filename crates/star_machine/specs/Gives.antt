@@ -9,12 +9,12 @@ use Rattle.star_meaning.specs.Run.{State, Outcome, Done, Failed, code_of}
 -- why an evaluation stops at which the store refused a call: for want of memory, or at a fault
 abbrev pub stop_of : ℕ → StoreFault → Stop
 stop_of line refused.Memory = Memory
-stop_of line f = Faulted (record { code = code_of f; line = line })
+stop_of line f = Faulted (code_of f) line
 
 -- A run that stopped: at this fault with these lines. Where memory ran out nothing is said.
 abbrev pub Ends : {A : Type 0} → Outcome A → Stop → State → Type 0
 Ends o Memory new = Unit {0}
-Ends o (Faulted f) new = o ≡ Failed f new.lines
+Ends o (Faulted c line) new = o ≡ Failed (record { code = c; line = line }) new.lines
 
 abbrev pub Gives : {A : Type 0} → Outcome A → Result A Stop → State → Type 0
 Gives o (Ok x) new = o ≡ Done x new

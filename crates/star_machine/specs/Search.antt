@@ -1,6 +1,8 @@
 -- The first of some values that is equal to another one, and how far an int lies from another one.
-use Rattle.std.specs.Prelude.{ℕ, ◌+◌, ◌/◌, ◌%◌, nat_eq, nat_lt, ℤ, pos, negsuc, ◌&&◌, false, Bool, List, [], ◌∷◌, Option, Some, None, if◌then◌else◌}
+use Rattle.std.specs.Int.{int_gap}
+use Rattle.std.specs.Prelude.{ℕ, ◌+◌, ◌+ℤ◌, ◌-ℤ◌, ◌/◌, ◌%◌, nat_eq, nat_lt, ℤ, pos, negsuc, ◌&&◌, false, Bool, List, [], ◌∷◌, Option, Some, None, if◌then◌else◌}
 use Rattle.star_store.specs.declared.values.Value.{Value}
+use Rattle.star_store.specs.declared.values.Value.TheVariants as value
 use Rattle.star_store.specs.Spend.{Spend, answer, spend_then}
 use Rattle.star_store.specs.Equal.{same}
 use Rattle.star_meaning.specs.Run.{Action, visiting}
@@ -19,3 +21,10 @@ found_place w levels line x ys = visiting line (λ s. first_place_where (λ y. s
 abbrev pub reached : ℤ → ℕ → ℕ → Bool
 reached (pos gap) n count = nat_eq (gap % n) 0 && nat_lt (gap / n) count
 reached (negsuc gap) n count = false
+
+-- the int so far above a start, if it lies below a stop; and so far below it, if it lies above one
+abbrev pub some_above : ℤ → ℤ → ℕ → Option Value
+some_above start stop way = if nat_lt way (int_gap start stop) then Some (value.Int (start +ℤ pos way)) else None
+
+abbrev pub some_under : ℤ → ℤ → ℕ → Option Value
+some_under start stop way = if nat_lt way (int_gap stop start) then Some (value.Int (start -ℤ pos way)) else None

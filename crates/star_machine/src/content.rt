@@ -1,9 +1,8 @@
 //! What values are, or hold.
 
-ghost use Rattle.std.specs.Prelude.{◌≡◌, ◌<◌, ◌*◌, ◌+ℤ◌, ◌-ℤ◌, ◌*ℤ◌, pos};
-ghost use Rattle.std.specs.Int.{int_gap};
-ghost use Rattle.star_store.specs.Range.{range_length};
+ghost use Rattle.std.specs.Prelude.{◌≡◌};
 ghost use Rattle.star_machine.specs.Kinds.{kind_of};
+ghost use Rattle.star_machine.specs.Search.{some_above, some_under};
 ghost use Rattle.star_machine.specs.Shown.{shown};
 ghost use Rattle.std.specs.Option.{option_copied};
 ghost use Rattle.star_meaning.specs.Values.{Held, content, count_in, held, int_of, item_in, range_item};
@@ -84,15 +83,25 @@ impl<'a> Content<'a> {
         ensures { result ≡ item_in (shown self.entry) at }
     {
         match self {
-            Content::Held(Cell::Tuple(items)) => items.get(at),
-            Content::Held(Cell::List(items)) => items.get(at),
-            Content::Held(Cell::Dict(entries)) => match entries.get(at) {
-                Some((key, _value)) => Some(key),
-                None => None,
-            },
-            Content::Held(Cell::Range(range)) => range_item(*range, at),
+            Content::Held(cell) => item_of_cell(cell, at),
             _ => None,
         }
+    }
+}
+
+/// The item of a cell at a place: none outside.
+pub(crate) fn item_of_cell(cell: &Cell, at: usize) -> Option<Value>
+    ensures { result ≡ item_in (Held cell.now) at }
+{
+    match cell {
+        Cell::Tuple(items) => items.get(at),
+        Cell::List(items) => items.get(at),
+        Cell::Dict(entries) => match entries.get(at) {
+            Some((key, _value)) => Some(key),
+            None => None,
+        },
+        Cell::Range(range) => range_item(*range, at),
+        _ => None,
     }
 }
 
@@ -111,41 +120,39 @@ fn kind_of_cell(cell: &Cell) -> Kind
     }
 }
 
-/// The int of a range at a place: none outside.
+/// The int of a range at a place: none outside. It divides nothing.
+#[tactic(auto, using(crate::proofs::Ranges::item_still))]
 fn range_item(range: Range, at: usize) -> Option<Value>
     ensures { result ≡ range_item range at }
 {
-    if at as u64 >= range.len() {
-        return None;
-    }
-    Some(Value::Int(int_at(range, at as u64)))
-}
-
-/// The int of a range at a place that it has.
-#[tactic(auto, using(crate::proofs::Ranges::within_up, crate::proofs::Ranges::within_down, crate::proofs::Ranges::steps_up, crate::proofs::Ranges::steps_down))]
-fn int_at(range: Range, at: u64) -> i64
-    requires { at < range_length range }
-    ensures { result ≡ (range.start +ℤ pos at *ℤ range.step) }
-{
-    let step = range.step.unsigned_abs();
+    let way = at as u128 * range.step.unsigned_abs() as u128;
     if range.step > 0 {
-        return int_above(range.start, range.stop, step, at);
+        return int_above(range.start, range.stop, way);
     }
-    int_below(range.start, range.stop, step, at)
+    if range.step < 0 {
+        return int_below(range.start, range.stop, way);
+    }
+    None
 }
 
-/// The int so many steps above a start, if it lies below a stop.
-fn int_above(start: i64, stop: i64, step: u64, at: u64) -> i64
-    requires { at * step < int_gap start stop }
-    ensures { result ≡ start +ℤ pos (at * step) }
+/// The int so far above a start, if it lies below a stop.
+#[tactic(auto, using(crate::proofs::Ranges::above_there, crate::proofs::Ranges::above_none))]
+fn int_above(start: i64, stop: i64, way: u128) -> Option<Value>
+    ensures { result ≡ some_above start stop way }
 {
-    (start as i128 + (at * step) as i128) as i64
+    if start < stop && way < stop.abs_diff(start) as u128 {
+        return Some(Value::Int((start as i128 + way as i128) as i64));
+    }
+    None
 }
 
-/// The int so many steps below a start, if it lies above a stop.
-fn int_below(start: i64, stop: i64, step: u64, at: u64) -> i64
-    requires { at * step < int_gap stop start }
-    ensures { result ≡ start -ℤ pos (at * step) }
+/// The int so far below a start, if it lies above a stop.
+#[tactic(auto, using(crate::proofs::Ranges::under_there, crate::proofs::Ranges::under_none))]
+fn int_below(start: i64, stop: i64, way: u128) -> Option<Value>
+    ensures { result ≡ some_under start stop way }
 {
-    (start as i128 - (at * step) as i128) as i64
+    if stop < start && way < start.abs_diff(stop) as u128 {
+        return Some(Value::Int((start as i128 - way as i128) as i64));
+    }
+    None
 }

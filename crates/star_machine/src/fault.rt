@@ -5,7 +5,7 @@ ghost use Rattle.star_store.specs.declared.fault.StoreFault.TheVariants as refus
 ghost use Rattle.star_machine.specs.declared.fault.Stop.TheVariants.{Memory};
 ghost use Rattle.star_machine.specs.Gives.{stop_of};
 
-use star_meaning::fault::{Code, Fault};
+use star_meaning::fault::Code;
 use star_store::fault::StoreFault;
 use std::alloc::{AllocError, AllocFailed};
 
@@ -14,15 +14,15 @@ use std::alloc::{AllocError, AllocFailed};
 pub enum Stop {
     /// A growth was refused.
     Memory,
-    /// The fault of the run.
-    Faulted(Fault),
+    /// The run has a fault of this kind at this line.
+    Faulted { code: Code, line: usize },
 }
 
 /// A fault at a line.
 pub fn faulted(code: Code, line: usize) -> Stop
-    ensures { result ≡ Stop.Faulted (record { code = code; line = line }) }
+    ensures { result ≡ Stop.Faulted code line }
 {
-    Stop::Faulted(Fault { code, line })
+    Stop::Faulted { code, line }
 }
 
 /// Why an evaluation stops at which the store refused a call.

@@ -12,9 +12,9 @@ ghost use Rattle.star_machine.specs.Shown.{shown};
 ghost use Rattle.star_machine.specs.Kinds.{bytes_of, kind_of, row_in, size_of};
 ghost use Rattle.star_machine.specs.Search.{found_place};
 ghost use Rattle.star_meaning.specs.Subscript.{entries_in};
-ghost use Rattle.star_meaning.specs.Values.{int_of, place_in, value_in, text_of, change, check_key, compare, content, count_of, equal, guard, is_true, iterate, leave, new_dict, new_int, new_list, new_text, bare, new_tuple, repr, str, take_all, take_item, take_items, want_bool, want_int, want_text};
+ghost use Rattle.star_meaning.specs.Values.{int_of, place_in, value_in, text_of, change, check_key, compare, content, count_of, equal, guard, is_true, item_in, iterate, leave, new_dict, new_int, new_list, new_text, bare, new_tuple, repr, str, take_all, take_item, take_items, want_bool, want_int, want_text};
 
-use crate::content::{Content, Kind};
+use crate::content::{Content, Kind, item_of_cell};
 use crate::fault::{Stop, faulted, refused};
 use crate::search::equal_place;
 use crate::setting::Setting;
@@ -24,7 +24,7 @@ use star_store::arena::write::Change;
 use star_store::budget::Budget;
 use star_store::equal::equal;
 use star_store::fault::StoreFault;
-use star_store::key::{check_key, place_of, value_of};
+use star_store::key::{check_key, place_of};
 use star_store::order::order;
 use star_store::text::repr;
 use star_store::truth::is_true;
@@ -187,7 +187,7 @@ impl Machine {
     /// Whether so many steps are left. `Steps` where they are not.
     pub fn afford(&self, line: usize, steps: u128) -> Result<(), Stop>
         ensures enough { OnOk result (steps ≤ self.now.steps) }
-        ensures lacking { IfErr result (λ e. (e ≡ Stop.Faulted (record { code = Code.Steps; line = line })) × (self.now.steps < steps)) }
+        ensures lacking { IfErr result (λ e. (e ≡ Stop.Faulted Code.Steps line) × (self.now.steps < steps)) }
     {
         if (self.steps as u128) < steps {
             return Err(faulted(Code::Steps, line));
@@ -251,9 +251,22 @@ impl Machine {
         ensures kept { self.new.store ≡ self.old.store }
     {
         self.pay(line, 1)?;
-        match self.content(setting, value).item(at) {
+        match self.item(setting, value, at) {
             Some(item) => Ok(item),
             None => Err(faulted(Code::BadType, line)),
+        }
+    }
+
+    /// The item of an iterable at a place: none outside, and for another value.
+    pub fn item(&self, setting: &Setting, value: Value, at: usize) -> Option<Value>
+        ensures { result ≡ item_in (content setting.now self.now value) at }
+    {
+        match value {
+            Value::Ref { .. } => match self.read(setting, value) {
+                Some(cell) => item_of_cell(cell, at),
+                None => None,
+            },
+            _ => None,
         }
     }
 
@@ -635,22 +648,14 @@ impl Machine {
     pub fn place_in(&self, setting: &Setting, dict: Value, key: Value) -> Option<usize>
         ensures { result ≡ place_in setting.now self.now key (entries_in (content setting.now self.now dict)) }
     {
-        match self.content(setting, dict) {
-            Content::Held(Cell::Dict(entries)) => self.place_of(setting, key, entries),
-            _ => None,
-        }
+        self.arena.key_place(setting.homes(), dict, key)
     }
 
     /// The value that a dictionary has for a key.
     pub fn value_in(&self, setting: &Setting, dict: Value, key: Value) -> Option<Value>
         ensures { result ≡ value_in setting.now self.now key (entries_in (content setting.now self.now dict)) }
     {
-        match self.content(setting, dict) {
-            Content::Held(Cell::Dict(entries)) => {
-                value_of(&self.arena, setting.homes(), key, entries)
-            }
-            _ => None,
-        }
+        self.arena.key_value(setting.homes(), dict, key)
     }
 }
 

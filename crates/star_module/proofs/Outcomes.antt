@@ -30,11 +30,11 @@ good_is o r e s frozen texts lines q f t l h =
     let k : GivesBy shown o (Ok e) s = subst (λ x. GivesBy shown o x s) q h in
     subst (λ p. IsOutcome p (outcome.Good frozen texts lines)) (sym k) (f, ap (λ x. owned x.items) t, l)
 
-pub fault_is : (o : run.Outcome Ended) (r : Result HeldEnded Stop) (f : Fault) (s : run.State) (lines : Vec (List ℕ) Global)
-    → r ≡ Err (Faulted f) → lines.items ≡ s.lines → GivesBy shown o r s → IsOutcome o (outcome.Fault f.code f.line lines)
-fault_is o r f s lines q l h =
-    let k : GivesBy shown o (Err (Faulted f)) s = subst (λ x. GivesBy shown o x s) q h in
-    subst (λ p. IsOutcome p (outcome.Fault f.code f.line lines)) (sym k) (refl, l)
+pub fault_is : (o : run.Outcome Ended) (r : Result HeldEnded Stop) (code : Code) (line : ℕ) (s : run.State) (lines : Vec (List ℕ) Global)
+    → r ≡ Err (Faulted code line) → lines.items ≡ s.lines → GivesBy shown o r s → IsOutcome o (outcome.Fault code line lines)
+fault_is o r code line s lines q l h =
+    let k : GivesBy shown o (Err (Faulted code line)) s = subst (λ x. GivesBy shown o x s) q h in
+    subst (λ p. IsOutcome p (outcome.Fault code line lines)) (sym k) (refl, l)
 
 -- the local meaning that an outcome is
 pub meant_is : (w : Setting) (o : run.Outcome Ended) (out : Outcome) → IsOutcome o out → meant w out ≡ local_of w o

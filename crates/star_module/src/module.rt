@@ -11,13 +11,12 @@ ghost use Rattle.star_module.specs.Globals.{owned};
 ghost use Rattle.star_module.specs.Outcomes.{AreReady, IsOutcome, meant, run_by_names, run_by_places, shown};
 
 use crate::globals::globals_of;
-use star_eval::context::Context;
 use star_eval::execute::execute_each;
 use star_eval::variables::new_frame;
 use star_eval::world::World;
 use star_machine::fault::Stop;
 use star_machine::machine::Machine;
-use star_meaning::fault::{Code, Fault};
+use star_meaning::fault::Code;
 use star_meaning::place::Place;
 use star_scope::program::Program;
 use star_store::arena::{Frozen, freeze};
@@ -132,7 +131,7 @@ fn run_file(
         frame,
         line: 1,
     };
-    let _flow = execute_each(machine, world, Context { levels, place }, statements)?;
+    let _flow = execute_each(machine, world, levels, &place, statements)?;
     end(machine, world, levels, last_line(statements), frame)
 }
 
@@ -147,7 +146,7 @@ fn outcome_of(machine: Machine, ended: Result<Ended, Stop>) -> Result<Outcome, A
             shown: texts,
             lines,
         }),
-        Err(Stop::Faulted(Fault { code, line })) => Ok(Outcome::Fault { code, line, lines }),
+        Err(Stop::Faulted { code, line }) => Ok(Outcome::Fault { code, line, lines }),
         Err(Stop::Memory) => Err(AllocError),
     }
 }

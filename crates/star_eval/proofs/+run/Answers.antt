@@ -5,26 +5,32 @@ use Rattle.star_meaning.specs.Run.{Done, and_then}
 use Rattle.star_meaning.specs.Values.{is_true}
 use Rattle.star_eval.specs.declared.open_clause.OpenClause.{OpenClause}
 use Rattle.star_eval.specs.Steps.{all_left, opened_left, turns_left}
+use Rattle.star_eval.proofs.ByPlace.{call_gives}
 use Rattle.star_eval.proofs.Clauses.{clause_ended, filled_ends, filled_well, first_of, if_holds, turn_ended, turn_opened}
 use Rattle.star_eval.proofs.Spends.{expression_spends}
 use Rattle.star_eval.proofs.+run.Goals as goal
 
+pub evaluate::call-returns-then-are_positional : goal.evaluate::call-returns-then-are_positional
+evaluate::call-returns-then-are_positional t c =
+    call_gives c.args.world.now c.args.levels c.args.place.now c.args.function.now c.args.arguments.now c.in_ok-value.value c.args.machine.now c.evaluate.new.machine c.call_by_place.result c.call_by_place.new.machine
+    (sym c.are_positional.ensures ∙ c.if-are_positional.true) c.in_ok-value.ensures c.call_by_place.ensures
+
 pub comprehensions::fill-returns : goal.comprehensions::fill-returns
 comprehensions::fill-returns t c =
-    filled_well c.args.world.now c.args.context.levels c.args.context.place c.args.output c.args.clauses.now c.args.value c.in_ok-count.count c.as_slice.result.now c.setting.result.now c.container.result c.args.machine.now c.iterate.new.self c.run_turns.new.machine
+    filled_well c.args.world.now c.args.levels c.args.place.now c.args.output c.args.clauses.now c.args.value c.in_ok-count.count c.as_slice.result.now c.setting.result.now c.container.result c.args.machine.now c.iterate.new.self c.run_turns.new.machine
     c.setting.ensures c.as_slice.ensures c.in_ok-count.ensures c.in_ok-run_turns.ensures c.container.ensures
 
 pub comprehensions::fill-returns-in_err-run_turns : goal.comprehensions::fill-returns-in_err-run_turns
 comprehensions::fill-returns-in_err-run_turns t c =
     let q = err_from_is_err_and c.from_residual-in_err-run_turns.result c.from_residual-in_err-run_turns.ensures.1 in
-    rw (q.1, q.2) (filled_ends c.args.world.now c.args.context.levels c.args.context.place c.args.output c.args.clauses.now c.args.value c.in_ok-count.count c.as_slice.result.now c.setting.result.now c.in_err-run_turns.field-0.0 c.args.machine.now c.iterate.new.self c.run_turns.new.machine
+    rw (q.1, q.2) (filled_ends c.args.world.now c.args.levels c.args.place.now c.args.output c.args.clauses.now c.args.value c.in_ok-count.count c.as_slice.result.now c.setting.result.now c.in_err-run_turns.field-0.0 c.args.machine.now c.iterate.new.self c.run_turns.new.machine
     c.setting.ensures c.as_slice.ensures c.in_ok-count.ensures c.in_err-run_turns.ensures)
 
 pub comprehensions::run_clauses-loop-rest-preserved : goal.comprehensions::run_clauses-loop-rest-preserved
 comprehensions::run_clauses-loop-rest-preserved t c =
     let w = c.args.world.now in
-    let levels = c.args.context.levels in
-    let p = c.args.context.place in
+    let levels = c.args.levels in
+    let p = c.args.place.now in
     let ks = c.loop-rest.rest.now in
     let k = c.clause-item.result in
     let v = c.in_ok-value-in-If.value in
@@ -39,14 +45,14 @@ comprehensions::run_clauses-loop-rest-preserved t c =
 
 pub comprehensions::run_turns-turns-preserved-then-clause : goal.comprehensions::run_turns-turns-preserved-then-clause
 comprehensions::run_turns-turns-preserved-then-clause t c =
-    clause_ended c.args.world.now c.args.context.levels c.args.context.place c.args.output c.turns.outer.items c.pop.new.self.items c.turns.clause c.in-Some.around c.turns.machine c.leave.new.self c.if-clause.true c.leave.ensures c.in-Some.ensures.items
+    clause_ended c.args.world.now c.args.levels c.args.place.now c.args.output c.turns.outer.items c.pop.new.self.items c.turns.clause c.in-Some.around c.turns.machine c.leave.new.self c.if-clause.true c.leave.ensures c.in-Some.ensures.items
     ∙ c.turns.invariant
 
 pub comprehensions::run_turns-turns-preserved-in-Some-opened : goal.comprehensions::run_turns-turns-preserved-in-Some-opened
 comprehensions::run_turns-turns-preserved-in-Some-opened t c =
     let w = c.args.world.now in
-    let levels = c.args.context.levels in
-    let p = c.args.context.place in
+    let levels = c.args.levels in
+    let p = c.args.place.now in
     let o = c.args.output in
     let u = c.run_turn.new.machine in
     let g = c.in-Some-opened.inner in
@@ -58,8 +64,8 @@ comprehensions::run_turns-turns-preserved-in-Some-opened t c =
 pub comprehensions::run_turns-turns-preserved : goal.comprehensions::run_turns-turns-preserved
 comprehensions::run_turns-turns-preserved t c =
     let w = c.args.world.now in
-    let levels = c.args.context.levels in
-    let p = c.args.context.place in
+    let levels = c.args.levels in
+    let p = c.args.place.now in
     let o = c.args.output in
     let u = c.run_turn.new.machine in
     let fs = c.turns.outer.items in

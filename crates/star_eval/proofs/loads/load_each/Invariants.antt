@@ -7,5 +7,5 @@ use Rattle.star_eval.proofs.loads.load_each.Given as goal
 
 abbrev pub invariant-loop-name : goal.invariant-loop-name
 invariant-loop-name l =
-    let f = load_name (variables l.world) l.context.place (option_copied l.published) in
+    let f = load_name (variables l.world) l.place (option_copied l.published) in
     all_of f (drop l.name-index l.names) l.machine ≡ all_of f l.names l.fn.machine

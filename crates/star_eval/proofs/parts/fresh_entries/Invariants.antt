@@ -4,5 +4,5 @@ use Rattle.star_eval.proofs.parts.fresh_entries.Given as goal
 
 abbrev pub invariant-loop-entry : goal.invariant-loop-entry
 invariant-loop-entry l =
-    let f = fresh_entries l.world.setting l.context.levels l.context.place.line in
+    let f = fresh_entries l.world.setting l.levels l.line in
     f l.entries (drop l.entry-index l.found) l.machine ≡ f [] l.found l.fn.machine
