@@ -38,9 +38,17 @@ impl Flow {
     /// The next file for a loader, which has ended the one that it was given before. It waits while no file is ready and
     /// some run. `None` where no file is ready, and none runs.
     pub fn take<R: Wait>(&self, rt: &R, ended: Option<usize>) -> Option<usize> {
+        match ended {
+            Some(n) => self.take_after(rt, Some(self.importers_of(n))),
+            None => self.take_after(rt, None),
+        }
+    }
+
+    /// The same for a loader that itself knows which files wait for the one that it has ended.
+    pub fn take_after<R: Wait>(&self, rt: &R, ended: Option<&[usize]>) -> Option<usize> {
         let mut state = self.state.lock(rt);
-        if let Some(n) = ended {
-            state.ended(self.importers_of(n));
+        if let Some(waiting) = ended {
+            state.ended(waiting);
         }
         for _ in rt.forever() {
             match state.next() {
@@ -58,5 +66,12 @@ impl Flow {
             }
         }
         unreachable!()
+    }
+
+    /// A loader leaves that has not ended the file that it was given.
+    pub fn leave<R: Wait>(&self, rt: &R) {
+        let mut state = self.state.lock(rt);
+        state.ended(&[]);
+        self.changed.notify_all();
     }
 }

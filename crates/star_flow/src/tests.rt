@@ -1,4 +1,4 @@
-use crate::{Flow, Graph};
+use crate::{Flow, Graph, Schedule};
 use std::alloc::Global;
 use std::test::Fail;
 
@@ -37,5 +37,19 @@ fn files_on_a_cycle_are_left(rt: HostRuntime) -> Result<(), Fail> {
     let flow = graph.into_flow(rt.alloc())?;
     assert_eq!(rt; flow.take(&rt, None), Some(2));
     assert_eq!(rt; flow.take(&rt, Some(2)), None);
+    Ok(())
+}
+
+#[test]
+fn a_file_is_handed_out_once_it_is_found(rt: HostRuntime) -> Result<(), Fail> {
+    let alloc = rt.alloc();
+    let mut schedule = Schedule::new(vec![in alloc; 1; 3]?, Vec::new(alloc));
+    schedule.ended(&[0]);
+    let flow = Flow::new(Vec::new(alloc), schedule);
+    assert_eq!(rt; flow.take_after(&rt, None), Some(0));
+    assert_eq!(rt; flow.take_after(&rt, Some(&[1, 2, 1])), Some(2));
+    assert_eq!(rt; flow.take_after(&rt, None), Some(1));
+    flow.leave(&rt);
+    assert_eq!(rt; flow.take_after(&rt, Some(&[0])), None);
     Ok(())
 }

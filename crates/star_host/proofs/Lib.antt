@@ -19,3 +19,4 @@ pub mod Goods
 pub mod Fails
 pub mod NoFloat
 pub mod Shows
+pub mod Blocks

@@ -10,6 +10,8 @@ use Rattle.std.specs.contracts.vec.Vec as vec
 use Rattle.std.specs.contracts.alloc.Global as heap
 use Rattle.std.specs.contracts.alloc.AllocError as refusal
 use Rattle.std.specs.contracts.impls.GlobalAllocator.TheImpl.{ghosts}
+use Rattle.star_flow.specs.contracts.flow.Flow as flow
+use Rattle.star_flow.proofs.flow.Flow.TheSendSync as of_flow
 use Rattle.boxcar.proofs.vec.Vec.TheSendSync as of_trees
 use Rattle.star_label.proofs.files.Files.TheSendSync as of_labels
 use Rattle.star_host.proofs.Sharing.{tuple_sync}
@@ -112,13 +114,13 @@ reader_sync κ ν =
     let y = tree_sync in
     search (of_trees.the_sync, sendable, crosses) depth 40
 
--- a reader's closure: it captures what files are read by, and the runtime R
-module _ (R : RattleType) (α β γ δ : NamedLft) where
+-- a reader's closure: it captures what files are read by, the runtime R, and the flow
+module _ (R : RattleType) (α β γ δ ε : NamedLft) where
   abbrev captured : List RattleType
-  captured = shared_at α (reader.the_row β γ) ∷ shared_at δ R ∷ []
+  captured = shared_at α (reader.the_row β γ) ∷ shared_at δ R ∷ shared_at ε flow.the_row ∷ []
 
   captured_sync : IsSync R → AllSync captured
-  captured_sync r = search (reader_sync, sendable) depth 20
+  captured_sync r = search (reader_sync, of_flow.the_sync, sendable) depth 20
 
   pub readers_sync : IsSync R → (ν : List ℕ) → IsSync (TupleAt ν captured)
   readers_sync r ν = tuple_sync ν captured (captured_sync r)

@@ -6,86 +6,95 @@ ghost use Rattle.star_label.specs.Files.{File};
 ghost use Rattle.star_scope.specs.declared.program.Prelude.{Prelude as PreludeView};
 ghost use Rattle.star_host.specs.Readings.{AreReadAs, AreAllReadAs, IsReadAs};
 
-use crate::reading::{Found, Read, Reader};
+use crate::loading::numbers;
+use crate::reading::{Found, Read, Reader, loads_of};
+use star_flow::{Flow, Schedule};
 use std::alloc::{AllocError, Global};
 use std::sync::Wait;
+use std::thread;
 use std::thread::Threads;
-use std::{mem, thread};
 
-/// From how many files on a level is read by several threads.
-const MANY: usize = 16;
+/// For so many files a thread more reads.
+const SHARE: usize = 16;
 
-/// How many of a level's files a thread reads: all of them where there are few.
-fn share_of(count: usize, threads: usize) -> usize
-    ensures { 0 < result }
-{
-    if count < MANY {
-        MANY
-    } else {
-        count / threads.max(2) + 1
-    }
+/// The files are read as they are found: first the roots, then the files that those load which were read.
+fn found_first(alloc: Global, count: usize, roots: &[usize]) -> Result<Flow, AllocError> {
+    let mut schedule = Schedule::new(vec![in alloc; 1; count]?, Vec::new(alloc));
+    schedule.ended(roots);
+    Ok(Flow::new(Vec::new(alloc), schedule))
 }
 
 impl<'s, 't> Reader<'s, 't> {
-    /// Reads a file, where there is one with this number.
+    /// Reads a file, where there is one with this number, and answers which files it loads.
     fn read_into<R: Wait>(
         &self,
         rt: &R,
         reads: &mut Vec<(usize, Read<'t>)>,
         n: usize,
-    ) -> Result<(), AllocError>
+    ) -> Result<Vec<usize>, AllocError>
         ensures { OnOk result (
             AreAllReadAs self.now.files.now (option_copied self.now.prelude) reads.old.items
             → AreAllReadAs self.now.files.now (option_copied self.now.prelude) reads.new.items) }
     {
         if n >= self.files.len() {
-            return Ok(());
+            return Ok(Vec::new(self.alloc));
         }
         let read = self.read(rt, n)?;
+        let loads = numbers(self.alloc, loads_of(&read))?;
         reads.push((n, read))?;
-        Ok(())
+        Ok(loads)
     }
 
-    /// Reads the files with these numbers, one after another.
-    fn read_each<R: Wait>(
-        &self,
-        rt: &R,
-        numbers: &[usize],
-    ) -> Result<Vec<(usize, Read<'t>)>, AllocError>
+    /// Reads one file after another, as they are handed out.
+    fn read_found<R: Wait>(&self, rt: &R, flow: &Flow) -> Result<Vec<(usize, Read<'t>)>, AllocError>
         ensures { IfOk result (λ reads.
             AreAllReadAs self.now.files.now (option_copied self.now.prelude) reads.items) }
     {
         let mut reads = Vec::new(self.alloc);
-        for n in numbers {
-            self.read_into(rt, &mut reads, *n)?;
+        let mut loads = None;
+        for _ in rt.forever() {
+            let Some(n) = flow.take_after(rt, loads.as_deref()) else {
+                return Ok(reads);
+            };
+            loads = Some(self.read_into(rt, &mut reads, n)?);
         }
-        Ok(reads)
+        unreachable!()
     }
 
-    /// Reads the files with these numbers: many of them in several threads, each of which reads some.
-    fn read_level<R: Threads + Wait + Sync>(
+    /// The same for one of several threads, none of which waits for one that could not go on.
+    fn read_share<R: Wait>(&self, rt: &R, flow: &Flow) -> Result<Vec<(usize, Read<'t>)>, AllocError>
+        ensures { IfOk result (λ reads.
+            AreAllReadAs self.now.files.now (option_copied self.now.prelude) reads.items) }
+    {
+        let reads = self.read_found(rt, flow);
+        if reads.is_err() {
+            flow.leave(rt);
+        }
+        reads
+    }
+
+    /// Reads the files that are handed out by so many threads.
+    fn read_shares<R: Threads + Wait + Sync>(
         &self,
         rt: &R,
-        numbers: &[usize],
+        flow: &Flow,
         threads: usize,
     ) -> Result<Vec<Result<Vec<(usize, Read<'t>)>, AllocError>>, AllocError>
-        ensures { IfOk result (λ level. All (λ r. IfOk r (λ reads.
-            AreAllReadAs self.now.files.now (option_copied self.now.prelude) reads.items)) level.items) }
+        ensures { IfOk result (λ shares. All (λ r. IfOk r (λ reads.
+            AreAllReadAs self.now.files.now (option_copied self.now.prelude) reads.items)) shares.items) }
     {
-        let size = share_of(numbers.len(), threads);
-        thread::map_chunks(
+        thread::map_indices(
             rt,
             self.alloc,
-            numbers,
-            size,
-            &|_start: usize, share: &[usize]| -> Result<Vec<(usize, Read)>, AllocError>
+            threads,
+            &|_thread: usize| -> Result<Vec<(usize, Read)>, AllocError>
                 ensures { IfOk result (λ reads.
                     AreAllReadAs self.entry.now.files.now (option_copied self.entry.now.prelude) reads.items) }
-            { self.read_each(rt, share) },
+            { self.read_share(rt, flow) },
         )
     }
 
-    /// Reads all files that the roots reach, level by level, by so many threads. One thread reads nothing ahead.
+    /// Reads all files that the roots reach by at most so many threads. One thread reads nothing ahead.
     pub(crate) fn read_ahead<R: Threads + Wait + Sync>(
         &self,
         rt: &R,
@@ -94,20 +103,16 @@ impl<'s, 't> Reader<'s, 't> {
         ensures { IfOk result (λ ahead.
             AreReadAs self.now.files.now (option_copied self.now.prelude) ahead.reads.items) }
     {
-        let mut ahead = Found::new(self.alloc, self.files.len())?;
+        let count = self.files.len();
+        let mut ahead = Found::new(self.alloc, count)?;
+        let threads = threads.min(count / SHARE + 1);
         if threads < 2 {
             return Ok(ahead);
         }
-        ahead.mark_each(self.roots)?;
-        for _ in rt.forever() {
-            let level = ahead.next_level(self.alloc);
-            if level.is_empty() {
-                return Ok(ahead);
-            }
-            let reads = self.read_level(rt, &level, threads)?;
-            ahead.add_level(reads)?;
-        }
-        unreachable!()
+        let flow = found_first(self.alloc, count, self.roots)?;
+        let shares = self.read_shares(rt, &flow, threads)?;
+        ahead.add_shares(shares)?;
+        Ok(ahead)
     }
 
     /// What is read of a file: what was read of it ahead, or it is read now.
@@ -130,13 +135,6 @@ impl<'s, 't> Reader<'s, 't> {
 }
 
 impl<'t> Found<'t> {
-    /// Takes all files that wait to be read.
-    fn next_level(&mut self, alloc: Global) -> Vec<usize>
-        ensures { self.new.reads ≡ self.old.reads }
-    {
-        mem::replace(&mut self.todo, Vec::new(alloc))
-    }
-
     /// Takes what was read of a file.
     fn take(&mut self, n: usize) -> Option<Read<'t>>
         ensures { (files : List File) (prelude : Option PreludeView) → AreReadAs files prelude self.old.reads.items
@@ -173,16 +171,16 @@ impl<'t> Found<'t> {
         Ok(())
     }
 
-    /// A level was read.
-    fn add_level(
+    /// The shares of several threads were read.
+    fn add_shares(
         &mut self,
-        level: Vec<Result<Vec<(usize, Read<'t>)>, AllocError>>,
+        shares: Vec<Result<Vec<(usize, Read<'t>)>, AllocError>>,
     ) -> Result<(), AllocError>
         ensures { OnOk result ((files : List File) (prelude : Option PreludeView)
-            → All (λ r. IfOk r (λ reads. AreAllReadAs files prelude reads.items)) level.entry.items
+            → All (λ r. IfOk r (λ reads. AreAllReadAs files prelude reads.items)) shares.entry.items
             → AreReadAs files prelude self.old.reads.items → AreReadAs files prelude self.new.reads.items) }
     {
-        for share in level {
+        for share in shares {
             self.add_each(share?)?;
         }
         Ok(())

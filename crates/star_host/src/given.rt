@@ -6,7 +6,7 @@ ghost use Rattle.star_cache.specs.Walk.{LeadsTo};
 ghost use Rattle.star_plan.specs.Plan.{loaded, loads_of};
 ghost use Rattle.star_plan.specs.Shelves.{HoldsNeeds, IsOwn, Needs};
 ghost use Rattle.star_host.specs.Bodies.{AreNeeded, HasStore, IsGathered};
-ghost use Rattle.star_host.specs.Reaches.{row_of};
+ghost use Rattle.star_host.specs.Reaches.{row_of, shared_of};
 ghost use Rattle.star_host.specs.Views.{AreGoodLoads, AreStores, IsGoodModule};
 
 use crate::module::{Ended, Module};
@@ -15,6 +15,7 @@ use crate::store_row::{Reach, StoreRow};
 use star_store::arena::{Frozen, Homes};
 use std::alloc::{AllocError, Global};
 use std::marker::{Model, PhantomData};
+use std::sync::Arc;
 
 /// The stores that were gathered for a file: as a run is given them, and as those share them that load this file.
 #[derive(Drop)]
@@ -77,7 +78,7 @@ impl<'s, J: Naming> Given<'s, J> {
             reaches,
             of: PhantomData,
         };
-        given.seat_each(stores.base())?;
+        given.seat_blocks(stores.blocks())?;
         Ok(given)
     }
 
@@ -98,9 +99,22 @@ impl<'s, J: Naming> Given<'s, J> {
         requires needed { AreNeeded J.plan self.old.file stores.now }
         requires listed { All (λ s. Contains (map (λ r. r.number) self.old.reaches) s.number) stores.now }
         ensures file { self.new.file ≡ self.old.file }
+        ensures row { self.new.reaches ≡ self.old.reaches }
     {
         for reach in stores {
             self.seat(reach)?;
+        }
+        Ok(())
+    }
+
+    /// So are those of several blocks.
+    fn seat_blocks(&mut self, blocks: &'s [Arc<Vec<Reach>>]) -> Result<(), AllocError>
+        requires needed { AreNeeded J.plan self.old.file (shared_of blocks.now) }
+        requires listed { All (λ s. Contains (map (λ r. r.number) self.old.reaches) s.number) (shared_of blocks.now) }
+        ensures file { self.new.file ≡ self.old.file }
+    {
+        for block in blocks {
+            self.seat_each(block.as_slice())?;
         }
         Ok(())
     }
@@ -135,6 +149,19 @@ impl<'s, J: Naming> Given<'s, J> {
         Ok(())
     }
 
+    /// The stores of several blocks.
+    fn add_blocks(&mut self, blocks: &'s [Arc<Vec<Reach>>]) -> Result<(), AllocError>
+        requires { AreNeeded J.plan self.old.file (shared_of blocks.now) }
+        ensures file { self.new.file ≡ self.old.file }
+        ensures stays { (k : ℕ) → HasStore self.old.shelf k → HasStore self.new.shelf k }
+        ensures there { OnOk result (All (λ r. HasStore self.new.shelf r.number) (shared_of blocks.now)) }
+    {
+        for block in blocks {
+            self.add_each(block.as_slice())?;
+        }
+        Ok(())
+    }
+
     /// The stores of a row.
     fn add_row(&mut self, stores: &'s StoreRow) -> Result<(), AllocError>
         requires { AreNeeded J.plan self.old.file (row_of stores.now) }
@@ -142,7 +169,7 @@ impl<'s, J: Naming> Given<'s, J> {
         ensures stays { (k : ℕ) → HasStore self.old.shelf k → HasStore self.new.shelf k }
         ensures there { OnOk result (All (λ r. HasStore self.new.shelf r.number) (row_of stores.now)) }
     {
-        self.add_each(stores.base())?;
+        self.add_blocks(stores.blocks())?;
         self.add_each(stores.more())?;
         Ok(())
     }

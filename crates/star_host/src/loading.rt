@@ -45,7 +45,7 @@ pub(crate) enum Turn {
 }
 
 /// The numbers of the files that loads lead to.
-fn numbers(alloc: Global, loads: &[Load]) -> Result<Vec<usize>, AllocError>
+pub(crate) fn numbers(alloc: Global, loads: &[Load]) -> Result<Vec<usize>, AllocError>
     ensures { IfOk result (λ v. v.items ≡ map (λ l. l.file) loads.now) }
 {
     loads.iter().map(|load| load.file).collect(alloc)

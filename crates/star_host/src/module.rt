@@ -57,7 +57,7 @@ impl Module {
     /// How many of its stores others may share: how much room that saves them.
     pub(crate) fn shared(&self) -> usize {
         match &self.ended {
-            Ended::Good(body) => body.stores.base().len(),
+            Ended::Good(body) => body.stores.shared(),
             _ => 0,
         }
     }

@@ -7,6 +7,7 @@ use crate::module::Module;
 use crate::shelf::Shelf;
 use crate::trace::Refused;
 use once_cell::race::Note;
+use star_tree::tree::Tree;
 use std::marker::Model;
 
 /// A file's number, and a note of its cell.
@@ -47,6 +48,8 @@ pub struct Run {
     pub(crate) begun: u32,
     pub(crate) per_loader: [u32; 64],
     pub(crate) refused: Vec<Refused>,
+    // The trees of the files, which end with the run.
+    pub(crate) trees: boxcar::Vec<Tree>,
 }
 
 impl Model for Run {

@@ -142,7 +142,7 @@ impl<'s, 't> Reader<'s, 't> {
 }
 
 /// The loads of what was read: none where it is a static fault.
-fn loads_of<'a>(read: &'a Read) -> &'a [Load]
+pub(crate) fn loads_of<'a>(read: &'a Read) -> &'a [Load]
     ensures { result.now ≡ loads_read read.now }
 {
     match read {

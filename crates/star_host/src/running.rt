@@ -468,6 +468,8 @@ pub fn run<R: Threads + Wait + Sync, G: Gate + Sync>(
         steps,
         gate,
     )?;
+    // It looks at a tree, and the trees go with the run.
+    drop(block);
     let Closed {
         kept,
         begun,
@@ -480,5 +482,6 @@ pub fn run<R: Threads + Wait + Sync, G: Gate + Sync>(
         begun,
         per_loader,
         refused,
+        trees,
     })
 }

@@ -1,15 +1,15 @@
 //! The stores that a module reaches: its file's own, and those of all files to which its loads lead.
 
 ghost use Rattle.std.specs.Prelude.{◌≡◌, ◌++◌, ◌∷◌, [], IfOk, OnErr, OnOk};
-ghost use Rattle.star_host.specs.Reaches.{row_of};
+ghost use Rattle.star_host.specs.Reaches.{row_of, shared_of};
 
 use star_store::arena::Frozen;
 use std::alloc::{AllocError, Global};
 use std::marker::Model;
 use std::sync::Arc;
 
-/// How many stores a row has beside those that it shares when it becomes one that others share.
-const MANY: usize = 64;
+/// How many stores a row has beside its blocks when they become a block, which others share.
+const MANY: usize = 32;
 
 /// The store of a file, which all that reach it share.
 #[derive(Drop)]
@@ -62,11 +62,11 @@ impl Reach {
     }
 }
 
-/// A row of stores, of which the first are shared with the row of a load. So the rows of a chain of files take room in
-/// proportion to the chain, and not to its square.
+/// A row of stores, of which the first stand in blocks that rows of other files share. So the rows of a chain of files
+/// take room in proportion to the chain, and a row is shared by few steps.
 #[derive(Drop)]
 pub struct StoreRow {
-    base: Option<Arc<Vec<Reach>>>,
+    blocks: Vec<Arc<Vec<Reach>>>,
     more: Vec<Reach>,
 }
 
@@ -75,7 +75,7 @@ impl Model for StoreRow {
 
     ghost Value = { StoreRowView };
 
-    ghost view = { λ s. record { base = shared_of s.base; more = s.more.items } };
+    ghost view = { λ s. record { base = shared_of s.blocks.items; more = s.more.items } };
 }
 
 impl StoreRow {
@@ -84,33 +84,36 @@ impl StoreRow {
         ensures { result ≡ record { base = []; more = [] } }
     {
         StoreRow {
-            base: None,
+            blocks: Vec::new(alloc),
             more: Vec::new(alloc),
         }
     }
 
-    /// The stores that another row shares.
+    /// The stores that stand in blocks of another row.
     pub(crate) fn over(alloc: Global, other: &StoreRow) -> Result<StoreRow, AllocError>
         ensures { IfOk result (λ s. s ≡ record { base = other.now.base; more = [] }) }
     {
-        let base = match &other.base {
-            Some(base) => Some(Arc::try_clone(base)?),
-            None => None,
-        };
+        let blocks = share_each(alloc, other.blocks.as_slice())?;
         Ok(StoreRow {
-            base,
+            blocks,
             more: Vec::new(alloc),
         })
     }
 
-    /// The stores that are shared.
-    pub(crate) fn base(&self) -> &[Reach]
-        ensures { result.now ≡ self.now.base }
+    /// The blocks of its first stores.
+    pub(crate) fn blocks(&self) -> &[Arc<Vec<Reach>>]
+        ensures { shared_of result.now ≡ self.now.base }
     {
-        match &self.base {
-            Some(base) => base.as_slice(),
-            None => &[],
+        self.blocks.as_slice()
+    }
+
+    /// How many of its stores others may share.
+    pub(crate) fn shared(&self) -> usize {
+        let mut count: usize = 0;
+        for block in &self.blocks {
+            count = count.saturating_add(block.len());
         }
+        count
     }
 
     /// The stores after them.
@@ -137,30 +140,29 @@ impl StoreRow {
         Ok(())
     }
 
-    /// The same stores, all of which are shared from now on where many were not.
+    /// The same stores, all of which others may share from now on where many could not be.
     pub(crate) fn settled(self, alloc: Global) -> Result<StoreRow, AllocError>
         ensures { IfOk result (λ s. row_of s ≡ row_of self) }
     {
         if self.more.len() < MANY {
             return Ok(self);
         }
-        let mut all = Vec::new(alloc);
-        share_each(&mut all, self.base())?;
-        share_each(&mut all, self.more())?;
-        let base = Arc::new(alloc, all)?;
+        let StoreRow { mut blocks, more } = self;
+        blocks.push(Arc::new(alloc, more)?)?;
         Ok(StoreRow {
-            base: Some(base),
+            blocks,
             more: Vec::new(alloc),
         })
     }
 }
 
-/// These stores as well.
-fn share_each(all: &mut Vec<Reach>, stores: &[Reach]) -> Result<(), AllocError>
-    ensures { OnOk result (all.new.items ≡ all.old.items ++ stores.now) }
+/// The same blocks, which one row more shares.
+fn share_each(alloc: Global, blocks: &[Arc<Vec<Reach>>]) -> Result<Vec<Arc<Vec<Reach>>>, AllocError>
+    ensures { IfOk result (λ shared. shared_of shared.items ≡ shared_of blocks.now) }
 {
-    for reach in stores {
-        all.push(reach.again()?)?;
+    let mut shared = Vec::with_capacity(alloc, blocks.len())?;
+    for block in blocks {
+        shared.push(Arc::try_clone(block)?)?;
     }
-    Ok(())
+    Ok(shared)
 }

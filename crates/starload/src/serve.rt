@@ -20,6 +20,7 @@ use star_host::{Refused, Run, RunError, run};
 use star_label::files::Files;
 use star_label::label::Label;
 use std::alloc::Global;
+use std::mem;
 use std::sync::Wait;
 use std::thread::Threads;
 
@@ -186,6 +187,8 @@ pub(crate) fn reported<H: Threads + Wait + Sync, W: Sink, E: Sink>(
     if options.trace {
         write_trace(alloc, errors, &asked.files, &mut run);
     }
+    // The process ends next, and the system takes back all of its memory at once.
+    mem::forget(run);
     Ok(all_ok)
 }
 

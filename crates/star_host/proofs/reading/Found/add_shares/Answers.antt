@@ -8,7 +8,7 @@ use Rattle.std.specs.declared.result.Result.{Result}
 use Rattle.star_host.specs.declared.reading.Read.{Read}
 use Rattle.star_host.specs.Readings.{IsReadAs}
 use Rattle.star_host.proofs.PlacesRead.{all_front, all_last}
-use Rattle.star_host.proofs.reading.Found.add_level.Goals as goal
+use Rattle.star_host.proofs.reading.Found.add_shares.Goals as goal
 
 pub loop-share-preserved : goal.loop-share-preserved
 loop-share-preserved c = λ files prelude all old.
@@ -20,6 +20,6 @@ pub returns : goal.returns
 returns c = λ files prelude all old.
     let Q = λ (r : Result (Vec (ℕ × Read) Global) AllocError). IfOk r (λ reads. All (λ (p : ℕ × Read). IsReadAs files prelude p.0 p.1) reads.items) in
     let v = c.into_iter-share-iterator.ensures.into_iter_gives in
-    let t = YieldsList-end (YieldsList-from_vec {s = c.into_iter-share-iterator.result} c.args.level.items v.0 (v.1 ∙ c.args.level.ok.0)) c.loop-share.yielded c.loop-share.share-iterator c.loop-share.yielded_by c.next.result c.next.new.self c.in-None.is c.next.ensures.steps in
-    let whole : c.loop-share.yielded ≡ c.args.level.items = sym (map-id c.loop-share.yielded) ∙ t.0 in
+    let t = YieldsList-end (YieldsList-from_vec {s = c.into_iter-share-iterator.result} c.args.shares.items v.0 (v.1 ∙ c.args.shares.ok.0)) c.loop-share.yielded c.loop-share.share-iterator c.loop-share.yielded_by c.next.result c.next.new.self c.in-None.is c.next.ensures.steps in
+    let whole : c.loop-share.yielded ≡ c.args.shares.items = sym (map-id c.loop-share.yielded) ∙ t.0 in
     c.loop-share.invariant files prelude (subst (All Q) (sym whole) all) old
