@@ -70,16 +70,12 @@ find_mapped f p (x ∷ xs) = ap (λ o. cond (p (f x)) (Some (f x)) o) (find_mapp
 
 -- ---- things found by their numbers
 
-numbered : (n k l : ℕ) (o : Option ℕ) → (n ≡ k → o ≡ None) → (if nat_eq n k then Some l else o) ≡ option_or o (if nat_eq k n then Some l else None)
-numbered n k l o free = grind arith
-
 pub finds_pushed : {A : Type 0} (number_of : A → ℕ) (xs : List A) (x : A) (old new : Index)
-    → Finds number_of xs old → place_at old (number_of x) ≡ None
-    → ((n : ℕ) → place_at new n ≡ (if nat_eq n (number_of x) then Some (length xs) else place_at old n))
+    → Finds number_of xs old
+    → ((n : ℕ) → place_at new n ≡ option_or (place_at old n) (if nat_eq (number_of x) n then Some (length xs) else None))
     → Finds number_of (xs ++ x ∷ []) new
-finds_pushed number_of xs x old new finds free put n =
-    put n ∙ numbered n (number_of x) (length xs) (place_at old n) (λ e. ap (place_at old) e ∙ free)
-    ∙ ap (λ o. option_or o (if nat_eq (number_of x) n then Some (length xs) else None)) (finds n)
+finds_pushed number_of xs x old new finds put n =
+    put n ∙ ap (λ o. option_or o (if nat_eq (number_of x) n then Some (length xs) else None)) (finds n)
     ∙ sym (position_pushed (λ y. nat_eq (number_of y) n) xs x)
 
 -- ---- slots found by names

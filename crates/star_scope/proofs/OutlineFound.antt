@@ -7,24 +7,24 @@ use Rattle.star_scope.specs.Outlines.{Block, Body, Definition, Found, all_parame
 use Rattle.star_scope.proofs.BoundNames.{with_joined}
 use Rattle.star_scope.proofs.FirstPlaces.{names_once}
 
-pub add_comprehension : (old : Found) (token number : ℕ) (cs : Clauses) (names : Names) (blocks : List Block)
-    → number ≡ 1 + token → names ≡ with_names [] (clauses_names cs)
-    → blocks ≡ old.blocks ++ record { number = number; names = names } ∷ []
+pub add_comprehension : (old : Found) (token : ℕ) (cs : Clauses) (names : Names) (blocks : List Block)
+    → names ≡ with_names [] (clauses_names cs)
+    → blocks ≡ old.blocks ++ record { number = 1 + token; names = names } ∷ []
     → record { definitions = old.definitions; blocks = blocks } ≡ and old (comprehension token cs)
 unfolding and comprehension
-add_comprehension old token number cs names blocks n e b =
-    ap (λ bs. record { definitions = old.definitions; blocks = bs }) (b ∙ ap (λ k. old.blocks ++ record { number = k; names = names } ∷ []) n
+add_comprehension old token cs names blocks e b =
+    ap (λ bs. record { definitions = old.definitions; blocks = bs }) (b
     ∙ ap (λ ns. old.blocks ++ record { number = 1 + token; names = ns } ∷ []) (e ∙ names_once (clauses_names cs)))
     ∙ ap (λ ds. record { definitions = ds; blocks = old.blocks ++ record { number = 1 + token; names = once (clauses_names cs) } ∷ [] }) (sym (append-nil old.definitions))
 
-pub add_definition : (old : Found) (token number : ℕ) (ps : List Parameter) (body : Body) (some all : Names) (definitions : List Definition) (blocks : List Block)
-    → number ≡ 1 + token → some ≡ with_names [] (all_parameter_names ps) → all ≡ with_names some (body_names body)
+pub add_definition : (old : Found) (token : ℕ) (ps : List Parameter) (body : Body) (some all : Names) (definitions : List Definition) (blocks : List Block)
+    → some ≡ with_names [] (all_parameter_names ps) → all ≡ with_names some (body_names body)
     → definitions ≡ old.definitions ++ record { number = token; parameters = ps; body = body } ∷ []
-    → blocks ≡ old.blocks ++ record { number = number; names = all } ∷ []
+    → blocks ≡ old.blocks ++ record { number = 1 + token; names = all } ∷ []
     → record { definitions = definitions; blocks = blocks } ≡ and old (definition token ps body)
 unfolding and definition
-add_definition old token number ps body some all definitions blocks n e f d b =
-    ap (λ bs. record { definitions = definitions; blocks = bs }) (b ∙ ap (λ k. old.blocks ++ record { number = k; names = all } ∷ []) n
+add_definition old token ps body some all definitions blocks e f d b =
+    ap (λ bs. record { definitions = definitions; blocks = bs }) (b
     ∙ ap (λ ns. old.blocks ++ record { number = 1 + token; names = ns } ∷ [])
     (f ∙ ap (λ ns. with_names ns (body_names body)) e ∙ sym (with_joined [] (all_parameter_names ps) (body_names body)) ∙ names_once (all_parameter_names ps ++ body_names body)))
     ∙ ap (λ ds. record { definitions = ds; blocks = old.blocks ++ record { number = 1 + token; names = once (all_parameter_names ps ++ body_names body) } ∷ [] }) d

@@ -1,5 +1,5 @@
 -- The chain of the blocks around a part and what stands outside of them, as the code has it.
-use Rattle.std.specs.Prelude.{ℕ, List, [], ◌∷◌, Option}
+use Rattle.std.specs.Prelude.{ℕ, ◌+◌, List, [], ◌∷◌, Option}
 use Rattle.std.specs.Option.{option_map}
 use denote.Ref.{Bor}
 use Rattle.star_scope.specs.declared.chain.Link.{Link, File, Inside'}
@@ -8,7 +8,7 @@ use Rattle.star_scope.specs.Names.{Names}
 -- the numbers of blocks, the innermost first
 abbrev pub numbers : Link → List ℕ
 numbers File = 0 ∷ []
-numbers (Inside' number p outer) = number ∷ numbers outer
+numbers (Inside' token p outer) = (1 + token) ∷ numbers outer
 
 -- the names of the prelude's block
 abbrev pub names_outside : Option (Bor Names) → Option Names

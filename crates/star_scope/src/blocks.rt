@@ -1,6 +1,6 @@
 //! The blocks of a file, with the names that are bound in them.
 
-ghost use Rattle.std.specs.Prelude.{◌≡◌, ◌∷◌, ◌++◌, ◌==◌, ℕ, [], length, map, OnOk};
+ghost use Rattle.std.specs.Prelude.{◌≡◌, ◌∷◌, ◌++◌, ◌+◌, ◌==◌, ℕ, [], length, map, OnOk};
 ghost use Rattle.std.specs.Option.{option_copied, unwrap_or};
 ghost use Rattle.star_scope.specs.Names.{slot_of, with_name};
 ghost use Rattle.star_scope.specs.Outlines.{names_in};
@@ -77,9 +77,9 @@ impl<'t> BlockNames<'t> {
         self.names.push(name)?;
         match self.slots.insert(name, slot) {
             Ok(_) => Ok(()),
-            Err(_) => {
+            Err(refused) => {
                 self.names.truncate(slot);
-                Err(AllocError)
+                Err(AllocError::from(refused))
             }
         }
     }
@@ -93,7 +93,7 @@ pub struct Block<'t> {
     pub names: BlockNames<'t>,
 }
 
-/// The blocks of a file. No two have one number.
+/// The blocks of a file. Of two with one number the first is found.
 #[derive(Drop)]
 pub struct Blocks<'t> {
     blocks: Vec<Block<'t>>,
@@ -132,6 +132,17 @@ impl<'t> Blocks<'t> {
         }
     }
 
+    /// The slot of a name in the block that begins at this token: none where no block begins there, or it does not bind the
+    /// name.
+    pub(crate) fn slot_at(&self, token: usize, name: &str) -> Option<usize>
+        ensures { result ≡ slot_of name.now (names_in self.now (1 + token)) }
+    {
+        match self.index.get_after(token) {
+            Some(place) => self.blocks[place].names.slot(name),
+            None => None,
+        }
+    }
+
     /// The names of the block with this number: none where there is no such block.
     pub fn names(&self, number: usize) -> Option<&BlockNames<'t>>
         ensures { unwrap_or (option_copied result) [] ≡ names_in self.now number }
@@ -142,7 +153,7 @@ impl<'t> Blocks<'t> {
         }
     }
 
-    /// A block more. A number that another block has is refused like a growth.
+    /// A block more.
     pub(crate) fn push(&mut self, number: usize, names: BlockNames<'t>) -> Result<(), AllocError>
         ensures { OnOk result (self.new ≡ self.old ++ record { number = number; names = names.entry } ∷ []) }
     {
@@ -155,5 +166,13 @@ impl<'t> Blocks<'t> {
                 Err(error)
             }
         }
+    }
+
+    /// A block more, which begins at this token.
+    pub(crate) fn push_at(&mut self, token: usize, names: BlockNames<'t>) -> Result<(), AllocError>
+        ensures { OnOk result (self.new ≡ self.old ++ record { number = 1 + token; names = names.entry } ∷ []) }
+    {
+        self.index.reach(token)?;
+        self.push(token + 1, names)
     }
 }

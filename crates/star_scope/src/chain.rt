@@ -14,11 +14,11 @@ use std::marker::Model;
 /// So many blocks stand in one another at most.
 const CHAIN_LENGTH: usize = 102;
 
-/// The file's own block, whose number is 0, or a block with its number and the blocks around it.
+/// The file's own block, or the block that begins at a token, with the blocks around it.
 #[derive(Clone, Copy)]
 enum Link<'c> {
     File,
-    Inside { number: usize, outer: &'c Link<'c> },
+    Inside { token: usize, outer: &'c Link<'c> },
 }
 
 /// The numbers of the blocks around a part, the innermost first: 102 at most.
@@ -126,19 +126,17 @@ impl<'c> Chain<'c> {
         }
     }
 
-    /// The chain inside a block that begins at a token. Too long a chain is refused like a growth.
+    /// The chain inside a block that begins at a token. Too long a chain is refused like a growth: it comes of no text, since
+    /// the nesting of a text is bounded, but of a tree that was made by hand.
     pub(crate) fn inside(&'c self, token: usize) -> Result<Chain<'c>, AllocError>
         ensures { IfOk result (λ c. c ≡ (1 + token) ∷ self.now) }
     {
         if self.length >= CHAIN_LENGTH {
             return Err(AllocError);
         }
-        let Some(number) = token.checked_add(1) else {
-            return Err(AllocError);
-        };
         Ok(Chain {
             link: Link::Inside {
-                number,
+                token,
                 outer: &self.link,
             },
             length: self.length + 1,
@@ -152,8 +150,8 @@ impl<'c> Chain<'c> {
     {
         let mut link = &self.link;
         let mut up = 0;
-        while let Link::Inside { number, outer } = link {
-            if let Some(slot) = scope.blocks.slot(*number, name) {
+        while let Link::Inside { token, outer } = link {
+            if let Some(slot) = scope.blocks.slot_at(*token, name) {
                 return Some(Spot::Frame { up, slot });
             }
             link = *outer;

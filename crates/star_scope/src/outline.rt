@@ -88,7 +88,8 @@ impl<'t> Definitions<'t> {
         }
     }
 
-    /// A definition more. A number that another definition has is refused like a growth.
+    /// A definition more. A number that another definition has is refused like a growth: it comes of no text, since each
+    /// definition of a text begins at a token of its own, but of a tree that was made by hand.
     fn push(
         &mut self,
         number: usize,
@@ -97,6 +98,9 @@ impl<'t> Definitions<'t> {
     ) -> Result<(), AllocError>
         ensures { OnOk result (self.new ≡ self.old ++ record { number = number; parameters = parameters.now; body = body_of body.entry } ∷ []) }
     {
+        if self.index.get(number).is_some() {
+            return Err(AllocError);
+        }
         let place = self.definitions.len();
         self.definitions.push(Definition {
             number,
@@ -120,16 +124,6 @@ pub struct Found<'t> {
     pub blocks: Blocks<'t>,
 }
 
-/// One more than the number of a token: that of the block of what begins there.
-fn block_number(token: usize) -> Result<usize, AllocError>
-    ensures { IfOk result (λ number. number ≡ 1 + token) }
-{
-    match token.checked_add(1) {
-        Some(number) => Ok(number),
-        None => Err(AllocError),
-    }
-}
-
 fn add_body<'t>(names: &mut BlockNames<'t>, body: Body<'t>) -> Result<(), AllocError>
     ensures { OnOk result (names.new ≡ with_names names.old (body_names (body_of body.entry))) }
 {
@@ -149,12 +143,11 @@ fn add_definition<'t>(
 ) -> Result<(), AllocError>
     ensures { OnOk result (found.new ≡ and found.old (definition token parameters.now (body_of body.entry))) }
 {
-    let number = block_number(token)?;
     let mut names = BlockNames::new(alloc);
     add_parameters(&mut names, parameters)?;
     add_body(&mut names, body)?;
     found.definitions.push(token, parameters, body)?;
-    found.blocks.push(number, names)?;
+    found.blocks.push_at(token, names)?;
     Ok(())
 }
 
@@ -167,10 +160,9 @@ fn add_comprehension<'t>(
 ) -> Result<(), AllocError>
     ensures { OnOk result (found.new ≡ and found.old (comprehension token clauses.now)) }
 {
-    let number = block_number(token)?;
     let mut names = BlockNames::new(alloc);
     add_clauses(&mut names, clauses)?;
-    found.blocks.push(number, names)?;
+    found.blocks.push_at(token, names)?;
     Ok(())
 }
 

@@ -252,8 +252,7 @@ impl<'t> Program<'t> {
 /// The program of the file `n` with this tree, or its first static fault: the one whose token stands first; at one token,
 /// the one whose kind has the lower number (`docs/LANGUAGE.md`, "Scopes and static faults"). The prelude is seen by every
 /// file but its own, in which every load is misplaced. `Memory` where a growth is refused, and for a tree that no text has:
-/// where two definitions or comprehensions, or two names with different spots, have one token, a token's number is too large, or more than
-/// 102 blocks stand in one another.
+/// where two definitions, or two names with different spots, have one token, or more than 102 blocks stand in one another.
 pub fn resolve<'t>(
     alloc: Global,
     files: &Files,

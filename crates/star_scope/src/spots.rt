@@ -7,9 +7,6 @@ use crate::spot::Spot;
 use std::alloc::{AllocError, Global};
 use std::marker::Model;
 
-/// No token whose number is so high has a spot.
-const TOKENS: usize = 16_777_216;
-
 /// The spots of names, by the numbers of the tokens at which the names stand. A look-up takes constant time.
 #[derive(Debug, Drop)]
 pub struct Spots {
@@ -33,10 +30,9 @@ fn reach(entries: &mut Vec<Option<Spot>>, token: usize) -> Result<(), AllocError
     if token < entries.len() {
         return Ok(());
     }
-    if token >= TOKENS {
-        return Err(AllocError);
-    }
-    entries.resize(token + 1, None)
+    entries.resize(token, None)?;
+    entries.push(None)?;
+    Ok(())
 }
 
 impl Spots {
@@ -59,8 +55,8 @@ impl Spots {
         }
     }
 
-    /// The name at a token has this spot. Another spot at the same token is refused like a growth, and so is a token whose
-    /// number is 16,777,216 or more.
+    /// The name at a token has this spot. Another spot at the same token is refused like a growth: it comes of no text, since
+    /// each name of a text has a token of its own, but of a tree that was made by hand.
     pub(crate) fn put(&mut self, token: usize, spot: Spot) -> Result<(), AllocError>
         ensures keeps { OnOk result (Keeps self.old self.new) }
         ensures put { OnOk result (spot_at self.new token ≡ Some spot) }

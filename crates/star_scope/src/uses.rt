@@ -536,8 +536,8 @@ fn place_arms(
 /// The spots of all names of a file whose statements these are and whose blocks these are, beside the names of the
 /// prelude's block where there is a prelude; and the first name that no block around it, no prelude and no built-in binds:
 /// an `Undefined` at its token (`docs/LANGUAGE.md`, "Scopes and static faults"). `Memory` where a growth is refused, and for
-/// a tree that no text has: where two names with different spots have one token, a token has the number 16,777,216 or more,
-/// or more than 102 blocks stand in one another. No other error.
+/// a tree that no text has: where two names with different spots have one token, or more than 102 blocks stand in one
+/// another. No other error.
 pub fn place_names<'s, 't>(
     alloc: Global,
     blocks: &'s Blocks<'t>,

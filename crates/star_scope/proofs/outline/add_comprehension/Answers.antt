@@ -4,5 +4,5 @@ use Rattle.star_scope.proofs.outline.add_comprehension.Goals as goal
 
 pub returns : goal.returns
 returns c =
-    add_comprehension c.args.found.now c.args.token c.in_ok-number.number c.args.clauses.now c.add_clauses.new.names c.push.new.self
-    (search rules) (search rules) (search rules)
+    add_comprehension c.args.found.now c.args.token c.args.clauses.now c.add_clauses.new.names c.push_at.new.self
+    (search rules) (search rules)

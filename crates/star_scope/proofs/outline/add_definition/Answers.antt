@@ -5,6 +5,6 @@ use Rattle.star_scope.proofs.outline.add_definition.Goals as goal
 
 pub returns : goal.returns
 returns c =
-    add_definition c.args.found.now c.args.token c.in_ok-number.number c.args.parameters.now (body_of c.args.body) c.add_parameters.new.names c.add_body.new.names
-    c.push.new.self c.push-2.new.self
-    (search rules) (search rules) (search rules) (search rules) (search rules)
+    add_definition c.args.found.now c.args.token c.args.parameters.now (body_of c.args.body) c.add_parameters.new.names c.add_body.new.names
+    c.push.new.self c.push_at.new.self
+    (search rules) (search rules) (search rules) (search rules)
