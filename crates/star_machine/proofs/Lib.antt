@@ -4,6 +4,7 @@ pub mod Contents
 pub mod Dicts
 pub mod Filling
 pub mod FirstEqual
+pub mod Gathering
 pub mod KindCases
 pub mod Parts
 pub mod ProgramRows

@@ -1,5 +1,6 @@
 pub mod Cuts
 pub mod Fills
+pub mod Gathered
 pub mod Gives
 pub mod Kinds
 pub mod Search

@@ -5,6 +5,7 @@ pub mod comparisons;
 pub mod content;
 pub mod cuts;
 pub mod fault;
+pub mod gathered;
 pub mod given;
 pub mod machine;
 pub mod operators;

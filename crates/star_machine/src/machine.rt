@@ -1,9 +1,11 @@
 //! The machine: what a run changes.
 
-ghost use Rattle.std.specs.Prelude.{◌≡◌, ◌<◌, ◌≤◌, ◌+◌, ◌^◌, ◌∷◌, ◌&&◌, [], length, nat_eq, pos, slice_get, IfErr, IfOk, OnOk};
+ghost use Rattle.std.specs.Prelude.{◌≡◌, ◌<◌, ◌≤◌, ◌+◌, ◌^◌, ◌∷◌, ◌&&◌, [], length, nat_eq, pos, slice_get, Some, IfErr, IfOk, IfSome, OnOk};
 ghost use Rattle.std.specs.List.{list_any};
 ghost use Rattle.std.specs.Option.{option_copied};
-ghost use Rattle.star_store.specs.Store.{bound};
+ghost use Rattle.star_store.specs.Content.{content as key_content};
+ghost use Rattle.star_store.specs.Key.{key_levels};
+ghost use Rattle.star_store.specs.Store.{bound, look};
 ghost use Rattle.star_meaning.specs.Calls.{deactivate, is_active};
 ghost use Rattle.star_meaning.specs.Run.{Done, add_line, agreed, and_then, build, give, make, pay, storing, visiting};
 ghost use Rattle.star_meaning.specs.Program.{seen};
@@ -22,6 +24,7 @@ use star_meaning::fault::Code;
 use star_store::arena::Arena;
 use star_store::arena::write::Change;
 use star_store::budget::Budget;
+use star_store::content::{Atom, content};
 use star_store::equal::equal;
 use star_store::fault::StoreFault;
 use star_store::key::{check_key, place_of};
@@ -642,6 +645,16 @@ impl Machine {
         ensures { result ≡ place_in setting.now self.now key entries.now }
     {
         place_of(&self.arena, setting.homes(), key, entries)
+    }
+
+    /// The content of a key, where it has one and memory suffices.
+    pub(crate) fn key_content(&self, setting: &Setting, key: Value) -> Option<Vec<Atom>>
+        ensures { IfSome result (λ c. key_content (look self.now.store setting.now.shelf) key_levels key ≡ Some c.items) }
+    {
+        match content(self.alloc, &self.arena, setting.homes(), key) {
+            Ok(content) => content,
+            Err(_) => None,
+        }
     }
 
     /// The place of the entry of a dictionary with a key.

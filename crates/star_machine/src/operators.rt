@@ -8,6 +8,7 @@ ghost use Rattle.star_meaning.specs.Values.{content};
 
 use crate::content::{Content, Kind};
 use crate::fault::{Stop, faulted};
+use crate::gathered::Gathered;
 use crate::machine::Machine;
 use crate::percent::percent;
 use crate::setting::Setting;
@@ -311,11 +312,12 @@ fn united(
 ) -> Result<Entries, AllocError>
     ensures { IfOk result (λ r. r ≡ spec.with_entries setting.now machine.now left.now right.now) }
 {
-    let mut made = copied(machine.alloc(), left)?;
+    let copy = copied(machine.alloc(), left)?;
+    let mut made = Gathered::of(machine, setting, copy, right.len());
     for entry in right.as_slice() {
-        with_entry(machine, setting, &mut made, *entry)?;
+        made.put(machine, setting, *entry)?;
     }
-    Ok(made)
+    Ok(made.into_entries())
 }
 
 /// A new dictionary of the left one's entries, with the right one's put in. `BadType` for other operands.
