@@ -18,3 +18,4 @@ pub mod UseForms
 pub mod StatementForms
 pub mod Leading
 pub mod Differ
+mod Noted

@@ -12,5 +12,6 @@ pub mod Spots
 pub mod Chains
 pub mod Placed
 pub mod Index
+pub mod Binders
 pub mod Definitions
 pub mod Resolve

@@ -122,6 +122,13 @@ impl<'t> Blocks<'t> {
         }
     }
 
+    /// All of them.
+    pub(crate) fn as_slice(&self) -> &[Block<'t>]
+        ensures { result.now ≡ self.now }
+    {
+        self.blocks.as_slice()
+    }
+
     /// The slot of a name in the block with this number: none where the block does not bind it.
     pub fn slot(&self, number: usize, name: &str) -> Option<usize>
         ensures { result ≡ slot_of name.now (names_in self.now number) }

@@ -5,7 +5,8 @@ ghost use Rattle.star_scope.specs.Chains.{names_outside};
 ghost use Rattle.star_scope.specs.Names.{has_name};
 ghost use Rattle.star_scope.specs.Places.{chain_length, outermost_names, outside_spot, prelude_has, spot_of};
 
-use crate::blocks::{BlockNames, Blocks};
+use crate::binders::Bound;
+use crate::blocks::BlockNames;
 use crate::loads::is_private;
 use crate::spot::Spot;
 use std::alloc::AllocError;
@@ -43,7 +44,7 @@ impl<'c> Model for Chain<'c> {
 /// What a name may be bound by: the blocks of the file, and the names of the prelude's block, where there is a prelude.
 #[derive(Clone, Copy)]
 pub(crate) struct Scope<'s, 't> {
-    pub(crate) blocks: &'s Blocks<'t>,
+    pub(crate) blocks: &'s Bound<'s, 't>,
     pub(crate) prelude: Option<&'s BlockNames<'t>>,
 }
 
@@ -148,10 +149,11 @@ impl<'c> Chain<'c> {
         ensures spot { result ≡ spot_of scope.now.blocks.now (names_outside scope.now.prelude) name.now self.now }
         ensures short { length self.now ≤ chain_length }
     {
+        let binders = scope.blocks.binders(name);
         let mut link = &self.link;
         let mut up = 0;
         while let Link::Inside { token, outer } = link {
-            if let Some(slot) = scope.blocks.slot_at(*token, name) {
+            if let Some(slot) = scope.blocks.slot_at(binders, *token, name) {
                 return Some(Spot::Frame { up, slot });
             }
             link = *outer;

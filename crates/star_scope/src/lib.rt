@@ -1,6 +1,7 @@
 //! Names and their places, loads and their files, and the static faults of a file.
 #![tactic(auto)]
 
+mod binders;
 pub mod blocks;
 mod chain;
 pub mod conflicts;

@@ -11,6 +11,7 @@ ghost use Rattle.star_scope.specs.Placed.{Places};
 ghost use Rattle.star_scope.specs.Spots.{spot_at};
 ghost use Rattle.star_scope.specs.Uses.{all_uses, default_uses, in_argument, in_arm, in_clause, in_clauses, in_entry, in_expression, in_form, in_returned, in_statement, in_target, loaded_use, maybe_use, one_use, parameter_name_uses, uses};
 
+use crate::binders::Bound;
 use crate::blocks::{BlockNames, Blocks};
 use crate::chain::{Chain, Scope};
 use crate::error::{Refusal, ScopeFault, earlier};
@@ -533,6 +534,23 @@ fn place_arms(
     Ok(())
 }
 
+/// The spots of all names of a file in a scope, and the first name that has none.
+fn place_all(
+    alloc: Global,
+    scope: &Scope<'_, '_>,
+    statements: &[Statement],
+) -> Result<Placed, AllocError>
+    ensures first { IfOk result (λ placed. placed.first ≡ first (undefined scope.now.blocks.now (names_outside scope.now.prelude) (uses statements.now))) }
+    ensures spots { IfOk result (λ placed. placed.first ≡ None → AllPlaced (spot_at placed.spots) scope.now.blocks.now (names_outside scope.now.prelude) (uses statements.now)) }
+{
+    let mut placed = Placed {
+        spots: Spots::new(alloc),
+        first: None,
+    };
+    place_statements(&mut placed, scope, &Chain::of_file(), statements)?;
+    Ok(placed)
+}
+
 /// The spots of all names of a file whose statements these are and whose blocks these are, beside the names of the
 /// prelude's block where there is a prelude; and the first name that no block around it, no prelude and no built-in binds:
 /// an `Undefined` at its token (`docs/LANGUAGE.md`, "Scopes and static faults"). `Memory` where a growth is refused, and for
@@ -548,11 +566,10 @@ pub fn place_names<'s, 't>(
     ensures spots { IfOk result (λ placed. placed.first ≡ None → AllPlaced (spot_at placed.spots) blocks.now (names_outside prelude.entry) (uses statements.now)) }
     ensures memory { IfErr result (λ e. e ≡ Memory) }
 {
-    let mut placed = Placed {
-        spots: Spots::new(alloc),
-        first: None,
+    let bound = Bound::of(alloc, blocks)?;
+    let scope = Scope {
+        blocks: &bound,
+        prelude,
     };
-    let scope = Scope { blocks, prelude };
-    place_statements(&mut placed, &scope, &Chain::of_file(), statements)?;
-    Ok(placed)
+    Ok(place_all(alloc, &scope, statements)?)
 }

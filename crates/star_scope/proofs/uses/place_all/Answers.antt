@@ -1,5 +1,4 @@
 use Rattle.std.proofs.Common.{◌∷◌, [], None, sym, ◌∙◌}
-use Rattle.star_scope.specs.declared.chain.Scope.{Scope}
 use Rattle.star_scope.specs.declared.uses.Placed.{Placed}
 use Rattle.star_scope.specs.Chains.{names_outside}
 use Rattle.star_scope.specs.Placed.{Places}
@@ -7,12 +6,12 @@ use Rattle.star_scope.specs.Spots.{spot_at}
 use Rattle.star_scope.specs.Uses.{all_uses, in_statement, uses}
 use Rattle.star_scope.proofs.Placing.{all_placed, place_as, place_part}
 use Rattle.star_scope.proofs.StatementForms.{of_file}
-use Rattle.star_scope.proofs.uses.place_names.Goals as goal
+use Rattle.star_scope.proofs.uses.place_all.Goals as goal
 
 whole : (c : goal.In_ok-place_statements)
-    → Places (record { blocks = c.args.blocks; prelude = c.args.prelude }) (uses c.args.statements.now) (record { spots = c.new.result; first = None }) c.place_statements.new.placed
+    → Places c.args.scope.now (uses c.args.statements.now) (record { spots = c.new.result; first = None }) c.place_statements.new.placed
 whole c =
-    let scope : Scope = record { blocks = c.args.blocks; prelude = c.args.prelude } in
+    let scope = c.args.scope.now in
     let a : Placed = record { spots = c.new.result; first = None } in
     let z = c.place_statements.new.placed in
     place_as scope _ _ a z (of_file c.args.statements.now)
@@ -23,5 +22,5 @@ returns-clause-first c = (whole c).found
 
 pub returns-clause-spots : goal.returns-clause-spots
 returns-clause-spots c = λ none.
-    all_placed (spot_at c.place_statements.new.placed.spots) c.args.blocks.now (names_outside c.args.prelude) (uses c.args.statements.now)
+    all_placed (spot_at c.place_statements.new.placed.spots) c.args.scope.now.blocks.now (names_outside c.args.scope.now.prelude) (uses c.args.statements.now)
     (sym (whole c).found ∙ none) (whole c).have
