@@ -1,9 +1,13 @@
 -- Pairs, as the code holds them.
-use Rattle.std.specs.Prelude.{◌≡◌, List, Result, Ok, Err}
+use Rattle.std.specs.Prelude.{◌≡◌, ℕ, List, Result, Ok, Err}
 use Rattle.star_store.specs.declared.values.Value.{Value}
 use Rattle.star_builtin.specs.declared.dicts.Pairs.{Pairs as HeldPairs}
 use Rattle.star_machine.specs.declared.fault.Stop.{Stop}
-use Rattle.star_meaning.specs.Run.{State, Outcome, Done}
+use Rattle.star_meaning.specs.Arguments.{key_for}
+use Rattle.star_meaning.specs.Operators.{with_entry}
+use Rattle.star_meaning.specs.Program.{Setting}
+use Rattle.star_meaning.specs.declared.given.NamedValue.{NamedValue}
+use Rattle.star_meaning.specs.Run.{State, Action, Outcome, Done, ◌>>=◌, give, seeing}
 use Rattle.star_machine.specs.Gives.{Ends}
 use Rattle.star_meaning.specs.Pairs.{Pairs}
 
@@ -14,3 +18,7 @@ as_pairs p = record { are_keys = p.are_keys; pairs = p.pairs.items }
 abbrev pub Puts : Outcome (List (Value × Value)) → Result (Unit {0}) Stop → List (Value × Value) → State → Type 0
 Puts o (Ok x) entries new = o ≡ Done entries new
 Puts o (Err e) entries new = Ends o e new
+
+-- the entries with a named value put in, under its name as a key
+abbrev pub put_named : Setting → ℕ → List (Value × Value) → NamedValue → Action (List (Value × Value))
+put_named w line es n = key_for line n >>= λ k. seeing (λ s. give (with_entry w s es (k, n.value)))

@@ -2,16 +2,17 @@
 
 ghost use Rattle.std.specs.Prelude.{◌≡◌, [], IfOk, OnOk};
 ghost use Rattle.star_meaning.specs.BuiltIns.{call_dict};
+ghost use Rattle.star_machine.specs.Gathered.{IsGathered};
 ghost use Rattle.star_machine.specs.Gives.{Gives, GivesBy};
-ghost use Rattle.star_meaning.specs.Operators.{with_entry};
 ghost use Rattle.star_meaning.specs.Pairs as spec;
 ghost use Rattle.star_meaning.specs.Run.{each};
 ghost use Rattle.star_meaning.specs.Subscript.{entries_in};
 ghost use Rattle.star_meaning.specs.Values.{content};
-ghost use Rattle.star_builtin.specs.Dicts.{Puts, as_pairs};
+ghost use Rattle.star_builtin.specs.Dicts.{Puts, as_pairs, put_named};
 
 use star_machine::content::{Content, Kind};
 use star_machine::fault::{Stop, faulted};
+use star_machine::gathered::Gathered;
 use star_machine::machine::Machine;
 use star_machine::setting::Setting;
 use star_meaning::fault::Code;
@@ -148,25 +149,6 @@ fn pairs_of(
     }
 }
 
-/// Puts an entry in: a key that is there keeps its place.
-fn put_entry(
-    machine: &Machine,
-    setting: &Setting,
-    entries: &mut Entries,
-    key: Value,
-    value: Value,
-) -> Result<(), AllocError>
-    ensures { OnOk result (entries.new ≡ with_entry setting.now machine.now entries.old (key, value)) }
-{
-    let Some(at) = machine.place_of(setting, key, entries) else {
-        return entries.push(key, value);
-    };
-    if let Some((there, _old)) = entries.get(at) {
-        entries.set(at, there, value);
-    }
-    Ok(())
-}
-
 /// Checks a key, unless it is one already. `BadType` for what is no key.
 fn check_pair(
     machine: &mut Machine,
@@ -176,7 +158,8 @@ fn check_pair(
     are_keys: bool,
     key: Value,
 ) -> Result<(), Stop>
-    ensures { Gives (spec.check_pair setting.now levels line are_keys key machine.old) result machine.new }
+    ensures answer { Gives (spec.check_pair setting.now levels line are_keys key machine.old) result machine.new }
+    ensures kept { machine.new.store ≡ machine.old.store }
 {
     if are_keys {
         return Ok(());
@@ -191,14 +174,15 @@ fn put_pair(
     levels: u32,
     line: usize,
     are_keys: bool,
-    entries: &mut Entries,
+    gathered: &mut Gathered,
     pair: (Value, Value),
 ) -> Result<(), Stop>
-    ensures { Puts (spec.with_pair setting.now levels line are_keys entries.old pair machine.old) result entries.new machine.new }
+    requires { IsGathered setting.now machine.old.store gathered.old }
+    ensures put { Puts (spec.with_pair setting.now levels line are_keys gathered.old.entries pair machine.old) result gathered.new.entries machine.new }
+    ensures gathered { OnOk result (IsGathered setting.now machine.new.store gathered.new) }
 {
-    let (key, value) = pair;
-    check_pair(machine, setting, levels, line, are_keys, key)?;
-    put_entry(machine, setting, entries, key, value)?;
+    check_pair(machine, setting, levels, line, are_keys, pair.0)?;
+    gathered.put(machine, setting, pair)?;
     Ok(())
 }
 
@@ -209,10 +193,11 @@ fn with_pairs(
     levels: u32,
     line: usize,
     pairs: &Pairs,
-) -> Result<Entries, Stop>
-    ensures { Gives (spec.with_pairs setting.now levels line pairs.now.are_keys [] pairs.now.pairs.items machine.old) result machine.new }
+) -> Result<Gathered, Stop>
+    ensures answer { GivesBy (λ g. g.entries) (spec.with_pairs setting.now levels line pairs.now.are_keys [] pairs.now.pairs.items machine.old) result machine.new }
+    ensures gathered { IfOk result (λ g. IsGathered setting.now machine.new.store g) }
 {
-    let mut entries = Entries::new(machine.alloc());
+    let mut gathered = Gathered::new(machine.alloc());
     for pair in &pairs.pairs {
         put_pair(
             machine,
@@ -220,11 +205,28 @@ fn with_pairs(
             levels,
             line,
             pairs.are_keys,
-            &mut entries,
+            &mut gathered,
             *pair,
         )?;
     }
-    Ok(entries)
+    Ok(gathered)
+}
+
+/// Puts a named value in, under its name as a key.
+fn put_named(
+    machine: &mut Machine,
+    setting: &Setting,
+    line: usize,
+    gathered: &mut Gathered,
+    named: &NamedValue,
+) -> Result<(), Stop>
+    requires { IsGathered setting.now machine.old.store gathered.old }
+    ensures put { Puts (put_named setting.now line gathered.old.entries named.now machine.old) result gathered.new.entries machine.new }
+    ensures gathered { OnOk result (IsGathered setting.now machine.new.store gathered.new) }
+{
+    let key = machine.key_for(line, named)?;
+    gathered.put(machine, setting, (key, named.value))?;
+    Ok(())
 }
 
 /// Puts named values in, each under its name as a key.
@@ -232,17 +234,17 @@ fn with_named(
     machine: &mut Machine,
     setting: &Setting,
     line: usize,
-    entries: Entries,
+    gathered: Gathered,
     named: &[NamedValue],
 ) -> Result<Entries, Stop>
-    ensures { Gives (spec.with_named setting.now line entries named.now machine.old) result machine.new }
+    requires { IsGathered setting.now machine.old.store gathered }
+    ensures { Gives (spec.with_named setting.now line gathered.entries named.now machine.old) result machine.new }
 {
-    let mut entries = entries;
+    let mut gathered = gathered;
     for value in named {
-        let key = machine.key_for(line, value)?;
-        put_entry(machine, setting, &mut entries, key, value.value)?;
+        put_named(machine, setting, line, &mut gathered, value)?;
     }
-    Ok(entries)
+    Ok(gathered.into_entries())
 }
 
 /// A new dictionary of pairs and named values. `BadType` for what is no key.
@@ -257,8 +259,8 @@ fn dict_of(
 ) -> Result<Value, Stop>
     ensures { Gives (spec.dict_of setting.now levels line (as_pairs pairs.now) named.now machine.old) result machine.new }
 {
-    let entries = with_pairs(machine, setting, levels, line, pairs)?;
-    let entries = with_named(machine, setting, line, entries, named)?;
+    let gathered = with_pairs(machine, setting, levels, line, pairs)?;
+    let entries = with_named(machine, setting, line, gathered, named)?;
     machine.new_dict(line, entries)
 }
 

@@ -1,6 +1,12 @@
 use Rattle.std.proofs.Common.{◌≡◌, [], drop}
+use Rattle.star_machine.specs.Gathered.{IsGathered}
 use Rattle.star_meaning.specs.Pairs.{with_pairs}
 use Rattle.star_builtin.proofs.dicts.with_pairs.Given as goal
 
 abbrev pub invariant-loop-pair : goal.invariant-loop-pair
-invariant-loop-pair l = let f = with_pairs l.setting l.levels l.line l.pairs.are_keys in f l.entries (drop l.pair-index l.pairs.pairs.items) l.machine ≡ f [] l.pairs.pairs.items l.fn.machine
+invariant-loop-pair l =
+    let f = with_pairs l.setting l.levels l.line l.pairs.are_keys in
+    record {
+      told : f l.gathered.entries (drop l.pair-index l.pairs.pairs.items) l.machine ≡ f [] l.pairs.pairs.items l.fn.machine;
+      gathered : IsGathered l.setting l.machine.store l.gathered;
+    }
