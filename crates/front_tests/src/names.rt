@@ -19,6 +19,8 @@ const ROWS: &str = "\
     \x1edef f(a):\n  def g(b):\n    def h(c): return a + b + c + f\n\x1f\x1f\
 1=0.0 3=0.0 9=0.1 11=0.0 17=0.1 19=0.0 23=2.0 25=1.0 27=0.0 29=3.0 \
     \x1ex = 1\ndef f():\n  y = x\n  x = 2\n\x1f\x1f0=0.0 5=0.1 11=0.0 13=0.1 15=0.1 \
+    \x1ex = 1\ndef f():\n  x = 2\n  def g(): return x\n  def h(x): return x\n\x1f\x1f\
+0=0.0 5=0.1 11=0.0 16=0.1 21=1.0 24=0.2 26=0.0 30=0.0 \
     \x1edef f(n): return lambda x = n: [x + y + n for y in n]\n\x1f\x1f\
 1=0.0 3=0.0 8=0.0 10=0.0 13=1.0 15=0.0 17=2.0 19=0.0 21=1.0 \
     \x1ey = 1\n[x for x in x]\nx = 2\n\x1f\x1f0=0.0 5=0.0 7=0.0 9=0.1 12=0.1 \
@@ -97,7 +99,7 @@ fn places_names(rt: HostRuntime) -> Result<(), Fail> {
         check(&rt, rt.alloc(), cells.as_slice())?;
         rows = u32::saturating_add(rows, 1);
     }
-    assert_eq!(rt; rows, 15);
+    assert_eq!(rt; rows, 16);
     Ok(())
 }
 
