@@ -111,5 +111,5 @@ pub fn report_of<R: Threads + Wait + Sync>(
 {
     let files = files_of(alloc, bundle)?;
     let mut run = run_all(rt, alloc, &files, loaders, &Open)?;
-    Ok(report(alloc, &files, &mut run)?)
+    Ok(report(rt, alloc, &files, &mut run, loaders)?)
 }

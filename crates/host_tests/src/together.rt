@@ -69,7 +69,7 @@ fn modules_are_read_while_a_body_is_held(rt: HostRuntime) -> Result<(), Fail> {
         (1, 3)
     );
     assert_eq!(rt;
-        report(alloc, &files, &mut run)?.as_str(),
+        report(&rt, alloc, &files, &mut run, 2)?.as_str(),
         "{\"begun\":4,\"modules\":[{\"globals\":{\"x\":\"1\"},\"label\":\"//:a.star\",\"lines\":[],\"status\":\"ok\"},{\"globals\":{\"y\":\"[(3,)]\"},\"label\":\"//:b.star\",\"lines\":[],\"status\":\"ok\"},{\"globals\":{\"k\":\"(3,)\"},\"label\":\"//:c.star\",\"lines\":[],\"status\":\"ok\"},{\"globals\":{\"z\":\"([(3,)], (3,))\"},\"label\":\"//:d.star\",\"lines\":[],\"status\":\"ok\"}]}\n"
     );
     Ok(())
@@ -94,14 +94,17 @@ fn each_body_runs_once(rt: HostRuntime) -> Result<(), Fail> {
     let files = sums(alloc, 30)?;
     let alone = Meeting::new([0, 0, 0, 0], LOOKS);
     let mut run = run_all(&rt, alloc, &files, 1, &alone)?;
-    let one = report(alloc, &files, &mut run)?;
+    let one = report(&rt, alloc, &files, &mut run, 1)?;
     assert!(rt; one.as_str().contains("832040"), "the 30th sum is missing");
     for loaders in [2, 3, 4, 64] {
         let gate = Meeting::new([0, 0, 0, 0], LOOKS);
         let mut run = run_all(&rt, alloc, &files, loaders, &gate)?;
         assert_eq!(rt; gate.bodies(), 30);
         assert_eq!(rt; run.begun(), 30);
-        assert_eq!(rt; report(alloc, &files, &mut run)?.as_str(), one.as_str());
+        assert_eq!(rt;
+            report(&rt, alloc, &files, &mut run, loaders)?.as_str(),
+            one.as_str()
+        );
     }
     Ok(())
 }
@@ -128,12 +131,15 @@ fn thirty_of_three_hundred_files_lie_on_cycles(rt: HostRuntime) -> Result<(), Fa
     let alloc = rt.alloc();
     let files = rings(alloc)?;
     let mut run = run_all(&rt, alloc, &files, 1, &Open)?;
-    let one = report(alloc, &files, &mut run)?;
+    let one = report(&rt, alloc, &files, &mut run, 1)?;
     assert_eq!(rt; run.begun(), 300);
     for loaders in [2, 4, 16] {
         let mut run = run_all(&rt, alloc, &files, loaders, &Open)?;
         assert_eq!(rt; run.begun(), 300);
-        assert_eq!(rt; report(alloc, &files, &mut run)?.as_str(), one.as_str());
+        assert_eq!(rt;
+            report(&rt, alloc, &files, &mut run, loaders)?.as_str(),
+            one.as_str()
+        );
     }
     Ok(())
 }

@@ -20,3 +20,5 @@ pub mod Fails
 pub mod NoFloat
 pub mod Shows
 pub mod Blocks
+pub mod Sheets
+pub mod Lent

@@ -1,4 +1,4 @@
--- The value of a report has no float, so its text is exact.
+-- The values of modules have no float, so their texts are exact.
 use Rattle.std.proofs.Common.{◌≡◌, ℕ, List, [], ◌∷◌, Bool, true, false, ◌||◌, fold, map, codes, refl}
 use Rattle.std.specs.declared.cmp.Ordering.{Ordering}
 use Rattle.std.specs.declared.cmp.Ordering.TheVariants.{Less, Equal, Greater}
@@ -10,7 +10,7 @@ use Rattle.serde_json.specs.Written.{has_float, items_have_float, members_have_f
 use Rattle.star_label.specs.Files.{File, label_at}
 use Rattle.star_plan.specs.Causes.{Cause, Culprit, Cycle}
 use Rattle.star_plan.specs.Report.{Ended, HadFault, HadLoad, HadStatic, Module, WentWell}
-use Rattle.star_plan.specs.Text.{code_word, ended_data, ill_data, load_data, module_data, report_data, static_line, static_word, texts_data, well_data, with_global}
+use Rattle.star_plan.specs.Text.{code_word, ended_data, ill_data, load_data, module_data, static_line, static_word, texts_data, well_data, with_global}
 
 left_false : (a b : Bool) → (a || b) ≡ false → a ≡ false
 left_false true b h = cc
@@ -56,9 +56,6 @@ ended_none files label (HadFault f lines) = ill_none (codes "fault") (string (co
 ended_none files label (HadStatic f) = ill_none (codes "fault") (string (static_word f)) label (static_line f) [] (codes "static") refl
 ended_none files label (HadLoad cause line) = load_none files label cause line
 
-modules_none : (files : List File) (ms : List Module) → items_have_float (items_of (map (module_data files) ms)) ≡ false
+pub modules_none : (files : List File) (ms : List Module) → items_have_float (items_of (map (module_data files) ms)) ≡ false
 modules_none files [] = refl
 modules_none files (m ∷ ms) = rw (ended_none files (label_at files m.file) m.ended) (modules_none files ms)
-
-pub report_none : (files : List File) (begun : ℕ) (ms : List Module) → has_float (report_data files begun ms) ≡ false
-report_none files begun ms = rw (modules_none files ms) refl

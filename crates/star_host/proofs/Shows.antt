@@ -1,12 +1,10 @@
 -- The values that show modules, and the report of them.
-use Rattle.std.proofs.Common.{arith, ◌≡◌, ◌<◌, ◌+◌, ℕ, false, List, [], ◌∷◌, ◌++◌, map, take, length, get_or, Option, Some, None, refl, ap, sym, subst, ◌∙◌, codes}
+use Rattle.std.proofs.Common.{arith, ◌≡◌, ◌<◌, ◌+◌, ℕ, List, [], ◌∷◌, ◌++◌, map, take, length, get_or, Option, Some, None, refl, ap, sym, subst, ◌∙◌}
 use Rattle.std.specs.Prelude.{Contains, slice_index_or}
 use Rattle.std.specs.List.Sorted.{IsStrictlyIncreasing}
 use Rattle.std.proofs.lemmas.List.{get_or-map, length-map, map_push, take_all, take_more}
 use Rattle.std.proofs.lemmas.List.Elements.{All-get_or, All-nil, All-push}
-use Rattle.serde_json.specs.Data.{array, member, no_members, number, object, unsigned}
-use Rattle.serde_json.specs.View.{items_of, view}
-use Rattle.serde_json.specs.Written.{compact_text, has_float}
+use Rattle.serde_json.specs.View.{view}
 use Rattle.serde_json.specs.declared.value.Value.{Value}
 use Rattle.star_label.specs.Files.{File, label_at}
 use Rattle.star_module.specs.Globals.{owned}
@@ -15,19 +13,18 @@ use Rattle.star_plan.specs.Reached.{IsReached}
 use Rattle.star_plan.specs.Reading.{IsPlanOf}
 use Rattle.star_plan.specs.Report.{Ended as ReportEnded, HadFault, HadLoad, HadStatic, IsEnded, IsReport, Module as ReportModule, WentWell}
 use Rattle.star_plan.specs.Results.{IsFirstBad, IsGood, result}
-use Rattle.star_plan.specs.Text.{ended_data, module_data, report_text}
+use Rattle.star_plan.specs.Text.{ended_data, module_data}
 use Rattle.star_plan.proofs.Outcomes.{no_bad}
 use Rattle.star_plan.proofs.Stay.{good_is}
 use Rattle.star_cause.specs.Causes.{AreNextsOf}
 use Rattle.star_cause.specs.Ways.{Nexts}
 use Rattle.star_host.specs.Codes.{fault_of}
 use Rattle.star_host.specs.Kept.{AreModules, AreModulesOf, KeptView}
-use Rattle.star_host.specs.Shown.{AreShown, IsReportBut, IsReportOf, IsReportValue, IsShown}
+use Rattle.star_host.specs.Shown.{AreShown, IsReportBut, IsReportOf, IsShown}
 use Rattle.star_host.specs.Views.{IsEnd, IsModule}
 use Rattle.star_host.specs.declared.module.Ended.{Ended}
 use Rattle.star_host.specs.declared.module.Ended.TheVariants.{Static, Load as Unloaded, Stopped, Good}
 use Rattle.star_host.specs.declared.module.Module.{Module}
-use Rattle.star_host.proofs.NoFloat.{report_none}
 
 -- ---- one module
 
@@ -98,22 +95,16 @@ shown_all files plan ks i vs end was = subst (λ xs. AreShown files plan xs vs) 
 
 -- ---- the report
 
-pub value_is : (files : List File) (plan : Plan) (ks : List KeptView) (vs : List Value) (begun : ℕ) (v : Value) → AreModules plan ks → AreShown files plan ks vs
-    → view v ≡ object (member (codes "begun") (number (unsigned begun)) (member (codes "modules") (array (items_of (map view vs))) no_members)) → IsReportValue files plan (length ks) begun v
-value_is files plan ks vs begun v are shown is =
+pub report_shown : (files : List File) (plan : Plan) (ks : List KeptView) (vs : List Value) → AreModules plan ks → (shown : AreShown files plan ks vs) → IsReport plan (length ks) shown.modules
+report_shown files plan ks vs are shown =
     let ms : List ReportModule = shown.modules in
     let count : length ks ≡ length ms = sym (length-map ks (λ (k : KeptView). k.number)) ∙ (ap length (sym shown.numbers) ∙ length-map ms (λ (m : ReportModule). m.file)) in
-    let report : IsReport plan (length ks) ms = record {
+    record {
       begun_are = count;
       in_order = subst IsStrictlyIncreasing (sym shown.numbers) are.in_order;
       all = λ n. (λ r. subst (λ ns. Contains ns n) (sym shown.numbers) ((are.reached n).0 r), λ h. (are.reached n).1 (subst (λ ns. Contains ns n) shown.numbers h));
       each_ended = shown.each_ended;
-    } in
-    (ms, report, is ∙ ap (λ ds. object (member (codes "begun") (number (unsigned begun)) (member (codes "modules") (array (items_of ds)) no_members))) shown.views)
-
-pub text_is : (files : List File) (plan : Plan) (reached begun : ℕ) (v : Value) (text : List ℕ) → (has_float (view v) ≡ false → text ≡ compact_text (view v) ++ 10 ∷ []) → IsReportValue files plan reached begun v → IsReportBut files plan reached begun text
-unfolding report_text
-text_is files plan reached begun v text writes (ms, report, is) = (ms, report, writes (ap has_float is ∙ report_none files begun ms) ∙ ap (λ d. compact_text d ++ 10 ∷ []) is)
+    }
 
 -- where as many files were begun as are reached, the text is that of the report
 pub report_of : (files : List File) (roots : List ℕ) (prelude : Option ℕ) (steps : ℕ) (ks : List KeptView) (begun : ℕ) (text : List ℕ) → begun ≡ length ks → AreModulesOf files roots prelude steps ks

@@ -10,3 +10,4 @@ pub mod Frames
 pub mod Kept
 pub mod Fails
 pub mod Shown
+pub mod Pages

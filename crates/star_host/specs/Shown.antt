@@ -9,7 +9,7 @@ use Rattle.star_plan.specs.Causes.{Cause}
 use Rattle.star_plan.specs.Plan.{Plan}
 use Rattle.star_plan.specs.Reading.{IsPlanOf}
 use Rattle.star_plan.specs.Report.{IsEnded, IsReport, Module}
-use Rattle.star_plan.specs.Text.{IsReportText, code_word, ill_data, load_data, module_data, report_data, report_text, static_line, static_word, well_data}
+use Rattle.star_plan.specs.Text.{IsReportText, code_word, ill_data, load_data, module_data, report_text, static_line, static_word, well_data}
 use Rattle.star_cause.specs.Causes.{IsCauseBy}
 use Rattle.star_cause.specs.Ways.{Nexts}
 use Rattle.star_module.specs.Globals.{owned}
@@ -36,11 +36,8 @@ pub record AreShown (files : List File) (plan : Plan) (ks : List KeptView) (vs :
   pub each_ended : All (λ m. IsEnded plan m.file m.ended) modules
   pub views : map view vs ≡ map (module_data files) modules
 
--- a value is that of the report of a plan, in which so many files are reached, but that it says how many were begun
-abbrev pub IsReportValue : List File → Plan → ℕ → ℕ → Value → Type 0
-IsReportValue files plan reached begun v = (modules : List Module) × IsReport plan reached modules × (view v ≡ report_data files begun modules)
-
--- .. and a text is its text; where as many are begun as are reached, it is that of the report (`IsReportText`)
+-- a text is that of the report of a plan, in which so many files are reached, but that it says how many were begun;
+-- where as many are begun as are reached, it is that of the report (`IsReportText`)
 abbrev pub IsReportBut : List File → Plan → ℕ → ℕ → List ℕ → Type 0
 IsReportBut files plan reached begun text = (modules : List Module) × IsReport plan reached modules × (text ≡ report_text files begun modules)
 

@@ -11,6 +11,7 @@ pub mod module;
 mod naming;
 mod order;
 mod outcome;
+mod pages;
 mod reading;
 pub mod report;
 mod running;

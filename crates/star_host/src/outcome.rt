@@ -1,6 +1,6 @@
 //! What a run answers.
 
-ghost use Rattle.std.specs.Prelude.{◌≡◌, ◌<◌, length, slice_index_or, Some};
+ghost use Rattle.std.specs.Prelude.{◌≡◌, ◌<◌, length, slice_index_or, IfOk, Some};
 ghost use Rattle.star_host.specs.Kept.{IsSound, KeptView};
 
 use crate::module::Module;
@@ -8,6 +8,7 @@ use crate::shelf::Shelf;
 use crate::trace::Refused;
 use once_cell::race::Note;
 use star_tree::tree::Tree;
+use std::alloc::{AllocError, Global};
 use std::marker::Model;
 
 /// A file's number, and a note of its cell.
@@ -32,12 +33,35 @@ impl Kept {
         self.number
     }
 
-    fn note(&mut self) -> Note<Module>
+    pub(crate) fn note(&mut self) -> Note<Module>
         ensures same { self.new ≡ self.old }
         ensures note { (result.cell ≡ self.old.cell) × (result.known ≡ self.old.known) }
     {
         self.note.again()
     }
+
+    /// The same number, and another note that knows what this one does.
+    fn again(&mut self) -> Kept
+        ensures same { self.new ≡ self.old }
+        ensures kept { result ≡ self.old }
+    {
+        Kept {
+            number: self.number,
+            note: self.note.again(),
+        }
+    }
+}
+
+/// The same files, each with a note of its cell.
+fn kept_again(alloc: Global, kept: &mut [Kept]) -> Result<Vec<Kept>, AllocError>
+    ensures same { kept.new ≡ kept.old }
+    ensures kept { IfOk result (λ ks. ks.items ≡ kept.old) }
+{
+    let mut all = Vec::with_capacity(alloc, kept.len())?;
+    for i in 0..kept.len() {
+        all.push(kept[i].again())?;
+    }
+    Ok(all)
 }
 
 /// The modules of all reached files in order of their numbers, how many files were begun, and by each loader; and the refused loads.
@@ -109,6 +133,14 @@ impl Run {
         ensures note { (d : KeptView) → (result.cell ≡ (slice_index_or self.old.kept i d).cell) × (result.known ≡ (slice_index_or self.old.kept i d).known) }
     {
         self.kept[i].note()
+    }
+
+    /// The files, each with a note that knows its module.
+    pub(crate) fn kept(&mut self, alloc: Global) -> Result<Vec<Kept>, AllocError>
+        ensures same { self.new ≡ self.old }
+        ensures kept { IfOk result (λ ks. ks.items ≡ self.old.kept) }
+    {
+        kept_again(alloc, self.kept.as_mut_slice())
     }
 
     /// The i-th module, by its note.

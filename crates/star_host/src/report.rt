@@ -15,12 +15,13 @@ ghost use Rattle.star_plan.specs.Text.{ill_data, load_data, static_line, static_
 ghost use Rattle.star_host.specs.Codes.{fault_of};
 ghost use Rattle.star_host.specs.Fails.{AreFails};
 ghost use Rattle.star_host.specs.Kept.{AllGood, AreModules, IsLoadBelow};
-ghost use Rattle.star_host.specs.Shown.{AreShown, IsLoadShown, IsReportBut, IsReportValue, IsShown};
+ghost use Rattle.star_host.specs.Shown.{IsLoadShown, IsShown};
 ghost use Rattle.star_host.specs.Views.{IsModule};
 
 use crate::code::{StaticFault, code_text};
 use crate::module::{Ended, Module};
 use crate::outcome::Run;
+pub use crate::pages::report;
 use serde_json::{Map, Value, json};
 use star_cause::{Cause, Causes};
 use star_label::files::Files as Labels;
@@ -106,7 +107,11 @@ fn next_of(it: &Module) -> Option<usize>
 }
 
 /// For each file the file of its first load that is not good.
-fn nexts_of(alloc: Global, files: usize, run: &mut Run) -> Result<Vec<Option<usize>>, AllocError>
+pub(crate) fn nexts_of(
+    alloc: Global,
+    files: usize,
+    run: &mut Run,
+) -> Result<Vec<Option<usize>>, AllocError>
     requires { files ≡ length run.old.cells }
     ensures same { run.new ≡ run.old }
     ensures size { IfOk result (λ v. vec_len v ≡ files) }
@@ -203,7 +208,7 @@ fn static_module(alloc: Global, label: &str, fault: StaticFault) -> Result<Value
 }
 
 /// A module, with its label and how it ended.
-fn module_value(
+pub(crate) fn module_value(
     alloc: Global,
     files: &Labels,
     causes: &Causes,
@@ -222,65 +227,6 @@ fn module_value(
         }
         Ended::Good(body) => good_module(alloc, label, &body.shown, &body.lines),
     }
-}
-
-/// The modules, in order of their labels.
-fn module_values(alloc: Global, files: &Labels, run: &mut Run) -> Result<Vec<Value>, AllocError>
-    requires { length run.old.cells ≡ length files.now }
-    ensures same { run.new ≡ run.old }
-    ensures modules { IfOk result (λ vs. (plan : Plan) → IsPlanOf files.now plan → AreModules plan run.old.kept
-        → AreShown files.now plan run.old.kept vs.items) }
-{
-    let nexts = nexts_of(alloc, files.len(), run)?;
-    let causes = Causes::new(alloc, nexts)?;
-    let mut values = Vec::new(alloc);
-    for i in 0..run.len() {
-        let note = run.note(i);
-        let module = run.module(i, note);
-        values.push(module_value(alloc, files, &causes, module)?)?;
-    }
-    Ok(values)
-}
-
-/// The number of files that were begun, with modules.
-fn whole(alloc: Global, begun: u32, modules: Vec<Value>) -> Result<Value, AllocError>
-    ensures { IfOk result (λ v. view v ≡ object (member (codes "begun") (number (unsigned begun))
-        (member (codes "modules") (array (items_of (map view modules.items))) no_members))) }
-{
-    let modules = Value::Array(modules);
-    json!(in alloc; {"begun": u64::from(begun), "modules": modules})
-}
-
-/// The value of the report.
-fn report_value(alloc: Global, files: &Labels, run: &mut Run) -> Result<Value, AllocError>
-    requires { length run.old.cells ≡ length files.now }
-    ensures same { run.new ≡ run.old }
-    ensures value { IfOk result (λ v. (plan : Plan) → IsPlanOf files.now plan → AreModules plan run.old.kept
-        → IsReportValue files.now plan (length run.old.kept) run.old.begun v) }
-{
-    let modules = module_values(alloc, files, run)?;
-    whole(alloc, run.begun(), modules)
-}
-
-/// The text of a value that has no float, and a line end.
-fn text_of(alloc: Global, value: &Value) -> Result<String, AllocError>
-    ensures { IfOk result (λ s. has_float (view value.now) ≡ false
-        → string_bytes s ≡ compact_text (view value.now) ++ 10 ∷ []) }
-{
-    let mut text = value.to_string(alloc)?;
-    text.push('\n')?;
-    Ok(text)
-}
-
-/// The report of a run over these files as its text, with its line end.
-pub fn report(alloc: Global, files: &Labels, run: &mut Run) -> Result<String, AllocError>
-    requires { length run.old.cells ≡ length files.now }
-    ensures same { run.new ≡ run.old }
-    ensures text { IfOk result (λ s. (plan : Plan) → IsPlanOf files.now plan → AreModules plan run.old.kept
-        → IsReportBut files.now plan (length run.old.kept) run.old.begun (string_bytes s)) }
-{
-    let value = report_value(alloc, files, run)?;
-    text_of(alloc, &value)
 }
 
 /// Whether all modules of a run are good.

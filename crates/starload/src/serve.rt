@@ -86,7 +86,7 @@ fn answered<H: Threads + Wait + Sync>(
         Err(RunError::Memory) => return Err(ServeError::Memory),
         Err(RunError::Unpublished) => return Err(ServeError::Unpublished),
     };
-    let text = report(alloc, files, &mut run)?;
+    let text = report(rt, alloc, files, &mut run, loaders)?;
     let all_ok = all_good(&mut run);
     Ok(Answer { run, text, all_ok })
 }
