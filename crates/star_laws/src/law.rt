@@ -1,6 +1,7 @@
-//! Laws of the definitions of arithmetic.
+//! Laws of the definitions of arithmetic and of ranges.
 
 ghost use Rattle.star_laws.specs.Division.{OneQuotient, QuotientAndRemainder};
+ghost use Rattle.star_laws.specs.Ranges.{RangesHaveTheirItems, RangesStepToTheirStop, SameRangesHaveTheSameItems};
 
 /// An int is its quotient by a divisor, times the divisor, and the remainder. The remainder lies between 0 and the
 /// divisor, 0 included and the divisor not, so it has the divisor's sign. (`docs/LANGUAGE.md`, "Values": "Ints".)
@@ -11,4 +12,21 @@ pub fn quotient_and_remainder()
 /// No other quotient and remainder do so. (`docs/LANGUAGE.md`, "Values": "Ints".)
 pub fn one_quotient()
     ensures { OneQuotient }
+{}
+
+/// The items of a range are `start + i * step`, for each `i` from 0 on at which this lies before the stop: below it where
+/// the step is above 0, above it where the step is below 0. (`docs/LANGUAGE.md`, "Iterables".)
+pub fn ranges_step_to_their_stop()
+    ensures { RangesStepToTheirStop }
+{}
+
+/// An int is in a range just where it is one of the range's items. (`docs/LANGUAGE.md`, "Operators".)
+pub fn ranges_have_their_items()
+    ensures { RangesHaveTheirItems }
+{}
+
+/// Two ranges are equal just where at each place both have the same item, or both have none. (`docs/LANGUAGE.md`,
+/// "Equality, order, keys and texts".)
+pub fn same_ranges_have_the_same_items()
+    ensures { SameRangesHaveTheSameItems }
 {}
