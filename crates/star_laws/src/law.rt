@@ -1,6 +1,7 @@
-//! Laws of the definitions of arithmetic and of ranges.
+//! Laws of the definitions of arithmetic, ranges and keys.
 
 ghost use Rattle.star_laws.specs.Division.{OneQuotient, QuotientAndRemainder};
+ghost use Rattle.star_laws.specs.Keys.{EqualKeysAreTheSame, KeysHaveEquality};
 ghost use Rattle.star_laws.specs.Ranges.{RangesHaveTheirItems, RangesStepToTheirStop, SameRangesHaveTheSameItems};
 
 /// An int is its quotient by a divisor, times the divisor, and the remainder. The remainder lies between 0 and the
@@ -14,8 +15,8 @@ pub fn one_quotient()
     ensures { OneQuotient }
 {}
 
-/// The items of a range are `start + i * step`, for each `i` from 0 on at which this lies before the stop: below it where
-/// the step is above 0, above it where the step is below 0. (`docs/LANGUAGE.md`, "Iterables".)
+/// The items of a range are `start + i * step`, for each `i` from 0 on at which this lies before the stop: below it
+/// where the step is above 0, above it where the step is below 0. (`docs/LANGUAGE.md`, "Iterables".)
 pub fn ranges_step_to_their_stop()
     ensures { RangesStepToTheirStop }
 {}
@@ -29,4 +30,18 @@ pub fn ranges_have_their_items()
 /// "Equality, order, keys and texts".)
 pub fn same_ranges_have_the_same_items()
     ensures { SameRangesHaveTheSameItems }
+{}
+
+/// Where one of two values is a key, of whatever depth, equality answers, where it answers, whether they are the same
+/// key. Where neither is one, two lists or two ranges may be equal and are no keys. (`docs/LANGUAGE.md`, "Equality,
+/// order, keys and texts".)
+pub fn equal_keys_are_the_same()
+    ensures { EqualKeysAreTheSame }
+{}
+
+/// Where one of two values is a key and equality may open as many levels as this key has, equality has a price: with
+/// fewer steps it is refused for want of steps, and with these steps or more it answers whether the values are the same
+/// key and leaves the other steps. (`docs/LANGUAGE.md`, "Steps and levels".)
+pub fn keys_have_equality()
+    ensures { KeysHaveEquality }
 {}

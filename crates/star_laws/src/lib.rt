@@ -4,6 +4,6 @@
 mod law;
 
 pub use law::{
-    one_quotient, quotient_and_remainder, ranges_have_their_items, ranges_step_to_their_stop,
-    same_ranges_have_the_same_items,
+    equal_keys_are_the_same, keys_have_equality, one_quotient, quotient_and_remainder,
+    ranges_have_their_items, ranges_step_to_their_stop, same_ranges_have_the_same_items,
 };
