@@ -1,3 +1,4 @@
 pub mod Division
 pub mod Ranges
 pub mod Keys
+pub mod Calls

@@ -1,5 +1,6 @@
-//! Laws of the definitions of arithmetic, ranges and keys.
+//! Laws of the definitions of arithmetic, ranges, keys and calls.
 
+ghost use Rattle.star_laws.specs.Calls.{BoundWhereTheyFit};
 ghost use Rattle.star_laws.specs.Division.{OneQuotient, QuotientAndRemainder};
 ghost use Rattle.star_laws.specs.Keys.{EqualKeysAreTheSame, KeysHaveEquality};
 ghost use Rattle.star_laws.specs.Ranges.{RangesHaveTheirItems, RangesStepToTheirStop, SameRangesHaveTheSameItems};
@@ -44,4 +45,11 @@ pub fn equal_keys_are_the_same()
 /// key and leaves the other steps. (`docs/LANGUAGE.md`, "Steps and levels".)
 pub fn keys_have_equality()
     ensures { KeysHaveEquality }
+{}
+
+/// What a call gives is bound to the parameters, whose defaults are there, just where each parameter without a default
+/// gets a value by place or by name, none gets both, and no value is left over, by place or by name.
+/// (`docs/LANGUAGE.md`, "Calls".)
+pub fn bound_where_they_fit()
+    ensures { BoundWhereTheyFit }
 {}

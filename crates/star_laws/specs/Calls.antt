@@ -1,0 +1,61 @@
+-- Calls: when what a call gives fits the parameters of a function.
+use Rattle.std.specs.Prelude.{◌≡◌, ◌≤◌, ◌<◌, ◌⊎◌, ◌↔◌, ℕ, Bool, true, false, List, [], ◌∷◌, length, take, Option, Some, is_some, slice_get, if◌then◌else◌}
+use Rattle.std.specs.List.{filter, list_any}
+use Rattle.std.specs.Option.{option_and_then, option_map}
+use Rattle.star_store.specs.declared.values.Value.{Value}
+use Rattle.star_tree.specs.declared.tree.Name.{Name}
+use Rattle.star_tree.specs.declared.tree.Parameter.{Parameter}
+use Rattle.star_tree.specs.declared.tree.Argument.TheOpen as tree
+use Rattle.star_scope.specs.Syntax.{ParameterForm, parameter}
+use Rattle.star_meaning.specs.declared.given.Given.{Given}
+use Rattle.star_meaning.specs.declared.given.NamedValue.{NamedValue}
+use Rattle.star_meaning.specs.Arguments.{is_given}
+use Rattle.star_meaning.specs.Binding.{bound_to, own_name, own_names, takes_names}
+
+-- `*name` and a bare `*`
+abbrev pub is_star : ParameterForm → Bool
+is_star (tree.Parameter-F.Parameter::Star n) = true
+is_star tree.BareStar = true
+is_star _ = false
+
+-- `*name`, which takes the values by place that are left
+abbrev pub takes_rest : ParameterForm → Bool
+takes_rest (tree.Parameter-F.Parameter::Star n) = true
+takes_rest _ = false
+
+-- `name = default`
+abbrev pub has_default : ParameterForm → Bool
+has_default (tree.Default n e) = true
+has_default _ = false
+
+-- the parameters before the star
+abbrev pub before_star : List Parameter → List Parameter
+before_star [] = []
+before_star (p ∷ ps) = if is_star (parameter p) then [] else p ∷ before_star ps
+
+-- the parameter at a position, and the name of one that takes one value
+abbrev pub parameter_at : List Parameter → ℕ → Option ParameterForm
+parameter_at ps i = option_map parameter (slice_get ps i)
+
+abbrev pub named_at : List Parameter → ℕ → Option (List ℕ)
+named_at ps i = option_and_then own_name (parameter_at ps i)
+
+-- a parameter gets a value by place where it stands before the star, and there are more of these values than names before its own
+abbrev pub IsByPlace : List Parameter → List Value → ℕ → Type 0
+IsByPlace ps vs i = (i < length (before_star ps)) × (length (own_names (take i ps)) < length vs)
+
+-- when what a call gives fits the parameters
+pub record Fits (ps : List Parameter) (g : Given) : Type 0 where
+  -- a parameter without a default gets a value by place or by name
+  pub needed : (i : ℕ) (n : Name) → parameter_at ps i ≡ Some (tree.Plain n) → IsByPlace ps g.plain i ⊎ (is_given n.text g.named ≡ true)
+  -- no parameter gets one by place and one by name
+  pub once : (i : ℕ) (name : List ℕ) → named_at ps i ≡ Some name → IsByPlace ps g.plain i → is_given name g.named ≡ false
+  -- each value by place has a name before the star, or `*name` takes it
+  pub placed : (length g.plain ≤ length (own_names (before_star ps))) ⊎ (list_any (λ p. takes_rest (parameter p)) ps ≡ true)
+  -- each value by name has the name of a parameter, or `**name` takes it
+  pub known : ((j : ℕ) (n : NamedValue) → slice_get g.named j ≡ Some n → (i : ℕ) × (named_at ps i ≡ Some n.name)) ⊎ (list_any (λ p. takes_names (parameter p)) ps ≡ true)
+
+-- The law: values are bound to parameters, whose defaults are there, just where they fit them.
+abbrev pub BoundWhereTheyFit : Type 0
+BoundWhereTheyFit = (ps : List Parameter) (defaults : List Value) (g : Given)
+    → length (filter (λ p. has_default (parameter p)) ps) ≤ length defaults → is_some (bound_to ps defaults g) ≡ true ↔ Fits ps g
