@@ -42,7 +42,7 @@ or_false : (a : Bool) → (a || false) ≡ a
 or_false true = refl
 or_false false = refl
 
--- what may still be given by place: nothing behind a star
+-- what may still be given by place: nothing after a star
 
 open_of : Bool → List Parameter → List Parameter
 open_of true ps = []
@@ -65,7 +65,7 @@ record Head (ns : List NamedValue) (b : Bool) (p : Parameter) (ps : List Paramet
   needed : (n : Name) → parameter p ≡ tree.Plain n → Placed b (p ∷ ps) vs 0 ⊎ (is_given n.text ns ≡ true)
   once : (name : List ℕ) → own_name (parameter p) ≡ Some name → Placed b (p ∷ ps) vs 0 → is_given name ns ≡ false
 
--- and how that goes on behind it
+-- and how that goes on after it
 record Goes (p : Parameter) (ps : List Parameter) (b c : Bool) (vs ws : List Value) : Type 0 where
   down : (i : ℕ) → Placed b (p ∷ ps) vs (suc i) → Placed c ps ws i
   up : (i : ℕ) → Placed c ps ws i → Placed b (p ∷ ps) vs (suc i)
@@ -226,27 +226,27 @@ also_some : (xs : List (Name × Share)) (o : Option (List (Name × Share))) → 
 also_some xs (Some ys) = refl
 also_some xs None = refl
 
--- the shares behind a step
-Behind : List NamedValue → List NamedValue → List Parameter → Option (List (Name × Share) × Progress) → Option (List (Name × Share))
-Behind ns left ps o = option_and_then (λ r. also r.0 (shares ns left ps r.1)) o
+-- the shares after a step
+After : List NamedValue → List NamedValue → List Parameter → Option (List (Name × Share) × Progress) → Option (List (Name × Share))
+After ns left ps o = option_and_then (λ r. also r.0 (shares ns left ps r.1)) o
 
-by_form : (ns left : List NamedValue) (p : Parameter) (ps : List Parameter) (q : Progress) (f : ParameterForm) → parameter p ≡ f → shares ns left (p ∷ ps) q ≡ Behind ns left ps (step ns left q f)
-unfolding Behind
-by_form ns left p ps q f e = ap (λ f. Behind ns left ps (step ns left q f)) e
+by_form : (ns left : List NamedValue) (p : Parameter) (ps : List Parameter) (q : Progress) (f : ParameterForm) → parameter p ≡ f → shares ns left (p ∷ ps) q ≡ After ns left ps (step ns left q f)
+unfolding After
+by_form ns left p ps q f e = ap (λ f. After ns left ps (step ns left q f)) e
 
-behind_some : (ns left : List NamedValue) (ps : List Parameter) (xs : List (Name × Share)) (q : Progress) → is_some (Behind ns left ps (Some (xs, q))) ≡ is_some (shares ns left ps q)
-unfolding Behind
-behind_some ns left ps xs q = also_some xs (shares ns left ps q)
+after_some : (ns left : List NamedValue) (ps : List Parameter) (xs : List (Name × Share)) (q : Progress) → is_some (After ns left ps (Some (xs, q))) ≡ is_some (shares ns left ps q)
+unfolding After
+after_some ns left ps xs q = also_some xs (shares ns left ps q)
 
-behind_shared : (ns left : List NamedValue) (ps : List Parameter) (n : Name) (q : Progress) (o : Option Value) → is_some (Behind ns left ps (shared n q o)) ≡ (is_some o && is_some (shares ns left ps q))
-unfolding Behind
-behind_shared ns left ps n q (Some v) = also_some ((n, One v) ∷ []) (shares ns left ps q)
-behind_shared ns left ps n q None = refl
+after_shared : (ns left : List NamedValue) (ps : List Parameter) (n : Name) (q : Progress) (o : Option Value) → is_some (After ns left ps (shared n q o)) ≡ (is_some o && is_some (shares ns left ps q))
+unfolding After
+after_shared ns left ps n q (Some v) = also_some ((n, One v) ∷ []) (shares ns left ps q)
+after_shared ns left ps n q None = refl
 
-behind_given : (ns left : List NamedValue) (ps : List Parameter) (n : Name) (v : Value) (q : Progress) (b : Bool) → is_some (Behind ns left ps (if b then None else Some ((n, One v) ∷ [], q))) ≡ (not b && is_some (shares ns left ps q))
-unfolding Behind
-behind_given ns left ps n v q true = refl
-behind_given ns left ps n v q false = also_some ((n, One v) ∷ []) (shares ns left ps q)
+after_given : (ns left : List NamedValue) (ps : List Parameter) (n : Name) (v : Value) (q : Progress) (b : Bool) → is_some (After ns left ps (if b then None else Some ((n, One v) ∷ [], q))) ≡ (not b && is_some (shares ns left ps q))
+unfolding After
+after_given ns left ps n v q true = refl
+after_given ns left ps n v q false = also_some ((n, One v) ∷ []) (shares ns left ps q)
 
 found_any : (name : List ℕ) (n : NamedValue) (ns : List NamedValue) (b : Bool) → is_some (option_map (λ (m : NamedValue). m.value) (find (λ m. same_name m.name name) ns)) ≡ is_given name ns → is_some (option_map (λ (m : NamedValue). m.value) (cond b (Some n) (find (λ m. same_name m.name name) ns))) ≡ (b || is_given name ns)
 found_any name n ns true h = refl
@@ -384,52 +384,52 @@ unfolding prog
 one ns left p ps false (v ∷ vs) ds r h (tree.Plain n) e =
     let w = taken_head ns p ps v vs n.text (ap own_name e) (ap is_star e) in
     next ns left p ps false false (v ∷ vs) vs ds ds (not (is_given n.text ns)) (goes_taken p ps v vs n.text (ap own_name e) (ap is_star e) (ap takes_rest e))
-    (ap (λ o. is_some o) (by_form ns left p ps (prog false (v ∷ vs) ds) (tree.Plain n) e) ∙ behind_given ns left ps n v (prog false vs ds) (is_given n.text ns))
+    (ap (λ o. is_some o) (by_form ns left p ps (prog false (v ∷ vs) ds) (tree.Plain n) e) ∙ after_given ns left ps n v (prog false vs ds) (is_given n.text ns))
     (w.0) (w.1) (r false vs ds (fewer p ps ds (ap has_default e) h))
 one ns left p ps false [] ds r h (tree.Plain n) e =
     let w = plain_head ns p ps false [] n e (empty_out false (p ∷ ps) 0) in
     next ns left p ps false false [] [] ds ds (is_given n.text ns) (goes_empty p ps false)
-    (ap (λ o. is_some o) (by_form ns left p ps (prog false [] ds) (tree.Plain n) e) ∙ behind_shared ns left ps n (prog false [] ds) (else_default (value_named n.text ns) None) ∙ ap (λ b. b && is_some (shares ns left ps (prog false [] ds))) (given_alone (value_named n.text ns) ∙ named_is_given n.text ns))
+    (ap (λ o. is_some o) (by_form ns left p ps (prog false [] ds) (tree.Plain n) e) ∙ after_shared ns left ps n (prog false [] ds) (else_default (value_named n.text ns) None) ∙ ap (λ b. b && is_some (shares ns left ps (prog false [] ds))) (given_alone (value_named n.text ns) ∙ named_is_given n.text ns))
     (w.0) (w.1) (r false [] ds (fewer p ps ds (ap has_default e) h))
 one ns left p ps true vs ds r h (tree.Plain n) e =
     let w = plain_head ns p ps true vs n e (closed_out (p ∷ ps) vs 0) in
     next ns left p ps true true vs vs ds ds (is_given n.text ns) (goes_closed p ps vs (ap takes_rest e))
-    (ap (λ o. is_some o) (by_form ns left p ps (prog true vs ds) (tree.Plain n) e) ∙ behind_shared ns left ps n (prog true vs ds) (else_default (value_named n.text ns) None) ∙ ap (λ b. b && is_some (shares ns left ps (prog true vs ds))) (given_alone (value_named n.text ns) ∙ named_is_given n.text ns))
+    (ap (λ o. is_some o) (by_form ns left p ps (prog true vs ds) (tree.Plain n) e) ∙ after_shared ns left ps n (prog true vs ds) (else_default (value_named n.text ns) None) ∙ ap (λ b. b && is_some (shares ns left ps (prog true vs ds))) (given_alone (value_named n.text ns) ∙ named_is_given n.text ns))
     (w.0) (w.1) (r true vs ds (fewer p ps ds (ap has_default e) h))
 one ns left p ps false (v ∷ vs) ds r h (tree.Default n x) e =
     let w = taken_head ns p ps v vs n.text (ap own_name e) (ap is_star e) in
     next ns left p ps false false (v ∷ vs) vs ds (rest_of_row ds) (not (is_given n.text ns)) (goes_taken p ps v vs n.text (ap own_name e) (ap is_star e) (ap takes_rest e))
-    (ap (λ o. is_some o) (by_form ns left p ps (prog false (v ∷ vs) ds) (tree.Default n x) e) ∙ behind_given ns left ps n v (prog false vs (rest_of_row ds)) (is_given n.text ns))
+    (ap (λ o. is_some o) (by_form ns left p ps (prog false (v ∷ vs) ds) (tree.Default n x) e) ∙ after_given ns left ps n v (prog false vs (rest_of_row ds)) (is_given n.text ns))
     (w.0) (w.1) (r false vs (rest_of_row ds) ((one_fewer p ps ds (ap has_default e) h).1))
 one ns left p ps false [] ds r h (tree.Default n x) e =
     let k = one_fewer p ps ds (ap has_default e) h in
     next ns left p ps false false [] [] ds (rest_of_row ds) (is_some (else_default (value_named n.text ns) (first_of_row ds))) (goes_empty p ps false)
-    (ap (λ o. is_some o) (by_form ns left p ps (prog false [] ds) (tree.Default n x) e) ∙ behind_shared ns left ps n (prog false [] (rest_of_row ds)) (else_default (value_named n.text ns) (first_of_row ds)))
+    (ap (λ o. is_some o) (by_form ns left p ps (prog false [] ds) (tree.Default n x) e) ∙ after_shared ns left ps n (prog false [] (rest_of_row ds)) (else_default (value_named n.text ns) (first_of_row ds)))
     (λ q. free_head ns p ps false [] (λ m f. cc) (λ name f q. empty_out false (p ∷ ps) 0 q)) (λ q. given_or (value_named n.text ns) (first_of_row ds) (first_there ds (k.0))) (r false [] (rest_of_row ds) (k.1))
 one ns left p ps true vs ds r h (tree.Default n x) e =
     let k = one_fewer p ps ds (ap has_default e) h in
     next ns left p ps true true vs vs ds (rest_of_row ds) (is_some (else_default (value_named n.text ns) (first_of_row ds))) (goes_closed p ps vs (ap takes_rest e))
-    (ap (λ o. is_some o) (by_form ns left p ps (prog true vs ds) (tree.Default n x) e) ∙ behind_shared ns left ps n (prog true vs (rest_of_row ds)) (else_default (value_named n.text ns) (first_of_row ds)))
+    (ap (λ o. is_some o) (by_form ns left p ps (prog true vs ds) (tree.Default n x) e) ∙ after_shared ns left ps n (prog true vs (rest_of_row ds)) (else_default (value_named n.text ns) (first_of_row ds)))
     (λ q. free_head ns p ps true vs (λ m f. cc) (λ name f q. closed_out (p ∷ ps) vs 0 q)) (λ q. given_or (value_named n.text ns) (first_of_row ds) (first_there ds (k.0))) (r true vs (rest_of_row ds) (k.1))
 one ns left p ps b vs ds r h (tree.Parameter-F.Parameter::Star n) e =
     next ns left p ps b true vs [] ds ds true (goes_star p ps b vs (ap is_star e) (ap takes_rest e))
-    (ap (λ o. is_some o) (by_form ns left p ps (prog b vs ds) (tree.Parameter-F.Parameter::Star n) e) ∙ behind_some ns left ps ((n, Rest vs) ∷ []) (prog true [] ds))
+    (ap (λ o. is_some o) (by_form ns left p ps (prog b vs ds) (tree.Parameter-F.Parameter::Star n) e) ∙ after_some ns left ps ((n, Rest vs) ∷ []) (prog true [] ds))
     (λ q. free_head ns p ps b vs (λ m f. cc) (λ name f q. nameless p name (ap own_name e) f)) (λ q. refl) (r true [] ds (fewer p ps ds (ap has_default e) h))
 one ns left p ps false vs ds r h tree.BareStar e =
     next ns left p ps false true vs vs ds ds true (goes_bare p ps vs (ap is_star e) (ap takes_rest e))
-    (ap (λ o. is_some o) (by_form ns left p ps (prog false vs ds) tree.BareStar e) ∙ behind_some ns left ps [] (prog true vs ds))
+    (ap (λ o. is_some o) (by_form ns left p ps (prog false vs ds) tree.BareStar e) ∙ after_some ns left ps [] (prog true vs ds))
     (λ q. free_head ns p ps false vs (λ m f. cc) (λ name f q. nameless p name (ap own_name e) f)) (λ q. refl) (r true vs ds (fewer p ps ds (ap has_default e) h))
 one ns left p ps true vs ds r h tree.BareStar e =
     next ns left p ps true true vs vs ds ds true (goes_closed p ps vs (ap takes_rest e))
-    (ap (λ o. is_some o) (by_form ns left p ps (prog true vs ds) tree.BareStar e) ∙ behind_some ns left ps [] (prog true vs ds))
+    (ap (λ o. is_some o) (by_form ns left p ps (prog true vs ds) tree.BareStar e) ∙ after_some ns left ps [] (prog true vs ds))
     (λ q. free_head ns p ps true vs (λ m f. cc) (λ name f q. nameless p name (ap own_name e) f)) (λ q. refl) (r true vs ds (fewer p ps ds (ap has_default e) h))
 one ns left p ps false vs ds r h (tree.Parameter-F.Parameter::StarStar n) e =
     next ns left p ps false false vs vs ds ds true (goes_past p ps vs (ap own_name e) (ap is_star e) (ap takes_rest e))
-    (ap (λ o. is_some o) (by_form ns left p ps (prog false vs ds) (tree.Parameter-F.Parameter::StarStar n) e) ∙ behind_some ns left ps ((n, Names left) ∷ []) (prog false vs ds))
+    (ap (λ o. is_some o) (by_form ns left p ps (prog false vs ds) (tree.Parameter-F.Parameter::StarStar n) e) ∙ after_some ns left ps ((n, Names left) ∷ []) (prog false vs ds))
     (λ q. free_head ns p ps false vs (λ m f. cc) (λ name f q. nameless p name (ap own_name e) f)) (λ q. refl) (r false vs ds (fewer p ps ds (ap has_default e) h))
 one ns left p ps true vs ds r h (tree.Parameter-F.Parameter::StarStar n) e =
     next ns left p ps true true vs vs ds ds true (goes_closed p ps vs (ap takes_rest e))
-    (ap (λ o. is_some o) (by_form ns left p ps (prog true vs ds) (tree.Parameter-F.Parameter::StarStar n) e) ∙ behind_some ns left ps ((n, Names left) ∷ []) (prog true vs ds))
+    (ap (λ o. is_some o) (by_form ns left p ps (prog true vs ds) (tree.Parameter-F.Parameter::StarStar n) e) ∙ after_some ns left ps ((n, Names left) ∷ []) (prog true vs ds))
     (λ q. free_head ns p ps true vs (λ m f. cc) (λ name f q. nameless p name (ap own_name e) f)) (λ q. refl) (r true vs ds (fewer p ps ds (ap has_default e) h))
 
 suits : (ns left : List NamedValue) (ps : List Parameter) (b : Bool) (vs ds : List Value) → Enough ps ds → Suits ns left ps b vs ds

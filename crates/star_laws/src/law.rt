@@ -1,6 +1,6 @@
 //! Laws of the definitions of arithmetic, ranges, keys and calls.
 
-ghost use Rattle.star_laws.specs.Calls.{BoundWhereTheyFit};
+ghost use Rattle.star_laws.specs.Calls.{BoundWhereTheyFit, GivenNamesDiffer};
 ghost use Rattle.star_laws.specs.Division.{OneQuotient, QuotientAndRemainder};
 ghost use Rattle.star_laws.specs.Keys.{EqualKeysAreTheSame, KeysHaveEquality};
 ghost use Rattle.star_laws.specs.Ranges.{RangesHaveTheirItems, RangesStepToTheirStop, SameRangesHaveTheSameItems};
@@ -52,4 +52,10 @@ pub fn keys_have_equality()
 /// (`docs/LANGUAGE.md`, "Calls".)
 pub fn bound_where_they_fit()
     ensures { BoundWhereTheyFit }
+{}
+
+/// Of the values by name that a call gives, those that are written and those of `**`, no two have the same name.
+/// (`docs/LANGUAGE.md`, "Calls".)
+pub fn given_names_differ()
+    ensures { GivenNamesDiffer }
 {}
