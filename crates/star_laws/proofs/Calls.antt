@@ -44,14 +44,14 @@ or_false false = refl
 
 -- what may still be given by place: nothing after a star
 
-open_of : Bool → List Parameter → List Parameter
+unfoldable pub open_of : Bool → List Parameter → List Parameter
 open_of true ps = []
 open_of false ps = before_star ps
 
-Placed : Bool → List Parameter → List Value → ℕ → Type 0
+unfoldable pub Placed : Bool → List Parameter → List Value → ℕ → Type 0
 Placed b ps vs i = (i < length (open_of b ps)) × (length (own_names (take i ps)) < length vs)
 
-Room : Bool → List Parameter → List Value → Type 0
+unfoldable pub Room : Bool → List Parameter → List Value → Type 0
 Room b ps vs = (length vs ≤ length (own_names (open_of b ps))) ⊎ (list_any (λ p. takes_rest (parameter p)) ps ≡ true)
 
 -- as `Fits`, from some parameter on
@@ -66,11 +66,11 @@ record Head (ns : List NamedValue) (b : Bool) (p : Parameter) (ps : List Paramet
   once : (name : List ℕ) → own_name (parameter p) ≡ Some name → Placed b (p ∷ ps) vs 0 → is_given name ns ≡ false
 
 -- and how that goes on after it
-record Goes (p : Parameter) (ps : List Parameter) (b c : Bool) (vs ws : List Value) : Type 0 where
-  down : (i : ℕ) → Placed b (p ∷ ps) vs (suc i) → Placed c ps ws i
-  up : (i : ℕ) → Placed c ps ws i → Placed b (p ∷ ps) vs (suc i)
-  lower : Room b (p ∷ ps) vs → Room c ps ws
-  higher : Room c ps ws → Room b (p ∷ ps) vs
+pub record Goes (p : Parameter) (ps : List Parameter) (b c : Bool) (vs ws : List Value) : Type 0 where
+  pub down : (i : ℕ) → Placed b (p ∷ ps) vs (suc i) → Placed c ps ws i
+  pub up : (i : ℕ) → Placed c ps ws i → Placed b (p ∷ ps) vs (suc i)
+  pub lower : Room b (p ∷ ps) vs → Room c ps ws
+  pub higher : Room c ps ws → Room b (p ∷ ps) vs
 
 cons : (ns : List NamedValue) (p : Parameter) (ps : List Parameter) (b c : Bool) (vs ws : List Value) → Goes p ps b c vs ws → Head ns b p ps vs → FitsFrom ns c ps ws → FitsFrom ns b (p ∷ ps) vs
 cons ns p ps b c vs ws g h r = record { needed = needed; once = once; room = g.higher r.room }
@@ -99,13 +99,13 @@ tail_of ns p ps b c vs ws g r = record { needed = λ i n e. by i n (r.needed (su
 
 -- how it goes on
 
-no_star : (p : Parameter) (ps : List Parameter) → is_star (parameter p) ≡ false → before_star (p ∷ ps) ≡ p ∷ before_star ps
+pub no_star : (p : Parameter) (ps : List Parameter) → is_star (parameter p) ≡ false → before_star (p ∷ ps) ≡ p ∷ before_star ps
 no_star p ps h = ap (λ b. if b then [] else p ∷ before_star ps) h
 
 star : (p : Parameter) (ps : List Parameter) → is_star (parameter p) ≡ true → before_star (p ∷ ps) ≡ []
 star p ps h = ap (λ b. if b then [] else p ∷ before_star ps) h
 
-goes_taken : (p : Parameter) (ps : List Parameter) (v : Value) (vs : List Value) (name : List ℕ) → own_name (parameter p) ≡ Some name → is_star (parameter p) ≡ false → takes_rest (parameter p) ≡ false → Goes p ps false false (v ∷ vs) vs
+pub goes_taken : (p : Parameter) (ps : List Parameter) (v : Value) (vs : List Value) (name : List ℕ) → own_name (parameter p) ≡ Some name → is_star (parameter p) ≡ false → takes_rest (parameter p) ≡ false → Goes p ps false false (v ∷ vs) vs
 unfolding Placed Room open_of
 goes_taken p ps v vs name k h t = record {
   down = λ i q. (omega (arith, a, q.0), omega (arith, c i, q.1));
@@ -131,7 +131,7 @@ goes_taken p ps v vs name k h t = record {
     higher (inl q) = inl (omega (arith, d))
     higher (inr q) = inr (or_right (takes_rest (parameter p)) (list_any (λ p. takes_rest (parameter p)) ps) q)
 
-goes_empty : (p : Parameter) (ps : List Parameter) (b : Bool) → Goes p ps b b [] []
+pub goes_empty : (p : Parameter) (ps : List Parameter) (b : Bool) → Goes p ps b b [] []
 unfolding Placed Room
 goes_empty p ps b = record {
   down = λ i q. absurd (omega (arith, q.1));
@@ -140,7 +140,7 @@ goes_empty p ps b = record {
   higher = λ q. inl (omega arith);
 }
 
-goes_closed : (p : Parameter) (ps : List Parameter) (vs : List Value) → takes_rest (parameter p) ≡ false → Goes p ps true true vs vs
+pub goes_closed : (p : Parameter) (ps : List Parameter) (vs : List Value) → takes_rest (parameter p) ≡ false → Goes p ps true true vs vs
 unfolding Placed Room open_of
 goes_closed p ps vs t = record {
   down = λ i q. absurd (omega (arith, q.0));
@@ -157,12 +157,12 @@ goes_closed p ps vs t = record {
     higher (inl q) = inl q
     higher (inr q) = inr (or_right (takes_rest (parameter p)) (list_any (λ p. takes_rest (parameter p)) ps) q)
 
-none_open : (b : Bool) (p : Parameter) (ps : List Parameter) → is_star (parameter p) ≡ true → length (open_of b (p ∷ ps)) ≡ 0
+pub none_open : (b : Bool) (p : Parameter) (ps : List Parameter) → is_star (parameter p) ≡ true → length (open_of b (p ∷ ps)) ≡ 0
 unfolding open_of
 none_open true p ps h = refl
 none_open false p ps h = ap (λ (xs : List Parameter). length xs) (star p ps h)
 
-goes_star : (p : Parameter) (ps : List Parameter) (b : Bool) (vs : List Value) → is_star (parameter p) ≡ true → takes_rest (parameter p) ≡ true → Goes p ps b true vs []
+pub goes_star : (p : Parameter) (ps : List Parameter) (b : Bool) (vs : List Value) → is_star (parameter p) ≡ true → takes_rest (parameter p) ≡ true → Goes p ps b true vs []
 unfolding Placed Room
 goes_star p ps b vs h t = record {
   down = λ i q. absurd (omega (arith, none_open b p ps h, q.0));
@@ -171,7 +171,7 @@ goes_star p ps b vs h t = record {
   higher = λ q. inr (or_left (takes_rest (parameter p)) (list_any (λ p. takes_rest (parameter p)) ps) t);
 }
 
-goes_bare : (p : Parameter) (ps : List Parameter) (vs : List Value) → is_star (parameter p) ≡ true → takes_rest (parameter p) ≡ false → Goes p ps false true vs vs
+pub goes_bare : (p : Parameter) (ps : List Parameter) (vs : List Value) → is_star (parameter p) ≡ true → takes_rest (parameter p) ≡ false → Goes p ps false true vs vs
 unfolding Placed Room open_of
 goes_bare p ps vs h t = record {
   down = λ i q. absurd (omega (arith, none_open false p ps h, q.0));
@@ -191,7 +191,7 @@ goes_bare p ps vs h t = record {
     higher (inl q) = inl (omega (arith, d))
     higher (inr q) = inr (or_right (takes_rest (parameter p)) (list_any (λ p. takes_rest (parameter p)) ps) q)
 
-goes_past : (p : Parameter) (ps : List Parameter) (vs : List Value) → own_name (parameter p) ≡ None → is_star (parameter p) ≡ false → takes_rest (parameter p) ≡ false → Goes p ps false false vs vs
+pub goes_past : (p : Parameter) (ps : List Parameter) (vs : List Value) → own_name (parameter p) ≡ None → is_star (parameter p) ≡ false → takes_rest (parameter p) ≡ false → Goes p ps false false vs vs
 unfolding Placed Room open_of
 goes_past p ps vs k h t = record {
   down = λ i q. (omega (arith, a, q.0), omega (arith, c i, q.1));
@@ -219,7 +219,7 @@ goes_past p ps vs k h t = record {
 
 -- one parameter's share
 
-prog : Bool → List Value → List Value → Progress
+unfoldable pub prog : Bool → List Value → List Value → Progress
 prog b vs ds = record { by_name = b; plain = vs; defaults = ds }
 
 also_some : (xs : List (Name × Share)) (o : Option (List (Name × Share))) → is_some (also xs o) ≡ is_some o
@@ -227,10 +227,10 @@ also_some xs (Some ys) = refl
 also_some xs None = refl
 
 -- the shares after a step
-After : List NamedValue → List NamedValue → List Parameter → Option (List (Name × Share) × Progress) → Option (List (Name × Share))
+unfoldable pub After : List NamedValue → List NamedValue → List Parameter → Option (List (Name × Share) × Progress) → Option (List (Name × Share))
 After ns left ps o = option_and_then (λ r. also r.0 (shares ns left ps r.1)) o
 
-by_form : (ns left : List NamedValue) (p : Parameter) (ps : List Parameter) (q : Progress) (f : ParameterForm) → parameter p ≡ f → shares ns left (p ∷ ps) q ≡ After ns left ps (step ns left q f)
+pub by_form : (ns left : List NamedValue) (p : Parameter) (ps : List Parameter) (q : Progress) (f : ParameterForm) → parameter p ≡ f → shares ns left (p ∷ ps) q ≡ After ns left ps (step ns left q f)
 unfolding After
 by_form ns left p ps q f e = ap (λ f. After ns left ps (step ns left q f)) e
 
@@ -313,11 +313,11 @@ plain_head ns p ps b vs n e k = (there, (λ r. by (r.needed n e)))
     by (inl q) = absurd (k q)
     by (inr q) = q
 
-closed_out : (ps : List Parameter) (vs : List Value) (i : ℕ) → Placed true ps vs i → ⊥
+pub closed_out : (ps : List Parameter) (vs : List Value) (i : ℕ) → Placed true ps vs i → ⊥
 unfolding Placed open_of
 closed_out ps vs i q = omega (arith, q.0)
 
-empty_out : (b : Bool) (ps : List Parameter) (i : ℕ) → Placed b ps [] i → ⊥
+pub empty_out : (b : Bool) (ps : List Parameter) (i : ℕ) → Placed b ps [] i → ⊥
 unfolding Placed
 empty_out b ps i q = omega (arith, q.1)
 

@@ -2,3 +2,4 @@ pub mod Division
 pub mod Ranges
 pub mod Keys
 pub mod Calls
+pub mod Shares

@@ -4,6 +4,7 @@ ghost use Rattle.star_laws.specs.Calls.{BoundWhereTheyFit, GivenNamesDiffer};
 ghost use Rattle.star_laws.specs.Division.{OneQuotient, QuotientAndRemainder};
 ghost use Rattle.star_laws.specs.Keys.{EqualKeysAreTheSame, KeysHaveEquality};
 ghost use Rattle.star_laws.specs.Ranges.{RangesHaveTheirItems, RangesStepToTheirStop, SameRangesHaveTheSameItems};
+ghost use Rattle.star_laws.specs.Shares.{BoundAsGiven};
 
 /// An int is its quotient by a divisor, times the divisor, and the remainder. The remainder lies between 0 and the
 /// divisor, 0 included and the divisor not, so it has the divisor's sign. (`docs/LANGUAGE.md`, "Values": "Ints".)
@@ -58,4 +59,11 @@ pub fn bound_where_they_fit()
 /// (`docs/LANGUAGE.md`, "Calls".)
 pub fn given_names_differ()
     ensures { GivenNamesDiffer }
+{}
+
+/// Where values are bound, each parameter gets what is its own. One that takes one value gets the next value by place,
+/// before a star and while there are any; else the value by name; else its default. `*name` gets the values by place
+/// that are left, and `**name` the values by name that are no parameter's. (`docs/LANGUAGE.md`, "Calls".)
+pub fn bound_as_given()
+    ensures { BoundAsGiven }
 {}

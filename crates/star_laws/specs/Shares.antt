@@ -1,0 +1,44 @@
+-- Calls: what each parameter gets.
+use Rattle.std.specs.Prelude.{◌≡◌, ℕ, Bool, true, false, List, length, take, drop, Option, Some, None, slice_get}
+use Rattle.std.specs.List.{filter}
+use Rattle.std.specs.Option.{option_map}
+use Rattle.star_store.specs.declared.values.Value.{Value}
+use Rattle.star_tree.specs.declared.tree.Name.{Name}
+use Rattle.star_tree.specs.declared.tree.Parameter.{Parameter}
+use Rattle.star_tree.specs.declared.tree.Argument.TheOpen as tree
+use Rattle.star_scope.specs.Syntax.{ParameterForm, parameter}
+use Rattle.star_meaning.specs.declared.given.Given.{Given}
+use Rattle.star_meaning.specs.Binding.{Names, One, Rest, Share, bound_to, else_default, own_names, unclaimed, value_named}
+use Rattle.star_laws.specs.Calls.{IsByPlace, before_star, has_default, parameter_at}
+
+-- a bare `*` gets nothing
+abbrev pub gets_some : ParameterForm → Bool
+gets_some tree.BareStar = false
+gets_some _ = true
+
+-- the place of a parameter's share: after those of the parameters before it
+abbrev pub place_at : List Parameter → ℕ → ℕ
+place_at ps i = length (filter (λ p. gets_some (parameter p)) (take i ps))
+
+-- one value under a name
+abbrev pub single : Name → Option Value → Option (Name × Share)
+single n o = option_map (λ v. (n, One v)) o
+
+-- the value by place that comes after those of the names before; else the one by name; else the default
+abbrev pub GetsOne : List Parameter → Given → ℕ → Name → Option Value → Option (Name × Share) → Type 0
+GetsOne ps g i n d x =
+    (IsByPlace ps g.plain i → x ≡ single n (slice_get g.plain (length (own_names (take i ps)))))
+    × ((IsByPlace ps g.plain i → ⊥) → x ≡ single n (else_default (value_named n.text g.named) d))
+
+-- what a parameter gets: `*name` the values by place after those of the names before it, `**name` the values by name that are no parameter's
+abbrev pub Gets : List Parameter → List Value → Given → ℕ → ParameterForm → Option (Name × Share) → Type 0
+Gets ps ds g i (tree.Plain n) x = GetsOne ps g i n None x
+Gets ps ds g i (tree.Default n e) x = GetsOne ps g i n (slice_get ds (length (filter (λ p. has_default (parameter p)) (take i ps)))) x
+Gets ps ds g i (tree.Parameter-F.Parameter::Star n) x = i ≡ length (before_star ps) → x ≡ Some (n, Rest (drop (length (own_names (take i ps))) g.plain))
+Gets ps ds g i tree.BareStar x = Unit {0}
+Gets ps ds g i (tree.Parameter-F.Parameter::StarStar n) x = x ≡ Some (n, Names (unclaimed ps g.named))
+
+-- The law: where values are bound, each parameter gets what is its own.
+abbrev pub BoundAsGiven : Type 0
+BoundAsGiven = (ps : List Parameter) (defaults : List Value) (g : Given) (xs : List (Name × Share)) (i : ℕ) (f : ParameterForm)
+    → bound_to ps defaults g ≡ Some xs → parameter_at ps i ≡ Some f → Gets ps defaults g i f (slice_get xs (place_at ps i))
