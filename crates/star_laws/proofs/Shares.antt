@@ -1,6 +1,7 @@
 -- Calls: what each parameter gets.
-use Rattle.std.proofs.Common.{◌≡◌, ℕ, zero, suc, nat_eq, Bool, true, false, ◌||◌, List, [], ◌∷◌, length, take, drop, slice_get, Option, Some, None, if◌then◌else◌, cond, refl, ap, sym, subst, ◌∙◌, arith}
+use Rattle.std.proofs.Common.{◌≡◌, ℕ, zero, suc, ◌+◌, ◌++◌, nat_eq, Bool, true, false, ◌||◌, List, [], ◌∷◌, length, take, drop, slice_get, Option, Some, None, if◌then◌else◌, cond, refl, ap, sym, subst, ◌∙◌, arith}
 use Rattle.std.specs.List.{list_any, filter}
+use Rattle.std.proofs.lemmas.List.{length-append}
 use Rattle.star_store.specs.declared.values.Value.{Value}
 use Rattle.star_tree.specs.declared.tree.Name.{Name}
 use Rattle.star_tree.specs.declared.tree.Parameter.{Parameter}
@@ -9,7 +10,7 @@ use Rattle.star_scope.specs.Syntax.{ParameterForm, parameter}
 use Rattle.star_meaning.specs.declared.given.Given.{Given}
 use Rattle.star_meaning.specs.declared.given.NamedValue.{NamedValue}
 use Rattle.star_meaning.specs.Arguments.{is_given}
-use Rattle.star_meaning.specs.Binding.{Names, One, Progress, Rest, Share, also, before_names, bound_to, else_default, first_of_row, own_name, own_names, rest_of_row, shared, shares, step, takes_names, unclaimed, value_named}
+use Rattle.star_meaning.specs.Binding.{Names, One, Progress, Rest, Share, also, before_names, bound_to, else_default, first_of_row, own_name, own_names, rest_of_row, share_by, shared, shares, step, takes_names, unclaimed, value_named}
 use Rattle.star_laws.specs.Calls.{has_default, is_star, parameter_at, takes_rest}
 use Rattle.star_laws.specs.Shares.{Gets, gets_some, place_at, single}
 use Rattle.star_laws.proofs.Calls.{After, Goes, Placed, by_form, closed_out, empty_out, goes_bare, goes_closed, goes_empty, goes_past, goes_star, goes_taken, no_star, none_open, open_of, prog}
@@ -306,6 +307,62 @@ whole ps ds g i (tree.Parameter-F.Parameter::Star n) x r = r
 whole ps ds g i tree.BareStar x r = tt
 whole ps ds g i (tree.Parameter-F.Parameter::StarStar n) x r = r
 
-pub bound_as_given : (ps : List Parameter) (defaults : List Value) (g : Given) (xs : List (Name × Share)) (i : ℕ) (f : ParameterForm) → bound_to ps defaults g ≡ Some xs → parameter_at ps i ≡ Some f → Gets ps defaults g i f (slice_get xs (place_at ps i))
-unfolding Each
-bound_as_given ps defaults g xs i f h e = whole ps defaults g i f (slice_get xs (place_at ps i)) (all_get g.named (unclaimed ps g.named) ps false g.plain defaults xs (bound_shares ps defaults g xs h) i f e)
+-- as many shares as parameters but a bare `*`
+
+share_front : (n : Name) (q : Progress) (o : Option Value) (r : List (Name × Share) × Progress) → shared n q o ≡ Some r → length r.0 ≡ 1
+share_front n q (Some v) r h = let e : ((n, One v) ∷ [], q) ≡ r = cc in ap (λ (r : List (Name × Share) × Progress). length r.0) (sym e)
+share_front n q None r h = absurd cc
+
+given_front : (n : Name) (v : Value) (q : Progress) (b : Bool) (r : List (Name × Share) × Progress) → (if b then None else Some ((n, One v) ∷ [], q)) ≡ Some r → length r.0 ≡ 1
+given_front n v q true r h = absurd cc
+given_front n v q false r h = let e : ((n, One v) ∷ [], q) ≡ r = cc in ap (λ (r : List (Name × Share) × Progress). length r.0) (sym e)
+
+named_front : (n : Name) (ns : List NamedValue) (d : Option Value) (b : Bool) (vs ds : List Value) (r : List (Name × Share) × Progress) → share_by n ns d (prog b vs ds) ≡ Some r → length r.0 ≡ 1
+unfolding prog
+named_front n ns d true vs ds r h = share_front n (prog true vs ds) (else_default (value_named n.text ns) d) r h
+named_front n ns d false [] ds r h = share_front n (prog false [] ds) (else_default (value_named n.text ns) d) r h
+named_front n ns d false (v ∷ vs) ds r h = given_front n v (prog false vs ds) (is_given n.text ns) r h
+
+one_or_none : Bool → ℕ
+one_or_none b = if b then 1 else 0
+
+step_front : (ns left : List NamedValue) (b : Bool) (vs ds : List Value) (f : ParameterForm) (r : List (Name × Share) × Progress) → step ns left (prog b vs ds) f ≡ Some r → length r.0 ≡ one_or_none (gets_some f)
+unfolding prog one_or_none
+step_front ns left b vs ds (tree.Plain n) r h = named_front n ns None b vs ds r h
+step_front ns left b vs ds (tree.Default n x) r h = named_front n ns (first_of_row ds) b vs (rest_of_row ds) r h
+step_front ns left b vs ds (tree.Parameter-F.Parameter::Star n) r h = let e : ((n, Rest vs) ∷ [], prog true [] ds) ≡ r = cc in ap (λ (r : List (Name × Share) × Progress). length r.0) (sym e)
+step_front ns left b vs ds tree.BareStar r h = let e : ([], prog true vs ds) ≡ r = cc in ap (λ (r : List (Name × Share) × Progress). length r.0) (sym e)
+step_front ns left b vs ds (tree.Parameter-F.Parameter::StarStar n) r h = let e : ((n, Names left) ∷ [], prog b vs ds) ≡ r = cc in ap (λ (r : List (Name × Share) × Progress). length r.0) (sym e)
+
+also_length : (front xs : List (Name × Share)) (o : Option (List (Name × Share))) (k : ℕ) → ((ys : List (Name × Share)) → o ≡ Some ys → length ys ≡ k) → also front o ≡ Some xs → length xs ≡ length front + k
+also_length front xs (Some ys) k h e = let s : front ++ ys ≡ xs = cc in omega (arith, ap (λ (l : List (Name × Share)). length l) (sym s), length-append front ys, h ys refl)
+also_length front xs None k h e = absurd cc
+
+getters : List Parameter → ℕ
+getters ps = length (filter (λ p. gets_some (parameter p)) ps)
+
+more_getters : (p : Parameter) (ps : List Parameter) (b : Bool) → gets_some (parameter p) ≡ b → getters (p ∷ ps) ≡ one_or_none b + getters ps
+unfolding getters one_or_none
+more_getters p ps true e = ap (λ b. length (cond b (p ∷ filter (λ p. gets_some (parameter p)) ps) (filter (λ p. gets_some (parameter p)) ps))) e ∙ (let w : suc (length (filter (λ p. gets_some (parameter p)) ps)) ≡ 1 + length (filter (λ p. gets_some (parameter p)) ps) = omega arith in w)
+more_getters p ps false e = ap (λ b. length (cond b (p ∷ filter (λ p. gets_some (parameter p)) ps) (filter (λ p. gets_some (parameter p)) ps))) e ∙ (let w : length (filter (λ p. gets_some (parameter p)) ps) ≡ 0 + length (filter (λ p. gets_some (parameter p)) ps) = omega arith in w)
+
+counted : (ns left : List NamedValue) (p : Parameter) (ps : List Parameter) (b : Bool) (vs ds : List Value) (xs : List (Name × Share)) → ((q : Progress) (ys : List (Name × Share)) → shares ns left ps q ≡ Some ys → length ys ≡ getters ps) → (o : Option (List (Name × Share) × Progress)) → step ns left (prog b vs ds) (parameter p) ≡ o → After ns left ps o ≡ Some xs → length xs ≡ getters (p ∷ ps)
+unfolding After
+counted ns left p ps b vs ds xs r (Some (front, q)) e h = omega (arith, also_length front xs (shares ns left ps q) (getters ps) (λ ys k. r q ys k) h, step_front ns left b vs ds (parameter p) (front, q) e, more_getters p ps (gets_some (parameter p)) refl)
+counted ns left p ps b vs ds xs r None e h = absurd cc
+
+none_counted : (b : Bool) (xs : List (Name × Share)) → (if b then Some [] else None) ≡ Some xs → length xs ≡ 0
+none_counted true xs h = let e : [] ≡ xs = cc in ap (λ (l : List (Name × Share)). length l) (sym e)
+none_counted false xs h = absurd cc
+
+as_many : (ns left : List NamedValue) (ps : List Parameter) (q : Progress) (xs : List (Name × Share)) → shares ns left ps q ≡ Some xs → length xs ≡ getters ps
+unfolding prog getters
+as_many ns left [] q xs h = none_counted (nat_eq (length q.plain) 0) xs h
+as_many ns left (p ∷ ps) q xs h = counted ns left p ps q.by_name q.plain q.defaults xs (λ q ys k. as_many ns left ps q ys k) (step ns left q (parameter p)) refl (sym (by_form ns left p ps q (parameter p) refl) ∙ h)
+
+pub bound_as_given : (ps : List Parameter) (defaults : List Value) (g : Given) (xs : List (Name × Share)) → bound_to ps defaults g ≡ Some xs
+    → (length xs ≡ length (filter (λ p. gets_some (parameter p)) ps)) × ((i : ℕ) (f : ParameterForm) → parameter_at ps i ≡ Some f → Gets ps defaults g i f (slice_get xs (place_at ps i)))
+unfolding Each getters
+bound_as_given ps defaults g xs h =
+    let k = bound_shares ps defaults g xs h in
+    (as_many g.named (unclaimed ps g.named) ps (prog false g.plain defaults) xs k, (λ i f e. whole ps defaults g i f (slice_get xs (place_at ps i)) (all_get g.named (unclaimed ps g.named) ps false g.plain defaults xs k i f e)))

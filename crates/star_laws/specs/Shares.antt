@@ -38,7 +38,8 @@ Gets ps ds g i (tree.Parameter-F.Parameter::Star n) x = i ≡ length (before_sta
 Gets ps ds g i tree.BareStar x = Unit {0}
 Gets ps ds g i (tree.Parameter-F.Parameter::StarStar n) x = x ≡ Some (n, Names (unclaimed ps g.named))
 
--- The law: where values are bound, each parameter gets what is its own.
+-- The law: where values are bound, there is a share for each parameter but a bare `*`, in order, and each gets what is its own.
 abbrev pub BoundAsGiven : Type 0
-BoundAsGiven = (ps : List Parameter) (defaults : List Value) (g : Given) (xs : List (Name × Share)) (i : ℕ) (f : ParameterForm)
-    → bound_to ps defaults g ≡ Some xs → parameter_at ps i ≡ Some f → Gets ps defaults g i f (slice_get xs (place_at ps i))
+BoundAsGiven = (ps : List Parameter) (defaults : List Value) (g : Given) (xs : List (Name × Share)) → bound_to ps defaults g ≡ Some xs
+    → (length xs ≡ length (filter (λ p. gets_some (parameter p)) ps))
+    × ((i : ℕ) (f : ParameterForm) → parameter_at ps i ≡ Some f → Gets ps defaults g i f (slice_get xs (place_at ps i)))

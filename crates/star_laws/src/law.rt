@@ -6,7 +6,7 @@ ghost use Rattle.star_laws.specs.Keys.{EqualKeysAreTheSame, KeysHaveEquality};
 ghost use Rattle.star_laws.specs.Ranges.{RangesHaveTheirItems, RangesStepToTheirStop, SameRangesHaveTheSameItems};
 ghost use Rattle.star_laws.specs.Shares.{BoundAsGiven};
 
-/// An int is its quotient by a divisor, times the divisor, and the remainder. The remainder lies between 0 and the
+/// An int is its quotient by a divisor other than 0, times the divisor, and the remainder. This lies between 0 and the
 /// divisor, 0 included and the divisor not, so it has the divisor's sign. (`docs/LANGUAGE.md`, "Values": "Ints".)
 pub fn quotient_and_remainder()
     ensures { QuotientAndRemainder }
@@ -61,9 +61,10 @@ pub fn given_names_differ()
     ensures { GivenNamesDiffer }
 {}
 
-/// Where values are bound, each parameter gets what is its own. One that takes one value gets the next value by place,
-/// before a star and while there are any; else the value by name; else its default. `*name` gets the values by place
-/// that are left, and `**name` the values by name that are no parameter's. (`docs/LANGUAGE.md`, "Calls".)
+/// Where values are bound, each parameter but a bare `*` has its share, in order, and gets what is its own. One that
+/// takes one value gets the next value by place, before a star and while there are any; else the value by name; else
+/// its default. `*name` gets the values by place that are left, and `**name` the values by name that are no
+/// parameter's. (`docs/LANGUAGE.md`, "Calls".)
 pub fn bound_as_given()
     ensures { BoundAsGiven }
 {}
