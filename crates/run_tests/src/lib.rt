@@ -4,6 +4,8 @@
 #[cfg(test)]
 mod clauses;
 #[cfg(test)]
+mod fronts;
+#[cfg(test)]
 mod gathered;
 #[cfg(test)]
 mod modules;

@@ -1,4 +1,5 @@
 pub mod Digits
 pub mod Loops
 pub mod Orders
+pub mod Pairs
 pub mod Sorting

@@ -1,4 +1,5 @@
 pub mod Found
 pub mod Kept
+pub mod Named
 pub mod Seen
 pub mod Steps

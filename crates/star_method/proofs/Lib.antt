@@ -1,5 +1,6 @@
 pub mod Choices
 pub mod Cutting
+pub mod Each
 pub mod EqualPlaces
 pub mod Finds
 pub mod Found

@@ -1,5 +1,6 @@
 pub mod Contents
 pub mod Equals
+pub mod Fronts
 pub mod GlobalNames
 pub mod Indexes
 pub mod Ints

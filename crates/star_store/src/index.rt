@@ -1,6 +1,6 @@
 // The contents of a dictionary's keys, by which the place of a key is found at once.
 
-ghost use Rattle.std.specs.Prelude.{◌≡◌, ◌++◌, ◌∷◌, [], if◌then◌else◌, slice_get};
+ghost use Rattle.std.specs.Prelude.{◌≡◌, ◌≤◌, ◌++◌, ◌∷◌, [], if◌then◌else◌, drop, length, slice_get};
 ghost use Rattle.std.specs.Option.{option_copied};
 ghost use Rattle.std.specs.List.{remove};
 ghost use Rattle.star_store.specs.Index.{place_by};
@@ -10,19 +10,23 @@ use indexmap::IndexSet;
 use std::alloc::Global;
 use std::marker::Model;
 
-/// An index of a dictionary: the contents of its keys, in order.
+/// An index of a dictionary: the contents of its keys, in order. Before them stand so many that have gone, since the
+/// first is taken out at once where no place changes.
 #[derive(Drop)]
 pub struct Index {
     contents: IndexSet<Vec<Atom>>,
+    gone: usize,
 }
 
 impl Model for Index {
-    ghost use Rattle.std.specs.Prelude.{List, map};
+    ghost use Rattle.std.specs.Prelude.{◌≤◌, List, map, drop, length};
     ghost use Rattle.star_store.specs.declared.content.Atom.{Atom as AnyAtom};
 
     ghost Value = { List (List AnyAtom) };
 
-    ghost view = { λ i. map (λ c. c.items) i.contents.keys };
+    ghost view = { λ i. map (λ c. c.items) (drop i.gone i.contents.keys) };
+
+    ghost invariant = { λ i. i.gone ≤ length i.contents.keys };
 }
 
 impl Index {
@@ -32,6 +36,7 @@ impl Index {
     {
         Index {
             contents: IndexSet::new(alloc),
+            gone: 0,
         }
     }
 
@@ -39,7 +44,8 @@ impl Index {
     pub fn get(&self, at: usize) -> Option<&[Atom]>
         ensures { option_copied result ≡ slice_get self.now at }
     {
-        match self.contents.get_index(at) {
+        let contents = &self.contents.as_slice()[self.gone..];
+        match contents.get(at) {
             Some(content) => Some(content.as_slice()),
             None => None,
         }
@@ -49,7 +55,16 @@ impl Index {
     pub fn place(&self, content: &[Atom]) -> Option<usize>
         ensures { result ≡ place_by content.now self.now }
     {
-        self.contents.get_index_of(content)
+        // The set says here that no content stands twice.
+        let _count = self.contents.len();
+        let at = match self.contents.get_index_of(content) {
+            Some(at) => at,
+            None => return None,
+        };
+        if at < self.gone {
+            return None;
+        }
+        Some(at - self.gone)
     }
 
     /// Adds a content after all others, and says whether it was added: else it stood there already, or memory was
@@ -57,6 +72,9 @@ impl Index {
     pub fn push(&mut self, content: Vec<Atom>) -> bool
         ensures { self.new ≡ (if result then self.old ++ content.items ∷ [] else self.old) }
     {
+        if self.gone > 0 {
+            bury(&mut self.contents, self.gone, &content);
+        }
         match self.contents.insert(content) {
             Ok(added) => added,
             Err(_) => false,
@@ -67,6 +85,54 @@ impl Index {
     pub fn remove(&mut self, at: usize)
         ensures { self.new ≡ remove self.old at }
     {
-        let _content = self.contents.shift_remove_index(at);
+        let count = self.contents.len() - self.gone;
+        if at >= count {
+            return;
+        }
+        if at > 0 {
+            let _content = self.contents.shift_remove_index(self.gone + at);
+            return;
+        }
+        self.gone += 1;
+        if count <= self.gone {
+            self.gone = close_up(&mut self.contents, self.gone);
+        }
+    }
+}
+
+/// Makes sure that a content does not stand among the first ones, which have gone, where memory suffices: what is no
+/// key's content is put in its place.
+fn bury(contents: &mut IndexSet<Vec<Atom>>, gone: usize, content: &[Atom])
+    requires { gone ≤ length contents.old.keys }
+    ensures same { drop gone contents.new.keys ≡ drop gone contents.old.keys }
+    ensures within { gone ≤ length contents.new.keys }
+{
+    let Some(at) = contents.get_index_of(content) else {
+        return;
+    };
+    if at >= gone {
+        return;
+    }
+    let mut other = Vec::new(*contents.allocator());
+    if other.push(Atom::Row(at + 1)).is_err() {
+        return;
+    }
+    if let Ok(true) = contents.insert(other) {
+        let _content = contents.swap_remove_index(at);
+    }
+}
+
+/// Takes the first contents out, which have gone, and says how many of them are left: all where memory is refused.
+fn close_up(contents: &mut IndexSet<Vec<Atom>>, gone: usize) -> usize
+    requires { gone ≤ length contents.old.keys }
+    ensures same { drop result contents.new.keys ≡ drop gone contents.old.keys }
+    ensures within { result ≤ length contents.new.keys }
+{
+    match contents.split_off(gone) {
+        Ok(rest) => {
+            *contents = rest;
+            0
+        }
+        Err(_) => gone,
     }
 }

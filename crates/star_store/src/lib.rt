@@ -14,6 +14,7 @@ pub mod key;
 pub mod names;
 pub mod order;
 pub mod range;
+mod roomy;
 pub mod slots;
 pub mod text;
 pub mod truth;

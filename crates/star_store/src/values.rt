@@ -5,6 +5,7 @@ ghost use Rattle.std.specs.List.{insert, remove};
 
 use crate::names::{BuiltIn, Method};
 use crate::range::Range;
+use crate::roomy::Roomy;
 use crate::slots::Slots;
 use star_text::Text;
 use std::alloc::{AllocError, Global};
@@ -24,7 +25,7 @@ pub enum Value {
 /// A row of values: the items of a list or a tuple, or the defaults of a function.
 #[derive(Drop)]
 pub struct Values {
-    items: Vec<Value>,
+    items: Roomy<Value>,
 }
 
 impl Model for Values {
@@ -33,13 +34,13 @@ impl Model for Values {
 
     ghost Value = { List AnyValue };
 
-    ghost view = { λ r. r.items.items };
+    ghost view = { λ r. r.items };
 }
 
 /// The entries of a dictionary, in the order in which their keys were put in.
 #[derive(Drop)]
 pub struct Entries {
-    pairs: Vec<(Value, Value)>,
+    pairs: Roomy<(Value, Value)>,
 }
 
 impl Model for Entries {
@@ -48,7 +49,7 @@ impl Model for Entries {
 
     ghost Value = { List (AnyValue × AnyValue) };
 
-    ghost view = { λ d. d.pairs.items };
+    ghost view = { λ d. d.pairs };
 }
 
 /// A function: the file and the number of its definition, its name, the defaults of its parameters, and the frame in
@@ -96,14 +97,16 @@ impl Values {
     pub fn new(items: Vec<Value>) -> Values
         ensures { result ≡ items.items }
     {
-        Values { items }
+        Values {
+            items: Roomy::new(items),
+        }
     }
 
     /// The values of the row.
     pub fn as_slice(&self) -> &[Value]
         ensures { result.now ≡ self.now }
     {
-        &self.items
+        self.items.as_slice()
     }
 
     /// How many they are.
@@ -117,16 +120,15 @@ impl Values {
     pub fn get(&self, at: usize) -> Option<Value>
         ensures { result ≡ slice_get self.now at }
     {
-        self.items.get(at).copied()
+        self.items.get(at)
     }
 
-    /// Adds a value behind all others.
+    /// Adds a value after all others.
     pub fn push(&mut self, value: Value) -> Result<(), AllocError>
         ensures pushed { OnOk result (self.new ≡ self.old ++ value ∷ []) }
         ensures refused { OnErr result (self.new ≡ self.old) }
     {
-        self.items.push(value)?;
-        Ok(())
+        self.items.push(value)
     }
 
     /// Puts another value at a place.
@@ -134,17 +136,16 @@ impl Values {
         requires { at < length self.old }
         ensures { self.new ≡ slice_set self.old at value }
     {
-        self.items[at] = value;
+        self.items.set(at, value);
     }
 
-    /// Puts a value before the one at a place, or behind all others.
+    /// Puts a value before the one at a place, or after all others.
     pub fn insert(&mut self, at: usize, value: Value) -> Result<(), AllocError>
         requires { at ≤ length self.old }
         ensures inserted { OnOk result (self.new ≡ insert self.old at value) }
         ensures refused { OnErr result (self.new ≡ self.old) }
     {
-        self.items.insert(at, value)?;
-        Ok(())
+        self.items.insert(at, value)
     }
 
     /// Takes the value at a place out.
@@ -152,7 +153,7 @@ impl Values {
         requires { at < length self.old }
         ensures { self.new ≡ remove self.old at }
     {
-        let _value = self.items.remove(at);
+        self.items.remove(at);
     }
 
     /// Takes all values out.
@@ -169,7 +170,7 @@ impl Entries {
         ensures { result ≡ [] }
     {
         Entries {
-            pairs: Vec::new(alloc),
+            pairs: Roomy::new(Vec::new(alloc)),
         }
     }
 
@@ -184,23 +185,22 @@ impl Entries {
     pub fn as_slice(&self) -> &[(Value, Value)]
         ensures { result.now ≡ self.now }
     {
-        &self.pairs
+        self.pairs.as_slice()
     }
 
     /// The key and the value of the entry at a place.
     pub fn get(&self, at: usize) -> Option<(Value, Value)>
         ensures { result ≡ slice_get self.now at }
     {
-        self.pairs.get(at).copied()
+        self.pairs.get(at)
     }
 
-    /// Adds an entry behind all others.
+    /// Adds an entry after all others.
     pub fn push(&mut self, key: Value, value: Value) -> Result<(), AllocError>
         ensures pushed { OnOk result (self.new ≡ self.old ++ (key, value) ∷ []) }
         ensures refused { OnErr result (self.new ≡ self.old) }
     {
-        self.pairs.push((key, value))?;
-        Ok(())
+        self.pairs.push((key, value))
     }
 
     /// Puts another entry at a place.
@@ -208,15 +208,15 @@ impl Entries {
         requires { at < length self.old }
         ensures { self.new ≡ slice_set self.old at (key, value) }
     {
-        self.pairs[at] = (key, value);
+        self.pairs.set(at, (key, value));
     }
 
-    /// Takes the entry at a place out; those behind it close up.
+    /// Takes the entry at a place out; those after it close up.
     pub fn remove(&mut self, at: usize)
         requires { at < length self.old }
         ensures { self.new ≡ remove self.old at }
     {
-        let _entry = self.pairs.remove(at);
+        self.pairs.remove(at);
     }
 
     /// Takes all entries out.

@@ -1,10 +1,16 @@
 use Rattle.std.proofs.Common.{◌≡◌, ◌-◌, ◌∷◌, ◌++◌, [], List, length, take, drop, true, ap, sym, subst, ◌∙◌, arith}
 use Rattle.std.proofs.lemmas.Result.{err_from_is_err_and}
+use Rattle.star_meaning.specs.Expressions.{entry_of}
 use Rattle.star_meaning.specs.Program.{Setting}
 use Rattle.star_meaning.specs.Run.{Done, and_then}
+use Rattle.star_tree.specs.declared.tree.Expression.{Expression}
 use Rattle.star_meaning.specs.Values.{is_true}
 use Rattle.star_eval.specs.declared.open_clause.OpenClause.{OpenClause}
+use Rattle.star_eval.specs.ByPlace.{expression_of}
+use Rattle.star_eval.specs.World.{meant}
 use Rattle.star_eval.specs.Steps.{all_left, opened_left, turns_left}
+use Rattle.star_call.proofs.Seen.{drop_next}
+use Rattle.star_method.proofs.Each.{each_more}
 use Rattle.star_eval.proofs.ByPlace.{call_gives}
 use Rattle.star_eval.proofs.Clauses.{clause_ended, filled_ends, filled_well, first_of, if_holds, turn_ended, turn_opened}
 use Rattle.star_eval.proofs.Spends.{expression_spends}
@@ -72,3 +78,20 @@ comprehensions::run_turns-turns-preserved t c =
     ap (λ (f : OpenClause). and_then (turns_left w levels p o f u) (λ _. all_left w levels p o fs)) c.past_item-clause.ensures
     ∙ turn_ended w levels p o fs c.turns.clause c.turns.machine u c.if-clause.false (c.in_ok-opened.ensures.turn ∙ ap (λ x. opened_left w levels p o x u) c.in_default-opened.is)
     ∙ c.turns.invariant
+
+pub evaluate::evaluate_arguments-loop-argument-preserved : goal.evaluate::evaluate_arguments-loop-argument-preserved
+evaluate::evaluate_arguments-loop-argument-preserved t c =
+    let run = (meant c.args.world.now c.args.levels).expr c.args.place.now in
+    let next = drop_next c.args.arguments.now c.loop-argument.argument-index c.argument-item.result c.loop-argument-test.true c.argument-item.is in
+    let done = subst (λ (e : Expression). run e c.loop-argument.machine ≡ Done c.in_ok-value.value c.evaluate.new.machine) c.expression_of.ensures c.in_ok-value.ensures in
+    each_more (λ a. run (expression_of a)) _ _ _ _ _ _ _ _ _ next done c.in_ok-push.ensures.pushed c.loop-argument.invariant
+
+pub evaluate::evaluate_each-loop-expression-preserved : goal.evaluate::evaluate_each-loop-expression-preserved
+evaluate::evaluate_each-loop-expression-preserved t c =
+    let next = drop_next c.args.expressions.now c.loop-expression.expression-index c.expression-item.result c.loop-expression-test.true c.expression-item.is in
+    each_more ((meant c.args.world.now c.args.levels).expr c.args.place.now) _ _ _ _ _ _ _ _ _ next c.in_ok-value.ensures c.in_ok-push.ensures.pushed c.loop-expression.invariant
+
+pub evaluate::evaluate_entries-loop-entry-preserved : goal.evaluate::evaluate_entries-loop-entry-preserved
+evaluate::evaluate_entries-loop-entry-preserved t c =
+    let next = drop_next c.args.entries.now c.loop-entry.entry-index c.entry-item.result c.loop-entry-test.true c.entry-item.is in
+    each_more (entry_of (meant c.args.world.now c.args.levels) c.args.place.now) _ _ _ _ _ _ _ _ _ next c.in_ok-key.ensures c.in_ok-push.ensures.pushed c.loop-entry.invariant
