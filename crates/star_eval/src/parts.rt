@@ -1,6 +1,8 @@
 //! Parts of expressions and statements that evaluate nothing themselves.
 
-ghost use Rattle.std.specs.Prelude.{◌≡◌, ◌+◌, ◌∷◌, [], MatchOption};
+ghost use Rattle.std.specs.Prelude.{◌≡◌, ◌+◌, ◌∷◌, [], MatchOption, OnOk};
+ghost use Rattle.star_builtin.specs.Dicts.{Puts};
+ghost use Rattle.star_machine.specs.Gathered.{IsGathered};
 ghost use Rattle.star_machine.specs.Gives.{Gives};
 ghost use Rattle.star_meaning.specs.Calls.{answer_of};
 ghost use Rattle.star_meaning.specs.Comprehensions.{inner};
@@ -16,8 +18,9 @@ use crate::variables::paid_frame;
 use crate::world::World;
 use star_machine::content::Kind;
 use star_machine::fault::{Stop, faulted};
+use star_machine::gathered::Gathered;
 use star_machine::machine::Machine;
-use star_machine::operators::{operate, with_entry};
+use star_machine::operators::operate;
 use star_meaning::fault::Code;
 use star_meaning::place::{Flow, Place};
 use star_method::lists::extend;
@@ -134,25 +137,27 @@ pub(crate) fn enter(
     })
 }
 
-/// The entries with one more: its key is checked, and must not be there yet, or `Key`.
-fn with_fresh(
+/// Puts one more entry in: its key is checked, and must not be there yet, or `Key`.
+fn put_fresh(
     machine: &mut Machine,
     world: &World,
     levels: u32,
     line: usize,
-    entries: Entries,
+    gathered: &mut Gathered,
     entry: (Value, Value),
-) -> Result<Entries, Stop>
-    ensures { Gives (fresh_entry world.now.setting levels line entries entry machine.old) result machine.new }
+) -> Result<(), Stop>
+    requires { IsGathered world.now.setting machine.old.store gathered.old }
+    ensures put { Puts (fresh_entry world.now.setting levels line gathered.old.entries entry machine.old) result gathered.new.entries machine.new }
+    ensures gathered { OnOk result (IsGathered world.now.setting machine.new.store gathered.new) }
 {
-    let mut entries = entries;
     let setting = world.setting();
     machine.check_key(setting, levels, line, entry.0)?;
-    if machine.place_of(setting, entry.0, &entries).is_some() {
-        return Err(faulted(Code::Key, line));
+    let new = gathered.put_new(machine, setting, entry)?;
+    if new {
+        Ok(())
+    } else {
+        Err(faulted(Code::Key, line))
     }
-    with_entry(machine, setting, &mut entries, entry)?;
-    Ok(entries)
 }
 
 /// The entries of a display. `BadType` for what is no key, `Key` for one that comes twice.
@@ -165,11 +170,11 @@ pub(crate) fn fresh_entries(
 ) -> Result<Entries, Stop>
     ensures { Gives (fresh_entries world.now.setting levels line [] found.now machine.old) result machine.new }
 {
-    let mut entries = Entries::new(machine.alloc());
+    let mut gathered = Gathered::new(machine.alloc());
     for entry in found.as_slice() {
-        entries = with_fresh(machine, world, levels, line, entries, *entry)?;
+        put_fresh(machine, world, levels, line, &mut gathered, *entry)?;
     }
-    Ok(entries)
+    Ok(gathered.into_entries())
 }
 
 /// What an augmented assignment computes: `+=` on a list works as `extend`, `|=` on a dictionary as `update`; else it computes as the
