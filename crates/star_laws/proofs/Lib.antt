@@ -4,3 +4,4 @@ pub mod Keys
 pub mod Calls
 pub mod Names
 pub mod Shares
+pub mod Iterations

@@ -3,3 +3,4 @@ pub mod Ranges
 pub mod Keys
 pub mod Calls
 pub mod Shares
+pub mod Iterations

@@ -1,7 +1,8 @@
-//! Laws of the definitions of arithmetic, ranges, keys and calls.
+//! Laws of the definitions of arithmetic, ranges, keys, calls and open iterations.
 
 ghost use Rattle.star_laws.specs.Calls.{BoundWhereTheyFit, GivenNamesDiffer};
 ghost use Rattle.star_laws.specs.Division.{OneQuotient, QuotientAndRemainder};
+ghost use Rattle.star_laws.specs.Iterations.{FilesBeginWithNoLoop, LoopsAreCounted, OpenIterationsAreOpenLoops, RunsEndTheirLoops};
 ghost use Rattle.star_laws.specs.Keys.{EqualKeysAreTheSame, KeysHaveEquality};
 ghost use Rattle.star_laws.specs.Ranges.{RangesHaveTheirItems, RangesStepToTheirStop, SameRangesHaveTheSameItems};
 ghost use Rattle.star_laws.specs.Shares.{BoundAsGiven};
@@ -67,4 +68,29 @@ pub fn given_names_differ()
 /// parameter's. (`docs/LANGUAGE.md`, "Calls".)
 pub fn bound_as_given()
     ensures { BoundAsGiven }
+{}
+
+/// As a file begins, no loop is open, and the counters of open iterations are right for that. (`docs/LANGUAGE.md`,
+/// "Iterables".)
+pub fn files_begin_with_no_loop()
+    ensures { FilesBeginWithNoLoop }
+{}
+
+/// Where the counters of open iterations are right for the loops that are open (each list and dictionary of the module
+/// has as many as loops go over it, and no other cell has any), they are right for the same loops after an expression or
+/// a statement that ends well, with all that it called, made and looped over. (`docs/LANGUAGE.md`, "Iterables".)
+pub fn runs_end_their_loops()
+    ensures { RunsEndTheirLoops }
+{}
+
+/// A loop that begins over a value is one more open loop, for which the counters are right; as it ends it is open no
+/// more. (`docs/LANGUAGE.md`, "Iterables".)
+pub fn loops_are_counted()
+    ensures { LoopsAreCounted }
+{}
+
+/// The open iterations of a list or a dictionary, for which the rules of writing ask, are the open loops over it.
+/// (`docs/LANGUAGE.md`, "Values".)
+pub fn open_iterations_are_open_loops()
+    ensures { OpenIterationsAreOpenLoops }
 {}

@@ -1,10 +1,11 @@
-//! Laws of arithmetic, ranges, keys and calls, in the subject's own words (`docs/LANGUAGE.md`).
+//! Laws of arithmetic, ranges, keys, calls and open iterations, in the subject's own words (`docs/LANGUAGE.md`).
 #![tactic(auto)]
 
 mod law;
 
 pub use law::{
-    bound_as_given, bound_where_they_fit, equal_keys_are_the_same, given_names_differ,
-    keys_have_equality, one_quotient, quotient_and_remainder, ranges_have_their_items,
-    ranges_step_to_their_stop, same_ranges_have_the_same_items,
+    bound_as_given, bound_where_they_fit, equal_keys_are_the_same, files_begin_with_no_loop,
+    given_names_differ, keys_have_equality, loops_are_counted, one_quotient,
+    open_iterations_are_open_loops, quotient_and_remainder, ranges_have_their_items,
+    ranges_step_to_their_stop, runs_end_their_loops, same_ranges_have_the_same_items,
 };

@@ -16,7 +16,7 @@ kept : {A : Type 0} (s t : State) (o : Outcome A) (x : A) → o ≡ Done x t →
 kept s t o x e h g =
     let a : Stays s t = subst (Preserved s) e h in
     let b : Grows s t = subst (Grown s) e g in
-    record { home = a.home; cells = a.cells; active = a.active; steps = b.steps; lines = b.lines }
+    record { home = a.home; cells = a.cells; fresh = a.fresh; active = a.active; steps = b.steps; lines = b.lines }
 
 pub runs_keep : RunsKeep
 runs_keep w levels p s t = (

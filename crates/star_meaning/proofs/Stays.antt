@@ -46,7 +46,7 @@ kind_on (cell.Frame f) b c h k =
     (m.0, m.1, record { file = m.2.file ∙ h.2.file; block = m.2.block ∙ h.2.block; parent = m.2.parent ∙ h.2.parent; slots = m.2.slots ∙ h.2.slots })
 kind_on a b c h k = subst (λ z. KeepsKind z c) h k
 
-kind_container : (a b : Cell) → KeepsKind a b → is_container b ≡ is_container a
+pub kind_container : (a b : Cell) → KeepsKind a b → is_container b ≡ is_container a
 kind_container (cell.List xs) b h = ap is_container h.1
 kind_container (cell.Dict es) b h = ap is_container h.1
 kind_container (cell.Frame f) b h = ap is_container h.1
@@ -65,10 +65,11 @@ cell_on a b c h k = record {
   held = λ i. k.held (subst (λ n. 0 < n) (same_count a b (h.held i) h.iterations) i) ∙ h.held i;
 }
 
--- what a run keeps of its state
+-- what a run keeps of its state; on a cell that is new behind it no iteration is open
 pub record Stays (s t : State) : Type 0 where
   pub home : t.store.home ≡ s.store.home
   pub cells : (at : ℕ) (a : Counted) → slice_get s.store.cells at ≡ Some a → (b : Counted) × (slice_get t.store.cells at ≡ Some b) × KeepsCell a b
+  pub fresh : (at : ℕ) (b : Counted) → slice_get s.store.cells at ≡ None → slice_get t.store.cells at ≡ Some b → b.iterations ≡ 0
   pub active : t.active ≡ s.active
 
 abbrev pub Preserved : {A : Type 0} → State → Outcome A → Type 0
@@ -78,13 +79,22 @@ Preserved s (Failed f lines) = Unit {0}
 pub record Keeps {A : Type 0} (m : Action A) : Type 0 where
   pub holds : (s : State) → Preserved s (m s)
 
+none_there : (o : Option Counted) (b : Counted) → o ≡ None → o ≡ Some b → b.iterations ≡ 0
+none_there None b h k = cc
+none_there (Some a) b h k = cc
+
 pub stays_same : (s : State) (steps : ℕ) (lines : List (List ℕ)) → Stays s (record { store = s.store; active = s.active; steps = steps; lines = lines })
-stays_same s steps lines = record { home = refl; cells = λ at a h. (a, h, cell_same a); active = refl }
+stays_same s steps lines = record { home = refl; cells = λ at a h. (a, h, cell_same a); fresh = λ at b h k. none_there _ b h k; active = refl }
+
+fresh_on : (s t u : State) → Stays s t → Stays t u → (at : ℕ) (c : Counted) (o : Option Counted) → slice_get t.store.cells at ≡ o → slice_get s.store.cells at ≡ None → slice_get u.store.cells at ≡ Some c → c.iterations ≡ 0
+fresh_on s t u h k at c None e n l = k.fresh at c e l
+fresh_on s t u h k at c (Some b) e n l = let d = k.cells at b e in let same : Some d.0 ≡ Some c = sym d.1 ∙ l in let one : d.0 ≡ c = cc in subst (λ z. z.iterations ≡ 0) one (d.2.iterations ∙ h.fresh at b n e)
 
 pub stays_on : (s t u : State) → Stays s t → Stays t u → Stays s u
 stays_on s t u h k = record {
   home = k.home ∙ h.home;
   cells = λ at a e. let b = h.cells at a e in let c = k.cells at b.0 b.1 in (c.0, c.1, cell_on a b.0 c.0 b.2 c.2);
+  fresh = λ at c n l. fresh_on s t u h k at c (slice_get t.store.cells at) refl n l;
   active = k.active ∙ h.active;
 }
 
@@ -132,9 +142,22 @@ get_more [] ys at a h = cc
 get_more (x ∷ xs) ys zero a h = h
 get_more (x ∷ xs) ys (suc at) a h = get_more xs ys at a h
 
+get_last : (xs : List Counted) (x b : Counted) (at : ℕ) → slice_get xs at ≡ None → slice_get (xs ++ x ∷ []) at ≡ Some b → x ≡ b
+get_last [] x b zero h k = cc
+get_last [] x b (suc at) h k = cc
+get_last (y ∷ ys) x b zero h k = cc
+get_last (y ∷ ys) x b (suc at) h k = get_last ys x b at h k
+
 pub keeps_make : (c : Cell) → Keeps (make c)
 unfolding make
-keeps_make c = record { holds = λ s. record { home = refl; cells = λ at a h. (a, get_more s.store.cells _ at a h, cell_same a); active = refl } }
+keeps_make c = record {
+  holds = λ s. record {
+    home = refl;
+    cells = λ at a h. (a, get_more s.store.cells _ at a h, cell_same a);
+    fresh = λ at b h k. ap (λ z. z.iterations) (sym (get_last s.store.cells _ b at h k));
+    active = refl;
+  };
+}
 
 pub keeps_build : (line cost : ℕ) (c : Cell) → Keeps (build line cost c)
 unfolding build
@@ -198,6 +221,36 @@ pub get_in_changed : (f : Counted → Counted) (v : Value) (s : Store) (at : ℕ
 get_in_changed f (value.Ref home i) s at a h = get_own (nat_eq home s.home) f s i at a h
 get_in_changed f _ s at a h = h
 
+none_changed : (f : Counted → Counted) (xs : List Counted) (i at : ℕ) → slice_get xs at ≡ None → slice_get (changed_at f xs i) at ≡ None
+none_changed f [] i at h = h
+none_changed f (x ∷ xs) zero zero h = cc
+none_changed f (x ∷ xs) zero (suc at) h = h
+none_changed f (x ∷ xs) (suc i) zero h = h
+none_changed f (x ∷ xs) (suc i) (suc at) h = none_changed f xs i at h
+
+none_own : (b : Bool) (f : Counted → Counted) (s : Store) (i at : ℕ) → slice_get s.cells at ≡ None → slice_get ((if b then record s { cells = changed_at f s.cells i } else s).cells) at ≡ None
+none_own true f s i at h = none_changed f s.cells i at h
+none_own false f s i at h = h
+
+pub none_in_changed : (f : Counted → Counted) (v : Value) (s : Store) (at : ℕ) → slice_get s.cells at ≡ None → slice_get (changed f v s).cells at ≡ None
+none_in_changed f (value.Ref home i) s at h = none_own (nat_eq home s.home) f s i at h
+none_in_changed f _ s at h = h
+
+-- a cell with no open iteration has none where a change keeps that
+zero_or : (b : Bool) (f : Counted → Counted) (a : Counted) → ((e : Counted) → e.iterations ≡ 0 → (f e).iterations ≡ 0) → a.iterations ≡ 0 → (if b then f a else a).iterations ≡ 0
+zero_or true f a k h = k a h
+zero_or false f a k h = h
+
+zero_at : (f : Counted → Counted) (v : Value) (s : Store) (at : ℕ) (b : Counted) (o : Option Counted) → slice_get s.cells at ≡ o → ((e : Counted) → e.iterations ≡ 0 → (f e).iterations ≡ 0) → ((a : Counted) → o ≡ Some a → a.iterations ≡ 0) → slice_get (changed f v s).cells at ≡ Some b → b.iterations ≡ 0
+zero_at f v s at b None e k h l = none_there _ b (none_in_changed f v s at e) l
+zero_at f v s at b (Some a) e k h l =
+    let same : Some (if is_at v s.home at then f a else a) ≡ Some b = sym (get_in_changed f v s at a e) ∙ l in
+    let one : (if is_at v s.home at then f a else a) ≡ b = cc in
+    subst (λ z. z.iterations ≡ 0) one (zero_or (is_at v s.home at) f a k (h a refl))
+
+zero_changed : (f : Counted → Counted) (v : Value) (s : Store) (at : ℕ) (b : Counted) → ((e : Counted) → e.iterations ≡ 0 → (f e).iterations ≡ 0) → ((a : Counted) → slice_get s.cells at ≡ Some a → a.iterations ≡ 0) → slice_get (changed f v s).cells at ≡ Some b → b.iterations ≡ 0
+zero_changed f v s at b k h l = zero_at f v s at b (slice_get s.cells at) refl k h l
+
 own_home : (b : Bool) (s : Store) (cells : List Counted) → (if b then record s { cells = cells } else s).home ≡ s.home
 own_home true s cells = refl
 own_home false s cells = refl
@@ -224,6 +277,7 @@ keeps_bound frame slot v = record {
   holds = λ s. record {
     home = changed_home _ frame s.store;
     cells = λ at a h. (if is_at frame s.store.home at then record a { cell = bound_cell slot v a.cell } else a, get_in_changed _ frame s.store at a h, choice_stays (is_at frame s.store.home at) (λ e. record e { cell = bound_cell slot v e.cell }) a (bound_stays slot v a.iterations a.cell));
+    fresh = λ at b h k. none_there _ b (none_in_changed _ frame s.store at h) k;
     active = refl;
   };
 }
@@ -248,7 +302,7 @@ none_open true true false b4 u h = cc
 none_open true false b3 b4 u h = cc
 none_open false b2 b3 b4 u h = cc
 
-same_place : (m n : ℕ) → one_place m n ≡ true → m ≡ n
+pub same_place : (m n : ℕ) → one_place m n ≡ true → m ≡ n
 same_place zero zero h = refl
 same_place zero (suc n) h = cc
 same_place (suc m) zero h = cc
@@ -279,6 +333,7 @@ made_stays : (p : Result (Unit {0}) StoreFault) (d : Result (Option Value × Cel
 made_stays (Ok u) (Ok r) v line s ok = record {
   home = changed_home _ v s.store;
   cells = λ at a h. (if is_at v s.store.home at then record a { cell = r.1 } else a, get_in_changed (λ e. record e { cell = r.1 }) v s.store at a h, choice_if (is_at v s.store.home at) (λ e. record e { cell = r.1 }) a (λ e. ok u r at a refl refl h e));
+  fresh = λ at b h k. none_there _ b (none_in_changed _ v s.store at h) k;
   active = refl;
 }
 made_stays (Ok u) (Err f) v line s ok = tt
@@ -318,6 +373,13 @@ closing true a b h =
     subst (λ x. KeepsCell a (if x then record b { iterations = b.iterations - 1 } else b)) (sym k) (close_by (is_container a.cell) a b refl h)
 closing false a b h = h
 
+closed_zero : (e : Counted) → e.iterations ≡ 0 → (closed_in e).iterations ≡ 0
+closed_zero e h = by_kind (is_container e.cell)
+  where
+    by_kind : (x : Bool) → (if x then record e { iterations = e.iterations - 1 } else e).iterations ≡ 0
+    by_kind true = omega (arith, h)
+    by_kind false = h
+
 between_stays : (v : Value) (s u : State) → Stays (record s { store = opened v s.store }) u → Stays s (record u { store = closed v u.store })
 between_stays v s u k = record {
   home = changed_home _ v u.store ∙ k.home ∙ changed_home _ v s.store;
@@ -325,6 +387,7 @@ between_stays v s u k = record {
       let b = k.cells at _ (get_in_changed opened_in v s.store at a h) in
       let e : s.store.home ≡ u.store.home = sym (k.home ∙ changed_home _ v s.store) in
       (if is_at v u.store.home at then closed_in b.0 else b.0, get_in_changed closed_in v u.store at b.0 b.1, subst (λ home. KeepsCell a (if is_at v home at then closed_in b.0 else b.0)) e (closing (is_at v s.store.home at) a b.0 b.2));
+  fresh = λ at b h l. zero_changed closed_in v u.store at b closed_zero (λ a e. k.fresh at a (none_in_changed opened_in v s.store at h) e) l;
   active = k.active;
 }
 
@@ -354,7 +417,7 @@ keeps_looping w line v m k = record { holds = λ s. loop_counted line v s (count
 
 -- a definition that becomes active and ceases to be
 active_stays : {A : Type 0} (f : Function) (s : State) (o : Outcome A) → Preserved (record s { active = (f.file, f.definition) ∷ s.active }) o → Preserved s (and_then o (λ x u. Done x (record u { active = rest_of u.active })))
-active_stays f s (Done x u) h = record { home = h.home; cells = h.cells; active = ap rest_of h.active }
+active_stays f s (Done x u) h = record { home = h.home; cells = h.cells; fresh = h.fresh; active = ap rest_of h.active }
 active_stays f s (Failed e lines) h = tt
 
 pub keeps_active : {A : Type 0} (f : Function) (m : Action A) → Keeps m → Keeps (activate f >>= λ _. m >>= λ v. deactivate >>= λ _. give v)

@@ -1,5 +1,5 @@
 -- What every run keeps, and what more steps change.
-use Rattle.std.specs.Prelude.{◌≡◌, ◌≢◌, ◌≤◌, ◌<◌, ℕ, ◌+◌, List, ◌++◌, length, Some, slice_get}
+use Rattle.std.specs.Prelude.{◌≡◌, ◌≢◌, ◌≤◌, ◌<◌, ℕ, ◌+◌, List, ◌++◌, length, None, Some, slice_get}
 use Rattle.star_store.specs.declared.values.Value.{Value}
 use Rattle.star_store.specs.declared.values.Cell.{Cell}
 use Rattle.star_store.specs.declared.values.Cell.TheVariants as cell
@@ -54,10 +54,11 @@ pub record KeepsCell (a b : Counted) : Type 0 where
   pub iterations : b.iterations ≡ a.iterations
   pub held : 0 < iterations_in (Some a) → b.cell ≡ a.cell
 
--- what a run keeps that ends well: the module, its cells, which only grow in number, the active definitions and the lines printed; steps only fall
+-- what a run keeps that ends well: the module, its cells, which only grow in number, the active definitions and the lines printed; steps only fall, and on a cell that is new behind the run no iteration is open
 pub record Kept (s t : State) : Type 0 where
   pub home : t.store.home ≡ s.store.home
   pub cells : (at : ℕ) (a : Counted) → slice_get s.store.cells at ≡ Some a → (b : Counted) × (slice_get t.store.cells at ≡ Some b) × KeepsCell a b
+  pub fresh : (at : ℕ) (b : Counted) → slice_get s.store.cells at ≡ None → slice_get t.store.cells at ≡ Some b → b.iterations ≡ 0
   pub active : t.active ≡ s.active
   pub steps : t.steps ≤ s.steps
   pub lines : (more : List (List ℕ)) × (t.lines ≡ s.lines ++ more)
