@@ -7,7 +7,6 @@ use crate::module::Module;
 use crate::shelf::Shelf;
 use crate::trace::Refused;
 use once_cell::race::Note;
-use star_tree::tree::Tree;
 use std::alloc::{AllocError, Global};
 use std::marker::Model;
 
@@ -72,8 +71,6 @@ pub struct Run {
     pub(crate) begun: u32,
     pub(crate) per_loader: [u32; 64],
     pub(crate) refused: Vec<Refused>,
-    // The trees of the files, which end with the run.
-    pub(crate) trees: boxcar::Vec<Tree>,
 }
 
 impl Model for Run {

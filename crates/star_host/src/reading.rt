@@ -25,6 +25,36 @@ pub enum Read<'t> {
     Fault(StaticFault),
 }
 
+/// The trees of the files that a run reads.
+#[derive(Drop)]
+pub struct Trees {
+    pub(crate) all: boxcar::Vec<Tree>,
+}
+
+impl Trees {
+    /// No tree yet.
+    pub fn new(alloc: Global) -> Result<Trees, AllocError> {
+        Ok(Trees {
+            all: boxcar::Vec::new(alloc)?,
+        })
+    }
+}
+
+/// What a run has read of its files, by their numbers: none of a file that no root reaches.
+#[derive(Drop)]
+pub struct Reads<'t> {
+    pub(crate) all: Vec<Option<Read<'t>>>,
+}
+
+impl<'t> Reads<'t> {
+    /// Nothing yet.
+    pub fn new(alloc: Global) -> Reads<'t> {
+        Reads {
+            all: Vec::new(alloc),
+        }
+    }
+}
+
 /// What files are read by: their texts, the place of their trees, the prelude, and the roots.
 #[derive(Drop)]
 pub(crate) struct Reader<'s, 't> {

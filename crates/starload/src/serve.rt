@@ -16,7 +16,7 @@ use star_bundle::bundle::{AskedFor, asked_for};
 use star_bundle::error::ServeError;
 use star_host::gate::Open;
 use star_host::report::{all_good, report};
-use star_host::{Refused, Run, RunError, run};
+use star_host::{Reads, Refused, Run, RunError, Trees, run_in};
 use star_label::files::Files;
 use star_label::label::Label;
 use std::alloc::Global;
@@ -50,10 +50,12 @@ struct Answer {
 }
 
 /// Runs what is asked for. `Memory`, or `Unpublished` where a module was not published.
-fn answered<H: Threads + Wait + Sync>(
+fn answered<'t, H: Threads + Wait + Sync>(
     rt: &H,
     alloc: Global,
     asked: &AskedFor,
+    trees: &'t Trees,
+    reads: &mut Reads<'t>,
     loaders: usize,
     steps: u32,
 ) -> Result<Answer, ServeError>
@@ -72,10 +74,12 @@ fn answered<H: Threads + Wait + Sync>(
 {
     let files = &asked.files;
     let roots = asked.roots.as_slice();
-    let mut run = match run(
+    let mut run = match run_in(
         rt,
         alloc,
         files,
+        trees,
+        reads,
         roots,
         asked.prelude,
         loaders,
@@ -173,11 +177,16 @@ pub(crate) fn reported<H: Threads + Wait + Sync, W: Sink, E: Sink>(
     ensures refused { IfErr result (IsRefusedRun (writer.new ≡ writer.old)) }
     ensures writes { W.failed writer.new ≡ W.failed writer.old + writes_failed result }
 {
+    let Ok(trees) = Trees::new(alloc) else {
+        return Err(ServeError::Memory);
+    };
+    let mut reads = Reads::new(alloc);
+    let (loaders, steps) = (options.loaders, options.steps);
     let Answer {
         mut run,
         text,
         all_ok,
-    } = match answered(rt, alloc, asked, options.loaders, options.steps) {
+    } = match answered(rt, alloc, asked, &trees, &mut reads, loaders, steps) {
         Ok(answer) => answer,
         Err(error) => return Err(error),
     };
@@ -189,6 +198,8 @@ pub(crate) fn reported<H: Threads + Wait + Sync, W: Sink, E: Sink>(
     }
     // The process ends next, and the system takes back all of its memory at once.
     mem::forget(run);
+    mem::forget(reads);
+    mem::forget(trees);
     Ok(all_ok)
 }
 
