@@ -108,12 +108,25 @@ fn push_text(all: &mut String, later: bool, text: &str) -> Result<(), AllocError
     all.push_str(text)
 }
 
+/// How many bytes the texts of all pages take, and a comma for each.
+fn room_of(pages: &[Page]) -> usize {
+    let mut room: usize = 0;
+    for page in pages {
+        if let Some(text) = &page.text {
+            room = room.saturating_add(text.len()).saturating_add(1);
+        }
+    }
+    room
+}
+
 /// The text of a report, by those of all pages. `Memory` where one was not written.
 fn joined(alloc: Global, begun: u32, pages: &[Page]) -> Result<String, AllocError>
     ensures written { IfOk result (λ _. All (λ p. IsSome p.text) pages.now) }
     ensures text { IfOk result (λ s. string_bytes s ≡ joined_text begun (map page_text pages.now)) }
 {
     let mut all = format!(in alloc; "{{\"begun\":{begun},\"modules\":[")?;
+    // A text that grew while other threads live would be moved, and each processor told of it.
+    all.reserve(room_of(pages))?;
     for i in 0..pages.len() {
         let Some(text) = &pages[i].text else {
             return Err(AllocError);

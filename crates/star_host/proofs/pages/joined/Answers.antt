@@ -24,7 +24,7 @@ loop-i-preserved c =
     let long : length (map page_text (take i ps)) ≡ i = length-map (take i ps) page_text ∙ length-take-le i ps (omega (arith, less)) in
     record {
       written = All-more (λ (q : Page). IsSome q.text) ps i p less c.loop-i.invariant.written (subst (λ (q : Page). IsSome q.text) (sym at) some);
-      text = listed_on (string_bytes c.in_ok-all.all) (map page_text (take i ps)) c.as_str.result.now (string_bytes c.loop-i.all) (string_bytes c.push_text.new.all) (nat_lt 0 i)
+      text = listed_on (string_bytes c.reserve.new.self) (map page_text (take i ps)) c.as_str.result.now (string_bytes c.loop-i.all) (string_bytes c.push_text.new.all) (nat_lt 0 i)
           (λ h. omega (arith, ltb-true 0 i h, long)) (λ h. omega (arith, ltb-false 0 i h, long)) c.loop-i.invariant.text c.in_ok-push_text.ensures
-          ∙ ap (λ ts. string_bytes c.in_ok-all.all ++ listed false ts) (sym texts);
+          ∙ ap (λ ts. string_bytes c.reserve.new.self ++ listed false ts) (sym texts);
     }
