@@ -177,9 +177,7 @@ pub(crate) fn reported<H: Threads + Wait + Sync, W: Sink, E: Sink>(
     ensures refused { IfErr result (IsRefusedRun (writer.new ≡ writer.old)) }
     ensures writes { W.failed writer.new ≡ W.failed writer.old + writes_failed result }
 {
-    let Ok(trees) = Trees::new(alloc) else {
-        return Err(ServeError::Memory);
-    };
+    let trees = Trees::new(alloc)?;
     let mut reads = Reads::new(alloc);
     let (loaders, steps) = (options.loaders, options.steps);
     let Answer {
