@@ -65,7 +65,7 @@ def texts(count=200):
 
 def big():
     """One file of a megabyte."""
-    text = "".join(f'v{i} = {{"name": "target_{i}", "deps": [{i}, {i + 1}], "on": {i} % 2 == 0}}\n' for i in range(14000))
+    text = "".join(f'v{i} = {{"name": "target_{i}", "deps": [{i}, {i + 1}], "on": {i} % 2 == 0}}\n' for i in range(13000))
     return {"//:root.star": text}, "//:root.star"
 
 

@@ -43,7 +43,7 @@ kept_at s t loops k c at b (Some a) e h =
     let same : Some d.0 ≡ Some b = sym d.1 ∙ h in
     let one : d.0 ≡ b = cc in
     subst (λ z. z.iterations ≡ of_container z.cell (loops_over s.store.home at loops)) one
-        (d.2.iterations ∙ c.counted at a e ∙ ap (λ x. if x then loops_over s.store.home at loops else 0) (sym (kind_container a.cell d.0.cell d.2.kind)))
+    (d.2.iterations ∙ c.counted at a e ∙ ap (λ x. if x then loops_over s.store.home at loops else 0) (sym (kind_container a.cell d.0.cell d.2.kind)))
 
 kept_counted : (s t : State) (loops : List Value) → Kept s t → AreCounted s.store loops → AreCounted t.store loops
 kept_counted s t loops k c = record {
@@ -98,7 +98,7 @@ opened_at v s loops at b (Some a) c e h =
     let one : (if is_at v s.home at then opened_in a else a) ≡ b = cc in
     let right : (if is_at v s.home at then opened_in a else a).iterations ≡ of_container (if is_at v s.home at then opened_in a else a).cell ((if is_at v s.home at then 1 else 0) + loops_over s.home at loops) = opened_right (is_at v s.home at) (is_container a.cell) a (loops_over s.home at loops) refl (c.counted at a e) in
     subst (λ z. z.iterations ≡ of_container z.cell (loops_over s.home at (v ∷ loops))) one
-        (subst (λ x. (if is_at v s.home at then opened_in a else a).iterations ≡ of_container (if is_at v s.home at then opened_in a else a).cell ((if x then 1 else 0) + loops_over s.home at loops)) (at_is v s.home at) right)
+    (subst (λ x. (if is_at v s.home at then opened_in a else a).iterations ≡ of_container (if is_at v s.home at then opened_in a else a).cell ((if x then 1 else 0) + loops_over s.home at loops)) (at_is v s.home at) right)
 
 -- whether a value can be looped over
 abbrev Loops : Setting → State → Value → Type 0
@@ -123,7 +123,7 @@ opened_counted w v s loops l c = record {
   there = λ at h.
       let before : slice_get s.store.cells at ≡ None = was_there opened_in v s.store at (slice_get s.store.cells at) refl h in
       subst (λ home. loops_over home at (v ∷ loops) ≡ 0) (sym (changed_home opened_in v s.store))
-          (none_more (leads_to v s.store.home at) (loops_over s.store.home at loops) (is_there w s v at l before) (c.there at before));
+      (none_more (leads_to v s.store.home at) (loops_over s.store.home at loops) (is_there w s v at l before) (c.there at before));
 }
 
 begun : (w : Setting) (line n : ℕ) (v : Value) (s t : State) (loops : List Value) (o : Option ℕ) → count_in (content w s v) ≡ o → AreCounted s.store loops
