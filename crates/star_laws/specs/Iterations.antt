@@ -19,7 +19,7 @@ abbrev pub leads_to : Value → ℕ → ℕ → Bool
 leads_to (value.Ref h i) home at = nat_eq h home && nat_eq i at
 leads_to _ home at = false
 
--- over how many of these values, each of which a loop goes over, a loop goes over that cell
+-- of loops over these values, how many go over that cell
 abbrev pub loops_over : ℕ → ℕ → List Value → ℕ
 loops_over home at [] = 0
 loops_over home at (v ∷ vs) = (if leads_to v home at then 1 else 0) + loops_over home at vs
@@ -36,7 +36,7 @@ pub record AreCounted (s : Store) (loops : List Value) : Type 0 where
 abbrev pub FilesBeginWithNoLoop : Type 0
 FilesBeginWithNoLoop = (w : Setting) (steps : ℕ) → AreCounted (start w steps).store []
 
--- The law: whatever an expression or a statement does that ends well, behind it the same loops are open, and the counters are right for them.
+-- The law: after an expression or a statement that ends well the same loops are open as before it, and the counters are right for them.
 abbrev pub RunsEndTheirLoops : Type 0
 RunsEndTheirLoops = (w : Setting) (levels : ℕ) (p : Place) (s t : State) (loops : List Value) → AreCounted s.store loops
     → ((e : Expression) (v : Value) → (meaning (by_names w) w levels).expr p e s ≡ Done v t → AreCounted t.store loops)
