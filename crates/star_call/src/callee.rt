@@ -47,7 +47,7 @@ fn defaults_of<'a>(machine: &'a Machine, setting: &'a Setting<'a>, value: Value)
     ensures { result.now ≡ defaults_in (content setting.now machine.now value) }
 {
     match machine.content(setting, value) {
-        Content::Held(Cell::Func(function)) => function.defaults.as_slice(),
+        Content::Held(Cell::Func(function)) => function.get().defaults.as_slice(),
         _ => &[],
     }
 }
@@ -103,7 +103,10 @@ pub fn definition_number(machine: &Machine, setting: &Setting, value: Value) -> 
     ensures { result ≡ number_in (content setting.now machine.now value) }
 {
     match machine.content(setting, value) {
-        Content::Held(Cell::Func(function)) => Some((function.file, function.definition)),
+        Content::Held(Cell::Func(function)) => {
+            let function = function.get();
+            Some((function.file, function.definition))
+        }
         _ => None,
     }
 }
@@ -125,7 +128,7 @@ impl<'t> Callee<'t> {
         match machine.content(setting, value) {
             Content::BuiltInFunction(function) => Ok(Callee::ABuiltIn(function)),
             Content::Held(Cell::Func(function)) => function_callee(
-                machine, line, value, function, definition,
+                machine, line, value, function.get(), definition,
             ),
             Content::Held(Cell::Bound(method, receiver)) => Ok(Callee::AMethod(*method, *receiver)),
             _ => Err(faulted(Code::BadType, line)),

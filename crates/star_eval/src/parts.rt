@@ -16,6 +16,7 @@ ghost use Rattle.star_eval.specs.World.{variables};
 
 use crate::variables::paid_frame;
 use crate::world::World;
+use sqlite_items::Boxed;
 use star_machine::content::Kind;
 use star_machine::fault::{Stop, faulted};
 use star_machine::gathered::Gathered;
@@ -91,6 +92,7 @@ pub(crate) fn new_closure(
         defaults,
         frame: place.frame,
     };
+    let function = Boxed::new(machine.alloc(), function)?;
     machine.build(place.line, 1, Cell::Func(function))
 }
 

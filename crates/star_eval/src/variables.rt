@@ -20,7 +20,7 @@ use star_meaning::place::Place;
 use star_scope::spot::Spot;
 use star_store::names::BuiltIn;
 use star_store::slots::Slots;
-use star_store::values::{Cell, Frame, Value};
+use star_store::values::{BoxedFrame, Cell, Frame, Value};
 use star_tree::tree::Name;
 use std::alloc::{AllocError, Global};
 
@@ -29,7 +29,7 @@ fn frame_at<'a>(machine: &'a Machine, setting: &'a Setting<'a>, value: Value) ->
     ensures { option_copied result ≡ frame_of (seen setting.now machine.now value) }
 {
     match machine.read(setting, value) {
-        Some(Cell::Frame(frame)) => Some(frame),
+        Some(Cell::Frame(frame)) => Some(frame.get()),
         _ => None,
     }
 }
@@ -238,12 +238,13 @@ fn frame_cell(
     ensures { IfOk result (λ c. c ≡ Cell.Frame (record { file = file; block = block; parent = parent; slots = replicate ((tables_of world.now.files).slots file block) None })) }
 {
     let slots = Slots::unbound(alloc, world.slots(file, block as usize))?;
-    Ok(Cell::Frame(Frame {
+    let frame = Frame {
         file,
         block,
         parent,
         slots,
-    }))
+    };
+    Ok(Cell::Frame(BoxedFrame::new(alloc, frame)?))
 }
 
 /// A new frame of a block that is not paid for, as that of a file is.

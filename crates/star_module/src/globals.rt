@@ -85,7 +85,7 @@ fn slots_at<'w>(machine: &'w Machine, world: &'w World, frame: Value) -> Option<
     ensures { unwrap_or (option_copied result) [] ≡ slots_of (frame_of (seen world.now.setting machine.now frame)) }
 {
     match machine.read(world.setting(), frame) {
-        Some(Cell::Frame(found)) => Some(&found.slots),
+        Some(Cell::Frame(found)) => Some(&found.get().slots),
         _ => None,
     }
 }

@@ -1,6 +1,7 @@
 -- Contents of keys: their levels, what is added to a list, and when two are the same.
 use Rattle.std.proofs.Common.{◌≡◌, ℕ, zero, suc, ◌+◌, ◌-◌, ◌<◌, Bool, true, false, ◌&&◌, nat_eq, List, [], ◌∷◌, ◌++◌, length, if◌then◌else◌, Option, Some, None, is_some, refl, ap, sym, ◌∙◌, arith}
 use Rattle.std.specs.List.{list_all}
+use Rattle.std.specs.Option.{option_map}
 use Rattle.std.specs.Cmp.Lexicographic.{pointwise}
 use Rattle.std.proofs.lemmas.Bool.{eqb-true}
 use Rattle.std.proofs.lemmas.List.{append_assoc, append-nil}
@@ -10,7 +11,7 @@ use Rattle.star_store.specs.declared.values.Cell.{Cell}
 use Rattle.star_store.specs.declared.values.Cell.TheVariants as cell
 use Rattle.star_store.specs.declared.content.Atom.{Atom}
 use Rattle.star_store.specs.declared.content.Atom.TheVariants as atom
-use Rattle.star_store.specs.Content.{KeepsKeys, after, content, content_cell, content_each, content_value, join, same_atom, same_content}
+use Rattle.star_store.specs.Content.{KeepsKeys, after, atom_in, content, content_cell, content_each, content_value, join, only_atom, same_atom, same_content}
 use Rattle.star_store.specs.Key.{all_pass, is_key, key_cell, key_value, same_key, same_key_cell, same_key_items, same_key_place, same_key_value}
 
 pub content_at_none : (look : Value → Option Cell) (v : Value) → content look 0 v ≡ None
@@ -21,6 +22,28 @@ pub content_at : (look : Value → Option Cell) (n : ℕ) (v : Value) → 0 < n 
 unfolding content
 content_at look zero v h = absurd (omega arith)
 content_at look (suc n) v h = ap (λ k. content_value look (content look k) v) (let e : n ≡ suc n - 1 = omega arith in e)
+
+-- one atom is the whole content
+pub only_atom_is : (look : Value → Option Cell) (n : ℕ) (v : Value) (a : Atom) → 0 < n → only_atom look v ≡ Some a → content look n v ≡ Some (a ∷ [])
+only_atom_is look n v a h e = content_at look n v h ∙ one v e
+  where
+    in_cell : (c : Option Cell) → atom_in c ≡ Some a → content_cell (content look (n - 1)) c ≡ Some (a ∷ [])
+    in_cell (Some (cell.Text t)) e = ap (option_map (λ b. b ∷ [])) e
+    in_cell (Some (cell.Range r)) e = cc
+    in_cell (Some (cell.Tuple xs)) e = cc
+    in_cell (Some (cell.List xs)) e = cc
+    in_cell (Some (cell.Dict es)) e = cc
+    in_cell (Some (cell.Func f)) e = cc
+    in_cell (Some (cell.Frame f)) e = cc
+    in_cell (Some (cell.Bound m x)) e = cc
+    in_cell None e = cc
+
+    one : (v : Value) → only_atom look v ≡ Some a → content_value look (content look (n - 1)) v ≡ Some (a ∷ [])
+    one value.NoneValue e = ap (option_map (λ b. b ∷ [])) e
+    one (value.Bool b) e = ap (option_map (λ b. b ∷ [])) e
+    one (value.Int k) e = ap (option_map (λ b. b ∷ [])) e
+    one (value.Builtin f) e = cc
+    one (value.Ref h a) e = in_cell (look (value.Ref h a)) e
 
 -- a content that was added whole, and the next one
 pub after_next : (xs ys : List Atom) (a b : Option (List Atom)) → after xs a ≡ Some ys → after xs (join a b) ≡ after ys b

@@ -104,6 +104,15 @@ none_found look key c h es k = sym (none_at key_levels h)
         ∙ past (prefix_len not (map (λ d. same_key look n key d.0) es)) (length (map (λ d. same_key look n key d.0) es))
         (subst (λ (bs : List Bool). prefix_len not bs ≡ length bs) (sym (none_tests look n key es e)) (none_passes (map (λ d. same_key look n key d.0) es)))
 
+-- the content of a key, if it has one, stands in an index where its key stands among the entries
+pub content_found : (look : Value → Option Cell) (key : Value) (c : Option Cell) (index : List (List Atom)) (o : Option (List Atom)) → content look key_levels key ≡ o → IsIndexed look c index → Places look key c (option_and_then (λ atoms. place_by atoms index) o)
+content_found look key c index (Some atoms) h k = place_found look key atoms c index h k
+content_found look key c index None h k = none_found look key c h
+
+pub content_places : (look : Value → Option Cell) (key : Value) (c : Option Cell) (index : List (List Atom)) (found : Option (Option ℕ)) → IfSome found (λ place. place ≡ option_and_then (λ atoms. place_by atoms index) (content look key_levels key)) → IsIndexed look c index → IfSome found (Places look key c)
+content_places look key c index (Some place) h k = subst (Places look key c) (sym h) (content_found look key c index (content look key_levels key) refl k)
+content_places look key c index None h k = tt
+
 -- contents in other stores
 
 each_stays : (look later : Value → Option Cell) (n : ℕ) → KeepsKeys look later → (es : List (Value × Value)) (index : List (List Atom)) → map (λ e. content look n e.0) es ≡ map Some index → map (λ e. content later n e.0) es ≡ map Some index

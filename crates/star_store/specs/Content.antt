@@ -39,6 +39,19 @@ content_value look f (value.Int n) = Some (atom.Int n ∷ [])
 content_value look f (value.Ref h a) = content_cell f (look (value.Ref h a))
 content_value look f _ = None
 
+-- the one atom that a string holds
+abbrev pub atom_in : Option Cell → Option Atom
+atom_in (Some (cell.Text t)) = Some (atom.Text t)
+atom_in _ = None
+
+-- the one atom of a key that is no tuple; a tuple has none, nor has what is no key
+abbrev pub only_atom : (Value → Option Cell) → Value → Option Atom
+only_atom look value.NoneValue = Some atom.Nothing
+only_atom look (value.Bool b) = Some (atom.Bool b)
+only_atom look (value.Int n) = Some (atom.Int n)
+only_atom look (value.Ref h a) = atom_in (look (value.Ref h a))
+only_atom look _ = None
+
 -- the content of a key, of so many levels at most; what is no key has none
 unfoldable pub content : (Value → Option Cell) → ℕ → Value → Option (List Atom)
 content look zero v = None

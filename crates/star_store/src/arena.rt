@@ -305,7 +305,7 @@ fn bind_in(counted: &mut Counted, slot: usize, value: Value) -> Result<(), Alloc
     ensures refused { OnErr result (counted.new ≡ counted.old) }
 {
     match &mut counted.cell {
-        Cell::Frame(frame) => frame.slots.set(slot, value),
+        Cell::Frame(frame) => frame.set(slot, value),
         _ => Ok(()),
     }
 }

@@ -1,8 +1,8 @@
 // What keys hold: their contents, which may be hashed and compared with no store beside them.
 
-ghost use Rattle.std.specs.Prelude.{◌≡◌, Some, None, if◌then◌else◌, IfOk};
+ghost use Rattle.std.specs.Prelude.{◌≡◌, ◌∷◌, [], Some, None, if◌then◌else◌, IfOk};
 ghost use Rattle.std.specs.Option.{option_map};
-ghost use Rattle.star_store.specs.Content.{ContentsStay, KeysHaveContents, SameKeysHaveOneContent, after, content, content_row};
+ghost use Rattle.star_store.specs.Content.{ContentsStay, KeysHaveContents, SameKeysHaveOneContent, after, content, content_row, only_atom};
 ghost use Rattle.star_store.specs.Key.{key_levels};
 ghost use Rattle.star_store.specs.Store.{look};
 
@@ -38,6 +38,27 @@ pub fn content(
     Ok(Some(atoms))
 }
 
+/// The one atom of the content of a key that is no tuple: none for a tuple, and for what is no key.
+pub(crate) fn only_atom(
+    arena: &Arena,
+    homes: &Homes,
+    value: Value,
+) -> Result<Option<Atom>, AllocError>
+    ensures { IfOk result (λ o. o ≡ only_atom (look arena.now homes.now) value) }
+{
+    let atom = match value {
+        Value::NoneValue => Atom::Nothing,
+        Value::Bool(b) => Atom::Bool(b),
+        Value::Int(n) => Atom::Int(n),
+        Value::Ref { .. } => match arena.read(homes, value) {
+            Some(Cell::Text(text)) => Atom::Text(text.share()?),
+            _ => return Ok(None),
+        },
+        Value::Builtin(_) => return Ok(None),
+    };
+    Ok(Some(atom))
+}
+
 /// Adds the content of a key, and says whether there is one.
 #[cycle(put_content)]
 #[tactic(auto, using(crate::proofs::Contents::content_at, crate::proofs::Contents::content_at_none))]
@@ -54,18 +75,27 @@ fn put_content<'a>(
     if levels == 0 {
         return Ok(false);
     }
-    let atom = match value {
-        Value::NoneValue => Atom::Nothing,
-        Value::Bool(b) => Atom::Bool(b),
-        Value::Int(n) => Atom::Int(n),
+    match value {
         Value::Ref { .. } => match arena.read(homes, value) {
-            Some(Cell::Text(text)) => Atom::Text(text.share()?),
-            Some(Cell::Tuple(items)) => {
-                return put_row(arena, homes, levels - 1, items, atoms);
-            }
-            _ => return Ok(false),
+            Some(Cell::Tuple(items)) => put_row(arena, homes, levels - 1, items, atoms),
+            _ => put_atom(arena, homes, value, atoms),
         },
-        Value::Builtin(_) => return Ok(false),
+        _ => put_atom(arena, homes, value, atoms),
+    }
+}
+
+/// Adds the one atom of the content of a key that is no tuple, and says whether there is one.
+fn put_atom(
+    arena: &Arena,
+    homes: &Homes,
+    value: Value,
+    atoms: &mut Vec<Atom>,
+) -> Result<bool, AllocError>
+    ensures { IfOk result (λ whole. after atoms.old.items (option_map (λ a. a ∷ []) (only_atom (look arena.now homes.now) value))
+        ≡ (if whole then Some atoms.new.items else None)) }
+{
+    let Some(atom) = only_atom(arena, homes, value)? else {
+        return Ok(false);
     };
     atoms.push(atom)?;
     Ok(true)

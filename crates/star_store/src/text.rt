@@ -117,7 +117,7 @@ fn put_cell<'a>(
         Some(Cell::Tuple(items)) => put_tuple(arena, homes, levels, page, items)?,
         Some(Cell::List(items)) => put_list(arena, homes, levels, page, value, items)?,
         Some(Cell::Dict(entries)) => put_dict(arena, homes, levels, page, value, entries)?,
-        Some(Cell::Func(function)) => page.say_function(&function.name)?,
+        Some(Cell::Func(function)) => page.say_function(&function.get().name)?,
         Some(Cell::Bound(method, _)) => page.say_method(*method)?,
         Some(Cell::Frame(_)) | None => page.say("")?,
     }

@@ -1,12 +1,13 @@
 // Values, and the cells that they lead to.
 
-ghost use Rattle.std.specs.Prelude.{◌≡◌, ◌<◌, ◌≤◌, List, ℕ, [], ◌∷◌, ◌++◌, length, slice_get, slice_set, OnOk, OnErr};
+ghost use Rattle.std.specs.Prelude.{◌≡◌, ◌<◌, ◌≤◌, List, ℕ, Some, [], ◌∷◌, ◌++◌, length, slice_get, slice_set, IfOk, OnOk, OnErr};
 ghost use Rattle.std.specs.List.{insert, remove};
 
 use crate::names::{BuiltIn, Method};
 use crate::range::Range;
 use crate::roomy::Roomy;
 use crate::slots::Slots;
+use sqlite_items::Boxed;
 use star_text::Text;
 use std::alloc::{AllocError, Global};
 use std::marker::Model;
@@ -72,6 +73,46 @@ pub struct Frame {
     pub slots: Slots,
 }
 
+/// A frame in a place of its own, so that a cell is small.
+#[derive(Drop)]
+pub struct BoxedFrame {
+    frame: Box<Frame>,
+}
+
+impl Model for BoxedFrame {
+    ghost use Rattle.star_store.specs.declared.values.Frame.{Frame as AnyFrame};
+
+    ghost Value = { AnyFrame };
+
+    ghost view = { λ b. b.frame.value };
+}
+
+impl BoxedFrame {
+    /// This frame.
+    pub fn new(alloc: Global, frame: Frame) -> Result<BoxedFrame, AllocError>
+        ensures { IfOk result (λ boxed. boxed ≡ frame) }
+    {
+        Ok(BoxedFrame {
+            frame: Box::new(alloc, frame)?,
+        })
+    }
+
+    /// The frame.
+    pub fn get(&self) -> &Frame
+        ensures { result.now ≡ self.now }
+    {
+        &self.frame
+    }
+
+    /// Gives a slot of the frame a value. Where there is no such slot, nothing changes.
+    pub fn set(&mut self, slot: usize, value: Value) -> Result<(), AllocError>
+        ensures set { OnOk result (self.new ≡ record self.old { slots = slice_set self.old.slots slot (Some value) }) }
+        ensures refused { OnErr result (self.new ≡ self.old) }
+    {
+        self.frame.slots.set(slot, value)
+    }
+}
+
 /// What a value leads to.
 #[derive(Drop)]
 pub enum Cell {
@@ -80,8 +121,8 @@ pub enum Cell {
     Tuple(Values),
     List(Values),
     Dict(Entries),
-    Func(Function),
-    Frame(Frame),
+    Func(Boxed<Function>),
+    Frame(BoxedFrame),
     Bound(Method, Value),
 }
 

@@ -1,6 +1,6 @@
 // What may be called, on examples.
 
-use sqlite_items::Items;
+use sqlite_items::{Boxed, Items};
 use star_call::callee::{Called, Callee, definition_number};
 use star_call::shares::make_shares;
 use star_machine::fault::{Stop, faulted};
@@ -27,6 +27,7 @@ fn function(alloc: Global, machine: &mut Machine) -> Result<Value, Fail> {
         defaults: Values::new(Vec::from_slice(alloc, &[Value::Int(8), Value::Int(9)])?),
         frame: Value::NoneValue,
     };
+    let function = Boxed::new(alloc, function)?;
     Ok(machine.build(1, 1, Cell::Func(function))?)
 }
 

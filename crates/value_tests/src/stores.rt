@@ -1,5 +1,6 @@
 // What the calls of this crate answer, on examples.
 
+use sqlite_items::Boxed;
 use star_store::arena::write::Change;
 use star_store::arena::{Arena, Homes, freeze};
 use star_store::arithmetic::{add, floor_div, floor_mod, mul, neg, shl, sub};
@@ -14,7 +15,7 @@ use star_store::range::Range;
 use star_store::slots::Slots;
 use star_store::text::repr;
 use star_store::truth::is_true;
-use star_store::values::{Cell, Entries, Frame, Function, Value, Values};
+use star_store::values::{BoxedFrame, Cell, Entries, Frame, Function, Value, Values};
 use star_text::Text;
 use std::alloc::Global;
 use std::cmp::Ordering;
@@ -740,10 +741,11 @@ fn frames_and_functions(rt: HostRuntime) -> Result<(), Fail> {
         parent: None,
         slots: Slots::unbound(alloc, 100)?,
     };
+    let frame = BoxedFrame::new(alloc, frame)?;
     let frame = made(&rt, &mut arena, Cell::Frame(frame))?;
     arena.bind(frame, 0, Value::Int(7))?;
     let slot = match arena.read(&homes, frame) {
-        Some(Cell::Frame(found)) => found.slots.get(0),
+        Some(Cell::Frame(found)) => found.get().slots.get(0),
         _ => None,
     };
     assert_eq!(rt; slot, Some(Some(Value::Int(7))));
@@ -754,6 +756,7 @@ fn frames_and_functions(rt: HostRuntime) -> Result<(), Fail> {
         defaults: Values::new(Vec::new(alloc)),
         frame,
     };
+    let function = Boxed::new(alloc, function)?;
     let function = made(&rt, &mut arena, Cell::Func(function))?;
     shows(alloc, &rt, &arena, &homes, function, "<function f>")?;
     assert!(rt; is_true(&arena, &homes, function));

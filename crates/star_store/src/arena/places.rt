@@ -1,29 +1,28 @@
 // The places at which dictionaries have their keys: by an index where there is one, else by a walk.
 
-ghost use Rattle.std.specs.Prelude.{◌≡◌, IfSome, length, slice_get};
+ghost use Rattle.std.specs.Prelude.{◌≡◌, IfSome, Some, length, option_and_then, slice_get};
 ghost use Rattle.std.specs.Option.{option_copied, option_map};
-ghost use Rattle.star_store.specs.Index.{IsIndexed, Places, PlacesAt, alone, beside, entries_of, index_at, value_at};
-ghost use Rattle.star_store.specs.Key.{place_of, value_of};
+ghost use Rattle.star_store.specs.Content.{content};
+ghost use Rattle.star_store.specs.Index.{IsIndexed, Places, PlacesAt, alone, beside, entries_of, index_at, place_by, value_at};
+ghost use Rattle.star_store.specs.Key.{key_levels, place_of, value_of};
 ghost use Rattle.star_store.specs.Store.{look};
+ghost use Rattle.star_store.specs.declared.values.Cell.TheVariants as cell;
 ghost use Rattle.star_store.specs.Write.{cell_at};
 
 use crate::arena::{Arena, Frozen, Homes};
-use crate::content::content;
+use crate::content::{content, only_atom};
 use crate::index::Index;
 use crate::key::{place_of, value_of};
-use crate::values::{Cell, Value};
+use crate::values::{Cell, Entries, Value};
 
 impl Arena {
     /// The place of the entry of a dictionary with this key: none where the value is no dictionary.
     pub fn key_place(&self, homes: &Homes, dict: Value, key: Value) -> Option<usize>
         ensures { result ≡ place_of (look self.now homes.now) key (entries_of (look self.now homes.now dict)) }
     {
-        let Some(Cell::Dict(entries)) = self.read(homes, dict) else {
-            return None;
-        };
-        match self.indexed_place(homes, dict, key) {
-            Some(place) => place,
-            None => place_of(self, homes, key, entries),
+        match self.read(homes, dict) {
+            Some(Cell::Dict(entries)) => self.place_among(homes, dict, entries, key),
+            _ => None,
         }
     }
 
@@ -31,8 +30,30 @@ impl Arena {
     pub fn key_value(&self, homes: &Homes, dict: Value, key: Value) -> Option<Value>
         ensures { result ≡ value_of (look self.now homes.now) key (entries_of (look self.now homes.now dict)) }
     {
-        let place = self.key_place(homes, dict, key);
-        self.entry_value(homes, dict, place)
+        let Some(Cell::Dict(entries)) = self.read(homes, dict) else {
+            return None;
+        };
+        let place = self.place_among(homes, dict, entries, key)?;
+        let (_key, value) = entries.get(place)?;
+        Some(value)
+    }
+
+    /// The place of the entry with this key among the entries of a dictionary: by its index where that can tell it, else by
+    /// a walk.
+    fn place_among(
+        &self,
+        homes: &Homes,
+        dict: Value,
+        entries: &Entries,
+        key: Value,
+    ) -> Option<usize>
+        requires { look self.now homes.now dict ≡ Some (cell.Dict entries.now) }
+        ensures { result ≡ place_of (look self.now homes.now) key entries.now }
+    {
+        match self.indexed_place(homes, dict, key) {
+            Some(place) => place,
+            None => place_of(self, homes, key, entries),
+        }
     }
 
     /// The place of the entry of a dictionary with this key, where the dictionary's index can tell it.
@@ -40,9 +61,9 @@ impl Arena {
         ensures { IfSome result (Places (look self.now homes.now) key (look self.now homes.now dict)) }
     {
         let index = self.index(homes, dict)?;
-        match content(self.alloc, self, homes, key) {
-            Ok(Some(atoms)) => Some(index.place(&atoms)),
-            Ok(None) => Some(None),
+        match only_atom(self, homes, key) {
+            Ok(Some(atom)) => Some(index.place(&[atom])),
+            Ok(None) => place_of_content(self, homes, index, key),
             Err(_) => None,
         }
     }
@@ -134,6 +155,22 @@ impl Arena {
             return index_in(&self.rows, at);
         }
         homes.published(home as usize)?.index(home, at)
+    }
+}
+
+/// The place of the content of a key in an index, where memory suffices: none inside for what is no key.
+fn place_of_content(
+    arena: &Arena,
+    homes: &Homes,
+    index: &Index,
+    key: Value,
+) -> Option<Option<usize>>
+    ensures { IfSome result (λ place. place ≡ option_and_then (λ atoms. place_by atoms index.now) (content (look arena.now homes.now) key_levels key)) }
+{
+    match content(arena.alloc, arena, homes, key) {
+        Ok(Some(atoms)) => Some(index.place(&atoms)),
+        Ok(None) => Some(None),
+        Err(_) => None,
     }
 }
 

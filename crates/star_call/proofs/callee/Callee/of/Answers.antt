@@ -11,15 +11,16 @@ use Rattle.star_call.proofs.callee.Callee.of.Goals as goal
 pub returns-in-Held-Func-clause-answer : goal.returns-in-Held-Func-clause-answer
 returns-in-Held-Func-clause-answer c =
     let read = content c.args.setting.now c.args.machine.now in
-    let e : read c.args.value ≡ Held (cell.Func c.in-Held-Func.function) = sym c.in-Held-Func.ensures ∙ ap Held c.in-Held-Func.field-0-is in
+    let f = c.get.result.now in
+    let e : read c.args.value ≡ Held (cell.Func f) = sym c.in-Held-Func.ensures ∙ ap Held (c.in-Held-Func.field-0-is ∙ ap cell.Func (sym c.get.ensures)) in
     rw e (c.function_callee.ensures read e)
 
 pub returns-in-Held-Func-clause-found : goal.returns-in-Held-Func-clause-found
 unfolding callee
 returns-in-Held-Func-clause-found c = λ h.
     let w = c.args.setting.now in
-    let f = c.in-Held-Func.function in
+    let f = c.get.result.now in
     let read = content w c.args.machine.now in
-    let e : read c.args.value ≡ Held (cell.Func f) = sym c.in-Held-Func.ensures ∙ ap Held c.in-Held-Func.field-0-is in
+    let e : read c.args.value ≡ Held (cell.Func f) = sym c.in-Held-Func.ensures ∙ ap Held (c.in-Held-Func.field-0-is ∙ ap cell.Func (sym c.get.ensures)) in
     let d : option_map definition_of c.args.definition ≡ in_setting w f.file f.definition = h ∙ ap (definition_for w) e in
     rw e (rw d at (c.function_callee.ensures read e))
