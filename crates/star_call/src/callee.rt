@@ -128,7 +128,11 @@ impl<'t> Callee<'t> {
         match machine.content(setting, value) {
             Content::BuiltInFunction(function) => Ok(Callee::ABuiltIn(function)),
             Content::Held(Cell::Func(function)) => function_callee(
-                machine, line, value, function.get(), definition,
+                machine,
+                line,
+                value,
+                function.get(),
+                definition,
             ),
             Content::Held(Cell::Bound(method, receiver)) => Ok(Callee::AMethod(*method, *receiver)),
             _ => Err(faulted(Code::BadType, line)),
