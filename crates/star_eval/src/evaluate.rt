@@ -62,9 +62,30 @@ pub fn evaluate(
     evaluate_node(machine, world, levels - 1, place, expression)
 }
 
-/// The value of a node, whose parts may open so many levels.
+/// The value of a node, whose parts may open so many levels: of a name, an int or a string at once.
+#[inline(always)]
 #[cycle(run)]
 fn evaluate_node(
+    machine: &mut Machine,
+    world: &World,
+    levels: u32,
+    place: &Place,
+    expression: &Expression,
+) -> Result<Value, Stop>
+    ensures { Gives (node (variables world.now) world.now.setting levels (meant world.now levels) place.now (form.expression expression.now) machine.old) result machine.new }
+{
+    match expression {
+        Expression::Name(name) => read(machine, world, place, name),
+        Expression::Int(int) => Ok(Value::Int(*int)),
+        Expression::Text(text) => new_string(machine, place.line, text),
+        _ => evaluate_any(machine, world, levels, place, expression),
+    }
+}
+
+/// The value of a node of any kind, whose parts may open so many levels.
+#[inline(never)]
+#[cycle(run)]
+fn evaluate_any(
     machine: &mut Machine,
     world: &World,
     levels: u32,

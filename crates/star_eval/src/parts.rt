@@ -65,6 +65,7 @@ pub(crate) fn answer_of(flow: Flow) -> Value
 }
 
 /// A new string of these bytes, which pays 1 and one for each.
+#[inline(never)]
 pub(crate) fn new_string(machine: &mut Machine, line: usize, text: &Text) -> Result<Value, Stop>
     ensures { Gives (new_text line text.now machine.old) result machine.new }
 {

@@ -6,6 +6,7 @@ pub mod Key
 pub mod Names
 pub mod Order
 pub mod Range
+pub mod Scalars
 pub mod Slots
 pub mod Spend
 pub mod Store

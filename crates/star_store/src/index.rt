@@ -3,9 +3,10 @@
 ghost use Rattle.std.specs.Prelude.{◌≡◌, ◌≤◌, ◌++◌, ◌∷◌, [], if◌then◌else◌, drop, length, slice_get};
 ghost use Rattle.std.specs.Option.{option_copied};
 ghost use Rattle.std.specs.List.{remove};
+ghost use Rattle.star_store.specs.Scalars.{scalar_atom};
 ghost use Rattle.star_store.specs.Index.{place_by};
 
-use crate::content::Atom;
+use crate::content::{Atom, ScalarKey};
 use indexmap::IndexSet;
 use std::alloc::Global;
 use std::marker::Model;
@@ -62,6 +63,21 @@ impl Index {
             None => return None,
         };
         if at < self.gone {
+            return None;
+        }
+        Some(at - self.gone)
+    }
+
+    /// The place of the content of a key that is no tuple.
+    pub fn place_of_scalar(&self, key: ScalarKey<'_>) -> Option<usize>
+        ensures { result ≡ place_by (scalar_atom key.entry.scalar ∷ []) self.now }
+    {
+        let _count = self.contents.len();
+        let at = match self.contents.get_index_of(key) {
+            Some(at) => at,
+            None => return None,
+        };
+        if self.gone > at {
             return None;
         }
         Some(at - self.gone)

@@ -112,6 +112,9 @@ decreases-execute::execute_loop l = 2 ^ 70 * l.levels + 4
 abbrev pub decreases-evaluate::evaluate_node : goal.decreases-evaluate::evaluate_node
 decreases-evaluate::evaluate_node l = 2 ^ 70 * l.levels + (2 ^ 70 - 1)
 
+abbrev pub decreases-evaluate::evaluate_any : goal.decreases-evaluate::evaluate_any
+decreases-evaluate::evaluate_any l = 2 ^ 70 * l.levels + (2 ^ 70 - 2)
+
 abbrev pub decreases-execute::execute_form : goal.decreases-execute::execute_form
 decreases-execute::execute_form l = 2 ^ 70 * l.levels + (2 ^ 70 - 1)
 

@@ -10,7 +10,7 @@ ghost use Rattle.star_store.specs.declared.values.Cell.TheVariants as cell;
 ghost use Rattle.star_store.specs.Write.{cell_at};
 
 use crate::arena::{Arena, Frozen, Homes};
-use crate::content::{content, only_atom};
+use crate::content::{content, scalar_key};
 use crate::index::Index;
 use crate::key::{place_of, value_of};
 use crate::values::{Cell, Entries, Value};
@@ -61,10 +61,9 @@ impl Arena {
         ensures { IfSome result (Places (look self.now homes.now) key (look self.now homes.now dict)) }
     {
         let index = self.index(homes, dict)?;
-        match only_atom(self, homes, key) {
-            Ok(Some(atom)) => Some(index.place(&[atom])),
-            Ok(None) => place_of_content(self, homes, index, key),
-            Err(_) => None,
+        match scalar_key(self, homes, key) {
+            Some(scalar) => Some(index.place_of_scalar(scalar)),
+            None => place_of_content(self, homes, index, key),
         }
     }
 
