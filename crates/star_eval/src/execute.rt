@@ -47,9 +47,31 @@ pub fn execute(
     execute_form(machine, world, levels - 1, &place, statement)
 }
 
-/// How a statement ends, whose parts may open so many levels.
+/// How a statement ends, whose parts may open so many levels: an expression that stands alone, or an assignment, at once.
+#[inline(always)]
 #[cycle(run)]
 fn execute_form(
+    machine: &mut Machine,
+    world: &World,
+    levels: u32,
+    place: &Place,
+    statement: &Statement,
+) -> Result<Flow, Stop>
+    ensures { Gives (spec.statement (variables world.now) world.now.setting levels (meant world.now levels) place.now (form.position_of statement.now) (form.form_of statement.now) machine.old) result machine.new }
+{
+    match &statement.form {
+        Form::Expression(value) => execute_expression(machine, world, levels, place, value),
+        Form::Assign { target, value } => execute_assign(
+            machine, world, levels, place, target, value,
+        ),
+        _ => execute_any(machine, world, levels, place, statement),
+    }
+}
+
+/// How a statement of any kind ends, whose parts may open so many levels.
+#[inline(never)]
+#[cycle(run)]
+fn execute_any(
     machine: &mut Machine,
     world: &World,
     levels: u32,

@@ -118,6 +118,9 @@ decreases-evaluate::evaluate_any l = 2 ^ 70 * l.levels + (2 ^ 70 - 2)
 abbrev pub decreases-execute::execute_form : goal.decreases-execute::execute_form
 decreases-execute::execute_form l = 2 ^ 70 * l.levels + (2 ^ 70 - 1)
 
+abbrev pub decreases-execute::execute_any : goal.decreases-execute::execute_any
+decreases-execute::execute_any l = 2 ^ 70 * l.levels + (2 ^ 70 - 2)
+
 abbrev pub decreases-execute::execute_expression : goal.decreases-execute::execute_expression
 decreases-execute::execute_expression l = 2 ^ 70 * l.levels + 1
 
