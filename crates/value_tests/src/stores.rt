@@ -3,13 +3,11 @@
 use sqlite_items::Boxed;
 use star_store::arena::write::Change;
 use star_store::arena::{Arena, Homes, freeze};
-use star_store::arithmetic::{add, floor_div, floor_mod, mul, neg, shl, sub};
 use star_store::budget::Budget;
 use star_store::content::{Atom, content};
 use star_store::equal::equal;
 use star_store::fault::StoreFault;
 use star_store::key::check_key;
-use star_store::names::{BuiltIn, Method};
 use star_store::order::order;
 use star_store::range::Range;
 use star_store::slots::Slots;
@@ -399,36 +397,6 @@ fn changes_of_a_dictionary(rt: HostRuntime) -> Result<(), Fail> {
     Ok(())
 }
 
-// True is another key than 1.
-#[test]
-fn true_and_one_are_two_keys(rt: HostRuntime) -> Result<(), Fail> {
-    let alloc = rt.alloc();
-    let homes = Homes::new(alloc);
-    let mut arena = Arena::new(alloc, 0);
-    let d = dict(alloc, &rt, &mut arena)?;
-    let a = text(alloc, &rt, &mut arena, "a")?;
-    let b = text(alloc, &rt, &mut arena, "b")?;
-    writes(
-        &rt,
-        &mut arena,
-        &homes,
-        d,
-        Change::Put(Value::Int(1), a),
-        Ok(None),
-    );
-    writes(
-        &rt,
-        &mut arena,
-        &homes,
-        d,
-        Change::Put(Value::Bool(true), b),
-        Ok(None),
-    );
-    finds(&rt, &arena, &homes, d, Value::Bool(true), Ok(Some(b)));
-    finds(&rt, &arena, &homes, d, Value::Int(1), Ok(Some(a)));
-    Ok(())
-}
-
 // A key check visits the key and the items of its tuples.
 #[test]
 fn keys(rt: HostRuntime) -> Result<(), Fail> {
@@ -552,115 +520,6 @@ fn orders(rt: HostRuntime) -> Result<(), Fail> {
     ordered(&rt, &arena, &homes, (one, t), Err(StoreFault::BadType), 19);
     ordered(&rt, &arena, &homes, (x, y), Ok(Ordering::Less), 16);
     ordered(&rt, &arena, &homes, (x, z), Ok(Ordering::Greater), 18);
-    Ok(())
-}
-
-#[test]
-fn sums_and_products(rt: HostRuntime) {
-    let least = i64::MIN;
-    let over = Err(StoreFault::Overflow);
-    let answers = [
-        (add(i64::MAX, 1), over),
-        (add(-3, 1), Ok(-2)),
-        (sub(least, 1), over),
-        (sub(-3, 1), Ok(-4)),
-        (mul(4_294_967_296, 2_147_483_648), over),
-        (mul(-3, 5), Ok(-15)),
-        (neg(least), over),
-        (neg(3), Ok(-3)),
-    ];
-    for (answer, want) in answers {
-        assert!(rt; answer == want);
-    }
-}
-
-#[test]
-fn quotients(rt: HostRuntime) {
-    for (x, y, quotient, left) in [
-        (-7, 2, Ok(-4), 1),
-        (7, -2, Ok(-4), -1),
-        (7, 2, Ok(3), 1),
-        (-7, -2, Ok(3), -1),
-        (i64::MIN, -1, Err(StoreFault::Overflow), 0),
-    ] {
-        assert!(rt; y != 0);
-        assert!(rt; floor_div(x, y) == quotient);
-        assert!(rt; floor_mod(x, y) == Ok(left));
-    }
-}
-
-#[test]
-fn shifts(rt: HostRuntime) {
-    for (x, count, want) in [
-        (1, 62, Ok(4611686018427387904)),
-        (1, 63, Err(StoreFault::Overflow)),
-        (-1, 63, Ok(i64::MIN)),
-        (0, i64::MAX, Ok(0)),
-        (1, i64::MAX, Err(StoreFault::Overflow)),
-    ] {
-        assert!(rt; count >= 0);
-        assert!(rt; shl(x, count) == want);
-    }
-}
-
-// The texts of simple values.
-#[test]
-fn texts(rt: HostRuntime) -> Result<(), Fail> {
-    let alloc = rt.alloc();
-    let homes = Homes::new(alloc);
-    let mut arena = Arena::new(alloc, 0);
-    shows(alloc, &rt, &arena, &homes, Value::NoneValue, "None")?;
-    shows(alloc, &rt, &arena, &homes, Value::Bool(true), "True")?;
-    shows(
-        alloc,
-        &rt,
-        &arena,
-        &homes,
-        Value::Int(i64::MIN),
-        "-9223372036854775808",
-    )?;
-    let len = Value::Builtin(BuiltIn::Len);
-    shows(alloc, &rt, &arena, &homes, len, "<built-in function len>")?;
-    let t = text(alloc, &rt, &mut arena, "\"\\\n\r\t\u{1}\u{7f}é'")?;
-    shows(
-        alloc,
-        &rt,
-        &arena,
-        &homes,
-        t,
-        "\"\\\"\\\\\\n\\r\\t\\x01\\x7fé'\"",
-    )?;
-    Ok(())
-}
-
-// The texts of tuples, ranges and methods.
-#[test]
-fn texts_of_cells(rt: HostRuntime) -> Result<(), Fail> {
-    let alloc = rt.alloc();
-    let homes = Homes::new(alloc);
-    let mut arena = Arena::new(alloc, 0);
-    let none = tuple(alloc, &rt, &mut arena, &[])?;
-    let one = tuple(alloc, &rt, &mut arena, &[Value::Int(1)])?;
-    let two = tuple(alloc, &rt, &mut arena, &[Value::Int(1), one])?;
-    shows(alloc, &rt, &arena, &homes, none, "()")?;
-    shows(alloc, &rt, &arena, &homes, one, "(1,)")?;
-    shows(alloc, &rt, &arena, &homes, two, "(1, (1,))")?;
-    let r = range(&rt, &mut arena, 0, 5, 1)?;
-    shows(alloc, &rt, &arena, &homes, r, "range(5)")?;
-    let r = range(&rt, &mut arena, 1, 5, 1)?;
-    shows(alloc, &rt, &arena, &homes, r, "range(1, 5)")?;
-    let r = range(&rt, &mut arena, 0, 5, -2)?;
-    shows(alloc, &rt, &arena, &homes, r, "range(0, 5, -2)")?;
-    assert!(rt; !is_true(&arena, &homes, r));
-    let m = made(&rt, &mut arena, Cell::Bound(Method::ListAppend, r))?;
-    shows(
-        alloc,
-        &rt,
-        &arena,
-        &homes,
-        m,
-        "<built-in method append of list value>",
-    )?;
     Ok(())
 }
 
