@@ -1,10 +1,10 @@
 // What a call gives and binds, on an example.
 
-use crate::samples::{list, text};
+use crate::samples::{list, shows, text};
 use star_call::binding::bound_to;
 use star_call::passed::{Passed, given};
 use star_call::shares::make_shares;
-use star_machine::fault::faulted;
+use star_machine::fault::{Stop, faulted};
 use star_machine::machine::Machine;
 use star_machine::setting::Setting;
 use star_meaning::fault::Code;
@@ -43,28 +43,17 @@ fn parameters(alloc: Global) -> Result<Vec<Parameter>, AllocError> {
     Ok(parameters)
 }
 
-/// The values of the parameters, or `-` where the arguments do not fit. The defaults are 70 and 71.
-fn bound_text(
-    alloc: Global,
-    machine: &mut Machine,
-    setting: &Setting,
-    given: &Given,
-) -> Result<String, Fail> {
+/// The values of the parameters, in order. The defaults are 70 and 71.
+fn bound(alloc: Global, machine: &mut Machine, given: &Given) -> Result<Vec<Value>, Stop> {
     let parameters = parameters(alloc)?;
     let defaults = [Value::Int(70), Value::Int(71)];
-    let mut text = String::new(alloc);
-    let Some(shares) = bound_to(alloc, &parameters, &defaults, given)? else {
-        text.push_str("-")?;
-        return Ok(text);
-    };
-    let values = make_shares(machine, 7, &shares)?;
-    for (name, value) in &values {
-        text.push_str(name.text.as_str())?;
-        text.push_str("=")?;
-        text.push_str(machine.repr(setting, 400, 7, *value)?.as_str())?;
-        text.push_str(" ")?;
+    let mut all = Vec::new(alloc);
+    if let Some(shares) = bound_to(alloc, &parameters, &defaults, given)? {
+        for (_name, value) in &make_shares(machine, 7, &shares)? {
+            all.push(*value)?;
+        }
     }
-    Ok(text)
+    Ok(all)
 }
 
 /// A dictionary of one entry.
@@ -72,27 +61,6 @@ fn dict(alloc: Global, machine: &mut Machine, key: Value, value: Value) -> Resul
     let mut entries = Entries::new(alloc);
     entries.push(key, value)?;
     Ok(machine.new_dict(1, entries)?)
-}
-
-/// The values by place and by name; a name that was a key is marked.
-fn given_text(
-    alloc: Global,
-    machine: &mut Machine,
-    setting: &Setting,
-    given: &Given,
-) -> Result<String, Fail> {
-    let mut text = String::new(alloc);
-    for value in given.plain.as_slice() {
-        text.push_str(machine.repr(setting, 400, 7, *value)?.as_str())?;
-        text.push_str(" ")?;
-    }
-    for named in given.named.as_slice() {
-        text.push_str(named.name.as_str())?;
-        text.push_str("=")?;
-        text.push_str(machine.repr(setting, 400, 7, named.value)?.as_str())?;
-        text.push_str(if named.key.is_some() { "! " } else { " " })?;
-    }
-    Ok(text)
 }
 
 fn a_call_gives_and_binds_its_values(
@@ -113,11 +81,16 @@ fn a_call_gives_and_binds_its_values(
         Passed::StarStar(names),
     ];
     let given = given(machine, setting, 7, &passed)?;
-    let all = given_text(alloc, machine, setting, &given)?;
-    assert!(rt; all.as_str() == "1 3 5 True d=2 e=None k=6! ");
-    let bound = bound_text(alloc, machine, setting, &given)?;
-    assert!(rt; bound.as_str() == "a=1 b=3 r=(5, True) c=71 d=2 n={\"e\": None, \"k\": 6} ");
-    Ok(())
+    let values = list(alloc, machine, given.plain.as_slice())?;
+    shows(rt, machine, setting, Ok(values), "[1, 3, 5, True]")?;
+    if let Some(named) = given.named.get(2) {
+        assert!(rt; named.name.as_str() == "k");
+        assert!(rt; named.key == Some(key));
+    }
+    let all = bound(alloc, machine, &given)?;
+    let all = list(alloc, machine, &all)?;
+    let want = "[1, 3, (5, True), 71, 2, {\"e\": None, \"k\": 6}]";
+    shows(rt, machine, setting, Ok(all), want)
 }
 
 fn items_are_paid_before_names_are_compared(

@@ -41,6 +41,11 @@ fn sort(callee: Result<Callee<'_>, Stop>) -> Result<&'static str, Stop> {
     }
 }
 
+/// Asserts of which sort a callee is.
+fn is_sort(rt: &impl Abort, callee: Result<Callee<'_>, Stop>, want: Result<&'static str, Stop>) {
+    assert!(rt; sort(callee) == want);
+}
+
 /// What the first parameter gets, where nothing is given.
 fn bound(
     alloc: Global,
@@ -78,12 +83,11 @@ fn what_may_be_called_in(
         (Value::Int(1), Some(definition), no_type),
         (Value::Ref { home: 0, at: 99 }, None, no_type),
     ] {
-        let callee = Callee::of(machine, setting, 7, value, found);
-        assert_eq!(rt; sort(callee), wanted);
+        is_sort(rt, Callee::of(machine, setting, 7, value, found), wanted);
     }
     let number = definition_number(machine, setting, value);
-    assert_eq!(rt; number, Some((0, 3)));
-    assert_eq!(rt; definition_number(machine, setting, method), None);
+    assert!(rt; number == Some((0, 3)));
+    assert!(rt; definition_number(machine, setting, method).is_none());
     Ok(())
 }
 
@@ -98,16 +102,16 @@ fn an_active_definition_is_not_called_in(
     machine.activate(1, 3)?;
     machine.activate(0, 4)?;
     let callee = Callee::of(machine, setting, 7, value, Some(definition));
-    assert_eq!(rt; sort(callee), Ok("function"));
+    is_sort(rt, callee, Ok("function"));
     if let Ok(Callee::AFunction(called)) = callee {
         let first = bound(alloc, machine, setting, called)?;
-        assert_eq!(rt; first, Some(Value::Int(8)));
+        assert!(rt; first == Some(Value::Int(8)));
     }
     machine.activate(0, 3)?;
-    let callee = Callee::of(machine, setting, 7, value, Some(definition));
-    assert_eq!(rt; sort(callee), Err(faulted(Code::Recursion, 7)));
-    let callee = Callee::of(machine, setting, 7, value, None);
-    assert_eq!(rt; sort(callee), Err(faulted(Code::Recursion, 7)));
+    for found in [Some(definition), None] {
+        let callee = Callee::of(machine, setting, 7, value, found);
+        is_sort(rt, callee, Err(faulted(Code::Recursion, 7)));
+    }
     Ok(())
 }
 

@@ -60,55 +60,57 @@ fn finds(
     assert!(rt; arena.key_value(homes, dict, key) == want);
 }
 
-#[test]
-fn entries_are_found_and_taken_out_in_order(rt: HostRuntime) -> Result<(), Fail> {
-    let alloc = rt.alloc();
-    let homes = Homes::new(alloc);
-    let mut arena = Arena::new(alloc, 3);
-    let dict = counted(alloc, &rt, &mut arena, &homes, 40)?;
-    finds(&rt, &arena, &homes, dict, Value::Int(39), Some(-39));
-    finds(&rt, &arena, &homes, dict, Value::Int(0), Some(0));
-    finds(&rt, &arena, &homes, dict, Value::Int(40), None);
-    finds(&rt, &arena, &homes, dict, Value::Bool(true), None);
-    assert!(rt; arena.key_place(&homes, dict, Value::Int(39)) == Some(0));
-    let gone = arena.write(&homes, dict, Change::Delete(Value::Int(38)));
+fn entries_are_found_and_taken_out_in_order(
+    rt: &impl Abort,
+    alloc: Global,
+    arena: &mut Arena,
+    homes: &Homes,
+) -> Result<(), Fail> {
+    let dict = counted(alloc, rt, arena, homes, 40)?;
+    finds(rt, arena, homes, dict, Value::Int(39), Some(-39));
+    finds(rt, arena, homes, dict, Value::Int(0), Some(0));
+    finds(rt, arena, homes, dict, Value::Int(40), None);
+    finds(rt, arena, homes, dict, Value::Bool(true), None);
+    assert!(rt; arena.key_place(homes, dict, Value::Int(39)) == Some(0));
+    let gone = arena.write(homes, dict, Change::Delete(Value::Int(38)));
     assert!(rt; gone == Ok(Some(Value::Int(-38))));
-    assert!(rt; arena.key_place(&homes, dict, Value::Int(37)) == Some(1));
-    assert!(rt; arena.key_place(&homes, dict, Value::Int(0)) == Some(38));
-    let absent = arena.write(&homes, dict, Change::Delete(Value::Int(38)));
+    assert!(rt; arena.key_place(homes, dict, Value::Int(37)) == Some(1));
+    assert!(rt; arena.key_place(homes, dict, Value::Int(0)) == Some(38));
+    let absent = arena.write(homes, dict, Change::Delete(Value::Int(38)));
     assert!(rt; absent == Err(StoreFault::Key));
     let put = Change::Put(Value::Int(38), Value::Int(1));
-    assert!(rt; arena.write(&homes, dict, put) == Ok(None));
-    assert!(rt; arena.key_place(&homes, dict, Value::Int(38)) == Some(39));
+    assert!(rt; arena.write(homes, dict, put) == Ok(None));
+    assert!(rt; arena.key_place(homes, dict, Value::Int(38)) == Some(39));
     let other = Change::Put(Value::Int(0), Value::Int(2));
-    assert!(rt; arena.write(&homes, dict, other) == Ok(Some(Value::Int(0))));
-    finds(&rt, &arena, &homes, dict, Value::Int(0), Some(2));
-    assert!(rt; arena.write(&homes, dict, Change::Clear) == Ok(None));
-    finds(&rt, &arena, &homes, dict, Value::Int(0), None);
+    assert!(rt; arena.write(homes, dict, other) == Ok(Some(Value::Int(0))));
+    finds(rt, arena, homes, dict, Value::Int(0), Some(2));
+    assert!(rt; arena.write(homes, dict, Change::Clear) == Ok(None));
+    finds(rt, arena, homes, dict, Value::Int(0), None);
     Ok(())
 }
 
-#[test]
-fn texts_and_tuples_are_found_by_what_they_hold(rt: HostRuntime) -> Result<(), Fail> {
-    let alloc = rt.alloc();
-    let homes = Homes::new(alloc);
-    let mut arena = Arena::new(alloc, 0);
-    let dict = counted(alloc, &rt, &mut arena, &homes, 20)?;
-    let name = text(alloc, &rt, &mut arena, "name")?;
-    let pair = tuple(alloc, &rt, &mut arena, &[name, Value::Int(1)])?;
+fn texts_and_tuples_are_found_by_what_they_hold(
+    rt: &impl Abort,
+    alloc: Global,
+    arena: &mut Arena,
+    homes: &Homes,
+) -> Result<(), Fail> {
+    let dict = counted(alloc, rt, arena, homes, 20)?;
+    let name = text(alloc, rt, arena, "name")?;
+    let pair = tuple(alloc, rt, arena, &[name, Value::Int(1)])?;
     let of_name = Change::Put(name, Value::Int(100));
-    assert!(rt; arena.write(&homes, dict, of_name) == Ok(None));
+    assert!(rt; arena.write(homes, dict, of_name) == Ok(None));
     let of_pair = Change::Put(pair, Value::Int(101));
-    assert!(rt; arena.write(&homes, dict, of_pair) == Ok(None));
-    let again = text(alloc, &rt, &mut arena, "name")?;
-    let like = tuple(alloc, &rt, &mut arena, &[again, Value::Int(1)])?;
-    let unlike = tuple(alloc, &rt, &mut arena, &[again, Value::Bool(true)])?;
-    finds(&rt, &arena, &homes, dict, again, Some(100));
-    finds(&rt, &arena, &homes, dict, like, Some(101));
-    finds(&rt, &arena, &homes, dict, unlike, None);
+    assert!(rt; arena.write(homes, dict, of_pair) == Ok(None));
+    let again = text(alloc, rt, arena, "name")?;
+    let like = tuple(alloc, rt, arena, &[again, Value::Int(1)])?;
+    let unlike = tuple(alloc, rt, arena, &[again, Value::Bool(true)])?;
+    finds(rt, arena, homes, dict, again, Some(100));
+    finds(rt, arena, homes, dict, like, Some(101));
+    finds(rt, arena, homes, dict, unlike, None);
     let of_like = Change::Put(like, Value::Int(102));
-    assert!(rt; arena.write(&homes, dict, of_like) == Ok(Some(Value::Int(101))));
-    finds(&rt, &arena, &homes, dict, pair, Some(102));
+    assert!(rt; arena.write(homes, dict, of_like) == Ok(Some(Value::Int(101))));
+    finds(rt, arena, homes, dict, pair, Some(102));
     Ok(())
 }
 
@@ -159,46 +161,67 @@ fn a_store_under_another_number_is_searched_by_a_walk(rt: HostRuntime) -> Result
     Ok(())
 }
 
-#[test]
-fn equal_dictionaries_have_the_same_entries(rt: HostRuntime) -> Result<(), Fail> {
-    let alloc = rt.alloc();
-    let homes = Homes::new(alloc);
-    let mut arena = Arena::new(alloc, 0);
-    let dict = counted(alloc, &rt, &mut arena, &homes, 25)?;
-    let other = made(&rt, &mut arena, Cell::Dict(Entries::new(alloc)))?;
+fn equal_dictionaries_have_the_same_entries(
+    rt: &impl Abort,
+    alloc: Global,
+    arena: &mut Arena,
+    homes: &Homes,
+) -> Result<(), Fail> {
+    let dict = counted(alloc, rt, arena, homes, 25)?;
+    let other = made(rt, arena, Cell::Dict(Entries::new(alloc)))?;
     for n in 0..25 {
         let change = Change::Put(Value::Int(n), Value::Int(n.wrapping_neg()));
-        assert!(rt; arena.write(&homes, other, change) == Ok(None));
+        assert!(rt; arena.write(homes, other, change) == Ok(None));
     }
     let mut budget = Budget {
         steps: 100,
         levels: 10,
     };
-    assert!(rt; equal(&arena, &homes, &mut budget, dict, other) == Ok(true));
+    assert!(rt; equal(arena, homes, &mut budget, dict, other) == Ok(true));
     assert!(rt; budget.steps == 74);
     let change = Change::Put(Value::Int(24), Value::Int(0));
-    assert!(rt; arena.write(&homes, other, change) == Ok(Some(Value::Int(-24))));
-    assert!(rt; equal(&arena, &homes, &mut budget, dict, other) == Ok(false));
+    assert!(rt; arena.write(homes, other, change) == Ok(Some(Value::Int(-24))));
+    assert!(rt; equal(arena, homes, &mut budget, dict, other) == Ok(false));
     assert!(rt; budget.steps == 72);
     Ok(())
 }
 
-#[test]
-fn a_key_is_nested_400_deep(rt: HostRuntime) -> Result<(), Fail> {
-    let alloc = rt.alloc();
-    let homes = Homes::new(alloc);
-    let mut arena = Arena::new(alloc, 0);
-    let dict = counted(alloc, &rt, &mut arena, &homes, 20)?;
+fn a_key_is_nested_400_deep(
+    rt: &impl Abort,
+    alloc: Global,
+    arena: &mut Arena,
+    homes: &Homes,
+) -> Result<(), Fail> {
+    let dict = counted(alloc, rt, arena, homes, 20)?;
     let mut key = Value::NoneValue;
     let mut like = Value::NoneValue;
     for _ in 0..400 {
-        key = tuple(alloc, &rt, &mut arena, &[key])?;
-        like = tuple(alloc, &rt, &mut arena, &[like])?;
+        key = tuple(alloc, rt, arena, &[key])?;
+        like = tuple(alloc, rt, arena, &[like])?;
     }
     let change = Change::Put(key, Value::Int(1));
-    assert!(rt; arena.write(&homes, dict, change) == Ok(None));
-    finds(&rt, &arena, &homes, dict, like, Some(1));
-    let deeper = tuple(alloc, &rt, &mut arena, &[like])?;
-    assert!(rt; arena.find(&homes, dict, deeper) == Err(StoreFault::BadType));
+    assert!(rt; arena.write(homes, dict, change) == Ok(None));
+    finds(rt, arena, homes, dict, like, Some(1));
+    let deeper = tuple(alloc, rt, arena, &[like])?;
+    assert!(rt; arena.find(homes, dict, deeper) == Err(StoreFault::BadType));
     Ok(())
+}
+
+fn indexes_in(
+    rt: &impl Abort,
+    alloc: Global,
+    arena: &mut Arena,
+    homes: &Homes,
+) -> Result<(), Fail> {
+    entries_are_found_and_taken_out_in_order(rt, alloc, arena, homes)?;
+    texts_and_tuples_are_found_by_what_they_hold(rt, alloc, arena, homes)?;
+    equal_dictionaries_have_the_same_entries(rt, alloc, arena, homes)?;
+    a_key_is_nested_400_deep(rt, alloc, arena, homes)
+}
+
+#[test]
+fn indexes(rt: HostRuntime) -> Result<(), Fail> {
+    let homes = Homes::new(rt.alloc());
+    let mut arena = Arena::new(rt.alloc(), 0);
+    indexes_in(&rt, rt.alloc(), &mut arena, &homes)
 }

@@ -110,7 +110,8 @@ fn operations_in(
 ) -> Result<(), Fail> {
     operations_make_values(rt, alloc, machine, setting)?;
     what_is_iterated_is_not_written(rt, alloc, machine, setting)?;
-    arguments_fit_or_are_refused(rt, alloc, machine, setting)
+    arguments_fit_or_are_refused(rt, alloc, machine, setting)?;
+    definitions_are_active_until_they_end(rt, alloc, machine)
 }
 
 fn steps_are_paid_before_work(
@@ -146,10 +147,11 @@ fn operations(rt: HostRuntime) -> Result<(), Fail> {
     operations_over(&rt, rt.alloc(), &homes)
 }
 
-#[test]
-fn definitions_are_active_until_they_end(rt: HostRuntime) -> Result<(), Fail> {
-    let alloc = rt.alloc();
-    let mut machine = Machine::new(alloc, 0, 1_000);
+fn definitions_are_active_until_they_end(
+    rt: &impl Abort,
+    alloc: Global,
+    machine: &mut Machine,
+) -> Result<(), Fail> {
     let function = Function {
         file: 0,
         definition: 4,

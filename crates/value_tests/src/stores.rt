@@ -192,44 +192,38 @@ fn checks(
 }
 
 // A list is iterated, written, shown and published.
-#[test]
-fn a_list_in_its_life(rt: HostRuntime) -> Result<(), Fail> {
-    let alloc = rt.alloc();
-    let homes = Homes::new(alloc);
-    let mut arena = Arena::new(alloc, 0);
-    let v = list(alloc, &rt, &mut arena, &[Value::Int(1)])?;
+fn a_list_in_its_life(
+    rt: &impl Abort,
+    alloc: Global,
+    arena: &mut Arena,
+    homes: &Homes,
+) -> Result<(), Fail> {
+    let v = list(alloc, rt, arena, &[Value::Int(1)])?;
     assert_eq!(rt; v, Value::Ref { home: 0, at: 0 });
-    iterate(&rt, &mut arena, v);
+    iterate(rt, arena, v);
     writes(
-        &rt,
-        &mut arena,
-        &homes,
+        rt,
+        arena,
+        homes,
         v,
         Change::Append(Value::Int(2)),
         Err(StoreFault::Iterating),
     );
-    may_write(&rt, &arena, &homes, v, Err(StoreFault::Iterating));
+    may_write(rt, arena, homes, v, Err(StoreFault::Iterating));
     arena.close_iter(v);
-    may_write(&rt, &arena, &homes, v, Ok(()));
+    may_write(rt, arena, homes, v, Ok(()));
+    writes(rt, arena, homes, v, Change::Append(Value::Int(2)), Ok(None));
+    shows(alloc, rt, arena, homes, v, "[1, 2]")?;
+    let t = text(alloc, rt, arena, "t")?;
     writes(
-        &rt,
-        &mut arena,
-        &homes,
-        v,
-        Change::Append(Value::Int(2)),
-        Ok(None),
-    );
-    shows(alloc, &rt, &arena, &homes, v, "[1, 2]")?;
-    let t = text(alloc, &rt, &mut arena, "t")?;
-    writes(
-        &rt,
-        &mut arena,
-        &homes,
+        rt,
+        arena,
+        homes,
         t,
         Change::Append(Value::Int(2)),
         Err(StoreFault::BadType),
     );
-    may_write(&rt, &arena, &homes, t, Err(StoreFault::BadType));
+    may_write(rt, arena, homes, t, Err(StoreFault::BadType));
     Ok(())
 }
 
@@ -256,212 +250,160 @@ fn a_published_list(rt: HostRuntime) -> Result<(), Fail> {
 }
 
 // Each change of a list, and each refusal.
-#[test]
-fn changes_of_a_list(rt: HostRuntime) -> Result<(), Fail> {
-    let alloc = rt.alloc();
-    let homes = Homes::new(alloc);
-    let mut arena = Arena::new(alloc, 0);
-    let l = list(alloc, &rt, &mut arena, &[])?;
+fn changes_of_a_list(
+    rt: &impl Abort,
+    alloc: Global,
+    arena: &mut Arena,
+    homes: &Homes,
+) -> Result<(), Fail> {
+    let l = list(alloc, rt, arena, &[])?;
     let one = Value::Int(1);
     let two = Value::Int(2);
     writes(
-        &rt,
-        &mut arena,
-        &homes,
+        rt,
+        arena,
+        homes,
         l,
         Change::Insert(1, one),
         Err(StoreFault::Index),
     );
-    writes(&rt, &mut arena, &homes, l, Change::Insert(0, one), Ok(None));
-    writes(&rt, &mut arena, &homes, l, Change::Insert(1, two), Ok(None));
+    writes(rt, arena, homes, l, Change::Insert(0, one), Ok(None));
+    writes(rt, arena, homes, l, Change::Insert(1, two), Ok(None));
+    writes(rt, arena, homes, l, Change::Set(1, one), Ok(Some(two)));
     writes(
-        &rt,
-        &mut arena,
-        &homes,
-        l,
-        Change::Set(1, one),
-        Ok(Some(two)),
-    );
-    writes(
-        &rt,
-        &mut arena,
-        &homes,
+        rt,
+        arena,
+        homes,
         l,
         Change::Set(2, one),
         Err(StoreFault::Index),
     );
     writes(
-        &rt,
-        &mut arena,
-        &homes,
+        rt,
+        arena,
+        homes,
         l,
         Change::RemoveAt(2),
         Err(StoreFault::Index),
     );
+    writes(rt, arena, homes, l, Change::RemoveAt(0), Ok(Some(one)));
     writes(
-        &rt,
-        &mut arena,
-        &homes,
-        l,
-        Change::RemoveAt(0),
-        Ok(Some(one)),
-    );
-    writes(
-        &rt,
-        &mut arena,
-        &homes,
+        rt,
+        arena,
+        homes,
         l,
         Change::Put(one, two),
         Err(StoreFault::BadType),
     );
-    shows(alloc, &rt, &arena, &homes, l, "[1]")?;
-    writes(&rt, &mut arena, &homes, l, Change::Clear, Ok(None));
-    shows(alloc, &rt, &arena, &homes, l, "[]")?;
+    shows(alloc, rt, arena, homes, l, "[1]")?;
+    writes(rt, arena, homes, l, Change::Clear, Ok(None));
+    shows(alloc, rt, arena, homes, l, "[]")?;
     Ok(())
 }
 
 // Each change of a dictionary, and each refusal; the order of insertion stays, and True is another key than 1.
-#[test]
-fn changes_of_a_dictionary(rt: HostRuntime) -> Result<(), Fail> {
-    let alloc = rt.alloc();
-    let homes = Homes::new(alloc);
-    let mut arena = Arena::new(alloc, 0);
-    let d = dict(alloc, &rt, &mut arena)?;
-    let a = text(alloc, &rt, &mut arena, "a")?;
-    let b = text(alloc, &rt, &mut arena, "b")?;
-    let b_again = text(alloc, &rt, &mut arena, "b")?;
+fn changes_of_a_dictionary(
+    rt: &impl Abort,
+    alloc: Global,
+    arena: &mut Arena,
+    homes: &Homes,
+) -> Result<(), Fail> {
+    let d = dict(alloc, rt, arena)?;
+    let a = text(alloc, rt, arena, "a")?;
+    let b = text(alloc, rt, arena, "b")?;
+    let b_again = text(alloc, rt, arena, "b")?;
+    writes(rt, arena, homes, d, Change::Put(b, Value::Int(1)), Ok(None));
+    writes(rt, arena, homes, d, Change::Put(a, Value::Int(2)), Ok(None));
     writes(
-        &rt,
-        &mut arena,
-        &homes,
-        d,
-        Change::Put(b, Value::Int(1)),
-        Ok(None),
-    );
-    writes(
-        &rt,
-        &mut arena,
-        &homes,
-        d,
-        Change::Put(a, Value::Int(2)),
-        Ok(None),
-    );
-    writes(
-        &rt,
-        &mut arena,
-        &homes,
+        rt,
+        arena,
+        homes,
         d,
         Change::Put(b_again, Value::Int(3)),
         Ok(Some(Value::Int(1))),
     );
-    shows(alloc, &rt, &arena, &homes, d, "{\"b\": 3, \"a\": 2}")?;
-    finds(&rt, &arena, &homes, d, b_again, Ok(Some(Value::Int(3))));
-    finds(&rt, &arena, &homes, d, Value::Int(1), Ok(None));
-    finds(&rt, &arena, &homes, d, d, Err(StoreFault::BadType));
-    finds(&rt, &arena, &homes, a, a, Err(StoreFault::BadType));
+    shows(alloc, rt, arena, homes, d, "{\"b\": 3, \"a\": 2}")?;
+    finds(rt, arena, homes, d, b_again, Ok(Some(Value::Int(3))));
+    finds(rt, arena, homes, d, Value::Int(1), Ok(None));
+    finds(rt, arena, homes, d, d, Err(StoreFault::BadType));
+    finds(rt, arena, homes, a, a, Err(StoreFault::BadType));
     writes(
-        &rt,
-        &mut arena,
-        &homes,
+        rt,
+        arena,
+        homes,
         d,
         Change::Put(d, a),
         Err(StoreFault::BadType),
     );
     writes(
-        &rt,
-        &mut arena,
-        &homes,
+        rt,
+        arena,
+        homes,
         d,
         Change::Append(a),
         Err(StoreFault::BadType),
     );
     writes(
-        &rt,
-        &mut arena,
-        &homes,
+        rt,
+        arena,
+        homes,
         d,
         Change::Delete(b_again),
         Ok(Some(Value::Int(3))),
     );
-    writes(
-        &rt,
-        &mut arena,
-        &homes,
-        d,
-        Change::Delete(b),
-        Err(StoreFault::Key),
-    );
-    shows(alloc, &rt, &arena, &homes, d, "{\"a\": 2}")?;
-    writes(&rt, &mut arena, &homes, d, Change::Clear, Ok(None));
-    shows(alloc, &rt, &arena, &homes, d, "{}")?;
+    writes(rt, arena, homes, d, Change::Delete(b), Err(StoreFault::Key));
+    shows(alloc, rt, arena, homes, d, "{\"a\": 2}")?;
+    writes(rt, arena, homes, d, Change::Clear, Ok(None));
+    shows(alloc, rt, arena, homes, d, "{}")?;
     Ok(())
 }
 
 // A key check visits the key and the items of its tuples.
-#[test]
-fn keys(rt: HostRuntime) -> Result<(), Fail> {
-    let alloc = rt.alloc();
-    let homes = Homes::new(alloc);
-    let mut arena = Arena::new(alloc, 0);
-    let empty = tuple(alloc, &rt, &mut arena, &[])?;
-    let key = tuple(alloc, &rt, &mut arena, &[Value::Int(1), empty])?;
-    let l = list(alloc, &rt, &mut arena, &[])?;
-    checks(&rt, &arena, &homes, (10, 400), key, Ok(()), 7);
-    checks(
-        &rt,
-        &arena,
-        &homes,
-        (10, 400),
-        l,
-        Err(StoreFault::BadType),
-        9,
-    );
-    checks(
-        &rt,
-        &arena,
-        &homes,
-        (2, 400),
-        key,
-        Err(StoreFault::Steps),
-        0,
-    );
-    checks(&rt, &arena, &homes, (10, 1), key, Err(StoreFault::Deep), 9);
+fn keys(rt: &impl Abort, alloc: Global, arena: &mut Arena, homes: &Homes) -> Result<(), Fail> {
+    let empty = tuple(alloc, rt, arena, &[])?;
+    let key = tuple(alloc, rt, arena, &[Value::Int(1), empty])?;
+    let l = list(alloc, rt, arena, &[])?;
+    checks(rt, arena, homes, (10, 400), key, Ok(()), 7);
+    checks(rt, arena, homes, (10, 400), l, Err(StoreFault::BadType), 9);
+    checks(rt, arena, homes, (2, 400), key, Err(StoreFault::Steps), 0);
+    checks(rt, arena, homes, (10, 1), key, Err(StoreFault::Deep), 9);
     Ok(())
 }
 
 // Lists that hold themselves are visited until the steps or the levels end.
-#[test]
-fn equality_of_what_holds_itself(rt: HostRuntime) -> Result<(), Fail> {
-    let alloc = rt.alloc();
-    let homes = Homes::new(alloc);
-    let mut arena = Arena::new(alloc, 0);
-    let x = list(alloc, &rt, &mut arena, &[])?;
-    let y = list(alloc, &rt, &mut arena, &[])?;
-    writes(&rt, &mut arena, &homes, x, Change::Append(x), Ok(None));
-    writes(&rt, &mut arena, &homes, y, Change::Append(y), Ok(None));
+fn equality_of_what_holds_itself(
+    rt: &impl Abort,
+    alloc: Global,
+    arena: &mut Arena,
+    homes: &Homes,
+) -> Result<(), Fail> {
+    let x = list(alloc, rt, arena, &[])?;
+    let y = list(alloc, rt, arena, &[])?;
+    writes(rt, arena, homes, x, Change::Append(x), Ok(None));
+    writes(rt, arena, homes, y, Change::Append(y), Ok(None));
     let ample = 1_000_000;
     equals(
-        &rt,
-        &arena,
-        &homes,
+        rt,
+        arena,
+        homes,
         (5, 400),
         (x, y),
         Err(StoreFault::Steps),
         0,
     );
     equals(
-        &rt,
-        &arena,
-        &homes,
+        rt,
+        arena,
+        homes,
         (ample, 400),
         (x, y),
         Err(StoreFault::Deep),
         ample - 400,
     );
     equals(
-        &rt,
-        &arena,
-        &homes,
+        rt,
+        arena,
+        homes,
         (ample, 400),
         (x, x),
         Err(StoreFault::Deep),
@@ -471,79 +413,72 @@ fn equality_of_what_holds_itself(rt: HostRuntime) -> Result<(), Fail> {
 }
 
 // Values of two types are unequal; ranges are equal by their ints, dictionaries by their entries in any order.
-#[test]
-fn equality(rt: HostRuntime) -> Result<(), Fail> {
-    let alloc = rt.alloc();
-    let homes = Homes::new(alloc);
-    let mut arena = Arena::new(alloc, 0);
+fn equality(rt: &impl Abort, alloc: Global, arena: &mut Arena, homes: &Homes) -> Result<(), Fail> {
     let one = Value::Int(1);
     let two = Value::Int(2);
     equals(
-        &rt,
-        &arena,
-        &homes,
+        rt,
+        arena,
+        homes,
         (9, 9),
         (Value::Bool(true), one),
         Ok(false),
         8,
     );
-    let r = range(&rt, &mut arena, 0, 5, 3)?;
-    let s = range(&rt, &mut arena, 0, 4, 3)?;
-    equals(&rt, &arena, &homes, (9, 9), (r, s), Ok(true), 8);
-    let d = dict(alloc, &rt, &mut arena)?;
-    let e = dict(alloc, &rt, &mut arena)?;
-    writes(&rt, &mut arena, &homes, d, Change::Put(one, r), Ok(None));
-    writes(&rt, &mut arena, &homes, d, Change::Put(two, s), Ok(None));
-    writes(&rt, &mut arena, &homes, e, Change::Put(two, r), Ok(None));
-    writes(&rt, &mut arena, &homes, e, Change::Put(one, r), Ok(None));
-    equals(&rt, &arena, &homes, (9, 9), (d, e), Ok(true), 6);
+    let r = range(rt, arena, 0, 5, 3)?;
+    let s = range(rt, arena, 0, 4, 3)?;
+    equals(rt, arena, homes, (9, 9), (r, s), Ok(true), 8);
+    let d = dict(alloc, rt, arena)?;
+    let e = dict(alloc, rt, arena)?;
+    writes(rt, arena, homes, d, Change::Put(one, r), Ok(None));
+    writes(rt, arena, homes, d, Change::Put(two, s), Ok(None));
+    writes(rt, arena, homes, e, Change::Put(two, r), Ok(None));
+    writes(rt, arena, homes, e, Change::Put(one, r), Ok(None));
+    equals(rt, arena, homes, (9, 9), (d, e), Ok(true), 6);
     Ok(())
 }
 
 // Ints, bools, strings, lists and tuples have an order, each among its own type.
-#[test]
-fn orders(rt: HostRuntime) -> Result<(), Fail> {
-    let alloc = rt.alloc();
-    let homes = Homes::new(alloc);
-    let mut arena = Arena::new(alloc, 0);
+fn orders(rt: &impl Abort, alloc: Global, arena: &mut Arena, homes: &Homes) -> Result<(), Fail> {
     let one = Value::Int(1);
     let two = Value::Int(2);
     let bools = (Value::Bool(false), Value::Bool(true));
-    let t = text(alloc, &rt, &mut arena, "ab")?;
-    let u = text(alloc, &rt, &mut arena, "b")?;
-    let x = list(alloc, &rt, &mut arena, &[one, one])?;
-    let y = list(alloc, &rt, &mut arena, &[one, two])?;
-    let z = list(alloc, &rt, &mut arena, &[one])?;
-    ordered(&rt, &arena, &homes, (two, one), Ok(Ordering::Greater), 19);
-    ordered(&rt, &arena, &homes, bools, Ok(Ordering::Less), 19);
-    ordered(&rt, &arena, &homes, (t, u), Ok(Ordering::Less), 19);
-    ordered(&rt, &arena, &homes, (one, t), Err(StoreFault::BadType), 19);
-    ordered(&rt, &arena, &homes, (x, y), Ok(Ordering::Less), 16);
-    ordered(&rt, &arena, &homes, (x, z), Ok(Ordering::Greater), 18);
+    let t = text(alloc, rt, arena, "ab")?;
+    let u = text(alloc, rt, arena, "b")?;
+    let x = list(alloc, rt, arena, &[one, one])?;
+    let y = list(alloc, rt, arena, &[one, two])?;
+    let z = list(alloc, rt, arena, &[one])?;
+    ordered(rt, arena, homes, (two, one), Ok(Ordering::Greater), 19);
+    ordered(rt, arena, homes, bools, Ok(Ordering::Less), 19);
+    ordered(rt, arena, homes, (t, u), Ok(Ordering::Less), 19);
+    ordered(rt, arena, homes, (one, t), Err(StoreFault::BadType), 19);
+    ordered(rt, arena, homes, (x, y), Ok(Ordering::Less), 16);
+    ordered(rt, arena, homes, (x, z), Ok(Ordering::Greater), 18);
     Ok(())
 }
 
 // A list or dictionary inside itself is not shown again, and a text has a price.
-#[test]
-fn texts_of_what_holds_itself(rt: HostRuntime) -> Result<(), Fail> {
-    let alloc = rt.alloc();
-    let homes = Homes::new(alloc);
-    let mut arena = Arena::new(alloc, 0);
-    let l = list(alloc, &rt, &mut arena, &[])?;
-    let t = tuple(alloc, &rt, &mut arena, &[l])?;
-    writes(&rt, &mut arena, &homes, l, Change::Append(t), Ok(None));
-    shows(alloc, &rt, &arena, &homes, l, "[([...],)]")?;
-    shows(alloc, &rt, &arena, &homes, t, "([([...],)],)")?;
-    let d = dict(alloc, &rt, &mut arena)?;
-    let key = text(alloc, &rt, &mut arena, "d")?;
-    writes(&rt, &mut arena, &homes, d, Change::Put(key, d), Ok(None));
-    shows(alloc, &rt, &arena, &homes, d, "{\"d\": {...}}")?;
-    tells(alloc, &rt, &arena, &homes, (4, 400), d, None, 1);
+fn texts_of_what_holds_itself(
+    rt: &impl Abort,
+    alloc: Global,
+    arena: &mut Arena,
+    homes: &Homes,
+) -> Result<(), Fail> {
+    let l = list(alloc, rt, arena, &[])?;
+    let t = tuple(alloc, rt, arena, &[l])?;
+    writes(rt, arena, homes, l, Change::Append(t), Ok(None));
+    shows(alloc, rt, arena, homes, l, "[([...],)]")?;
+    shows(alloc, rt, arena, homes, t, "([([...],)],)")?;
+    let d = dict(alloc, rt, arena)?;
+    let key = text(alloc, rt, arena, "d")?;
+    writes(rt, arena, homes, d, Change::Put(key, d), Ok(None));
+    shows(alloc, rt, arena, homes, d, "{\"d\": {...}}")?;
+    tells(alloc, rt, arena, homes, (4, 400), d, None, 1);
     tells(
         alloc,
-        &rt,
-        &arena,
-        &homes,
+        rt,
+        arena,
+        homes,
         (1, 400),
         d,
         Some(StoreFault::Steps),
@@ -551,9 +486,9 @@ fn texts_of_what_holds_itself(rt: HostRuntime) -> Result<(), Fail> {
     );
     tells(
         alloc,
-        &rt,
-        &arena,
-        &homes,
+        rt,
+        arena,
+        homes,
         (4, 1),
         d,
         Some(StoreFault::Deep),
@@ -589,11 +524,12 @@ fn slots_near_and_far(rt: HostRuntime) -> Result<(), Fail> {
 }
 
 // A frame's slot is bound, and a function shows its name.
-#[test]
-fn frames_and_functions(rt: HostRuntime) -> Result<(), Fail> {
-    let alloc = rt.alloc();
-    let homes = Homes::new(alloc);
-    let mut arena = Arena::new(alloc, 0);
+fn frames_and_functions(
+    rt: &impl Abort,
+    alloc: Global,
+    arena: &mut Arena,
+    homes: &Homes,
+) -> Result<(), Fail> {
     let frame = Frame {
         file: 0,
         block: 0,
@@ -601,9 +537,9 @@ fn frames_and_functions(rt: HostRuntime) -> Result<(), Fail> {
         slots: Slots::unbound(alloc, 100)?,
     };
     let frame = BoxedFrame::new(alloc, frame)?;
-    let frame = made(&rt, &mut arena, Cell::Frame(frame))?;
+    let frame = made(rt, arena, Cell::Frame(frame))?;
     arena.bind(frame, 0, Value::Int(7))?;
-    let slot = match arena.read(&homes, frame) {
+    let slot = match arena.read(homes, frame) {
         Some(Cell::Frame(found)) => found.get().slots.get(0),
         _ => None,
     };
@@ -616,25 +552,21 @@ fn frames_and_functions(rt: HostRuntime) -> Result<(), Fail> {
         frame,
     };
     let function = Boxed::new(alloc, function)?;
-    let function = made(&rt, &mut arena, Cell::Func(function))?;
-    shows(alloc, &rt, &arena, &homes, function, "<function f>")?;
-    assert!(rt; is_true(&arena, &homes, function));
+    let function = made(rt, arena, Cell::Func(function))?;
+    shows(alloc, rt, arena, homes, function, "<function f>")?;
+    assert!(rt; is_true(arena, homes, function));
     Ok(())
 }
 
-#[test]
-fn a_key_has_its_content(rt: HostRuntime) -> Result<(), Fail> {
-    let alloc = rt.alloc();
-    let homes = Homes::new(alloc);
-    let mut arena = Arena::new(alloc, 1);
-    let word = text(alloc, &rt, &mut arena, "a")?;
-    let inner = tuple(
-        alloc,
-        &rt,
-        &mut arena,
-        &[Value::Bool(true), Value::NoneValue],
-    )?;
-    let key = tuple(alloc, &rt, &mut arena, &[word, inner, Value::Int(-7)])?;
+fn a_key_has_its_content(
+    rt: &impl Abort,
+    alloc: Global,
+    arena: &mut Arena,
+    homes: &Homes,
+) -> Result<(), Fail> {
+    let word = text(alloc, rt, arena, "a")?;
+    let inner = tuple(alloc, rt, arena, &[Value::Bool(true), Value::NoneValue])?;
+    let key = tuple(alloc, rt, arena, &[word, inner, Value::Int(-7)])?;
     let wanted = vec![in alloc;
         Atom::Row(3),
         Atom::Text(Text::new(alloc, "a")?),
@@ -643,9 +575,29 @@ fn a_key_has_its_content(rt: HostRuntime) -> Result<(), Fail> {
         Atom::Nothing,
         Atom::Int(-7),
     ]?;
-    assert!(rt; content(alloc, &arena, &homes, key)? == Some(wanted));
-    let items = list(alloc, &rt, &mut arena, &[word])?;
-    let other = tuple(alloc, &rt, &mut arena, &[word, items])?;
-    assert!(rt; content(alloc, &arena, &homes, other)?.is_none());
+    assert!(rt; content(alloc, arena, homes, key)? == Some(wanted));
+    let items = list(alloc, rt, arena, &[word])?;
+    let other = tuple(alloc, rt, arena, &[word, items])?;
+    assert!(rt; content(alloc, arena, homes, other)?.is_none());
     Ok(())
+}
+
+fn stores_in(rt: &impl Abort, alloc: Global, arena: &mut Arena, homes: &Homes) -> Result<(), Fail> {
+    a_list_in_its_life(rt, alloc, arena, homes)?;
+    changes_of_a_list(rt, alloc, arena, homes)?;
+    changes_of_a_dictionary(rt, alloc, arena, homes)?;
+    keys(rt, alloc, arena, homes)?;
+    equality_of_what_holds_itself(rt, alloc, arena, homes)?;
+    equality(rt, alloc, arena, homes)?;
+    orders(rt, alloc, arena, homes)?;
+    texts_of_what_holds_itself(rt, alloc, arena, homes)?;
+    frames_and_functions(rt, alloc, arena, homes)?;
+    a_key_has_its_content(rt, alloc, arena, homes)
+}
+
+#[test]
+fn stores(rt: HostRuntime) -> Result<(), Fail> {
+    let homes = Homes::new(rt.alloc());
+    let mut arena = Arena::new(rt.alloc(), 0);
+    stores_in(&rt, rt.alloc(), &mut arena, &homes)
 }
