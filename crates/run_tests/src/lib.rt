@@ -1,9 +1,12 @@
-//! Tests of the evaluator and of the run of a whole file, over the texts of files. What a text answers
-//! stands in `tests/cases`.
+//! Tests of the evaluator and of the run of a whole file, over the texts of files.
 #![tactic(auto)]
 
 #[cfg(test)]
 mod clauses;
+#[cfg(test)]
+mod fronts;
+#[cfg(test)]
+mod gathered;
 #[cfg(test)]
 mod modules;
 #[cfg(test)]
