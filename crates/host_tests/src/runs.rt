@@ -3,10 +3,10 @@
 ghost use Rattle.std.specs.Prelude.{◌≡◌, ◌<◌, ◌≤◌, All, IfOk, length};
 
 use star_host::gate::{Gate, Open};
-use star_host::report::report;
 use star_host::{Run, run};
 use star_label::files::Files;
 use star_label::label::Label;
+use star_report::report::report;
 use std::alloc::{AllocError, Global};
 use std::collections::BTreeMap;
 use std::sync::Wait;

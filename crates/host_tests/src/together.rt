@@ -3,7 +3,7 @@
 use crate::meeting::Meeting;
 use crate::runs::{files_of, report_of, rings, run_all, sums};
 use star_host::gate::Open;
-use star_host::report::report;
+use star_report::report::report;
 use std::test::Fail;
 
 /// How often a body looks for others that come at the same time: for some seconds.

@@ -1,8 +1,7 @@
 // Comprehensions of many clauses.
 
 use crate::modules::good;
-use crate::samples::{cost, fault, give};
-use star_meaning::fault::Code;
+use crate::samples::cost;
 use std::alloc::{AllocError, Global};
 use std::process::Abort;
 use std::test::Fail;
@@ -43,50 +42,7 @@ fn many_conditions_end(rt: HostRuntime) -> Result<(), Fail> {
 }
 
 #[test]
-fn clauses_run_in_order(rt: HostRuntime) -> Result<(), Fail> {
-    give(
-        &rt,
-        rt.alloc(),
-        &[
-            (
-                "[(a, b, c) for a in [1, 2, 3] if a != 2 for b in [a, 9] if b > 1 for c in range(a) if c != 1]",
-                "[(1, 9, 0), (3, 3, 0), (3, 3, 2), (3, 9, 0), (3, 9, 2)]",
-            ),
-            ("{(a, b): c for a in [1, 2] for b in [] for c in [3]}", "{}"),
-            (
-                "{a: c for a in [1, 2] for b in [3, 4] for c in [a + b] if c != 6}",
-                "{1: 5, 2: 5}",
-            ),
-            ("[0 for a in [] if 1 // 0]", "[]"),
-            ("[0 for a in [1, 2] if a > 1 if 1 // (a - 1)]", "[0]"),
-            ("[0 for a in [1] for b in [] for c in 1 // 0]", "[]"),
-            (
-                "z = [[1], [2, 3]]\n[b for a in z for b in a if a[0] > 1]",
-                "[2, 3]",
-            ),
-            (
-                "l = [1]\nm = [2]\nx = [0 for a in l for b in m for c in l]\nl.append(3)\nm.append(4)\n[l, m]",
-                "[[1, 3], [2, 4]]",
-            ),
-            (
-                "l = [1]\nx = [l.append(b) for a in [0, 1] if [0 for b in l] for b in [a]]\nl",
-                "[1, 0, 1]",
-            ),
-        ],
-    )?;
-    fault(
-        &rt,
-        rt.alloc(),
-        &[
-            (
-                "l = [1]\nx = [0 for a in [1, 2] for b in l for c in l if l.append(1)]",
-                Code::Iterating,
-                2,
-            ),
-            ("[0 for a in [1] for b in a]", Code::BadType, 1),
-            ("[0 for a in [1, 0] for b in [2] if b // a]", Code::Zero, 1),
-        ],
-    )?;
+fn clauses_are_paid(rt: HostRuntime) -> Result<(), Fail> {
     cost(
         &rt,
         rt.alloc(),

@@ -1,12 +1,9 @@
-//! Tests of the evaluator and of the run of a whole file, over the texts of files.
+//! Tests of the evaluator and of the run of a whole file, over the texts of files. What a text answers
+//! stands in `tests/cases`.
 #![tactic(auto)]
 
 #[cfg(test)]
 mod clauses;
-#[cfg(test)]
-mod fronts;
-#[cfg(test)]
-mod gathered;
 #[cfg(test)]
 mod modules;
 #[cfg(test)]

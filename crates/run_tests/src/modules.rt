@@ -4,8 +4,6 @@ ghost use Rattle.std.specs.Prelude.{◌≤◌};
 ghost use Rattle.star_meaning.specs.Places.{Stands};
 ghost use Rattle.star_meaning.specs.Programs.{IsOfFile, trees_of};
 
-use star_eval::files::{Files, program_of};
-use star_eval::world::World;
 use star_label::files::Files as Labels;
 use star_label::label::Label;
 use star_meaning::fault::Code;
@@ -15,6 +13,8 @@ use star_scope::program::Program;
 use star_store::arena::{Arena, Frozen, Homes, freeze};
 use star_store::values::Value;
 use star_text::Text;
+use star_world::files::{Files, program_of};
+use star_world::world::World;
 use std::alloc::{AllocError, Global};
 use std::collections::BTreeMap;
 use std::process::Abort;

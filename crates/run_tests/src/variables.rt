@@ -2,9 +2,6 @@
 
 ghost use Rattle.star_meaning.specs.Programs.{IsOfFile};
 
-use star_eval::files::{Files, program_of};
-use star_eval::variables::{bind, new_frame, paid_frame, read};
-use star_eval::world::World;
 use star_label::files::Files as Labels;
 use star_label::label::Label;
 use star_machine::fault::{Stop, faulted};
@@ -18,6 +15,10 @@ use star_store::names::BuiltIn;
 use star_store::values::Value;
 use star_text::Text;
 use star_tree::tree::{Name, Position, Tree};
+use star_world::files::{Files, program_of};
+use star_world::programs::Programs;
+use star_world::variables::{bind, new_frame, paid_frame, read};
+use star_world::world::World;
 use std::alloc::{AllocError, Global};
 use std::collections::BTreeMap;
 use std::process::Abort;
@@ -222,4 +223,14 @@ fn names_are_read_and_bound_by_their_places(rt: HostRuntime) -> Result<(), Fail>
     let first = parse(alloc, "k = 5\nn = 6\n")?;
     let tree = parse(alloc, FILE)?;
     names_are_read_and_bound_by_their_places_of(&rt, alloc, &labels, &first, &tree)
+}
+
+#[test]
+fn a_file_without_a_program_has_no_places(rt: HostRuntime) -> Result<(), Fail> {
+    let alloc = rt.alloc();
+    let mut programs = Programs::new(alloc);
+    programs.push(None)?;
+    assert!(rt; programs.spot(0, 3).is_none());
+    assert_eq!(rt; programs.slots(0, 0), 0);
+    Ok(())
 }

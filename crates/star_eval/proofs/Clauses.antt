@@ -22,7 +22,7 @@ use Rattle.star_eval.specs.declared.output.Output.{Output}
 use Rattle.star_eval.specs.declared.open_clause.OpenClause.{OpenClause}
 use Rattle.star_tree.specs.declared.tree.Clauses.{Clauses, out-Clauses}
 use Rattle.star_eval.specs.Steps.{all_left, behind, container, filled, opened_left, turn_of, turns_left}
-use Rattle.star_eval.specs.World.{World, meant, variables}
+use Rattle.star_world.specs.World.{World, meant, variables}
 use Rattle.star_eval.proofs.Turns.{repeat_next}
 
 nothing_more : (o : Outcome (Unit {0})) → and_then o (λ _. give tt) ≡ o

@@ -30,7 +30,7 @@ use Rattle.star_meaning.proofs.Runs.{meaning_keeps}
 use Rattle.star_eval.specs.declared.output.Output.{Output}
 use Rattle.star_eval.specs.declared.output.Output.TheVariants as output
 use Rattle.star_eval.specs.Steps.{last}
-use Rattle.star_eval.specs.World.{World, meant, variables}
+use Rattle.star_world.specs.World.{World, meant, variables}
 
 spent : {A : Type 0} (m : Action A) (s t : State) (x : A) → growth.Keeps m → m s ≡ Done x t → t.steps ≤ s.steps
 spent m s t x k e = let g : Grows s t = subst (Grown s) e (k.holds s) in g.steps

@@ -16,7 +16,7 @@ use Rattle.star_meaning.specs.Expressions.{new_function}
 use Rattle.star_meaning.specs.Run.{Action, ◌>>=◌, all_of, give}
 use Rattle.star_meaning.specs.Statements.{augment, load_name, loop, module_of}
 use Rattle.star_meaning.specs.Targets.{to_target}
-use Rattle.star_eval.specs.World.{World, meant, variables}
+use Rattle.star_world.specs.World.{World, meant, variables}
 
 -- an expression that stands alone: its value is dropped
 abbrev pub alone : World → ℕ → Place → Expression → Action Flow

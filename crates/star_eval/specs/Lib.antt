@@ -1,4 +1,2 @@
-pub mod ByPlace
 pub mod Forms
 pub mod Steps
-pub mod World

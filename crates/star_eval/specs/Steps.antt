@@ -1,22 +1,16 @@
 -- What the parts of a run by places are, in the words of the meaning.
 use denote.Ref.{Bor}
-use Rattle.std.specs.Prelude.{◌≡◌, ℕ, ◌+◌, ◌-◌, List, [], ◌∷◌, Option, Some, None, Result, Ok, Err}
+use Rattle.std.specs.Prelude.{◌≡◌, ℕ, ◌-◌, List, [], ◌∷◌, Option, Some, None, Result, Ok, Err}
 use Rattle.star_store.specs.declared.values.Value.{Value}
 use Rattle.star_tree.specs.declared.tree.Clause.{Clause}
-use Rattle.star_tree.specs.declared.tree.Name.{Name}
 use Rattle.star_meaning.specs.declared.place.Place.{Place}
-use Rattle.star_meaning.specs.Places.{bind_spot}
-use Rattle.star_meaning.specs.Programs.{tables_of}
 use Rattle.star_store.specs.declared.values.Cell.TheVariants as cell
 use Rattle.star_tree.specs.declared.tree.Clauses.{Clauses}
 use Rattle.star_tree.specs.declared.tree.Entry.{Entry}
 use Rattle.star_tree.specs.declared.tree.Expression.{Expression}
-use Rattle.star_scope.specs.Definitions.{Definition}
-use Rattle.star_meaning.specs.Binding.{Share, make_shares}
-use Rattle.star_meaning.specs.Calls.{deactivate, run_body}
-use Rattle.star_meaning.specs.Run.{State, Outcome, Action, Done, ◌>>=◌, all_of, build, give, pay}
+use Rattle.star_meaning.specs.Run.{State, Outcome, Action, ◌>>=◌, build, give}
 use Rattle.star_meaning.specs.Values.{leave}
-use Rattle.star_meaning.specs.Meaning.{Meaning, Read, repeat}
+use Rattle.star_meaning.specs.Meaning.{Read, repeat}
 use Rattle.star_meaning.specs.Comprehensions.{clause_turn, clauses, all_clauses, add_element, add_entry}
 use Rattle.star_machine.specs.declared.fault.Stop.{Stop}
 use Rattle.star_machine.specs.Gives.{Ends}
@@ -24,7 +18,7 @@ use Rattle.star_eval.specs.declared.output.Output.{Output}
 use Rattle.star_eval.specs.declared.output.Output.TheVariants as output
 use Rattle.star_eval.specs.declared.open_clause.OpenClause.{OpenClause}
 use Rattle.star_eval.specs.declared.targets.TargetParts.{TargetParts}
-use Rattle.star_eval.specs.World.{World, meant, variables}
+use Rattle.star_world.specs.World.{World, meant, variables}
 
 -- what a comprehension adds behind its clauses
 abbrev pub last : World → ℕ → Place → Output → Action (Unit {0})
@@ -61,34 +55,6 @@ Leads rest o (Err e) new = Ends o e new
 -- the parts of an index target, and what stood there
 abbrev pub shown_parts : TargetParts → Read
 shown_parts r = record { base = r.base; index = r.index; old = r.old }
-
--- names are bound to values, one after another
-abbrev pub bind_all : World → Place → List (Name × Value) → Action (Unit {0})
-bind_all w p xs = all_of (λ x. bind_spot (tables_of w.files) p x.0 x.1) xs
-
--- the definition with this number in a file becomes active
-unfoldable pub begin : ℕ → ℕ → Action (Unit {0})
-begin file number = λ s. Done tt (record s { active = (file, number) ∷ s.active })
-
--- a call of a function with these values of its parameters, up to its body, which k runs: its frame, the parameters in it; then its definition is active
-abbrev pub within : {A : Type 0} → World → Place → ℕ → List (Name × Value) → (Place → Action A) → Action A
-within w q number values k = do
-  _ ← bind_all w q values
-  _ ← begin q.file number
-  k q
-
-abbrev pub framed : {A : Type 0} → World → ℕ → ℕ → ℕ → Value → List (Name × Value) → (Place → Action A) → Action A
-framed w line file number parent values k = do
-  _ ← pay line 1
-  frame ← (variables w).frame file (1 + number) (Some parent)
-  within w (record { file = file; frame = frame; line = line }) number values k
-
-abbrev pub entering : {A : Type 0} → World → ℕ → ℕ → ℕ → Value → List (Name × Share) → (Place → Action A) → Action A
-entering w line file number parent shares k = make_shares line shares >>= λ values. framed w line file number parent values k
-
--- what is left of a call: the body runs, and its definition ceases to be active
-abbrev pub left : Meaning → Definition → Place → Action Value
-left m d q = run_body m q d.body >>= λ v. deactivate >>= λ _. give v
 
 -- the list or dictionary to which a comprehension adds
 abbrev pub container : Output → Value

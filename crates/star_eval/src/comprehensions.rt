@@ -3,15 +3,13 @@
 ghost use Rattle.std.specs.Prelude.{◌≡◌, ◌+◌, ◌<◌, ◌≤◌, OnOk};
 ghost use Rattle.star_machine.specs.Gives.{Gives};
 ghost use Rattle.star_meaning.specs.Comprehensions.{dict_comprehension, list_comprehension};
-ghost use Rattle.star_eval.specs.World.{meant, variables};
+ghost use Rattle.star_world.specs.World.{meant, variables};
 ghost use Rattle.star_eval.specs.Steps.{Leads, behind, filled, filled_dict, filled_list, last, opened_left, turn_of, turns_left};
 
 use crate::evaluate::{evaluate, evaluate_entry};
 use crate::execute::assign_to;
 use crate::open_clause::OpenClause;
 use crate::output::Output;
-use crate::parts::{enter, new_row, new_table};
-use crate::world::World;
 use star_machine::fault::Stop;
 use star_machine::machine::Machine;
 use star_machine::subscript::put_entry;
@@ -19,6 +17,8 @@ use star_meaning::place::Place;
 use star_store::arena::write::Change;
 use star_store::values::Value;
 use star_tree::tree::{Clause, Clauses, Entry, Expression};
+use star_world::parts::{enter, new_row, new_table};
+use star_world::world::World;
 
 /// A list comprehension: the first iterable, its frame, the list, the clauses.
 #[cycle(run)]

@@ -8,16 +8,13 @@ ghost use Rattle.star_meaning.specs.Run.{each};
 ghost use Rattle.star_scope.specs.Definitions.{body_of, definition_of};
 ghost use Rattle.star_scope.specs.Syntax as form;
 ghost use Rattle.star_meaning.specs.Calls.{AFunction};
-ghost use Rattle.star_eval.specs.ByPlace.{called_by_place, called_with, expression_of, shares_by_place};
-ghost use Rattle.star_eval.specs.Steps.{left};
-ghost use Rattle.star_eval.specs.World.{meant, variables};
+ghost use Rattle.star_enter.specs.ByPlace.{called_by_place, called_with, expression_of, shares_by_place};
+ghost use Rattle.star_enter.specs.Entering.{left};
+ghost use Rattle.star_world.specs.World.{meant, variables};
 ghost use Rattle.star_meaning.specs.Values.{content};
 ghost use Rattle.star_call.specs.Callees.{function_of, shown};
 ghost use Rattle.star_call.specs.Passed as passing;
 
-use crate::calls::{
-    are_positional, callee_of, enter_by_place, enter_call, expression_of, fit_by_place,
-};
 use crate::comprehensions::{make_dict, make_list};
 use crate::execute::execute_each;
 use crate::nodes::{
@@ -25,15 +22,15 @@ use crate::nodes::{
     evaluate_dict, evaluate_index, evaluate_list, evaluate_or, evaluate_slice, evaluate_tuple,
     evaluate_unary,
 };
-use crate::parts::{answer_of, new_closure, new_string};
-use crate::variables::read;
-use crate::world::World;
 use sqlite_items::{Boxed, Items};
 use star_attribute::methods::call_method;
 use star_builtin::calls::call_built_in;
 use star_call::callee::{Called, Callee};
 use star_call::passed::{Passed, given};
 use star_call::shares::Shares;
+use star_enter::calls::{
+    are_positional, callee_of, enter_by_place, enter_call, expression_of, fit_by_place,
+};
 use star_machine::fault::{Stop, faulted};
 use star_machine::machine::Machine;
 use star_meaning::fault::Code;
@@ -42,6 +39,9 @@ use star_meaning::place::Place;
 use star_scope::outline::{Body, Definition};
 use star_store::values::{Entries, Value, Values};
 use star_tree::tree::{Argument, Entry, Expression, Parameter};
+use star_world::parts::{answer_of, new_closure, new_string};
+use star_world::variables::read;
+use star_world::world::World;
 
 /// The value of an expression. `Deep` where no level is left; a node pays 1 as it begins.
 #[cycle(run)]
@@ -447,7 +447,7 @@ fn call_by_place(
 
 /// A call of a value with arguments of any kind.
 #[cycle(run)]
-#[tactic(auto, using(crate::proofs::Called::callee_kept))]
+#[tactic(auto, using(star_enter::proofs::Called::callee_kept))]
 fn call_with(
     machine: &mut Machine,
     world: &World,
@@ -499,7 +499,7 @@ fn call_on(
 
 /// A call of a function: its arguments are bound, or `Args`; then it runs.
 #[cycle(run)]
-#[tactic(auto, using(crate::proofs::ByPlace::bound_by_place))]
+#[tactic(auto, using(star_enter::proofs::ByPlace::bound_by_place))]
 fn call_function(
     machine: &mut Machine,
     world: &World,
@@ -526,7 +526,7 @@ fn call_function(
 
 /// The run of a function each of whose parameters gets the value at its own place. `Deep` where no level is left.
 #[cycle(run)]
-#[tactic(auto, using(star_meaning::proofs::Levels::call_at, star_meaning::proofs::Levels::call_at_none, crate::proofs::ByPlace::run_by_place_is))]
+#[tactic(auto, using(star_meaning::proofs::Levels::call_at, star_meaning::proofs::Levels::call_at_none, star_enter::proofs::ByPlace::run_by_place_is))]
 fn run_by_place(
     machine: &mut Machine,
     world: &World,
@@ -546,7 +546,7 @@ fn run_by_place(
 
 /// The run of a function: the values of its parameters, its frame, the parameters in it, its body. `Deep` where no level is left.
 #[cycle(run)]
-#[tactic(auto, using(star_meaning::proofs::Levels::call_at, star_meaning::proofs::Levels::call_at_none, crate::proofs::Entering::run_is))]
+#[tactic(auto, using(star_meaning::proofs::Levels::call_at, star_meaning::proofs::Levels::call_at_none, star_enter::proofs::Entering::run_is))]
 fn run_function(
     machine: &mut Machine,
     world: &World,

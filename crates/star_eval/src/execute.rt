@@ -6,25 +6,26 @@ ghost use Rattle.star_meaning.specs.Meaning.{block, turns};
 ghost use Rattle.star_meaning.specs.Statements as spec;
 ghost use Rattle.star_meaning.specs.Targets.{target_node, to_each, to_target, unpack};
 ghost use Rattle.star_scope.specs.Syntax as form;
-ghost use Rattle.star_eval.specs.World.{meant, variables};
+ghost use Rattle.star_world.specs.World.{meant, variables};
 ghost use Rattle.star_eval.specs.Steps.{shown_parts};
 ghost use Rattle.star_eval.specs.Forms.{alone, assigned, augmented_by, defined, loaded, looped};
 
 use crate::evaluate::{evaluate, make_function};
-use crate::loads::load_names;
-use crate::parts::{augmented, place_of, split_first};
+use crate::parts::augmented;
 use crate::targets::TargetParts;
-use crate::variables::{bind, read};
-use crate::world::World;
 use star_machine::fault::{Stop, faulted};
 use star_machine::machine::Machine;
-use star_machine::subscript::{index, set_index};
 use star_meaning::fault::Code;
 use star_meaning::place::{Flow, Place};
+use star_operators::subscript::{index, set_index};
 use star_store::values::Value;
 use star_tree::tree::{
     Arm, BinaryOperator, Expression, Form, LoadedName, Name, Parameter, Position, Statement, Target,
 };
+use star_world::loads::load_names;
+use star_world::parts::{place_of, split_first};
+use star_world::variables::{bind, read};
+use star_world::world::World;
 
 /// How a statement ends. `Deep` where no level is left; it pays 1 as it begins. One of the running module's own file gives a fault
 /// its line.

@@ -4,22 +4,22 @@ ghost use Rattle.std.specs.Prelude.{◌≡◌};
 ghost use Rattle.star_machine.specs.Gives.{Gives};
 ghost use Rattle.star_meaning.specs.Expressions.{node};
 ghost use Rattle.star_tree.specs.declared.tree.Argument.TheOpen as tree;
-ghost use Rattle.star_eval.specs.World.{meant, variables};
+ghost use Rattle.star_world.specs.World.{meant, variables};
 
 use crate::evaluate::{evaluate, evaluate_each, evaluate_entries, evaluate_maybe};
 use crate::parts::fresh_entries;
-use crate::world::World;
 use sqlite_items::Boxed;
 use star_attribute::methods::attribute;
-use star_machine::comparisons::compared;
 use star_machine::fault::Stop;
 use star_machine::machine::Machine;
-use star_machine::operators::{operate, prefix};
-use star_machine::slices::slice;
-use star_machine::subscript::index;
 use star_meaning::place::Place;
+use star_operators::comparisons::compared;
+use star_operators::operators::{operate, prefix};
+use star_operators::slices::slice;
+use star_operators::subscript::index;
 use star_store::values::Value;
 use star_tree::tree::{BinaryOperator, Comparator, Entry, Expression, Name, UnaryOperator};
+use star_world::world::World;
 
 /// A tuple: its items in order, then 1 and one for each.
 #[cycle(run)]

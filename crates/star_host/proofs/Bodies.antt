@@ -25,14 +25,14 @@ use Rattle.star_plan.specs.Runs.{ArePlaced, MayRun, given_over}
 use Rattle.star_plan.specs.Shelves.{HoldsNeeds, IsTight}
 use Rattle.star_plan.proofs.Ready.{files_may_run}
 use Rattle.star_host.specs.Bodies.{IsOwnIn, IsRan, world_over}
-use Rattle.star_host.specs.Reaches.{row_of}
-use Rattle.star_host.specs.Readings.{Row, read_at, reading_of, readings}
-use Rattle.star_host.specs.Views.{AreGoodLoads, AreStores, IsBody}
-use Rattle.star_host.specs.declared.module.Body.{Body}
-use Rattle.star_host.specs.declared.module.Module.{Module}
-use Rattle.star_host.specs.declared.reading.Read.TheVariants as read
-use Rattle.star_host.proofs.Opens.{module_good}
-use Rattle.star_host.proofs.Rows.{loads_are, read_is}
+use Rattle.star_outcome.specs.Reaches.{row_of}
+use Rattle.star_reading.specs.Readings.{Row, read_at, reading_of, readings}
+use Rattle.star_outcome.specs.Views.{AreGoodLoads, AreStores, IsBody}
+use Rattle.star_outcome.specs.declared.module.Body.{Body}
+use Rattle.star_outcome.specs.declared.module.Module.{Module}
+use Rattle.star_reading.specs.declared.reading.Read.TheVariants as read
+use Rattle.star_outcome.proofs.Opens.{module_good}
+use Rattle.star_reading.proofs.Rows.{loads_are, read_is}
 
 pub loads_good : (plan : Plan) (n : ℕ) (ms : List Module) → AreGoodLoads plan n (length (loads_of plan n)) ms → (i m : ℕ) → slice_get (loaded plan n) i ≡ Some m → IsGood plan m
 loads_good plan n ms loads i m at =

@@ -11,16 +11,16 @@ use Rattle.star_scope.specs.declared.loads.Load.{Load}
 use Rattle.star_scope.specs.declared.program.Program.{Program}
 use Rattle.star_plan.specs.Plan.{Faulty, Plan, Reading, loaded, loads_of, read_of}
 use Rattle.star_plan.specs.Results.{IsFirstBad}
-use Rattle.star_host.specs.Codes.{fault_of}
-use Rattle.star_host.specs.declared.code.StaticFault.{StaticFault}
-use Rattle.star_host.specs.declared.module.Ended.TheVariants.{Load as Unloaded}
-use Rattle.star_host.specs.declared.reading.Read.{Read}
-use Rattle.star_host.specs.declared.reading.Read.TheVariants as read
-use Rattle.star_host.specs.Fits.{IsAsked}
-use Rattle.star_host.specs.Readings.{Row, loads_at, placed_in, read_at, reading_of, readings, table_of}
-use Rattle.star_host.specs.Views.{IsEnd, IsModule, IsTold, ToldView, ended_well}
-use Rattle.star_host.specs.declared.module.Module.{Module}
-use Rattle.star_host.proofs.Rows.{loads_are, read_is}
+use Rattle.star_reading.specs.Codes.{fault_of}
+use Rattle.star_reading.specs.declared.code.StaticFault.{StaticFault}
+use Rattle.star_outcome.specs.declared.module.Ended.TheVariants.{Load as Unloaded}
+use Rattle.star_reading.specs.declared.reading.Read.{Read}
+use Rattle.star_reading.specs.declared.reading.Read.TheVariants as read
+use Rattle.star_outcome.specs.Fits.{IsAsked}
+use Rattle.star_reading.specs.Readings.{Row, loads_at, placed_in, read_at, reading_of, readings, table_of}
+use Rattle.star_outcome.specs.Views.{IsEnd, IsModule, IsTold, ToldView, ended_well}
+use Rattle.star_outcome.specs.declared.module.Module.{Module}
+use Rattle.star_reading.proofs.Rows.{loads_are, read_is}
 
 -- a file that may be asked for has a program or a static fault
 pub never_unread : (files : List File) (plan : Plan) (row : Row) (n : ℕ) → readings row ≡ plan.reads → IsAsked files plan n

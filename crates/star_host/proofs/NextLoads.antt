@@ -1,15 +1,26 @@
 -- The load that a file asks for next.
 use Rattle.std.proofs.Common.{◌≡◌, ◌+◌, ◌^◌, ◌<◌, ◌≤◌, ℕ, List, length, Option, Some, None, ap, sym, ◌∙◌, subst}
 use Rattle.std.specs.Prelude.{IfSome, MatchOption, slice_get}
-use Rattle.std.proofs.lemmas.Option.{slice_get_within}
+use Rattle.std.specs.Option.{option_map}
+use Rattle.std.proofs.lemmas.Option.{slice_get-map, slice_get_within, get_or_from_slice_get}
+use Rattle.star_cache.specs.State.{Loads}
 use Rattle.star_label.specs.Files.{File}
 use Rattle.star_scope.specs.declared.loads.Load.{Load}
-use Rattle.star_plan.specs.Plan.{Plan, loads_of}
-use Rattle.star_host.specs.Fits.{IsAsked, asked_next}
-use Rattle.star_host.specs.Frames.{IsNextLoad}
-use Rattle.star_host.specs.Readings.{Row, loads_at, readings}
-use Rattle.star_host.proofs.Opens.{at_end}
-use Rattle.star_host.proofs.Rows.{loads_are, place_file, place_loads}
+use Rattle.star_plan.specs.Plan.{Plan, loaded, loads_of}
+use Rattle.star_outcome.specs.Fits.{IsAsked, asked_next}
+use Rattle.star_host.specs.Worlds.{IsNextLoad}
+use Rattle.star_reading.specs.Readings.{Row, loads_at, readings}
+use Rattle.star_outcome.proofs.Opens.{at_end}
+use Rattle.star_reading.proofs.Rows.{loads_are}
+
+-- a load at a place is a load
+place_loads : (plan : Plan) (n i : ℕ) (l : Load) → slice_get (loads_of plan n) i ≡ Some l → Loads (loaded plan) n l.file
+place_loads plan n i l there =
+    let at : slice_get (loaded plan n) i ≡ Some l.file = slice_get-map (λ l. l.file) (loads_of plan n) i ∙ ap (option_map (λ l. l.file)) there in
+    (i, slice_get_within (loaded plan n) i l.file at, get_or_from_slice_get (loaded plan n) i l.file l.file at)
+
+place_file : (plan : Plan) (n i : ℕ) (l : Load) → slice_get (loads_of plan n) i ≡ Some l → slice_get (loaded plan n) i ≡ Some l.file
+place_file plan n i l there = slice_get-map (λ l. l.file) (loads_of plan n) i ∙ ap (option_map (λ l. l.file)) there
 
 next_some : (files : List File) (plan : Plan) (n i : ℕ) (l : Load) → IsAsked files plan n → slice_get (loads_of plan n) i ≡ Some l → i + 1 < 2 ^ 64 → IsNextLoad files plan n i l
 next_some files plan n i l a at fits = record {

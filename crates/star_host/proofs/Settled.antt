@@ -16,14 +16,14 @@ use Rattle.star_label.specs.Files.{File}
 use Rattle.star_plan.specs.Plan.{Plan}
 use Rattle.star_plan.specs.Reached.{IsReached}
 use Rattle.star_plan.specs.Reading.{IsPlanOf}
-use Rattle.star_host.specs.Fits.{IsWithin, reached_below}
-use Rattle.star_host.specs.Kept.{AreModules, AreModulesBelow, IsModuleKept, KeptView}
-use Rattle.star_host.specs.Readings.{Row, read_at, reading_of, readings}
-use Rattle.star_host.specs.declared.reading.Read.{Read}
-use Rattle.star_host.specs.Views.{IsModule, IsTold, ToldView}
-use Rattle.star_host.proofs.Finds.{all_one, by_cases, contains_here, same_or_not}
-use Rattle.star_host.proofs.PlacesRead.{some_of}
-use Rattle.star_host.proofs.Rows.{read_is}
+use Rattle.star_outcome.specs.Fits.{IsWithin, reached_below}
+use Rattle.star_outcome.specs.Kept.{AreModules, AreModulesBelow, IsModuleKept, KeptView}
+use Rattle.star_reading.specs.Readings.{Row, read_at, reading_of, readings}
+use Rattle.star_reading.specs.declared.reading.Read.{Read}
+use Rattle.star_outcome.specs.Views.{IsModule, IsTold, ToldView}
+use Rattle.star_reading.proofs.Finds.{all_one, by_cases, contains_here, same_or_not}
+use Rattle.star_reading.proofs.PlacesRead.{some_of}
+use Rattle.star_reading.proofs.Rows.{read_is}
 use Rattle.star_host.proofs.SeatsBack.{all_back}
 
 abbrev numbers : List KeptView → List ℕ

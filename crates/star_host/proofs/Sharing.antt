@@ -5,31 +5,31 @@ use denote.Hole.{shared_at}
 use denote.Ref.{NamedLft}
 use denote.RattleType.{RattleType}
 use denote.Slice.{ShrSlice}
-use denote.Struct.Field.{row_field}
-use denote.Struct.Tuple.{TupleAt, type_at, parts}
+use denote.Struct.Tuple.{TupleAt}
 use denote.Param.Send.{AllSync, IsSync, sendable}
-use denote.Param.SendFields.{FieldsHave, declared_sync, variants_sync, as_row_sync}
+use denote.Param.SendFields.{variants_sync}
 use Rattle.std.proofs.Crossing.{crosses}
 use Rattle.std.specs.declared.sync.ledger.Ledger
 use Rattle.star_cache.specs.contracts.cache.LoadCache as cache
 use Rattle.star_cache.proofs.cache.LoadCache.TheSendSync as of_cache
-use Rattle.star_eval.specs.contracts.files.Files as files
+use Rattle.star_world.specs.contracts.files.Files as files
 use Rattle.star_flow.specs.contracts.flow.Flow as flow
 use Rattle.star_flow.proofs.flow.Flow.TheSendSync as of_flow
 use Rattle.star_label.proofs.files.Files.TheSendSync as of_labels
-use Rattle.star_machine.specs.contracts.programs.Programs as programs
-use Rattle.star_host.specs.contracts.reading.Read as read
-use Rattle.star_host.specs.contracts.told.Told as told
-use Rattle.star_host.specs.contracts.told.ToldProduct.TheImpl as product
-use Rattle.star_host.specs.contracts.trace.Trace as trace
+use Rattle.star_world.specs.contracts.programs.Programs as programs
+use Rattle.star_reading.specs.contracts.reading.Read as read
+use Rattle.star_outcome.specs.contracts.told.Told as told
+use Rattle.star_outcome.specs.contracts.told.ToldProduct.TheImpl as product
+use Rattle.star_outcome.specs.contracts.trace.Trace as trace
 use Rattle.star_host.specs.contracts.work.Common as common
-use Rattle.star_host.specs.declared.naming.Naming
-use Rattle.star_host.proofs.Crossing.{program_sync, statement_sync}
-use Rattle.star_host.proofs.code.StaticFault.TheSendSync as of_fault
-use Rattle.star_host.proofs.module.Module.TheSendSync as of_module
-use Rattle.star_host.proofs.shelf.Shelf.TheSendSync as of_shelf
-use Rattle.star_host.proofs.told.Told.TheSendSync as of_told
-use Rattle.star_host.proofs.trace.Trace.TheSendSync as of_trace
+use Rattle.star_outcome.specs.declared.naming.Naming
+use Rattle.star_reading.proofs.Closures.{tuple_sync}
+use Rattle.star_reading.proofs.Crossing.{program_sync, statement_sync}
+use Rattle.star_reading.proofs.code.StaticFault.TheSendSync as of_fault
+use Rattle.star_outcome.proofs.module.Module.TheSendSync as of_module
+use Rattle.star_outcome.proofs.shelf.Shelf.TheSendSync as of_shelf
+use Rattle.star_outcome.proofs.told.Told.TheSendSync as of_told
+use Rattle.star_outcome.proofs.trace.Trace.TheSendSync as of_trace
 
 read_sync : (κ : NamedLft) → IsSync (read.the_row κ)
 read_sync κ = variants_sync (read.enum κ) ((program_sync κ, tt), ((of_fault.the_sync, tt), tt))
@@ -47,14 +47,6 @@ common_sync κ ν μ ξ =
     let l = of_labels.the_sync in
     let s = of_shelf.the_sync _ of_module.the_send of_module.the_sync in
     search (sendable, crosses) depth 40
-
-parts_sync : (Ts : List RattleType) → AllSync Ts → FieldsHave IsSync (parts Ts)
-parts_sync [] s = tt
-parts_sync (T ∷ Ts) s = (as_row_sync (row_field T) s.0, parts_sync Ts s.1)
-
--- a closure may be shared where all that it captures may be
-pub tuple_sync : (ν : List ℕ) (Ts : List RattleType) → AllSync Ts → IsSync (TupleAt ν Ts)
-tuple_sync ν Ts s = declared_sync (type_at ν Ts) (parts_sync Ts s)
 
 -- a loader's closure: it captures the runtime R, what all loaders share, the gate G, the cache, how many loaders there are, the roots,
 -- the trace and the flow

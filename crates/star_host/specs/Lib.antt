@@ -1,13 +1,2 @@
-pub mod Codes
-pub mod Readings
-pub mod Found
-pub mod Fits
-pub mod Reaches
-pub mod Views
 pub mod Bodies
-pub mod Refusals
-pub mod Frames
-pub mod Kept
-pub mod Fails
-pub mod Shown
-pub mod Pages
+pub mod Worlds

@@ -1,34 +1,20 @@
-//! Loading by several loaders: the modules of all files that roots reach, and the report.
+//! Loading by several loaders: the modules of all files that roots reach.
 #![tactic(auto)]
 
-mod ahead;
-pub mod code;
-mod frame;
 pub mod gate;
-mod given;
 mod loading;
-pub mod module;
-mod naming;
 mod order;
-mod outcome;
-mod pages;
-mod reading;
-pub mod report;
 mod running;
 mod settle;
-mod shelf;
-pub mod store_row;
 mod table;
-mod told;
-mod trace;
 mod work;
 
 pub use loading::{LoadError, load};
-pub use naming::Naming;
-pub use outcome::Run;
-pub use reading::{Reads, Trees};
 pub use running::{RunError, run, run_in};
-pub use shelf::Shelf;
-pub use told::Told;
-pub use trace::{OnCycle, Refused, Token, Trace};
+pub use star_outcome::naming::Naming;
+pub use star_outcome::outcome::Run;
+pub use star_outcome::shelf::Shelf;
+pub use star_outcome::told::Told;
+pub use star_outcome::trace::{OnCycle, Refused, Token, Trace};
+pub use star_reading::reading::{Reads, Trees};
 pub use work::Common;

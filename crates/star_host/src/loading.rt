@@ -1,21 +1,22 @@
 //! The loading of a root by one loader.
 
-ghost use Rattle.std.specs.Prelude.{◌≡◌, ◌<◌, IfOk, IfSome, MatchOption, length, map};
+ghost use Rattle.std.specs.Prelude.{◌≡◌, ◌<◌, IfOk, IfSome, MatchOption, length};
 ghost use Rattle.star_plan.specs.Plan.{loads_of};
-ghost use Rattle.star_host.specs.Fits.{IsAsked};
-ghost use Rattle.star_host.specs.Frames.{IsNextLoad, IsTurn, IsWorld};
-ghost use Rattle.star_host.specs.Readings.{readings};
-ghost use Rattle.star_host.specs.Views.{IsEnd, IsModule, IsTold};
+ghost use Rattle.star_outcome.specs.Fits.{IsAsked};
+ghost use Rattle.star_host.specs.Worlds.{IsNextLoad, IsTurn, IsWorld};
+ghost use Rattle.star_reading.specs.Readings.{readings};
+ghost use Rattle.star_outcome.specs.Views.{IsEnd, IsModule, IsTold};
 
-use crate::frame::Frame;
 use crate::gate::Gate;
-use crate::module::{Ended, Module};
-use crate::naming::Naming;
 use crate::table::{fault_at, program_at};
-use crate::told::Told;
-use crate::trace::{Refused, Trace};
 use crate::work::{Common, run};
 use star_cache::{LoadCache, Reply, Seat};
+use star_outcome::frame::Frame;
+use star_outcome::module::{Ended, Module};
+use star_outcome::naming::Naming;
+use star_outcome::told::Told;
+use star_outcome::trace::{Refused, Trace};
+use star_reading::reading::numbers;
 use star_scope::loads::Load;
 use std::alloc::{AllocError, Global};
 use std::sync::Wait;
@@ -42,13 +43,6 @@ pub(crate) enum Turn {
     Again,
     Enter(usize),
     Ended,
-}
-
-/// The numbers of the files that loads lead to.
-pub(crate) fn numbers(alloc: Global, loads: &[Load]) -> Result<Vec<usize>, AllocError>
-    ensures { IfOk result (λ v. v.items ≡ map (λ l. l.file) loads.now) }
-{
-    loads.iter().map(|load| load.file).collect(alloc)
 }
 
 /// How a file ends whose loads have all been told.

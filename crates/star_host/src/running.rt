@@ -4,35 +4,35 @@ ghost use Rattle.std.specs.Prelude.{◌≡◌, ◌<◌, ◌≤◌, ◌⊎◌, �
 ghost use Rattle.std.specs.Option.{option_copied};
 ghost use Rattle.star_cache.specs.Seats.{AreAll};
 ghost use Rattle.star_plan.specs.Reading.{IsPrelude};
-ghost use Rattle.star_host.specs.Fits.{IsAsked, IsWithin};
-ghost use Rattle.star_host.specs.Found.{IsReadOf, Within};
-ghost use Rattle.star_host.specs.Frames.{IsWorld};
-ghost use Rattle.star_host.specs.Kept.{AllKept, AreModules, AreModulesOf};
-ghost use Rattle.star_host.specs.Readings.{table_of};
-ghost use Rattle.star_host.specs.Refusals.{AreRefusals, AreRefusalsOf};
+ghost use Rattle.star_outcome.specs.Fits.{IsAsked, IsWithin};
+ghost use Rattle.star_reading.specs.Found.{IsReadOf, Within};
+ghost use Rattle.star_host.specs.Worlds.{IsWorld};
+ghost use Rattle.star_outcome.specs.Kept.{AllKept, AreModules, AreModulesOf};
+ghost use Rattle.star_reading.specs.Readings.{table_of};
+ghost use Rattle.star_outcome.specs.Refusals.{AreRefusals, AreRefusalsOf};
 ghost use Rattle.star_cache.specs.State.{HasEnded, begun_count};
 ghost use Rattle.star_plan.specs.Reached.{IsReached};
 
 use crate::gate::Gate;
 use crate::loading::{LoadError, load};
-use crate::module::Module;
-use crate::naming::Naming;
 use crate::order::{first_place, place};
-use crate::outcome::{Kept, Run};
-use crate::reading::{Read, Reader, Reads, Trees, tree_of};
 use crate::settle::{closed, kept_of, settle_one};
-use crate::shelf::Shelf;
 use crate::table::{is_read, table};
-use crate::told::Told;
-use crate::trace::{Refused, Trace};
 use crate::work::Common;
 use star_cache::{Book, LoadCache, Seat};
-use star_eval::files::Files;
 use star_flow::{Flow, Graph};
 use star_label::files::Files as Labels;
+use star_outcome::module::Module;
+use star_outcome::naming::Naming;
+use star_outcome::outcome::{Kept, Run};
+use star_outcome::shelf::Shelf;
+use star_outcome::told::Told;
+use star_outcome::trace::{Refused, Trace};
+use star_reading::reading::{Read, Reader, Reads, Trees, tree_of};
 use star_scope::error::ScopeFault;
 use star_scope::program::Prelude;
 use star_tree::tree::Tree;
+use star_world::files::Files;
 use std::alloc::{AllocError, Global};
 use std::marker::Brand;
 use std::sync::Wait;
@@ -506,11 +506,5 @@ pub fn run_in<'t, R: Threads + Wait + Sync, G: Gate + Sync>(
         steps,
         gate,
     )?;
-    Ok(Run {
-        shelf: modules,
-        kept,
-        begun,
-        per_loader,
-        refused,
-    })
+    Ok(Run::new(modules, kept, begun, per_loader, refused))
 }

@@ -4,22 +4,22 @@ ghost use Rattle.std.specs.Prelude.{◌≡◌, ◌≢◌, ◌+◌, ◌<◌, ℕ,
 ghost use Rattle.star_cache.specs.Seats.{AreAll};
 ghost use Rattle.star_cache.specs.State.{HasEnded, begun_count, is_begun};
 ghost use Rattle.star_plan.specs.Reached.{IsReached};
-ghost use Rattle.star_host.specs.Fits.{IsWithin};
-ghost use Rattle.star_host.specs.Frames.{IsWorld};
-ghost use Rattle.star_host.specs.Kept.{AllKept, AreModules, AreModulesBelow};
-ghost use Rattle.star_host.specs.Readings.{read_at};
-ghost use Rattle.star_host.specs.Views.{IsTold, ToldView};
+ghost use Rattle.star_outcome.specs.Fits.{IsWithin};
+ghost use Rattle.star_host.specs.Worlds.{IsWorld};
+ghost use Rattle.star_outcome.specs.Kept.{AllKept, AreModules, AreModulesBelow};
+ghost use Rattle.star_reading.specs.Readings.{read_at};
+ghost use Rattle.star_outcome.specs.Views.{IsTold, ToldView};
 
 use crate::gate::Gate;
 use crate::loading::{LoadError, load};
-use crate::naming::Naming;
-use crate::outcome::Kept;
-use crate::reading::Read;
 use crate::table::is_read;
-use crate::told::Told;
-use crate::trace::Trace;
 use crate::work::Common;
 use star_cache::{Book, Entry, LoadCache, Seat};
+use star_outcome::naming::Naming;
+use star_outcome::outcome::Kept;
+use star_outcome::told::Told;
+use star_outcome::trace::Trace;
+use star_reading::reading::Read;
 use std::alloc::{AllocError, Global};
 use std::sync::Wait;
 

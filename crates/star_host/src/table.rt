@@ -4,15 +4,15 @@ ghost use Rattle.std.specs.Prelude.{◌≡◌, All, IfOk, IsFalse, IsSome, IsTru
 ghost use Rattle.std.specs.Option.{option_map};
 ghost use Rattle.star_meaning.specs.Programs.{IsOfFile, placed_file};
 ghost use Rattle.star_scope.specs.declared.program.Program.{Program as ProgramView};
-ghost use Rattle.star_host.specs.declared.code.StaticFault.{StaticFault as FaultView};
-ghost use Rattle.star_host.specs.declared.reading.Read.TheVariants as read;
-ghost use Rattle.star_host.specs.Readings.{IsPlaceable, loads_at, placed_in, read_at, table_of};
+ghost use Rattle.star_reading.specs.declared.code.StaticFault.{StaticFault as FaultView};
+ghost use Rattle.star_reading.specs.declared.reading.Read.TheVariants as read;
+ghost use Rattle.star_reading.specs.Readings.{IsPlaceable, loads_at, placed_in, read_at, table_of};
 
-use crate::code::StaticFault;
-use crate::reading::Read;
-use star_eval::files::Files;
+use star_reading::code::StaticFault;
+use star_reading::reading::Read;
 use star_scope::loads::Load;
 use star_scope::program::Program;
+use star_world::files::Files;
 use std::alloc::{AllocError, Global};
 
 /// The program of what was read.

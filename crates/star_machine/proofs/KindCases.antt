@@ -1,18 +1,14 @@
--- What actions on contents do, by the kinds of values.
-use Rattle.std.proofs.Common.{◌≡◌, ◌≢◌, ℕ, Option, Some, None, refl, ap, ◌∙◌}
+-- What values hold, by their kinds.
+use Rattle.std.proofs.Common.{◌≡◌, Option, Some, None, refl}
 use Rattle.star_store.specs.declared.values.Value.{Value}
 use Rattle.star_store.specs.declared.values.Value.TheVariants as value
 use Rattle.star_store.specs.declared.values.Cell.{Cell}
 use Rattle.star_store.specs.declared.values.Cell.TheVariants as cell
 use Rattle.star_store.specs.declared.range.Range.{Range}
-use Rattle.star_tree.specs.declared.tree.BinaryOperator.TheVariants as binary
 use Rattle.star_machine.specs.declared.content.Kind.TheVariants as kind
-use Rattle.star_meaning.specs.declared.fault.Code.TheVariants.{BadType}
-use Rattle.star_meaning.specs.Run.{State, fail, give}
+use Rattle.star_meaning.specs.Run.{State}
 use Rattle.star_meaning.specs.Program.{Setting, seen}
-use Rattle.star_meaning.specs.Values.{Content, Nothing, Truth, Number, BuiltInFunction, Held, Nowhere, content, held, int_of, with_content}
-use Rattle.star_meaning.specs.Operators.{on_others, has, has_item, range_has_value}
-use Rattle.star_meaning.specs.Percent.{percent}
+use Rattle.star_meaning.specs.Values.{Content, Nothing, Truth, Number, BuiltInFunction, Held, Nowhere, content, held}
 use Rattle.star_meaning.specs.Subscript.{entries_in}
 use Rattle.star_machine.specs.Kinds.{kind_of, row_in, row_of, bytes_of}
 
@@ -102,53 +98,3 @@ is_range (Held (cell.Func f)) r h = cc
 is_range (Held (cell.Frame f)) r h = cc
 is_range (Held (cell.Bound m v)) r h = cc
 is_range Nowhere r h = cc
-
--- `%` on what is not two ints
-pub modulo_text : (w : Setting) (levels line : ℕ) (c d : Content) (y : Value) → kind_of c ≡ kind.Text → on_others w levels line binary.Modulo c d y ≡ percent w levels line (bytes_of c) d y
-modulo_text w levels line c d y h = ap (λ k. on_others w levels line binary.Modulo k d y) (is_text c h)
-
-pub modulo_other : (w : Setting) (levels line : ℕ) (c d : Content) (y : Value) → kind_of c ≢ kind.Text → on_others w levels line binary.Modulo c d y ≡ fail BadType line
-modulo_other w levels line (Held (cell.Text t)) d y h = absurd (h refl)
-modulo_other w levels line Nothing d y h = refl
-modulo_other w levels line (Truth b) d y h = refl
-modulo_other w levels line (Number n) d y h = refl
-modulo_other w levels line (BuiltInFunction b) d y h = refl
-modulo_other w levels line (Held (cell.Range r)) d y h = refl
-modulo_other w levels line (Held (cell.Tuple xs)) d y h = refl
-modulo_other w levels line (Held (cell.List xs)) d y h = refl
-modulo_other w levels line (Held (cell.Dict es)) d y h = refl
-modulo_other w levels line (Held (cell.Func f)) d y h = refl
-modulo_other w levels line (Held (cell.Frame f)) d y h = refl
-modulo_other w levels line (Held (cell.Bound m v)) d y h = refl
-modulo_other w levels line Nowhere d y h = refl
-
--- `in`
-pub has_list : (w : Setting) (levels line : ℕ) (s : State) (v x : Value) → kind_of (content w s v) ≡ kind.List → has w levels line (content w s v) x ≡ has_item w levels line (row_in (seen w s v)) x
-has_list w levels line s v x h = ap (λ c. has w levels line c x) (is_list (content w s v) h) ∙ ap (λ ys. has_item w levels line ys x) (row_seen w s v)
-
-pub has_tuple : (w : Setting) (levels line : ℕ) (s : State) (v x : Value) → kind_of (content w s v) ≡ kind.Tuple → has w levels line (content w s v) x ≡ has_item w levels line (row_in (seen w s v)) x
-has_tuple w levels line s v x h = ap (λ c. has w levels line c x) (is_tuple (content w s v) h) ∙ ap (λ ys. has_item w levels line ys x) (row_seen w s v)
-
-pub has_dict : (w : Setting) (levels line : ℕ) (c : Content) (x : Value) → kind_of c ≡ kind.Dict → has w levels line c x ≡ has w levels line (Held (cell.Dict (entries_in c))) x
-has_dict w levels line c x h = ap (λ k. has w levels line k x) (is_dict c h)
-
-pub has_text : (w : Setting) (levels line : ℕ) (c : Content) (x : Value) → kind_of c ≡ kind.Text → has w levels line c x ≡ has w levels line (Held (cell.Text (bytes_of c))) x
-has_text w levels line c x h = ap (λ k. has w levels line k x) (is_text c h)
-
-pub has_range : (w : Setting) (levels line : ℕ) (c : Content) (x : Value) (r : Range) → kind_of c ≡ kind.Range r → has w levels line c x ≡ with_content w x (λ d. give (range_has_value r (int_of d)))
-has_range w levels line c x r h = ap (λ k. has w levels line k x) (is_range c r h)
-
-pub has_other : (w : Setting) (levels line : ℕ) (c : Content) (x : Value) → kind_of c ≢ kind.List → kind_of c ≢ kind.Tuple → kind_of c ≢ kind.Dict → kind_of c ≢ kind.Text → ((r : Range) → kind_of c ≢ kind.Range r) → has w levels line c x ≡ fail BadType line
-has_other w levels line (Held (cell.Text b)) x l t d u r = absurd (u refl)
-has_other w levels line (Held (cell.Range q)) x l t d u r = absurd (r q refl)
-has_other w levels line (Held (cell.Tuple xs)) x l t d u r = absurd (t refl)
-has_other w levels line (Held (cell.List xs)) x l t d u r = absurd (l refl)
-has_other w levels line (Held (cell.Dict es)) x l t d u r = absurd (d refl)
-has_other w levels line Nothing x l t d u r = refl
-has_other w levels line (Truth b) x l t d u r = refl
-has_other w levels line (Number n) x l t d u r = refl
-has_other w levels line (BuiltInFunction b) x l t d u r = refl
-has_other w levels line (Held (cell.Func f)) x l t d u r = refl
-has_other w levels line (Held (cell.Frame f)) x l t d u r = refl
-has_other w levels line (Held (cell.Bound m v)) x l t d u r = refl
-has_other w levels line Nowhere x l t d u r = refl

@@ -1,17 +1,8 @@
-pub mod Bytes
 pub mod Cells
-pub mod Contents
 pub mod Dicts
-pub mod Filling
-pub mod FirstEqual
 pub mod Gathering
 pub mod KindCases
 pub mod Parts
-pub mod ProgramRows
 pub mod Ranges
-pub mod Shifts
-pub mod Slicing
-pub mod Subscripts
-pub mod Times
 pub mod Turns
 pub mod Windows

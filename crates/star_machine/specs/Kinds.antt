@@ -6,11 +6,7 @@ use Rattle.star_store.specs.declared.values.Cell.{Cell}
 use Rattle.star_store.specs.declared.values.Cell.TheVariants as cell
 use Rattle.star_machine.specs.declared.content.Kind.{Kind}
 use Rattle.star_machine.specs.declared.content.Kind.TheVariants as kind
-use Rattle.star_meaning.specs.declared.fault.Code.TheVariants as code
-use Rattle.star_meaning.specs.Run.{Action, ◌>>=◌, found}
-use Rattle.star_meaning.specs.Program.{Setting}
-use Rattle.star_meaning.specs.Values.{Content, Nothing, Truth, Number, BuiltInFunction, Held, Nowhere, count_in, want_int}
-use Rattle.star_meaning.specs.Subscript.{place_from}
+use Rattle.star_meaning.specs.Values.{Content, Nothing, Truth, Number, BuiltInFunction, Held, Nowhere, count_in}
 
 abbrev pub kind_of : Content → Kind
 kind_of Nothing = kind.Nothing
@@ -45,7 +41,3 @@ bytes_of _ = []
 -- how many items an iterable has, and none for what is no iterable
 abbrev pub size_of : Content → ℕ
 size_of c = unwrap_or (count_in c) 0
-
--- the place that an int says
-abbrev pub place_wanted : Setting → ℕ → ℕ → Value → Action ℕ
-place_wanted w line len i = want_int w line i >>= λ z. found code.Index line (place_from len z)

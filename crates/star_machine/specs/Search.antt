@@ -1,6 +1,6 @@
--- The first of some values that is equal to another one, and how far an int lies from another one.
+-- The first of some values that is equal to another one, and the int at a distance from another one.
 use Rattle.std.specs.Int.{int_gap}
-use Rattle.std.specs.Prelude.{ℕ, ◌+◌, ◌+ℤ◌, ◌-ℤ◌, ◌/◌, ◌%◌, nat_eq, nat_lt, ℤ, pos, negsuc, ◌&&◌, false, Bool, List, [], ◌∷◌, Option, Some, None, if◌then◌else◌}
+use Rattle.std.specs.Prelude.{ℕ, ◌+◌, ◌+ℤ◌, ◌-ℤ◌, nat_lt, ℤ, pos, Bool, List, [], ◌∷◌, Option, Some, None, if◌then◌else◌}
 use Rattle.star_store.specs.declared.values.Value.{Value}
 use Rattle.star_store.specs.declared.values.Value.TheVariants as value
 use Rattle.star_store.specs.Spend.{Spend, answer, spend_then}
@@ -16,11 +16,6 @@ first_place_where f i (y ∷ ys) = λ n. spend_then (f y n) (λ b. if b then ans
 -- the place of the first value that is equal to another one, with the visits of both up to it
 unfoldable pub found_place : Setting → ℕ → ℕ → Value → List Value → Action (Option ℕ)
 found_place w levels line x ys = visiting line (λ s. first_place_where (λ y. same (seen w s) levels y x) 0 ys)
-
--- whether fewer than so many steps of a size make up a distance
-abbrev pub reached : ℤ → ℕ → ℕ → Bool
-reached (pos gap) n count = nat_eq (gap % n) 0 && nat_lt (gap / n) count
-reached (negsuc gap) n count = false
 
 -- the int so far above a start, if it lies below a stop; and so far below it, if it lies above one
 abbrev pub some_above : ℤ → ℤ → ℕ → Option Value

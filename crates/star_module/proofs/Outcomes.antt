@@ -13,7 +13,7 @@ use Rattle.star_meaning.specs.Programs.{tables_of, trees_of}
 use Rattle.star_meaning.specs.Run as run
 use Rattle.star_meaning.proofs.ByPlaces.{places_mean_names}
 use Rattle.star_meaning.proofs.Resolved.{programs_place_names}
-use Rattle.star_eval.specs.World.{World}
+use Rattle.star_world.specs.World.{World}
 use Rattle.star_machine.specs.declared.fault.Stop.{Stop}
 use Rattle.star_machine.specs.declared.fault.Stop.TheVariants.{Faulted}
 use Rattle.star_machine.specs.Gives.{GivesBy}

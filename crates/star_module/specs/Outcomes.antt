@@ -8,7 +8,7 @@ use Rattle.star_meaning.specs.Program.{Setting}
 use Rattle.star_meaning.specs.Programs.{ArePrograms, trees_of}
 use Rattle.star_meaning.specs.Run as run
 use Rattle.star_meaning.specs.Variables.{by_names}
-use Rattle.star_eval.specs.World.{World, variables}
+use Rattle.star_world.specs.World.{World, variables}
 use Rattle.star_module.specs.declared.module.Ended.{Ended as HeldEnded}
 use Rattle.star_module.specs.declared.module.Outcome.{Outcome}
 use Rattle.star_module.specs.declared.module.Outcome.TheVariants as outcome

@@ -7,10 +7,10 @@ ghost use Rattle.star_meaning.specs.Program.{names_of, seen};
 ghost use Rattle.star_meaning.specs.Variables.{frame_of};
 ghost use Rattle.star_module.specs.Globals.{all_now, borrowed, in_slots, own_loads, own_value, owned};
 
-use star_eval::world::World;
 use star_machine::machine::Machine;
 use star_store::slots::Slots;
 use star_store::values::{Cell, Value};
+use star_world::world::World;
 use std::alloc::{AllocError, Global};
 
 /// What a slot of the running file's own frame gives the globals under its name: nothing where its variable is unbound, and where

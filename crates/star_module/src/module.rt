@@ -6,14 +6,12 @@ ghost use Rattle.star_meaning.specs.Module as spec;
 ghost use Rattle.star_meaning.specs.Places.{FitBehind, Stands};
 ghost use Rattle.star_meaning.specs.Programs.{trees_of};
 ghost use Rattle.star_meaning.specs.Run as run;
-ghost use Rattle.star_eval.specs.World.{variables};
+ghost use Rattle.star_world.specs.World.{variables};
 ghost use Rattle.star_module.specs.Globals.{owned};
 ghost use Rattle.star_module.specs.Outcomes.{AreReady, IsOutcome, meant, run_by_names, run_by_places, shown};
 
 use crate::globals::globals_of;
 use star_eval::execute::execute_each;
-use star_eval::variables::new_frame;
-use star_eval::world::World;
 use star_machine::fault::Stop;
 use star_machine::machine::Machine;
 use star_meaning::fault::Code;
@@ -23,6 +21,8 @@ use star_store::arena::{Frozen, freeze};
 use star_store::values::Value;
 use star_text::Text;
 use star_tree::tree::Statement;
+use star_world::variables::new_frame;
+use star_world::world::World;
 use std::alloc::{AllocError, Global};
 
 /// How many levels may be open at a time.

@@ -2,8 +2,8 @@
 use Rattle.std.specs.Prelude.{◌≡◌, ⊤, ℕ, ◌≤◌, List, length, Bool, true, false, Option, Result, Ok, Err}
 use Rattle.starload.specs.Stream.{Adds, GivesAll, Said}
 use Rattle.star_bundle.specs.Bundle.{Asked}
-use Rattle.star_host.specs.Kept.{AllGood, AreModulesOf, KeptView}
-use Rattle.star_host.specs.Shown.{IsReportOf}
+use Rattle.star_outcome.specs.Kept.{AllGood, AreModulesOf, KeptView}
+use Rattle.star_report.specs.Shown.{IsReportOf}
 use Rattle.star_bundle.specs.declared.error.ServeError.{ServeError}
 use Rattle.star_bundle.specs.declared.error.ServeError.TheVariants.{Read, TooBig, BadBundle, BadKey, TooMany, TooLong, BadRoot, NoRoot, BadPrelude, NoPrelude, Memory, Write, Unpublished}
 

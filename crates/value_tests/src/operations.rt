@@ -2,16 +2,15 @@
 
 use crate::samples::{is, list, shows, text};
 use sqlite_items::Items;
-use star_machine::comparisons::compared;
 use star_machine::fault::faulted;
 use star_machine::machine::Machine;
-use star_machine::operators::{operate, prefix};
-use star_machine::programs::Programs;
 use star_machine::setting::Setting;
-use star_machine::slices::slice;
-use star_machine::subscript::{index, set_index};
 use star_meaning::fault::Code;
 use star_meaning::given::{Given, NamedValue};
+use star_operators::comparisons::compared;
+use star_operators::operators::{operate, prefix};
+use star_operators::slices::slice;
+use star_operators::subscript::{index, set_index};
 use star_scope::loads::Load;
 use star_store::arena::{Arena, Homes, freeze};
 use star_store::values::{Cell, Function, Value, Values};
@@ -166,16 +165,6 @@ fn definitions_are_active_until_they_end(
     assert!(rt; machine.is_active(&function));
     machine.deactivate();
     assert!(rt; !machine.is_active(&function));
-    Ok(())
-}
-
-#[test]
-fn a_file_without_a_program_has_no_places(rt: HostRuntime) -> Result<(), Fail> {
-    let alloc = rt.alloc();
-    let mut programs = Programs::new(alloc);
-    programs.push(None)?;
-    assert!(rt; programs.spot(0, 3).is_none());
-    assert_eq!(rt; programs.slots(0, 0), 0);
     Ok(())
 }
 

@@ -6,12 +6,12 @@ use Rattle.star_meaning.specs.Run.{Done, and_then}
 use Rattle.star_tree.specs.declared.tree.Expression.{Expression}
 use Rattle.star_meaning.specs.Values.{is_true}
 use Rattle.star_eval.specs.declared.open_clause.OpenClause.{OpenClause}
-use Rattle.star_eval.specs.ByPlace.{expression_of}
-use Rattle.star_eval.specs.World.{meant}
+use Rattle.star_enter.specs.ByPlace.{expression_of}
+use Rattle.star_world.specs.World.{meant}
 use Rattle.star_eval.specs.Steps.{all_left, opened_left, turns_left}
 use Rattle.star_call.proofs.Seen.{drop_next}
 use Rattle.star_method.proofs.Each.{each_more}
-use Rattle.star_eval.proofs.ByPlace.{call_gives}
+use Rattle.star_enter.proofs.ByPlace.{call_gives}
 use Rattle.star_eval.proofs.Clauses.{clause_ended, filled_ends, filled_well, first_of, if_holds, turn_ended, turn_opened}
 use Rattle.star_eval.proofs.Spends.{expression_spends}
 use Rattle.star_eval.proofs.+run.Goals as goal

@@ -10,8 +10,8 @@ use Rattle.star_tree.specs.declared.tree.Arm.{Arm}
 use Rattle.star_tree.specs.declared.tree.Clause.{Clause}
 use Rattle.star_meaning.specs.Statements.{arms, loop_turn}
 use Rattle.star_meaning.specs.Targets.{to_each}
-use Rattle.star_eval.specs.World.{meant, variables}
-use Rattle.star_eval.specs.ByPlace.{expression_of}
+use Rattle.star_world.specs.World.{meant, variables}
+use Rattle.star_enter.specs.ByPlace.{expression_of}
 use Rattle.star_eval.specs.Steps.{all_left, behind, turns_left}
 use Rattle.star_call.specs.Passed.{all_shown}
 use Rattle.star_eval.proofs.+run.Given as goal

@@ -1,5 +1,5 @@
 use Rattle.std.proofs.Common.{refl, ap, sym, ◌∙◌, subst}
-use Rattle.star_host.specs.Views.{IsModule, ended_well}
+use Rattle.star_outcome.specs.Views.{IsModule, ended_well}
 use Rattle.star_host.proofs.Ends.{told_is}
 use Rattle.star_host.proofs.loading.end.Goals as goal
 

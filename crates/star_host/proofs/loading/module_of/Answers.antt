@@ -1,5 +1,5 @@
 use Rattle.std.proofs.Common.{map, refl, ap, sym, ◌∙◌}
-use Rattle.star_host.proofs.Rows.{loads_are}
+use Rattle.star_reading.proofs.Rows.{loads_are}
 use Rattle.star_host.proofs.loading.module_of.Goals as goal
 
 pub returns : goal.returns

@@ -2,7 +2,7 @@ use Rattle.std.proofs.Common.{subst}
 use Rattle.star_cache.specs.State.{Loads}
 use Rattle.star_cache.specs.Walk.{IsOnCycle}
 use Rattle.star_plan.specs.Plan.{loaded}
-use Rattle.star_host.proofs.Opens.{cycle_bad}
+use Rattle.star_outcome.proofs.Opens.{cycle_bad}
 use Rattle.star_host.proofs.loading.take_turn.Goals as goal
 
 pub refuse-requires-clause-bad : goal.refuse-requires-clause-bad

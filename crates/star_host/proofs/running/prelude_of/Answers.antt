@@ -1,7 +1,7 @@
 use Rattle.std.proofs.Common.{Ok, subst}
 use Rattle.star_parser.specs.Sources.{Parses}
-use Rattle.star_host.specs.Readings.{IsFaultOf}
-use Rattle.star_host.proofs.Worlds.{prelude_faulty, prelude_sound}
+use Rattle.star_reading.specs.Readings.{IsFaultOf}
+use Rattle.star_reading.proofs.Plans.{prelude_faulty, prelude_sound}
 use Rattle.star_host.proofs.running.prelude_of.Goals as goal
 
 pub returns-in_ok-new-in-Ok-clause-prelude : goal.returns-in_ok-new-in-Ok-clause-prelude

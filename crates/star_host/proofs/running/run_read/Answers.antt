@@ -1,9 +1,10 @@
 use Rattle.std.proofs.Common.{refl, sym, subst}
 use Rattle.star_plan.specs.Plan.{Plan}
 use Rattle.star_plan.specs.Runs.{ArePlaced}
-use Rattle.star_host.specs.Readings.{readings}
+use Rattle.star_reading.specs.Readings.{readings}
 use Rattle.star_host.proofs.Settled.{if_ok}
-use Rattle.star_host.proofs.Worlds.{closed_within, placed_so, planned_so}
+use Rattle.star_reading.proofs.Plans.{placed_so, planned_so}
+use Rattle.star_host.proofs.Worlds.{closed_within}
 use Rattle.star_host.proofs.running.run_read.Goals as goal
 
 pub run_named-requires-clause-within : goal.run_named-requires-clause-within

@@ -1,4 +1,4 @@
-use Rattle.star_host.specs.Readings.{readings}
+use Rattle.star_reading.specs.Readings.{readings}
 use Rattle.star_host.proofs.running.run_read.Given as goal
 
 abbrev pub ghosts-run_named-J-Ledger : goal.ghosts-run_named-J-Ledger

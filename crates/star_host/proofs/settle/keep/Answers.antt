@@ -1,9 +1,9 @@
 use Rattle.std.proofs.Common.{◌≢◌, ◌∙◌}
 use Rattle.star_cache.specs.declared.entry.Entry.{Entry}
 use Rattle.star_cache.specs.declared.entry.Entry.TheVariants.{Fresh}
-use Rattle.star_host.specs.Kept.{IsKept}
-use Rattle.star_host.specs.Views.{IsTold, ToldView}
-use Rattle.star_host.proofs.PlacesRead.{all_push}
+use Rattle.star_outcome.specs.Kept.{IsKept}
+use Rattle.star_outcome.specs.Views.{IsTold, ToldView}
+use Rattle.star_reading.proofs.PlacesRead.{all_push}
 use Rattle.star_host.proofs.Settled.{kept_more, told_kept}
 use Rattle.star_host.proofs.settle.keep.Goals as goal
 

@@ -5,8 +5,8 @@ use Rattle.std.proofs.lemmas.List.{get_or_default}
 use Rattle.star_cache.specs.State.{entry_at, is_begun}
 use Rattle.star_cache.specs.declared.entry.Entry.{Entry}
 use Rattle.star_cache.specs.declared.entry.Entry.TheVariants.{Fresh}
-use Rattle.star_host.specs.Views.{ToldView}
-use Rattle.star_host.proofs.KeptNotes.{set_same}
+use Rattle.star_outcome.specs.Views.{ToldView}
+use Rattle.star_outcome.proofs.KeptNotes.{set_same}
 use Rattle.star_host.proofs.Settled.{all_kept, begun_more}
 use Rattle.star_host.proofs.settle.kept_of.Goals as goal
 

@@ -1,7 +1,7 @@
 use Rattle.std.proofs.Common.{◌≡◌, length, take}
 use Rattle.std.specs.List.{count_by}
 use Rattle.star_cache.specs.State.{is_begun}
-use Rattle.star_host.specs.Kept.{AllKept, AreModulesBelow}
+use Rattle.star_outcome.specs.Kept.{AllKept, AreModulesBelow}
 use Rattle.star_host.proofs.settle.kept_of.Given as goal
 
 abbrev pub invariant-loop-n : goal.invariant-loop-n

@@ -1,5 +1,5 @@
 use Rattle.std.proofs.Common.{arith}
-use Rattle.star_host.proofs.PlacesRead.{read_within}
+use Rattle.star_reading.proofs.PlacesRead.{read_within}
 use Rattle.star_host.proofs.Settled.{contains_more, passed_by}
 use Rattle.star_host.proofs.settle.reached.Goals as goal
 

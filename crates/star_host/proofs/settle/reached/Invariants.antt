@@ -1,6 +1,6 @@
 use Rattle.std.proofs.Common.{◌<◌, ℕ}
 use Rattle.std.specs.Prelude.{Contains, IsSome}
-use Rattle.star_host.specs.Readings.{read_at}
+use Rattle.star_reading.specs.Readings.{read_at}
 use Rattle.star_host.proofs.settle.reached.Given as goal
 
 abbrev pub invariant-loop-n : goal.invariant-loop-n

@@ -1,5 +1,5 @@
 use Rattle.std.proofs.Common.{◌≡◌, take}
-use Rattle.star_host.specs.Readings.{table_of}
+use Rattle.star_reading.specs.Readings.{table_of}
 use Rattle.star_host.proofs.table.table.Given as goal
 
 abbrev pub invariant-loop-read : goal.invariant-loop-read

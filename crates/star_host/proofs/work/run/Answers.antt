@@ -3,9 +3,10 @@ use Rattle.std.proofs.Common.{List, Ok, map, sym, ◌∙◌, subst}
 use Rattle.std.specs.Prelude.{Contains}
 use Rattle.star_store.specs.Store.{Shelf}
 use Rattle.star_plan.specs.Shelves.{HoldsNeeds, Needs}
-use Rattle.star_host.specs.Bodies.{AreNeeded, IsGathered, IsRan}
-use Rattle.star_host.specs.Reaches.{ReachView, row_of}
-use Rattle.star_host.specs.declared.module.Module.{Module}
+use Rattle.star_outcome.specs.Gathered.{AreNeeded, IsGathered}
+use Rattle.star_host.specs.Bodies.{IsRan}
+use Rattle.star_outcome.specs.Reaches.{ReachView, row_of}
+use Rattle.star_outcome.specs.declared.module.Module.{Module}
 use Rattle.star_host.proofs.Bodies.{body_may_run, loads_in_row, ran_so}
 use Rattle.star_host.proofs.work.run.Goals as goal
 

@@ -1,6 +1,6 @@
 use Rattle.std.proofs.Common.{◌≡◌, string_bytes, sym, subst}
-use Rattle.star_host.specs.Kept.{AllGood, AreModulesOf}
-use Rattle.star_host.proofs.Shows.{report_of}
+use Rattle.star_outcome.specs.Kept.{AllGood, AreModulesOf}
+use Rattle.star_report.proofs.Shows.{report_of}
 use Rattle.starload.proofs.serve.answered.Goals as goal
 
 pub returns-clause-good : goal.returns-clause-good

@@ -1,5 +1,5 @@
 use Rattle.std.proofs.Common.{refl, subst, sym, ◌∙◌, arith}
-use Rattle.star_host.specs.Shown.{IsReportOf}
+use Rattle.star_report.specs.Shown.{IsReportOf}
 use Rattle.starload.proofs.Streams.{went_well}
 use Rattle.starload.proofs.Refusals.{started_refused, started_writes}
 use Rattle.starload.proofs.serve.reported.Goals as goal

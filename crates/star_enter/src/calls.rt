@@ -1,0 +1,195 @@
+//! Parts of calls that run nothing themselves.
+
+ghost use Rattle.std.specs.Prelude.{◌≡◌, map, true};
+ghost use Rattle.std.specs.Option.{option_map};
+ghost use Rattle.star_scope.specs.Definitions.{definition_of};
+ghost use Rattle.star_meaning.specs.Calls as spec;
+ghost use Rattle.star_machine.specs.Gives.{Gives, GivesBy};
+ghost use Rattle.star_meaning.specs.Run.{Done, give};
+ghost use Rattle.star_meaning.specs.Values.{content};
+ghost use Rattle.star_call.specs.Callees.{definition_for, shown};
+ghost use Rattle.star_call.specs.Shares.{bound_value};
+ghost use Rattle.std.specs.List.{list_all};
+ghost use Rattle.star_enter.specs.ByPlace.{FitByPlace, by_place, expression_of, is_plain, is_positional};
+ghost use Rattle.star_enter.specs.Entering.{bind_all, entering, framed};
+
+use star_call::callee::{Called, Callee, definition_number};
+use star_call::shares::{Shares, make_shares};
+use star_machine::fault::Stop;
+use star_machine::machine::Machine;
+use star_meaning::given::Given;
+use star_meaning::place::Place;
+use star_scope::outline::Definition;
+use star_store::values::Value;
+use star_tree::tree::{Argument, Expression, Name, Parameter};
+use star_world::parts::split_first;
+use star_world::variables::{bind, paid_frame};
+use star_world::world::World;
+
+/// The definition of a function: none of another value, or where its file has none.
+fn definition_of<'t>(
+    machine: &Machine,
+    world: &World<'_, 't>,
+    value: Value,
+) -> Option<Definition<'t>>
+    ensures { option_map definition_of result ≡ definition_for world.now.setting (content world.now.setting machine.now value) }
+{
+    match definition_number(machine, world.setting(), value) {
+        Some((file, number)) => world.definition(file, number),
+        None => None,
+    }
+}
+
+/// What is called by a value. `BadType` where it may not be called, then `Recursion` where its definition is active.
+pub fn callee_of<'t>(
+    machine: &Machine,
+    world: &World<'_, 't>,
+    line: usize,
+    value: Value,
+) -> Result<Callee<'t>, Stop>
+    ensures { GivesBy (shown (content world.now.setting machine.now)) (spec.callee world.now.setting line value machine.now) result machine.now }
+{
+    let definition = definition_of(machine, world, value);
+    Callee::of(machine, world.setting(), line, value, definition)
+}
+
+/// Binds parameters to their values, in order.
+pub fn bind_all(
+    machine: &mut Machine,
+    world: &World,
+    place: &Place,
+    values: &[(&Name, Value)],
+) -> Result<(), Stop>
+    ensures { Gives (bind_all world.now place.now (map bound_value values.now) machine.old) result machine.new }
+{
+    for (name, value) in values {
+        bind(machine, world, place, *name, *value)?;
+    }
+    Ok(())
+}
+
+/// The expression of an argument.
+pub fn expression_of(argument: &Argument) -> &Expression
+    ensures { result.now ≡ expression_of argument.now }
+{
+    match argument {
+        Argument::Positional(value) | Argument::Star(value) | Argument::StarStar(value) => value,
+        Argument::Named { value, .. } => value,
+    }
+}
+
+/// Whether all arguments of a call stand by place.
+pub fn are_positional(arguments: &[Argument]) -> bool
+    ensures { result ≡ list_all is_positional arguments.now }
+{
+    for argument in arguments {
+        let Argument::Positional(_) = argument else {
+            return false;
+        };
+    }
+    true
+}
+
+/// Whether each parameter has a name alone.
+fn are_plain(parameters: &[Parameter]) -> bool
+    ensures { result ≡ list_all is_plain parameters.now }
+{
+    for parameter in parameters {
+        let Parameter::Plain(_) = parameter else {
+            return false;
+        };
+    }
+    true
+}
+
+/// Whether a call gives a value by place for each parameter, which all have names alone, and nothing else.
+pub fn fit_by_place(parameters: &[Parameter], given: &Given) -> bool
+    ensures { result ≡ true → FitByPlace parameters.now given.now }
+{
+    given.named.len() == 0 && parameters.len() == given.plain.len() && are_plain(parameters)
+}
+
+/// Binds parameters that have names alone to the values at their places, in order.
+fn bind_by_place(
+    machine: &mut Machine,
+    world: &World,
+    place: &Place,
+    parameters: &[Parameter],
+    values: &[Value],
+) -> Result<(), Stop>
+    ensures { Gives (bind_all world.now place.now (by_place parameters.now values.now) machine.old) result machine.new }
+{
+    let mut rest = values;
+    for parameter in parameters {
+        let Some((value, more)) = split_first(rest) else {
+            return Ok(());
+        };
+        if let Parameter::Plain(name) = parameter {
+            bind(machine, world, place, name, value)?;
+        }
+        rest = more;
+    }
+    Ok(())
+}
+
+/// The place in which the body of a call runs, each of whose parameters gets the value at its own place: its frame, which pays 1,
+/// with the parameters in it; then its definition is active.
+#[tactic(auto, unfolding(crate::specs::Entering::begin))]
+pub fn enter_by_place(
+    machine: &mut Machine,
+    world: &World,
+    line: usize,
+    called: Called<'_>,
+    values: &[Value],
+) -> Result<Place, Stop>
+    ensures { Gives (framed world.now line called.entry.file called.entry.number called.entry.frame (by_place called.entry.definition.parameters.now values.now) give machine.old) result machine.new }
+{
+    let block = 1 + called.number as usize;
+    let frame = paid_frame(machine, world, line, called.file, block, Some(called.frame))?;
+    let place = Place {
+        file: called.file,
+        frame,
+        line,
+    };
+    bind_by_place(machine, world, &place, called.definition.parameters, values)?;
+    machine.activate(place.file, called.number)?;
+    Ok(place)
+}
+
+/// The place in which the body of a call runs, whose parameters have these values: its frame, which pays 1, with the parameters in
+/// it; then its definition is active.
+#[tactic(auto, unfolding(crate::specs::Entering::begin))]
+fn enter_with(
+    machine: &mut Machine,
+    world: &World,
+    line: usize,
+    called: Called<'_>,
+    values: &[(&Name, Value)],
+) -> Result<Place, Stop>
+    ensures { Gives (framed world.now line called.entry.file called.entry.number called.entry.frame (map bound_value values.now) give machine.old) result machine.new }
+{
+    let block = 1 + called.number as usize;
+    let frame = paid_frame(machine, world, line, called.file, block, Some(called.frame))?;
+    let place = Place {
+        file: called.file,
+        frame,
+        line,
+    };
+    bind_all(machine, world, &place, values)?;
+    machine.activate(called.file, called.number)?;
+    Ok(place)
+}
+
+/// The place in which the body of a call runs: the values of its parameters are made, then it is entered with them.
+pub fn enter_call(
+    machine: &mut Machine,
+    world: &World,
+    line: usize,
+    called: Called<'_>,
+    shares: &Shares<'_, '_>,
+) -> Result<Place, Stop>
+    ensures { Gives (entering world.now line called.entry.file called.entry.number called.entry.frame shares.now give machine.old) result machine.new }
+{
+    let values = make_shares(machine, line, shares)?;
+    enter_with(machine, world, line, called, &values)
+}

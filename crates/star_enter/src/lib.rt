@@ -1,0 +1,4 @@
+//! What is called, and how a call is entered.
+#![tactic(auto)]
+
+pub mod calls;

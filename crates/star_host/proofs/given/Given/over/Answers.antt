@@ -1,7 +1,0 @@
-use Rattle.star_host.specs.Reaches.{row_of}
-use Rattle.star_host.proofs.Stores.{good_stores, needed_of}
-use Rattle.star_host.proofs.given.Given.over.Goals as goal
-
-pub over_row-requires : goal.over_row-requires
-over_row-requires g c =
-    needed_of g.J.Naming.plan c.args.file c.args.it.now.number (row_of c.in-Good.body.stores) c.requires.load (good_stores g.J.Naming.plan c.args.it.now.number c.args.it.now c.in-Good.body c.in-Good.is c.requires.good.0)

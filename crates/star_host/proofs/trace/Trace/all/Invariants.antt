@@ -1,6 +1,0 @@
-use Rattle.std.proofs.Common.{◌≡◌}
-use Rattle.star_host.specs.Refusals.{AreRefusals}
-use Rattle.star_host.proofs.trace.Trace.all.Given as goal
-
-abbrev pub invariant-loop-item : goal.invariant-loop-item
-invariant-loop-item g l = AreRefusals g.J.Naming.plan l.all.items

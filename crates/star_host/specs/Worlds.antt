@@ -1,0 +1,43 @@
+-- What loaders share, and what lies under a turn of a file whose loads are asked for.
+use Rattle.std.specs.Prelude.{◌≡◌, ◌+◌, ◌^◌, ◌<◌, ◌≤◌, ℕ, List, IfSome, Some, length, slice_get}
+use Rattle.star_cache.specs.State.{Loads}
+use Rattle.star_cache.specs.Walk.{IsOnCycle}
+use Rattle.star_label.specs.Files.{File}
+use Rattle.star_scope.specs.declared.loads.Load.{Load}
+use Rattle.star_plan.specs.Plan.{Plan, loaded, loads_of}
+use Rattle.star_plan.specs.Reading.{IsPlanOf}
+use Rattle.star_plan.specs.Runs.{ArePlaced}
+use Rattle.star_reading.specs.Readings.{readings, table_of}
+use Rattle.star_outcome.specs.Fits.{IsAsked}
+use Rattle.star_outcome.specs.Refusals.{IsRefusal}
+use Rattle.star_host.specs.declared.work.Common.{Common}
+use Rattle.star_host.specs.declared.loading.Turn.{Turn}
+use Rattle.star_host.specs.declared.loading.Turn.TheVariants.{Again, Enter, Ended}
+
+-- what loaders share is that of the cache: its files, what was read of them, their programs, its shelf, the prelude's file and the steps; and what was read is the plan of the files
+pub record IsWorld (files : List File) (plan : Plan) (shelf : List ℕ) (c : Common) : Type 0 where
+  pub files_are : c.files.now ≡ files
+  pub row_is : readings c.reads.now ≡ plan.reads
+  pub table_is : c.programs.now ≡ table_of c.reads.now
+  pub cells_are : c.modules.now ≡ shelf
+  pub cells_fit : length shelf ≡ length files
+  pub prelude_is : c.prelude ≡ plan.prelude
+  pub prelude_fits : IfSome c.prelude (λ p. p < length files)
+  pub steps_are : c.steps ≡ plan.steps
+  pub steps_fit : (1 ≤ c.steps) × (c.steps ≤ 100000000)
+  pub planned : IsPlanOf files plan
+  pub placed : ArePlaced files plan c.programs.now
+
+abbrev pub IsTurn : List File → Plan → Turn → Type 0
+IsTurn files plan Again = Unit {0}
+IsTurn files plan (Enter m) = IsAsked files plan m
+IsTurn files plan Ended = Unit {0}
+
+-- the load at place i of the file n, which is asked for next
+pub record IsNextLoad (files : List File) (plan : Plan) (n i : ℕ) (l : Load) : Type 0 where
+  pub within : i < length (loads_of plan n)
+  pub fits : i + 1 < 2 ^ 64
+  pub loads : Loads (loaded plan) n l.file
+  pub there : slice_get (loaded plan n) i ≡ Some l.file
+  pub asked : IsAsked files plan l.file
+  pub refused : IsOnCycle (Loads (loaded plan)) n l.file → IsRefusal plan n i

@@ -1,0 +1,10 @@
+pub mod Bytes
+pub mod Contents
+pub mod Filling
+pub mod FirstEqual
+pub mod KindCases
+pub mod Ranges
+pub mod Shifts
+pub mod Slicing
+pub mod Subscripts
+pub mod Times

@@ -1,0 +1,4 @@
+pub mod Fills
+pub mod Reached
+pub mod Slices
+pub mod Wanted

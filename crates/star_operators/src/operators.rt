@@ -1,0 +1,399 @@
+//! The operators.
+
+ghost use Rattle.std.specs.Prelude.{◌≡◌, ◌<◌, ◌≤◌, ◌+◌, ◌*◌, ◌^◌, ◌++◌, length, pos, IfOk, OnOk, ◌≤ℤ◌};
+ghost use Rattle.star_store.specs.Arithmetic.{checked, floored_by};
+ghost use Rattle.star_machine.specs.Gives.{Gives};
+ghost use Rattle.star_meaning.specs.Operators as spec;
+ghost use Rattle.star_meaning.specs.Values.{content};
+
+use crate::percent::percent;
+use star_machine::content::{Content, Kind};
+use star_machine::fault::{Stop, faulted};
+use star_machine::gathered::Gathered;
+use star_machine::machine::Machine;
+use star_machine::setting::Setting;
+use star_meaning::fault::Code;
+use star_store::arithmetic::{add, floor_div, floor_mod, mul, neg, shl, sub};
+use star_store::fault::StoreFault;
+use star_store::values::{Cell, Entries, Value, Values};
+use star_text::Text;
+use star_tree::tree::{BinaryOperator, UnaryOperator};
+use std::alloc::{AllocError, Global};
+
+/// An int of 64 bits is the value of its arithmetic.
+fn whole(int: i64) -> Result<i64, StoreFault>
+    ensures { result ≡ checked int }
+{
+    Ok(int)
+}
+
+/// An operator on two ints. `Zero` for a divisor of 0, `BadValue` for a count below 0, `Overflow` outside 64 bits.
+fn on_ints(
+    machine: &Machine,
+    line: usize,
+    operator: BinaryOperator,
+    x: i64,
+    y: i64,
+) -> Result<Value, Stop>
+    ensures { Gives (spec.on_ints line operator x y machine.now) result machine.now }
+{
+    match operator {
+        BinaryOperator::Add => machine.new_int(line, add(x, y)),
+        BinaryOperator::Subtract => machine.new_int(line, sub(x, y)),
+        BinaryOperator::Multiply => machine.new_int(line, mul(x, y)),
+        BinaryOperator::FloorDivide => divide(machine, line, x, y),
+        BinaryOperator::Modulo => remainder(machine, line, x, y),
+        BinaryOperator::ShiftLeft => shift_left(machine, line, x, y),
+        BinaryOperator::ShiftRight => shift_right(machine, line, x, y),
+        BinaryOperator::BitAnd => machine.new_int(line, whole(x & y)),
+        BinaryOperator::BitXor => machine.new_int(line, whole(x ^ y)),
+        BinaryOperator::BitOr => machine.new_int(line, whole(x | y)),
+    }
+}
+
+fn divide(machine: &Machine, line: usize, x: i64, y: i64) -> Result<Value, Stop>
+    ensures { Gives (spec.divide line x y machine.now) result machine.now }
+{
+    if y == 0 {
+        return Err(faulted(Code::Zero, line));
+    }
+    machine.new_int(line, floor_div(x, y))
+}
+
+fn remainder(machine: &Machine, line: usize, x: i64, y: i64) -> Result<Value, Stop>
+    ensures { Gives (spec.remainder line x y machine.now) result machine.now }
+{
+    if y == 0 {
+        return Err(faulted(Code::Zero, line));
+    }
+    machine.new_int(line, floor_mod(x, y))
+}
+
+#[tactic(auto, using(crate::proofs::Shifts::left_up, crate::proofs::Shifts::left_below))]
+fn shift_left(machine: &Machine, line: usize, x: i64, count: i64) -> Result<Value, Stop>
+    ensures { Gives (spec.shift_left line x count machine.now) result machine.now }
+{
+    if count < 0 {
+        return Err(faulted(Code::BadValue, line));
+    }
+    machine.new_int(line, shl(x, count))
+}
+
+#[tactic(auto, using(crate::proofs::Shifts::right_up, crate::proofs::Shifts::right_below))]
+fn shift_right(machine: &Machine, line: usize, x: i64, count: i64) -> Result<Value, Stop>
+    ensures { Gives (spec.shift_right line x count machine.now) result machine.now }
+{
+    if count < 0 {
+        return Err(faulted(Code::BadValue, line));
+    }
+    machine.new_int(line, whole(halved(x, count.unsigned_abs())))
+}
+
+/// An int, halved and rounded down so many times.
+#[tactic(auto, using(crate::proofs::Shifts::halved, crate::proofs::Shifts::halved_far))]
+fn halved(x: i64, count: u64) -> i64
+    ensures { result ≡ floored_by x (2 ^ count) }
+{
+    if count < 63 { x >> count } else { x >> 63 }
+}
+
+/// A sign before an int. `Overflow` outside 64 bits.
+fn signed(machine: &Machine, line: usize, operator: UnaryOperator, x: i64) -> Result<Value, Stop>
+    ensures { Gives (spec.signed line operator x machine.now) result machine.now }
+{
+    match operator {
+        UnaryOperator::Plus => Ok(Value::Int(x)),
+        UnaryOperator::Minus => machine.new_int(line, neg(x)),
+        UnaryOperator::Invert => machine.new_int(line, whole(!x)),
+        UnaryOperator::Not => Ok(Value::Bool(x == 0)),
+    }
+}
+
+/// `not` of any value, or a sign before an int. `BadType` for what is no int, `Overflow` outside 64 bits.
+#[tactic(auto, unfolding(star_meaning::specs::Operators::prefix))]
+pub fn prefix(
+    machine: &Machine,
+    setting: &Setting,
+    line: usize,
+    operator: UnaryOperator,
+    value: Value,
+) -> Result<Value, Stop>
+    ensures { Gives (spec.prefix setting.now line operator value machine.now) result machine.now }
+{
+    if let UnaryOperator::Not = operator {
+        return Ok(Value::Bool(!machine.is_true(setting, value)));
+    }
+    let int = machine.want_int(setting, line, value)?;
+    signed(machine, line, operator, int)
+}
+
+/// The values of one row, and then those of another.
+fn joined(alloc: Global, front: &Values, back: &Values) -> Result<Values, AllocError>
+    ensures { IfOk result (λ r. r ≡ front.now ++ back.now) }
+{
+    let mut items = Vec::new(alloc);
+    items.extend_from_slice(front.as_slice())?;
+    items.extend_from_slice(back.as_slice())?;
+    Ok(Values::new(items))
+}
+
+/// The bytes of one string, and then those of another.
+fn joined_text(alloc: Global, front: &Text, back: &Text) -> Result<Text, AllocError>
+    ensures { IfOk result (λ t. t ≡ front.now ++ back.now) }
+{
+    let mut text = String::from_str(alloc, front.as_str())?;
+    text.push_str(back.as_str())?;
+    Text::of(text)
+}
+
+/// The sum of two ints, or two strings, lists or tuples joined. `BadType` for other operands.
+fn add_values(
+    machine: &mut Machine,
+    setting: &Setting,
+    line: usize,
+    x: Value,
+    y: Value,
+) -> Result<Value, Stop>
+    ensures { Gives (spec.add line (content setting.now machine.old x) (content setting.now machine.old y) machine.old) result machine.new }
+{
+    let alloc = machine.alloc();
+    match (machine.content(setting, x), machine.content(setting, y)) {
+        (Content::Number(x), Content::Number(y)) => machine.new_int(line, add(x, y)),
+        (Content::Held(Cell::Text(t)), Content::Held(Cell::Text(u))) => {
+            let text = joined_text(alloc, t, u)?;
+            machine.new_text(line, text)
+        }
+        (Content::Held(Cell::List(xs)), Content::Held(Cell::List(ys))) => {
+            let items = joined(alloc, xs, ys)?;
+            machine.new_list(line, items)
+        }
+        (Content::Held(Cell::Tuple(xs)), Content::Held(Cell::Tuple(ys))) => {
+            let items = joined(alloc, xs, ys)?;
+            machine.new_tuple(line, items)
+        }
+        _ => Err(faulted(Code::BadType, line)),
+    }
+}
+
+/// How many times an int says: none below 1.
+fn count_from(int: i64) -> u64
+    ensures { result ≡ spec.count_from int }
+{
+    if int < 0 { 0 } else { int as u64 }
+}
+
+/// A row so many times over.
+#[tactic(auto, using(crate::proofs::Times::times_more, crate::proofs::Times::times_nil))]
+fn repeated_row(alloc: Global, items: &Values, count: u64) -> Result<Values, AllocError>
+    ensures { IfOk result (λ r. r ≡ spec.times count items.now) }
+{
+    let mut made = Vec::new(alloc);
+    if items.len() > 0 {
+        for _i in 0..count {
+            made.extend_from_slice(items.as_slice())?;
+        }
+    }
+    Ok(Values::new(made))
+}
+
+/// A string so many times over.
+#[tactic(auto, using(crate::proofs::Times::times_more, crate::proofs::Times::times_nil))]
+fn repeated_text(alloc: Global, text: &Text, count: u64) -> Result<Text, AllocError>
+    ensures { IfOk result (λ t. t ≡ spec.times count text.now) }
+{
+    let mut made = String::new(alloc);
+    if text.as_str().len() > 0 {
+        for _i in 0..count {
+            made.push_str(text.as_str())?;
+        }
+    }
+    Text::of(made)
+}
+
+/// What `1 + size * count` comes to.
+fn cost_of(size: usize, count: u64) -> u128
+    ensures value { result ≡ 1 + size * count }
+    ensures some { 0 < result }
+{
+    1 + size as u128 * count as u128
+}
+
+/// A string, list or tuple so many times over. `Steps` before anything is made, `BadType` for another value.
+#[tactic(auto, unfolding(star_meaning::specs::Run::build, star_meaning::specs::Run::pay))]
+fn repeated(
+    machine: &mut Machine,
+    setting: &Setting,
+    line: usize,
+    value: Value,
+    count: u64,
+) -> Result<Value, Stop>
+    ensures { Gives (spec.repeated line (content setting.now machine.old value) count machine.old) result machine.new }
+{
+    let alloc = machine.alloc();
+    match machine.content(setting, value) {
+        Content::Held(Cell::Text(text)) => {
+            let cost = cost_of(text.as_str().len(), count);
+            machine.afford(line, cost)?;
+            let text = repeated_text(alloc, text, count)?;
+            machine.build(line, cost, Cell::Text(text))
+        }
+        Content::Held(Cell::List(items)) => {
+            let cost = cost_of(items.len(), count);
+            machine.afford(line, cost)?;
+            let items = repeated_row(alloc, items, count)?;
+            machine.build(line, cost, Cell::List(items))
+        }
+        Content::Held(Cell::Tuple(items)) => {
+            let cost = cost_of(items.len(), count);
+            machine.afford(line, cost)?;
+            let items = repeated_row(alloc, items, count)?;
+            machine.build(line, cost, Cell::Tuple(items))
+        }
+        _ => Err(faulted(Code::BadType, line)),
+    }
+}
+
+/// The product of two ints, or a string, list or tuple so many times over. `BadType` for other operands.
+#[tactic(auto, using(crate::proofs::Contents::product, crate::proofs::Contents::product_left, crate::proofs::Contents::product_right, crate::proofs::Contents::no_product))]
+fn multiply(
+    machine: &mut Machine,
+    setting: &Setting,
+    line: usize,
+    x: Value,
+    y: Value,
+) -> Result<Value, Stop>
+    ensures { Gives (spec.multiply line (content setting.now machine.old x) (content setting.now machine.old y) machine.old) result machine.new }
+{
+    match (machine.int_of(setting, x), machine.int_of(setting, y)) {
+        (Some(a), Some(b)) => machine.new_int(line, mul(a, b)),
+        (Some(a), None) => repeated(machine, setting, line, y, count_from(a)),
+        (None, Some(b)) => repeated(machine, setting, line, x, count_from(b)),
+        (None, None) => Err(faulted(Code::BadType, line)),
+    }
+}
+
+/// Puts an entry in: a key that is there keeps its place.
+pub fn with_entry(
+    machine: &Machine,
+    setting: &Setting,
+    entries: &mut Entries,
+    entry: (Value, Value),
+) -> Result<(), AllocError>
+    ensures { OnOk result (entries.new ≡ spec.with_entry setting.now machine.now entries.old entry) }
+{
+    let (key, value) = entry;
+    let Some(at) = machine.place_of(setting, key, entries) else {
+        entries.push(key, value)?;
+        return Ok(());
+    };
+    if let Some((there, _old)) = entries.get(at) {
+        entries.set(at, there, value);
+    }
+    Ok(())
+}
+
+/// A copy of the entries.
+fn copied(alloc: Global, entries: &Entries) -> Result<Entries, AllocError>
+    ensures { IfOk result (λ r. r ≡ entries.now) }
+{
+    let mut made = Entries::new(alloc);
+    for (key, value) in entries.as_slice() {
+        made.push(*key, *value)?;
+    }
+    Ok(made)
+}
+
+/// The entries of one dictionary, with those of another put in.
+fn united(
+    machine: &Machine,
+    setting: &Setting,
+    left: &Entries,
+    right: &Entries,
+) -> Result<Entries, AllocError>
+    ensures { IfOk result (λ r. r ≡ spec.with_entries setting.now machine.now left.now right.now) }
+{
+    let copy = copied(machine.alloc(), left)?;
+    let mut made = Gathered::of(machine, setting, copy, right.len());
+    for entry in right.as_slice() {
+        made.put(machine, setting, *entry)?;
+    }
+    Ok(made.into_entries())
+}
+
+/// A new dictionary of the left one's entries, with the right one's put in. `BadType` for other operands.
+fn unite(
+    machine: &mut Machine,
+    setting: &Setting,
+    levels: u32,
+    line: usize,
+    x: Value,
+    y: Value,
+) -> Result<Value, Stop>
+    ensures { Gives (spec.on_others setting.now levels line BinaryOperator.BitOr (content setting.now machine.old x) (content setting.now machine.old y) y machine.old) result machine.new }
+{
+    match (machine.content(setting, x), machine.content(setting, y)) {
+        (Content::Held(Cell::Dict(left)), Content::Held(Cell::Dict(right))) => {
+            let entries = united(machine, setting, left, right)?;
+            machine.new_dict(line, entries)
+        }
+        _ => Err(faulted(Code::BadType, line)),
+    }
+}
+
+/// What the operator makes of operands that are not two ints. `BadType` where it makes nothing of them.
+fn on_others(
+    machine: &mut Machine,
+    setting: &Setting,
+    levels: u32,
+    line: usize,
+    operator: BinaryOperator,
+    x: Value,
+    y: Value,
+) -> Result<Value, Stop>
+    ensures { Gives (spec.on_others setting.now levels line operator (content setting.now machine.old x) (content setting.now machine.old y) y machine.old) result machine.new }
+{
+    match operator {
+        BinaryOperator::Add => add_values(machine, setting, line, x, y),
+        BinaryOperator::Multiply => multiply(machine, setting, line, x, y),
+        BinaryOperator::BitOr => unite(machine, setting, levels, line, x, y),
+        BinaryOperator::Modulo => modulo(machine, setting, levels, line, x, y),
+        _ => Err(faulted(Code::BadType, line)),
+    }
+}
+
+/// What an operator makes of two values. `BadType` where it makes nothing of their types.
+#[tactic(auto, unfolding(star_meaning::specs::Operators::operate))]
+pub fn operate(
+    machine: &mut Machine,
+    setting: &Setting,
+    levels: u32,
+    line: usize,
+    operator: BinaryOperator,
+    x: Value,
+    y: Value,
+) -> Result<Value, Stop>
+    ensures { Gives (spec.operate setting.now levels line operator x y machine.old) result machine.new }
+{
+    if let (Value::Int(x), Value::Int(y)) = (x, y) {
+        return on_ints(machine, line, operator, x, y);
+    }
+    on_others(machine, setting, levels, line, operator, x, y)
+}
+
+/// A string with values put in, or the remainder of two ints. `BadType` for other operands.
+#[tactic(auto, using(crate::proofs::KindCases::modulo_text, crate::proofs::KindCases::modulo_other))]
+fn modulo(
+    machine: &mut Machine,
+    setting: &Setting,
+    levels: u32,
+    line: usize,
+    x: Value,
+    y: Value,
+) -> Result<Value, Stop>
+    ensures { Gives (spec.on_others setting.now levels line BinaryOperator.Modulo (content setting.now machine.old x) (content setting.now machine.old y) y machine.old) result machine.new }
+{
+    match machine.kind(setting, x) {
+        Kind::Text => percent(machine, setting, levels, line, x, y),
+        _ => Err(faulted(Code::BadType, line)),
+    }
+}

@@ -1,0 +1,131 @@
+//! `%` on a string.
+
+ghost use Rattle.std.specs.Prelude.{◌≡◌, ◌≤◌, [], drop, length, false, IfOk, string_bytes};
+ghost use Rattle.star_machine.specs.Gives.{Gives};
+ghost use Rattle.star_machine.specs.Kinds.{bytes_of};
+ghost use Rattle.star_operators.specs.Fills.{Fills, letter_put};
+ghost use Rattle.star_meaning.specs.Percent as spec;
+ghost use Rattle.star_meaning.specs.Values.{content};
+
+use star_machine::content::Content;
+use star_machine::cuts::{cut_at, first_ascii};
+use star_machine::fault::{Stop, faulted};
+use star_machine::machine::Machine;
+use star_machine::setting::Setting;
+use star_meaning::fault::Code;
+use star_store::values::{Cell, Value};
+use star_text::Text;
+use std::alloc::AllocError;
+
+/// The text of one value for a letter: `s` and `r` make its two texts, `d` that of an int. `BadValue` for another letter, `BadType`
+/// for `d` with what is no int.
+fn lettered(
+    machine: &mut Machine,
+    setting: &Setting,
+    levels: u32,
+    line: usize,
+    letter: u8,
+    value: Value,
+) -> Result<Text, Stop>
+    ensures { Gives (spec.lettered setting.now levels line letter value machine.old) result machine.new }
+{
+    match letter {
+        b's' => machine.str(setting, levels, line, value),
+        b'r' => machine.repr(setting, levels, line, value),
+        b'd' => {
+            let _int = machine.want_int(setting, line, value)?;
+            machine.repr(setting, levels, line, value)
+        }
+        _ => Err(faulted(Code::BadValue, line)),
+    }
+}
+
+/// Puts what a letter behind a `%` makes of the next value, or a `%` for another `%`; and how many values are used then.
+/// `BadValue` where no value is left.
+#[tactic(auto, using(crate::proofs::Filling::drop_some, crate::proofs::Filling::drop_none))]
+fn put_letter(
+    machine: &mut Machine,
+    setting: &Setting,
+    levels: u32,
+    line: usize,
+    out: &mut String,
+    letter: u8,
+    values: &[Value],
+    used: usize,
+) -> Result<usize, Stop>
+    requires { used ≤ length values.now }
+    ensures put { Fills (letter_put setting.now levels line letter (drop used values.now) (string_bytes out.old) machine.old) values.now result (string_bytes out.new) machine.new }
+    ensures within { IfOk result (λ n. n ≤ length values.now) }
+{
+    if letter == b'%' {
+        out.push('%')?;
+        return Ok(used);
+    }
+    let Some(value) = values.get(used).copied() else {
+        return Err(faulted(Code::BadValue, line));
+    };
+    let text = lettered(machine, setting, levels, line, letter, value)?;
+    out.push_str(text.as_str())?;
+    Ok(used + 1)
+}
+
+/// The format from left to right, with what is made of the values in the places of its letters. `BadValue` for another letter, and
+/// for too few or too many values.
+#[tactic(auto, using(crate::proofs::Filling::filled_turn))]
+fn filled(
+    machine: &mut Machine,
+    setting: &Setting,
+    levels: u32,
+    line: usize,
+    format: &str,
+    values: &[Value],
+) -> Result<Text, Stop>
+    ensures { Gives (spec.filled setting.now levels line false format.now values.now [] machine.old) result machine.new }
+{
+    let mut out = String::new(machine.alloc());
+    let mut rest = format;
+    let mut used = 0;
+    while let Some((before, _percent, after)) = cut_at(rest, b'%', b'%') {
+        out.push_str(before)?;
+        let Some((letter, more)) = first_ascii(after) else {
+            return Err(faulted(Code::BadValue, line));
+        };
+        used = put_letter(
+            machine, setting, levels, line, &mut out, letter, values, used,
+        )?;
+        rest = more;
+    }
+    out.push_str(rest)?;
+    if used < values.len() {
+        return Err(faulted(Code::BadValue, line));
+    }
+    Ok(Text::of(out)?)
+}
+
+/// The values that are put in: a tuple's items, else the one value.
+fn put_in(machine: &Machine, setting: &Setting, value: Value) -> Result<Vec<Value>, AllocError>
+    ensures { IfOk result (λ xs. xs.items ≡ spec.put_in (content setting.now machine.now value) value) }
+{
+    if let Content::Held(Cell::Tuple(items)) = machine.content(setting, value) {
+        return Vec::from_slice(machine.alloc(), items.as_slice());
+    }
+    Vec::from_slice(machine.alloc(), &[value])
+}
+
+/// `text % value`: the bytes of the string are paid, then the texts are made, then the new string is paid.
+pub fn percent(
+    machine: &mut Machine,
+    setting: &Setting,
+    levels: u32,
+    line: usize,
+    text: Value,
+    value: Value,
+) -> Result<Value, Stop>
+    ensures { Gives (spec.percent setting.now levels line (bytes_of (content setting.now machine.old text)) (content setting.now machine.old value) value machine.old) result machine.new }
+{
+    let format = machine.copied_text(setting, text)?;
+    let values = put_in(machine, setting, value)?;
+    machine.pay(line, format.as_str().len() as u128)?;
+    let made = filled(machine, setting, levels, line, format.as_str(), &values)?;
+    machine.new_text(line, made)
+}

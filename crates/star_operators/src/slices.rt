@@ -1,0 +1,299 @@
+//! `x[a:b:c]`.
+
+ghost use Rattle.std.specs.Prelude.{◌≡◌, ◌≢◌, ◌<◌, ◌≤◌, ◌+◌, ◌*◌, ◌+ℤ◌, ◌-ℤ◌, ◌*ℤ◌, ◌≤ℤ◌, ◌<ℤ◌, ◌++◌, IfOk, OnOk, false, length, neg_ℤ, pos, slice_get, string_bytes, true, unsigned_abs};
+ghost use Rattle.std.specs.Int.{int_gap};
+ghost use Rattle.star_store.specs.Range.{range_length};
+ghost use Rattle.star_machine.specs.Gives.{Gives};
+ghost use Rattle.star_operators.specs.Slices.{Parts, Pushes, as_range, has_low_ends, item_list, lies_within, run, slices_checked};
+ghost use Rattle.star_meaning.specs.Subscript as spec;
+ghost use Rattle.star_meaning.specs.Values.{content};
+
+use star_machine::content::Content;
+use star_machine::fault::{Stop, faulted};
+use star_machine::machine::Machine;
+use star_machine::setting::Setting;
+use star_machine::slices::{bound_of, want_part};
+use star_meaning::fault::Code;
+use star_store::values::{Cell, Value, Values};
+use star_text::Text;
+use std::alloc::{AllocError, Global};
+
+/// The places of a slice: from a start on, by steps, before a stop.
+#[derive(Clone, Copy)]
+struct Span {
+    start: i128,
+    stop: i128,
+    step: i64,
+}
+
+/// The places of a slice of so many items.
+fn span_of(len: usize, start: Option<i64>, stop: Option<i64>, step: i64) -> Span
+    ensures value { as_range result ≡ spec.slice_range len start stop step }
+    ensures low { has_low_ends result }
+    ensures upward { pos 0 <ℤ step → lies_within len result }
+{
+    let end = len as i128;
+    if step < 0 {
+        let start = bound_of(len, -1, end - 1, end - 1, start);
+        let stop = bound_of(len, -1, end - 1, -1, stop);
+        return Span { start, stop, step };
+    }
+    let start = bound_of(len, 0, end, 0, start);
+    let stop = bound_of(len, 0, end, end, stop);
+    Span { start, stop, step }
+}
+
+impl Span {
+    /// How many places there are.
+    fn count(self) -> u128
+        ensures { result ≡ range_length (as_range self) }
+    {
+        let step = self.step.unsigned_abs() as u128;
+        if self.step > 0 && self.start < self.stop {
+            return (self.stop.abs_diff(self.start) - 1) / step + 1;
+        }
+        if self.step < 0 && self.stop < self.start {
+            return (self.start.abs_diff(self.stop) - 1) / step + 1;
+        }
+        0
+    }
+
+    /// One of the places.
+    #[tactic(auto, using(crate::proofs::Ranges::within_up, crate::proofs::Ranges::within_down, crate::proofs::Ranges::steps_up, crate::proofs::Ranges::steps_down))]
+    fn place(self, at: u128) -> u128
+        requires low { has_low_ends self }
+        requires within { at < range_length (as_range self) }
+        ensures { result ≡ unsigned_abs ((as_range self).start +ℤ pos at *ℤ (as_range self).step) }
+    {
+        let step = self.step.unsigned_abs() as u128;
+        if self.step > 0 {
+            return place_above(self.start, self.stop, step, at);
+        }
+        place_below(self.start, self.stop, step, at)
+    }
+}
+
+/// The place so many steps above a start, if it lies below a stop.
+fn place_above(start: i128, stop: i128, step: u128, at: u128) -> u128
+    requires start { neg_ℤ (pos 1) ≤ℤ start }
+    requires within { at * step < int_gap start stop }
+    ensures { result ≡ unsigned_abs (start +ℤ pos (at * step)) }
+{
+    (start + (at * step) as i128).unsigned_abs()
+}
+
+/// The place so many steps below a start, if it lies above a stop.
+fn place_below(start: i128, stop: i128, step: u128, at: u128) -> u128
+    requires stop { neg_ℤ (pos 1) ≤ℤ stop }
+    requires within { at * step < int_gap stop start }
+    ensures { result ≡ unsigned_abs (start -ℤ pos (at * step)) }
+{
+    (start - (at * step) as i128).unsigned_abs()
+}
+
+/// The item at a place: none outside.
+fn item_at(items: &[Value], at: u128) -> Option<Value>
+    ensures { result ≡ slice_get items.now at }
+{
+    if at < items.len() as u128 {
+        items.get(at as usize).copied()
+    } else {
+        None
+    }
+}
+
+/// Adds the item at a place, if there is one.
+fn push_at(made: &mut Vec<Value>, items: &[Value], at: u128) -> Result<(), AllocError>
+    ensures { OnOk result (made.new.items ≡ made.old.items ++ item_list (slice_get items.now at)) }
+{
+    if let Some(item) = item_at(items, at) {
+        made.push(item)?;
+    }
+    Ok(())
+}
+
+/// The items at the places of a slice.
+fn picked(
+    alloc: Global,
+    items: &[Value],
+    start: Option<i64>,
+    stop: Option<i64>,
+    step: i64,
+) -> Result<Values, AllocError>
+    ensures { IfOk result (λ r. r ≡ spec.picked items.now (spec.places_of (spec.slice_range (length items.now) start stop step))) }
+{
+    picked_from(alloc, items, span_of(items.len(), start, stop, step))
+}
+
+/// The items at the places of a span.
+fn picked_from(alloc: Global, items: &[Value], span: Span) -> Result<Values, AllocError>
+    requires { has_low_ends span }
+    ensures { IfOk result (λ r. r ≡ spec.picked items.now (spec.places_of (as_range span))) }
+{
+    let mut made = Vec::new(alloc);
+    for i in 0..span.count() {
+        push_at(&mut made, items, span.place(i))?;
+    }
+    Ok(Values::new(made))
+}
+
+/// Whether no byte but the first of a character stands at a place.
+fn is_boundary(text: &[u8], at: usize) -> bool
+    ensures { result ≡ spec.is_boundary text.now at }
+{
+    match text.get(at) {
+        Some(byte) => *byte < 128 || *byte > 191,
+        None => true,
+    }
+}
+
+/// A part of a string: none where an end of it lies inside a character.
+#[tactic(auto, using(crate::proofs::Slicing::empty_part, crate::proofs::Slicing::whole_part, crate::proofs::Slicing::cut_before, crate::proofs::Slicing::cut_behind))]
+fn part(alloc: Global, text: &str, start: usize, stop: usize) -> Result<Option<Text>, AllocError>
+    requires start { start ≤ length text.now }
+    requires stop { stop ≤ length text.now }
+    ensures { IfOk result (λ o. Parts o text.now (run start stop)) }
+{
+    if stop <= start {
+        return Ok(Some(Text::new(alloc, "")?));
+    }
+    if !is_boundary(text.as_bytes(), start) {
+        return Ok(None);
+    }
+    if !is_boundary(text.as_bytes(), stop) {
+        return Ok(None);
+    }
+    Ok(Some(Text::new(alloc, &text[start..stop])?))
+}
+
+/// The bytes of a string at places: none where one of them is not ASCII.
+#[tactic(auto, using(crate::proofs::Slicing::spread_whole))]
+fn spread(alloc: Global, text: &str, span: Span) -> Result<Option<Text>, AllocError>
+    requires step { span.step ≢ pos 1 }
+    requires low { has_low_ends span }
+    ensures { IfOk result (λ o. Parts o text.now (as_range span)) }
+{
+    let mut made = String::new(alloc);
+    for i in 0..span.count() {
+        if !push_ascii(&mut made, byte_at(text.as_bytes(), span.place(i)))? {
+            return Ok(None);
+        }
+    }
+    Ok(Some(Text::of(made)?))
+}
+
+/// Puts a byte, if there is one, behind a text; false where it is not ASCII.
+fn push_ascii(made: &mut String, byte: Option<u8>) -> Result<bool, AllocError>
+    ensures { IfOk result (λ pushed. Pushes pushed byte (string_bytes made.old) (string_bytes made.new)) }
+{
+    let Some(byte) = byte else {
+        return Ok(true);
+    };
+    if byte >= 128 {
+        return Ok(false);
+    }
+    made.push(byte as char)?;
+    Ok(true)
+}
+
+/// The byte at a place: none outside.
+fn byte_at(text: &[u8], at: u128) -> Option<u8>
+    ensures { result ≡ slice_get text.now at }
+{
+    if at < text.len() as u128 {
+        text.get(at as usize).copied()
+    } else {
+        None
+    }
+}
+
+/// The part of a string at the places of a slice: none where it would cut a character.
+#[tactic(auto, using(crate::proofs::Slicing::run_is))]
+fn picked_text(alloc: Global, text: &str, span: Span) -> Result<Option<Text>, AllocError>
+    requires low { has_low_ends span }
+    requires upward { span.step ≡ pos 1 → lies_within (length text.now) span }
+    ensures { IfOk result (λ o. Parts o text.now (as_range span)) }
+{
+    if span.step == 1 {
+        return part(alloc, text, span.start as usize, span.stop as usize);
+    }
+    spread(alloc, text, span)
+}
+
+/// The part of a list, tuple or string at the places of a slice. `Cut` where it would cut a character, `BadType` for another value.
+fn sliced(
+    machine: &mut Machine,
+    setting: &Setting,
+    line: usize,
+    value: Value,
+    start: Option<i64>,
+    stop: Option<i64>,
+    step: i64,
+) -> Result<Value, Stop>
+    ensures { Gives (spec.sliced line (content setting.now machine.old value) (λ n. spec.slice_range n start stop step) machine.old) result machine.new }
+{
+    let alloc = machine.alloc();
+    match machine.content(setting, value) {
+        Content::Held(Cell::List(items)) => {
+            let items = picked(alloc, items.as_slice(), start, stop, step)?;
+            machine.new_list(line, items)
+        }
+        Content::Held(Cell::Tuple(items)) => {
+            let items = picked(alloc, items.as_slice(), start, stop, step)?;
+            machine.new_tuple(line, items)
+        }
+        Content::Held(Cell::Text(text)) => {
+            let span = span_of(text.as_str().len(), start, stop, step);
+            match picked_text(alloc, text.as_str(), span)? {
+                Some(text) => machine.new_text(line, text),
+                None => Err(faulted(Code::Cut, line)),
+            }
+        }
+        _ => Err(faulted(Code::BadType, line)),
+    }
+}
+
+/// That a value has slices: else `BadType`.
+fn check_slices(machine: &Machine, setting: &Setting, line: usize, value: Value) -> Result<(), Stop>
+    ensures { Gives (slices_checked setting.now line value machine.now) result machine.now }
+{
+    match machine.content(setting, value) {
+        Content::Held(Cell::List(_)) => Ok(()),
+        Content::Held(Cell::Tuple(_)) => Ok(()),
+        Content::Held(Cell::Text(_)) => Ok(()),
+        _ => Err(faulted(Code::BadType, line)),
+    }
+}
+
+fn stride_of(stride: Option<i64>) -> i64
+    ensures { result ≡ spec.stride_of stride }
+{
+    match stride {
+        Some(stride) => stride,
+        None => 1,
+    }
+}
+
+/// `x[a:b:c]`. `BadType` for what has no slices, then for the parts in order; `BadValue` for a stride of 0; `Cut` where a character
+/// would be cut.
+#[tactic(auto, unfolding(star_meaning::specs::Subscript::slice))]
+pub fn slice(
+    machine: &mut Machine,
+    setting: &Setting,
+    line: usize,
+    value: Value,
+    start: Option<Value>,
+    stop: Option<Value>,
+    stride: Option<Value>,
+) -> Result<Value, Stop>
+    ensures { Gives (spec.slice setting.now line value start stop stride machine.old) result machine.new }
+{
+    check_slices(machine, setting, line, value)?;
+    let start = want_part(machine, setting, line, start)?;
+    let stop = want_part(machine, setting, line, stop)?;
+    let step = stride_of(want_part(machine, setting, line, stride)?);
+    if step == 0 {
+        return Err(faulted(Code::BadValue, line));
+    }
+    sliced(machine, setting, line, value, start, stop, step)
+}

@@ -1,0 +1,7 @@
+pub mod Fits
+pub mod Reaches
+pub mod Views
+pub mod Gathered
+pub mod Refusals
+pub mod Frames
+pub mod Kept

@@ -1,0 +1,123 @@
+//! A file whose loads are asked for.
+
+ghost use Rattle.std.specs.Prelude.{◌≡◌, ◌<◌, ◌≤◌, ◌+◌, ◌^◌, None, length, map, IfSome};
+ghost use Rattle.star_plan.specs.Plan.{loaded, loads_of};
+ghost use Rattle.star_plan.specs.Results.{IsFirstBad};
+ghost use Rattle.star_outcome.specs.Fits.{IsAsked};
+ghost use Rattle.star_outcome.specs.Views.{AreGoodLoads, IsBadLoad, IsModuleAt};
+
+use crate::module::Module;
+use crate::naming::Naming;
+use std::alloc::{AllocError, Global};
+use std::marker::{Model, PhantomData};
+
+/// A file, how many of its loads were told, the first of these that is not good, and the modules of those before it.
+#[derive(Drop)]
+pub struct Frame<'s, J: Naming> {
+    n: usize,
+    told: usize,
+    failed: Option<usize>,
+    modules: Vec<&'s Module>,
+    of: PhantomData<J>,
+}
+
+impl<'s, J: Naming> Model for Frame<'s, J> {
+    ghost use Rattle.std.specs.Prelude.{map};
+    ghost use Rattle.star_outcome.specs.Frames.{FrameView, IsOpen};
+
+    ghost Value = { FrameView };
+
+    ghost view = { λ f. record {
+      n = f.n;
+      told = f.told;
+      failed = f.failed;
+      modules = map (λ m. m.now) f.modules.items;
+    } };
+
+    ghost invariant = { λ f. IsOpen J.files J.plan (record {
+      n = f.n;
+      told = f.told;
+      failed = f.failed;
+      modules = map (λ m. m.now) f.modules.items;
+    }) };
+}
+
+impl<'s, J: Naming> Frame<'s, J> {
+    /// A file that was begun.
+    pub fn new(alloc: Global, n: usize) -> Frame<'s, J>
+        requires { IsAsked J.files J.plan n }
+    {
+        Frame {
+            n,
+            told: 0,
+            failed: None,
+            modules: Vec::new(alloc),
+            of: PhantomData,
+        }
+    }
+
+    /// Its number.
+    pub fn number(&self) -> usize
+        ensures number { result ≡ self.now.n }
+        ensures asked { IsAsked J.files J.plan result }
+        ensures file { result < length J.files }
+    {
+        self.n
+    }
+
+    /// How many of its loads were told.
+    pub fn told(&self) -> usize
+        ensures told { result ≡ self.now.told }
+        ensures within { result ≤ length (loads_of J.plan self.now.n) }
+    {
+        self.told
+    }
+
+    /// The first of its loads that is not good.
+    pub fn failed(&self) -> Option<usize>
+        ensures same { result ≡ self.now.failed }
+        ensures bad { IfSome result (IsFirstBad J.plan (loaded J.plan self.now.n)) }
+    {
+        self.failed
+    }
+
+    /// The modules of its loads that were told, where all of these are good.
+    pub fn modules(&self) -> &[&'s Module]
+        ensures { self.now.failed ≡ None → AreGoodLoads J.plan self.now.n self.now.told (map (λ m. m.now) result.now) }
+    {
+        self.modules.as_slice()
+    }
+
+    /// Its next load is not good.
+    pub fn refuse(&mut self)
+        requires load { self.old.told < length (loads_of J.plan self.old.n) }
+        requires fits { self.old.told + 1 < 2 ^ 64 }
+        requires bad { IsBadLoad J.plan self.old.n self.old.told }
+    {
+        if self.failed.is_some() {
+            self.told += 1;
+            return;
+        }
+        self.failed = Some(self.told);
+        self.told += 1;
+    }
+
+    /// Its next load has ended with this module.
+    pub fn tell(&mut self, it: &'s Module) -> Result<(), AllocError>
+        requires load { self.old.told < length (loads_of J.plan self.old.n) }
+        requires fits { self.old.told + 1 < 2 ^ 64 }
+        requires right { IsModuleAt J.plan self.old.n self.old.told it.now }
+    {
+        if !it.is_good() {
+            self.refuse();
+            return Ok(());
+        }
+        if self.failed.is_some() {
+            self.told += 1;
+            return Ok(());
+        }
+        self.modules.push(it)?;
+        self.told += 1;
+        Ok(())
+    }
+}

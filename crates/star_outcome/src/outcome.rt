@@ -1,0 +1,182 @@
+//! What a run answers.
+
+ghost use Rattle.std.specs.Prelude.{◌≡◌, ◌<◌, length, slice_index_or, IfOk, Some};
+ghost use Rattle.star_outcome.specs.Kept.{AllKept, IsSound, KeptView};
+
+use crate::module::Module;
+use crate::shelf::Shelf;
+use crate::trace::Refused;
+use once_cell::race::Note;
+use std::alloc::{AllocError, Global};
+use std::marker::Model;
+
+/// A file's number, and a note of its cell.
+#[derive(Drop)]
+pub struct Kept {
+    pub number: usize,
+    pub note: Note<Module>,
+}
+
+impl Model for Kept {
+    ghost use Rattle.star_outcome.specs.Kept.{KeptView};
+
+    ghost Value = { KeptView };
+
+    ghost view = { λ k. record { number = k.number; cell = k.note.cell; known = k.note.known } };
+}
+
+impl Kept {
+    /// The number.
+    fn number(&self) -> usize
+        ensures { result ≡ self.now.number }
+    {
+        self.number
+    }
+
+    /// Another note that knows what its own does.
+    pub fn note(&mut self) -> Note<Module>
+        ensures same { self.new ≡ self.old }
+        ensures note { (result.cell ≡ self.old.cell) × (result.known ≡ self.old.known) }
+    {
+        self.note.again()
+    }
+
+    /// The same number, and another note that knows what this one does.
+    fn again(&mut self) -> Kept
+        ensures same { self.new ≡ self.old }
+        ensures kept { result ≡ self.old }
+    {
+        Kept {
+            number: self.number,
+            note: self.note.again(),
+        }
+    }
+}
+
+/// The same files, each with a note of its cell.
+fn kept_again(alloc: Global, kept: &mut [Kept]) -> Result<Vec<Kept>, AllocError>
+    ensures same { kept.new ≡ kept.old }
+    ensures kept { IfOk result (λ ks. ks.items ≡ kept.old) }
+{
+    let mut all = Vec::with_capacity(alloc, kept.len())?;
+    for i in 0..kept.len() {
+        all.push(kept[i].again())?;
+    }
+    Ok(all)
+}
+
+/// The modules of all reached files in order of their numbers, how many files were begun, and by each loader; and the refused loads.
+#[derive(Drop)]
+pub struct Run {
+    shelf: Shelf<Module>,
+    kept: Vec<Kept>,
+    begun: u32,
+    per_loader: [u32; 64],
+    refused: Vec<Refused>,
+}
+
+impl Model for Run {
+    ghost use Rattle.star_outcome.specs.Kept.{RunView, AllKept};
+
+    ghost Value = { RunView };
+
+    ghost view = { λ r. record {
+      cells = r.shelf;
+      kept = r.kept.items;
+      begun = r.begun;
+      per_loader = r.per_loader;
+      refused = r.refused.items;
+    } };
+
+    ghost invariant = { λ r. AllKept r.shelf r.kept.items };
+}
+
+impl Run {
+    /// The modules of a shelf, by these notes.
+    pub fn new(
+        shelf: Shelf<Module>,
+        kept: Vec<Kept>,
+        begun: u32,
+        per_loader: [u32; 64],
+        refused: Vec<Refused>,
+    ) -> Run
+        requires { AllKept shelf kept.items }
+        ensures { result ≡ record {
+          cells = shelf;
+          kept = kept.items;
+          begun = begun;
+          per_loader = per_loader;
+          refused = refused.items;
+        } }
+    {
+        Run {
+            shelf,
+            kept,
+            begun,
+            per_loader,
+            refused,
+        }
+    }
+
+    /// How many files were reached.
+    pub fn len(&self) -> usize
+        ensures { result ≡ length self.now.kept }
+    {
+        self.kept.len()
+    }
+
+    /// Whether no file was reached.
+    pub fn is_empty(&self) -> bool {
+        self.kept.is_empty()
+    }
+
+    /// How many files were begun.
+    pub fn begun(&self) -> u32
+        ensures { result ≡ self.now.begun }
+    {
+        self.begun
+    }
+
+    /// How many files each loader has begun, 0 after the last loader.
+    pub fn per_loader(&self) -> [u32; 64]
+        ensures { result ≡ self.now.per_loader }
+    {
+        self.per_loader
+    }
+
+    /// The loads that were refused since they lie on a load cycle.
+    pub fn refused(&self) -> &[Refused]
+        ensures { result.now ≡ self.now.refused }
+    {
+        self.refused.as_slice()
+    }
+
+    /// A note that knows the i-th module.
+    pub fn note(&mut self, i: usize) -> Note<Module>
+        requires { i < length self.old.kept }
+        ensures same { self.new ≡ self.old }
+        ensures note { (d : KeptView) → (result.cell ≡ (slice_index_or self.old.kept i d).cell) × (result.known ≡ (slice_index_or self.old.kept i d).known) }
+    {
+        self.kept[i].note()
+    }
+
+    /// The files, each with a note that knows its module.
+    pub fn kept(&mut self, alloc: Global) -> Result<Vec<Kept>, AllocError>
+        ensures same { self.new ≡ self.old }
+        ensures kept { IfOk result (λ ks. ks.items ≡ self.old.kept) }
+    {
+        kept_again(alloc, self.kept.as_mut_slice())
+    }
+
+    /// The i-th module, by its note.
+    pub fn module(&self, i: usize, note: Note<Module>) -> &Module
+        requires i { i < length self.now.kept }
+        requires note { (d : KeptView) → (note.cell ≡ (slice_index_or self.now.kept i d).cell) × (note.known ≡ (slice_index_or self.now.kept i d).known) }
+        ensures known { note.known ≡ Some result.now }
+        ensures sound { IsSound (length self.now.cells) result.now.number result.now }
+        ensures file { result.now.number < length self.now.cells }
+    {
+        let n = self.kept[i].number();
+        self.shelf.seen(n, note)
+    }
+}

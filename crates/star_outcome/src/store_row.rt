@@ -1,0 +1,168 @@
+//! The stores that a module reaches: its file's own, and those of all files to which its loads lead.
+
+ghost use Rattle.std.specs.Prelude.{◌≡◌, ◌++◌, ◌∷◌, [], IfOk, OnErr, OnOk};
+ghost use Rattle.star_outcome.specs.Reaches.{row_of, shared_of};
+
+use star_store::arena::Frozen;
+use std::alloc::{AllocError, Global};
+use std::marker::Model;
+use std::sync::Arc;
+
+/// How many stores a row has beside its blocks when they become a block, which others share.
+const MANY: usize = 32;
+
+/// The store of a file, which all that reach it share.
+#[derive(Drop)]
+pub struct Reach {
+    number: u32,
+    store: Arc<Frozen>,
+}
+
+impl Model for Reach {
+    ghost use Rattle.std.specs.Arc.{arc_value};
+    ghost use Rattle.star_outcome.specs.Reaches.{ReachView};
+
+    ghost Value = { ReachView };
+
+    ghost view = { λ r. record { number = r.number; store = arc_value r.store } };
+}
+
+impl Reach {
+    /// The store of this file.
+    pub(crate) fn new(alloc: Global, number: u32, store: Frozen) -> Result<Reach, AllocError>
+        ensures { IfOk result (λ r. r ≡ record { number = number; store = store }) }
+    {
+        let store = Arc::new(alloc, store)?;
+        Ok(Reach { number, store })
+    }
+
+    /// The number of its file.
+    pub(crate) fn number(&self) -> u32
+        ensures { result ≡ self.now.number }
+    {
+        self.number
+    }
+
+    /// The store.
+    pub(crate) fn store(&self) -> &Frozen
+        ensures { result.now ≡ self.now.store }
+    {
+        &*self.store
+    }
+
+    /// The same store, which one more shares.
+    fn again(&self) -> Result<Reach, AllocError>
+        ensures { IfOk result (λ r. r ≡ self.now) }
+    {
+        let store = Arc::try_clone(&self.store)?;
+        Ok(Reach {
+            number: self.number,
+            store,
+        })
+    }
+}
+
+/// A row of stores, of which the first stand in blocks that rows of other files share. So the rows of a chain of files
+/// take room in proportion to the chain, and a row is shared by few steps.
+#[derive(Drop)]
+pub struct StoreRow {
+    blocks: Vec<Arc<Vec<Reach>>>,
+    more: Vec<Reach>,
+}
+
+impl Model for StoreRow {
+    ghost use Rattle.star_outcome.specs.Reaches.{StoreRowView, shared_of};
+
+    ghost Value = { StoreRowView };
+
+    ghost view = { λ s. record { base = shared_of s.blocks.items; more = s.more.items } };
+}
+
+impl StoreRow {
+    /// No store.
+    pub(crate) fn new(alloc: Global) -> StoreRow
+        ensures { result ≡ record { base = []; more = [] } }
+    {
+        StoreRow {
+            blocks: Vec::new(alloc),
+            more: Vec::new(alloc),
+        }
+    }
+
+    /// The stores that stand in blocks of another row.
+    pub(crate) fn over(alloc: Global, other: &StoreRow) -> Result<StoreRow, AllocError>
+        ensures { IfOk result (λ s. s ≡ record { base = other.now.base; more = [] }) }
+    {
+        let blocks = share_each(alloc, other.blocks.as_slice())?;
+        Ok(StoreRow {
+            blocks,
+            more: Vec::new(alloc),
+        })
+    }
+
+    /// The blocks of its first stores.
+    pub(crate) fn blocks(&self) -> &[Arc<Vec<Reach>>]
+        ensures { shared_of result.now ≡ self.now.base }
+    {
+        self.blocks.as_slice()
+    }
+
+    /// How many of its stores others may share.
+    pub(crate) fn shared(&self) -> usize {
+        let mut count: usize = 0;
+        for block in &self.blocks {
+            count = count.saturating_add(block.len());
+        }
+        count
+    }
+
+    /// The stores after them.
+    pub(crate) fn more(&self) -> &[Reach]
+        ensures { result.now ≡ self.now.more }
+    {
+        self.more.as_slice()
+    }
+
+    /// One store more, which another row has as well. Where a growth is refused, the row is as it was.
+    pub(crate) fn push_again(&mut self, reach: &Reach) -> Result<(), AllocError>
+        ensures added { OnOk result (row_of self.new ≡ row_of self.old ++ reach.now ∷ []) }
+        ensures refused { OnErr result (self.new ≡ self.old) }
+    {
+        self.push(reach.again()?)
+    }
+
+    /// One store more. Where a growth is refused, the row is as it was.
+    pub(crate) fn push(&mut self, reach: Reach) -> Result<(), AllocError>
+        ensures added { OnOk result (row_of self.new ≡ row_of self.old ++ reach ∷ []) }
+        ensures refused { OnErr result (self.new ≡ self.old) }
+    {
+        self.more.push(reach)?;
+        Ok(())
+    }
+
+    /// The same stores, all of which others may share from now on where many could not be.
+    pub(crate) fn settled(self, alloc: Global) -> Result<StoreRow, AllocError>
+        ensures { IfOk result (λ s. row_of s ≡ row_of self) }
+    {
+        if self.more.len() < MANY {
+            return Ok(self);
+        }
+        let StoreRow { mut blocks, more } = self;
+        blocks.push(Arc::new(alloc, more)?)?;
+        Ok(StoreRow {
+            blocks,
+            more: Vec::new(alloc),
+        })
+    }
+}
+
+/// The same blocks, which one row more shares.
+fn share_each(alloc: Global, blocks: &[Arc<Vec<Reach>>]) -> Result<Vec<Arc<Vec<Reach>>>, AllocError>
+    ensures { IfOk result (λ shared. shared_of shared.items ≡ shared_of blocks.now) }
+{
+    let mut shared = Vec::with_capacity(alloc, blocks.len())?;
+    for block in blocks {
+        shared.push(Arc::try_clone(block)?)?;
+    }
+    Ok(shared)
+}

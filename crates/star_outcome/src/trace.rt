@@ -1,0 +1,92 @@
+//! The loads that were refused.
+
+ghost use Rattle.std.specs.Prelude.{◌≡◌, IfOk, IfSome};
+ghost use Rattle.boxcar.specs.Table.{Shows};
+ghost use Rattle.star_outcome.specs.Refusals.{AreRefusals, IsRefusal};
+
+use crate::naming::Naming;
+use boxcar::tag::Tag;
+use boxcar::{Keeps, Pushed};
+use std::alloc::{AllocError, Global};
+use std::marker::PhantomData;
+use std::sync::Wait;
+
+/// A load that was refused: a file, and the load's place among its loads.
+#[derive(Clone, Copy, Debug, PartialEq, Eq)]
+pub struct Refused {
+    pub file: usize,
+    pub index: usize,
+}
+
+/// The rule of a trace: the load lies on a load cycle.
+pub struct OnCycle<J>(PhantomData<J>);
+
+impl<J: Naming> Keeps<Refused> for OnCycle<J> {
+    ghost use Rattle.star_outcome.specs.Refusals.{IsRefusal};
+
+    ghost holds = { λ _ _ r. IsRefusal J.plan r.file r.index };
+}
+
+/// What reads an item back.
+pub type Token<J> = Pushed<Refused, Global, OnCycle<J>>;
+
+/// The refused loads, in the order of their places.
+#[derive(Drop)]
+pub struct Trace<J: Naming> {
+    items: boxcar::Vec<Refused, Global, OnCycle<J>>,
+}
+
+impl<J: Naming> Trace<J> {
+    /// No load.
+    pub fn new(alloc: Global) -> Result<Trace<J>, AllocError> {
+        Ok(Trace {
+            items: boxcar::Vec::with_rule(alloc, Tag::empty())?,
+        })
+    }
+
+    /// One more. It is refused only for want of memory.
+    pub fn push<R: Wait>(&self, rt: &R, refused: Refused) -> Result<Token<J>, AllocError>
+        requires { IsRefusal J.plan refused.file refused.index }
+        ensures { IfOk result (λ t. Shows self.now.items t × (t.value ≡ refused)) }
+    {
+        match self.items.push_shown(rt, refused) {
+            Ok(token) => Ok(token),
+            Err(_) => Err(AllocError),
+        }
+    }
+
+    /// The item of a token.
+    pub fn read(&self, token: &Token<J>) -> Refused
+        requires { Shows self.now.items token.now }
+        ensures { result ≡ token.now.value }
+    {
+        *self.items.value(token)
+    }
+
+    /// The item that has `i` items before it.
+    pub fn nth(&self, i: usize) -> Option<Refused>
+        ensures { IfSome result (λ r. IsRefusal J.plan r.file r.index) }
+    {
+        let mut left = i;
+        let items = self.items.iter();
+        for (_, item) in items {
+            if left == 0 {
+                return Some(*item);
+            }
+            left -= 1;
+        }
+        None
+    }
+
+    /// All items, in order.
+    pub fn all(&self, alloc: Global) -> Result<Vec<Refused>, AllocError>
+        ensures { IfOk result (λ all. AreRefusals J.plan all.items) }
+    {
+        let mut all = Vec::new(alloc);
+        let items = self.items.iter();
+        for (_, item) in items {
+            all.push(*item)?;
+        }
+        Ok(all)
+    }
+}

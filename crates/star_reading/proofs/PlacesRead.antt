@@ -1,0 +1,95 @@
+-- What is read, place by place.
+use Rattle.std.proofs.Common.{◌≡◌, ◌<◌, ◌≢◌, ◌⊎◌, inl, inr, ℕ, zero, suc, List, [], ◌∷◌, ◌++◌, length, get_or, Option, Some, None, refl, ap, sym, ◌∙◌, subst, arith, length-append}
+use Rattle.std.specs.Prelude.{All, IfSome, IsSome, slice_get, slice_set}
+use Rattle.std.specs.Option.{option_flatten}
+use Rattle.std.proofs.lemmas.Bool.{cases_order}
+use Rattle.std.proofs.lemmas.List.{get_or_append_left, get_or-set_other, get_or-set_same, length-set}
+use Rattle.std.proofs.lemmas.List.Elements.{All-append}
+use Rattle.std.proofs.lemmas.Option.{slice_get-get_or, slice_get_within}
+use Rattle.std.proofs.Math.Seq.{get_or-append_seam}
+use Rattle.star_label.specs.Files.{File}
+use Rattle.star_scope.specs.declared.program.Prelude.{Prelude}
+use Rattle.star_reading.specs.declared.reading.Read.{Read}
+use Rattle.star_reading.specs.declared.reading.Read.TheVariants as read
+use Rattle.star_reading.specs.Readings.{AreReadAs, IsPlaceable, IsPlaceOf, IsReadAs, Row, read_at}
+
+-- one more is read
+pub set_read : (files : List File) (prelude : Option Prelude) (row : Row) (k : ℕ) (r : Read) → k < length row → IsReadAs files prelude k r → AreReadAs files prelude row → AreReadAs files prelude (slice_set row k (Some r))
+set_read files prelude row k r inside is all n d h = by_order (cases_order n k)
+  where
+    short : n < length row
+    short = let e = length-set row k (Some r) in omega (arith, e, h)
+
+    other : n ≢ k → IsPlaceOf files prelude n (get_or (slice_set row k (Some r)) n d)
+    other ne = subst (IsPlaceOf files prelude n) (sym (get_or-set_other row k n (Some r) d ne)) (all n d short)
+
+    by_order : ((n ≡ k) ⊎ ((n < k) ⊎ (k < n))) → IsPlaceOf files prelude n (get_or (slice_set row k (Some r)) n d)
+    by_order (inl same) =
+        let here : IsPlaceOf files prelude k (get_or (slice_set row k (Some r)) k d) = subst (IsPlaceOf files prelude k) (sym (get_or-set_same row k (Some r) d inside)) is in
+        subst (λ i. IsPlaceOf files prelude i (get_or (slice_set row k (Some r)) i d)) (sym same) here
+    by_order (inr (inl less)) = other (omega arith)
+    by_order (inr (inr less)) = other (omega arith)
+
+-- what was read of a file is taken away
+pub unset_read : (files : List File) (prelude : Option Prelude) (row : Row) (k : ℕ) → k < length row → AreReadAs files prelude row → AreReadAs files prelude (slice_set row k None)
+unset_read files prelude row k inside all n d h = by_order (cases_order n k)
+  where
+    short : n < length row
+    short = let e = length-set row k None in omega (arith, e, h)
+
+    other : n ≢ k → IsPlaceOf files prelude n (get_or (slice_set row k None) n d)
+    other ne = subst (IsPlaceOf files prelude n) (sym (get_or-set_other row k n None d ne)) (all n d short)
+
+    by_order : ((n ≡ k) ⊎ ((n < k) ⊎ (k < n))) → IsPlaceOf files prelude n (get_or (slice_set row k None) n d)
+    by_order (inl same) =
+        let here : IsPlaceOf files prelude k (get_or (slice_set row k None) k d) = subst (IsPlaceOf files prelude k) (sym (get_or-set_same row k None d inside)) tt in
+        subst (λ i. IsPlaceOf files prelude i (get_or (slice_set row k None) i d)) (sym same) here
+    by_order (inr (inl less)) = other (omega arith)
+    by_order (inr (inr less)) = other (omega arith)
+
+-- what stands at a place is right
+pub read_there : (files : List File) (prelude : Option Prelude) (n : ℕ) (o : Option Read) → IsPlaceOf files prelude n o → IfSome o (IsReadAs files prelude n)
+read_there files prelude n None h = tt
+read_there files prelude n (Some r) h = h
+
+-- nothing is read
+pub none_read : (files : List File) (prelude : Option Prelude) (row : Row) → All (λ o. o ≡ None) row → AreReadAs files prelude row
+none_read files prelude row none n d h = subst (IsPlaceOf files prelude n) (sym (none n d h)) tt
+
+pub all_front : {X : Type 0} (P : X → Type 0) (xs : List X) (x : X) → All P (xs ++ x ∷ []) → All P xs
+all_front P xs x h k d lt = subst P (get_or_append_left xs (x ∷ []) d k lt) (h k d (let e = length-append xs (x ∷ []) in omega (arith, e, lt)))
+
+pub all_last : {X : Type 0} (P : X → Type 0) (xs : List X) (x : X) → All P (xs ++ x ∷ []) → P x
+all_last P xs x h = subst P (get_or-append_seam xs x [] x) (h (length xs) x (let e = length-append xs (x ∷ []) in omega (arith, e)))
+
+-- what is read of a file is of some file
+pub place_of_file : (files : List File) (prelude : Option Prelude) (n : ℕ) (o : Option Read) → IsPlaceOf files prelude n o → IsPlaceable o
+place_of_file files prelude n None h = tt
+place_of_file files prelude n (Some (read.Fault f)) h = tt
+place_of_file files prelude n (Some (read.Program p)) h = (n, prelude, h.0.statements, h.3.0, h.3.3)
+
+pub all_placeable : (files : List File) (prelude : Option Prelude) (row : Row) → AreReadAs files prelude row → All IsPlaceable row
+all_placeable files prelude row all n d h = place_of_file files prelude n (get_or row n d) (all n d h)
+
+-- what stands at a place
+pub place_read : (row : Row) (n : ℕ) (d : Option Read) → n < length row → read_at row n ≡ get_or row n d
+place_read row n d h = ap option_flatten (slice_get-get_or row n d h)
+
+pub some_of : {X : Type 0} (o : Option X) → IsSome o → (x : X) × (o ≡ Some x)
+some_of (Some x) h = (x, refl)
+some_of None h = absurd (let no : ⊥ = cc in no)
+
+-- what was read stands in the row
+pub read_within : (row : Row) (n : ℕ) → IsSome (read_at row n) → n < length row
+read_within row n h = split (slice_get row n) refl
+  where
+    split : (o : Option (Option Read)) → slice_get row n ≡ o → n < length row
+    split (Some x) e = slice_get_within row n x e
+    split None e = absurd (let there = some_of (read_at row n) h in let none : read_at row n ≡ None = ap option_flatten e in let both : None ≡ Some there.0 = sym none ∙ there.1 in let no : ⊥ = cc in no)
+
+pub all_push : {X : Type 0} (P : X → Type 0) (xs : List X) (x : X) → All P xs → P x → All P (xs ++ x ∷ [])
+all_push P xs x h here = All-append P xs (x ∷ []) h one
+  where
+    one : All P (x ∷ [])
+    one zero d lt = here
+    one (suc k) d lt = absurd (omega (arith, lt))

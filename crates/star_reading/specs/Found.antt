@@ -1,0 +1,63 @@
+-- What was found and read, while files are read, and of all files that roots reach.
+use Rattle.std.specs.Prelude.{◌≡◌, ◌<◌, ◌⊎◌, ℕ, Bool, true, false, List, None, Option, length, All, IsSome, Contains, slice_index_or}
+use Rattle.star_label.specs.Files.{File}
+use Rattle.star_scope.specs.declared.program.Prelude.{Prelude}
+use Rattle.star_plan.specs.Plan.{Plan}
+use Rattle.star_plan.specs.Reached.{IsReached}
+use Rattle.star_plan.specs.Reading.{IsPrelude}
+use Rattle.star_reading.specs.Readings.{AreReadAs, Row, loads_at, read_at, readings}
+
+-- numbers of files
+abbrev pub Within : List File → List ℕ → Type 0
+Within files ns = All (λ n. n < length files) ns
+
+-- the row has what is read of these files
+abbrev pub AreRead : Row → List ℕ → Type 0
+AreRead row ns = All (λ n. IsSome (read_at row n)) ns
+
+-- a row has all roots, and all files that its files load
+pub record IsClosed (row : Row) (roots : List ℕ) : Type 0 where
+  pub starts : AreRead row roots
+  pub loads : (n : ℕ) → All (λ l. IsSome (read_at row l.file)) (loads_at row n)
+
+-- what was read, as a plan for roots; which files are reached does not depend on the steps, nor on the prelude but by what was read
+abbrev pub plan_by : List ℕ → Row → Plan
+plan_by roots row = record { roots = roots; prelude = None; steps = 0; reads = readings row }
+
+abbrev pub IsReachedBy : List ℕ → Row → ℕ → Type 0
+IsReachedBy roots row n = IsReached (plan_by roots row) n
+
+-- a file was found
+abbrev pub IsMarked : List Bool → ℕ → Type 0
+IsMarked marks n = slice_index_or marks n false ≡ true
+
+-- some of these files are found as well, and wait to be read
+pub record Grew (ns : List ℕ) (marks : List Bool) (todo : List ℕ) (marks_after : List Bool) (todo_after : List ℕ) : Type 0 where
+  pub size : length marks_after ≡ length marks
+  pub stay : (k : ℕ) → IsMarked marks k → IsMarked marks_after k
+  pub fresh : (k : ℕ) → IsMarked marks_after k → IsMarked marks k ⊎ (Contains ns k × Contains todo_after k)
+  pub waiting : (k : ℕ) → Contains todo k → Contains todo_after k
+  pub found : All (IsMarked marks) todo → All (IsMarked marks_after) todo_after
+
+-- of these files, what was found so far: the roots, and the loads of all that was read; all of it is reached, and is read or waits to be
+pub record AreFound (files : List File) (prelude : Option Prelude) (roots : List ℕ) (row : Row) (marks : List Bool) (todo : List ℕ) : Type 0 where
+  pub right : AreReadAs files prelude row
+  pub sized : length row ≡ length files
+  pub marked : length marks ≡ length files
+  pub starts : All (IsMarked marks) roots
+  pub loads : (n : ℕ) → All (λ l. IsMarked marks l.file) (loads_at row n)
+  pub reached : (n : ℕ) → IsMarked marks n → IsReachedBy roots row n
+  pub read : (n : ℕ) → IsSome (read_at row n) → IsMarked marks n
+  pub done : (n : ℕ) → IsMarked marks n → IsSome (read_at row n) ⊎ Contains todo n
+  pub waits : All (IsMarked marks) todo
+
+-- the row has what is read of all files that the roots reach, and of no others
+pub record IsRowOf (files : List File) (prelude : Option Prelude) (roots : List ℕ) (row : Row) : Type 0 where
+  pub right : AreReadAs files prelude row
+  pub sized : length row ≡ length files
+  pub closed : IsClosed row roots
+  pub reached : (n : ℕ) → IsSome (read_at row n) → IsReachedBy roots row n
+
+-- so it is where the files see this prelude or are it
+abbrev pub IsReadOf : List File → List ℕ → Option ℕ → Row → Type 0
+IsReadOf files roots prelude row = (block : Option Prelude) × IsPrelude files prelude block × IsRowOf files block roots row

@@ -1,0 +1,78 @@
+-- What was read of files, by what the program has of it.
+use Rattle.std.specs.Prelude.{◌≡◌, ◌≢◌, ◌<◌, ℕ, All, List, map, length, Option, Some, None, Ok, Err, slice_get, slice_index_or}
+use Rattle.std.specs.Option.{option_map, option_flatten}
+use Rattle.star_label.specs.Files.{File, text_at}
+use Rattle.star_lex.specs.declared.token.SyntaxFault.{SyntaxFault}
+use Rattle.star_lex.specs.declared.token.SyntaxFault.TheVariants as syntax
+use Rattle.star_tree.specs.declared.tree.Tree.{Tree}
+use Rattle.star_parser.specs.Sources.{Parses}
+use Rattle.star_scope.specs.declared.loads.Load.{Load}
+use Rattle.star_scope.specs.declared.program.Prelude.{Prelude}
+use Rattle.star_scope.specs.Resolve.{Resolves}
+use Rattle.star_meaning.specs.Programs.{Files, IsOfFile, PlacedFile, placed_file}
+use Rattle.star_plan.specs.Plan.{Reading, Sound, Faulty, OfText, loads_in}
+use Rattle.star_plan.specs.Reading.{IsRead}
+use Rattle.star_reading.specs.Codes.{fault_of}
+use Rattle.star_reading.specs.declared.code.StaticFault.{StaticFault}
+use Rattle.star_reading.specs.declared.reading.Read.{Read}
+use Rattle.star_reading.specs.declared.reading.Read.TheVariants as read
+
+-- a row of what was read, by the files' numbers
+abbrev pub Row : Type 0
+Row = List (Option Read)
+
+abbrev pub reading_of : Read → Reading
+reading_of (read.Program p) = Sound p.statements.now p.loads.items
+reading_of (read.Fault f) = Faulty (fault_of f)
+
+-- the readings of a row
+abbrev pub readings : Row → List (Option Reading)
+readings row = map (option_map reading_of) row
+
+abbrev pub read_at : Row → ℕ → Option Read
+read_at row n = option_flatten (slice_get row n)
+
+-- the loads of a file in a row
+abbrev pub loads_at : Row → ℕ → List Load
+loads_at row n = loads_in (option_map reading_of (read_at row n))
+
+-- the loads of what was read: none where it is a static fault
+abbrev pub loads_read : Read → List Load
+loads_read r = loads_in (Some (reading_of r))
+
+-- the program of a file, placed
+abbrev pub placed_in : Option Read → Option PlacedFile
+placed_in None = None
+placed_in (Some (read.Program p)) = Some (placed_file p)
+placed_in (Some (read.Fault f)) = None
+
+abbrev pub table_of : Row → Files
+table_of row = map placed_in row
+
+-- the static fault of a text that does not parse
+abbrev pub IsFaultOf : List ℕ → StaticFault → Type 0
+IsFaultOf text f = (e : SyntaxFault) × Parses text (Err e) × (fault_of f ≡ OfText e) × (e ≢ syntax.Memory)
+
+-- this is read of the file n: its program, by its text and the prelude that it sees; or its static fault
+abbrev pub IsReadAs : List File → Option Prelude → ℕ → Read → Type 0
+IsReadAs files prelude n (read.Program p) = (tree : Tree) × Parses (text_at files n) (Ok tree) × (p.statements.now ≡ tree.statements) × Resolves files n prelude tree.statements (Ok p)
+IsReadAs files prelude n (read.Fault f) = IsRead files prelude n (Faulty (fault_of f))
+
+-- a place of a row has nothing, or what is read of the file
+abbrev pub IsPlaceOf : List File → Option Prelude → ℕ → Option Read → Type 0
+IsPlaceOf files prelude n None = Unit {0}
+IsPlaceOf files prelude n (Some r) = IsReadAs files prelude n r
+
+-- so is each of a row
+abbrev pub AreReadAs : List File → Option Prelude → Row → Type 0
+AreReadAs files prelude row = (n : ℕ) (d : Option Read) → n < length row → IsPlaceOf files prelude n (slice_index_or row n d)
+
+-- so is each of these, by its number
+abbrev pub AreAllReadAs : List File → Option Prelude → List (ℕ × Read) → Type 0
+AreAllReadAs files prelude reads = All (λ p. IsReadAs files prelude p.0 p.1) reads
+
+-- a program among what was read is that of some file
+abbrev pub IsPlaceable : Option Read → Type 0
+IsPlaceable None = Unit {0}
+IsPlaceable (Some (read.Program p)) = IsOfFile p
+IsPlaceable (Some (read.Fault f)) = Unit {0}

@@ -1,0 +1,187 @@
+//! Files that are read by several threads, before they are asked for.
+
+ghost use Rattle.std.specs.Prelude.{◌≡◌, ◌<◌, [], All, IfOk, IfSome, List, OnOk, Option, length, vec_len};
+ghost use Rattle.std.specs.Option.{option_copied};
+ghost use Rattle.star_label.specs.Files.{File};
+ghost use Rattle.star_scope.specs.declared.program.Prelude.{Prelude as PreludeView};
+ghost use Rattle.star_reading.specs.Readings.{AreReadAs, AreAllReadAs, IsReadAs};
+
+use crate::reading::{Found, Read, Reader, loads_of, numbers};
+use star_flow::{Flow, Schedule};
+use std::alloc::{AllocError, Global};
+use std::sync::Wait;
+use std::thread;
+use std::thread::Threads;
+
+/// For so many files a thread more reads.
+const SHARE: usize = 16;
+
+/// The files are read as they are found: first the roots, then the files that those load which were read.
+fn found_first(alloc: Global, count: usize, roots: &[usize]) -> Result<Flow, AllocError> {
+    let mut schedule = Schedule::new(vec![in alloc; 1; count]?, Vec::new(alloc));
+    schedule.ended(roots);
+    Ok(Flow::new(Vec::new(alloc), schedule))
+}
+
+impl<'s, 't> Reader<'s, 't> {
+    /// Reads a file, where there is one with this number, and answers which files it loads.
+    fn read_into<R: Wait>(
+        &self,
+        rt: &R,
+        reads: &mut Vec<(usize, Read<'t>)>,
+        n: usize,
+    ) -> Result<Vec<usize>, AllocError>
+        ensures { OnOk result (
+            AreAllReadAs self.now.files.now (option_copied self.now.prelude) reads.old.items
+            → AreAllReadAs self.now.files.now (option_copied self.now.prelude) reads.new.items) }
+    {
+        if n >= self.files.len() {
+            return Ok(Vec::new(self.alloc));
+        }
+        let read = self.read(rt, n)?;
+        let loads = numbers(self.alloc, loads_of(&read))?;
+        reads.push((n, read))?;
+        Ok(loads)
+    }
+
+    /// Reads one file after another, as they are handed out.
+    fn read_found<R: Wait>(&self, rt: &R, flow: &Flow) -> Result<Vec<(usize, Read<'t>)>, AllocError>
+        ensures { IfOk result (λ reads.
+            AreAllReadAs self.now.files.now (option_copied self.now.prelude) reads.items) }
+    {
+        let mut reads = Vec::new(self.alloc);
+        let mut loads = None;
+        for _ in rt.forever() {
+            let Some(n) = flow.take_after(rt, loads.as_deref()) else {
+                return Ok(reads);
+            };
+            loads = Some(self.read_into(rt, &mut reads, n)?);
+        }
+        unreachable!()
+    }
+
+    /// The same for one of several threads, none of which waits for one that could not go on.
+    fn read_share<R: Wait>(&self, rt: &R, flow: &Flow) -> Result<Vec<(usize, Read<'t>)>, AllocError>
+        ensures { IfOk result (λ reads.
+            AreAllReadAs self.now.files.now (option_copied self.now.prelude) reads.items) }
+    {
+        let reads = self.read_found(rt, flow);
+        if reads.is_err() {
+            flow.leave(rt);
+        }
+        reads
+    }
+
+    /// Reads the files that are handed out by so many threads.
+    fn read_shares<R: Threads + Wait + Sync>(
+        &self,
+        rt: &R,
+        flow: &Flow,
+        threads: usize,
+    ) -> Result<Vec<Result<Vec<(usize, Read<'t>)>, AllocError>>, AllocError>
+        ensures { IfOk result (λ shares. All (λ r. IfOk r (λ reads.
+            AreAllReadAs self.now.files.now (option_copied self.now.prelude) reads.items)) shares.items) }
+    {
+        thread::map_indices(
+            rt,
+            self.alloc,
+            threads,
+            &|_thread: usize| -> Result<Vec<(usize, Read)>, AllocError>
+                ensures { IfOk result (λ reads.
+                    AreAllReadAs self.entry.now.files.now (option_copied self.entry.now.prelude) reads.items) }
+            { self.read_share(rt, flow) },
+        )
+    }
+
+    /// Reads all files that the roots reach by at most so many threads. One thread reads nothing ahead.
+    pub(crate) fn read_ahead<R: Threads + Wait + Sync>(
+        &self,
+        rt: &R,
+        threads: usize,
+    ) -> Result<Found<'t>, AllocError>
+        ensures { IfOk result (λ ahead.
+            AreReadAs self.now.files.now (option_copied self.now.prelude) ahead.reads.items) }
+    {
+        let count = self.files.len();
+        let mut ahead = Found::new(self.alloc, count)?;
+        let threads = threads.min(count / SHARE + 1);
+        if threads < 2 {
+            return Ok(ahead);
+        }
+        let flow = found_first(self.alloc, count, self.roots)?;
+        let shares = self.read_shares(rt, &flow, threads)?;
+        ahead.add_shares(shares)?;
+        Ok(ahead)
+    }
+
+    /// What is read of a file: what was read of it ahead, or it is read now.
+    pub(crate) fn read_once<R: Wait>(
+        &self,
+        rt: &R,
+        ahead: &mut Found<'t>,
+        n: usize,
+    ) -> Result<Read<'t>, AllocError>
+        requires file { n < length self.now.files.now }
+        requires ahead { AreReadAs self.now.files.now (option_copied self.now.prelude) ahead.old.reads.items }
+        ensures read { IfOk result (IsReadAs self.now.files.now (option_copied self.now.prelude) n) }
+        ensures ahead { AreReadAs self.now.files.now (option_copied self.now.prelude) ahead.new.reads.items }
+    {
+        match ahead.take(n) {
+            Some(read) => Ok(read),
+            None => self.read(rt, n),
+        }
+    }
+}
+
+impl<'t> Found<'t> {
+    /// Takes what was read of a file.
+    fn take(&mut self, n: usize) -> Option<Read<'t>>
+        ensures { (files : List File) (prelude : Option PreludeView) → AreReadAs files prelude self.old.reads.items
+            → IfSome result (IsReadAs files prelude n) × AreReadAs files prelude self.new.reads.items }
+    {
+        if n < self.reads.len() {
+            self.reads[n].take()
+        } else {
+            None
+        }
+    }
+
+    /// A file was read, where there is one with this number.
+    fn add_read(&mut self, n: usize, read: Read<'t>) -> Result<(), AllocError>
+        ensures { OnOk result ((files : List File) (prelude : Option PreludeView) → IsReadAs files prelude n read.entry
+            → AreReadAs files prelude self.old.reads.items → AreReadAs files prelude self.new.reads.items) }
+    {
+        if n >= self.reads.len() {
+            return Ok(());
+        }
+        self.add(n, read)?;
+        Ok(())
+    }
+
+    /// Several files were read.
+    fn add_each(&mut self, reads: Vec<(usize, Read<'t>)>) -> Result<(), AllocError>
+        ensures { OnOk result ((files : List File) (prelude : Option PreludeView)
+            → AreAllReadAs files prelude reads.entry.items
+            → AreReadAs files prelude self.old.reads.items → AreReadAs files prelude self.new.reads.items) }
+    {
+        for (n, read) in reads {
+            self.add_read(n, read)?;
+        }
+        Ok(())
+    }
+
+    /// The shares of several threads were read.
+    fn add_shares(
+        &mut self,
+        shares: Vec<Result<Vec<(usize, Read<'t>)>, AllocError>>,
+    ) -> Result<(), AllocError>
+        ensures { OnOk result ((files : List File) (prelude : Option PreludeView)
+            → All (λ r. IfOk r (λ reads. AreAllReadAs files prelude reads.items)) shares.entry.items
+            → AreReadAs files prelude self.old.reads.items → AreReadAs files prelude self.new.reads.items) }
+    {
+        for share in shares {
+            self.add_each(share?)?;
+        }
+        Ok(())
+    }
+}

@@ -1,0 +1,120 @@
+//! Static faults, and the words of the report for all faults.
+
+ghost use Rattle.std.specs.Prelude.{◌≡◌, ◌≢◌, MatchOption};
+ghost use Rattle.star_lex.specs.declared.token.SyntaxFault.TheVariants as text;
+ghost use Rattle.star_scope.specs.declared.error.ScopeFault.TheVariants as names;
+ghost use Rattle.star_plan.specs.Plan.{OfText, OfNames};
+ghost use Rattle.star_plan.specs.Text.{code_word, static_line};
+ghost use Rattle.star_reading.specs.Codes.{fault_of, word_of};
+
+use star_lex::token::SyntaxFault;
+use star_meaning::fault::Code;
+use star_scope::error::ScopeFault;
+
+/// Why a file is not run.
+#[derive(Clone, Copy, Debug, PartialEq, Eq)]
+pub enum StaticCode {
+    BadToken,
+    BadIndent,
+    Nested,
+    Syntax,
+    Undefined,
+    BadPlace,
+    Conflict,
+    Private,
+    NoFile,
+    BadLabel,
+}
+
+/// A static fault and its line, which is 0 for bad syntax.
+#[derive(Clone, Copy, Debug, PartialEq, Eq)]
+pub struct StaticFault {
+    pub code: StaticCode,
+    pub line: usize,
+}
+
+/// The static fault that the parser has found: none for want of memory.
+pub fn of_syntax(fault: SyntaxFault) -> Option<StaticFault>
+    ensures { MatchOption result (fault ≡ text.Memory) (λ f. (fault_of f ≡ OfText fault) × (fault ≢ text.Memory)) }
+{
+    let (code, line) = match fault {
+        SyntaxFault::BadToken { line } => (StaticCode::BadToken, line),
+        SyntaxFault::BadIndent { line } => (StaticCode::BadIndent, line),
+        SyntaxFault::TooNested { line } => (StaticCode::Nested, line),
+        SyntaxFault::BadSyntax => (StaticCode::Syntax, 0),
+        SyntaxFault::Memory => return None,
+    };
+    Some(StaticFault { code, line })
+}
+
+/// The static fault that the resolver has found: none for want of memory.
+pub fn of_scope(fault: ScopeFault) -> Option<StaticFault>
+    ensures { MatchOption result (fault ≡ names.Memory) (λ f. (fault_of f ≡ OfNames fault) × (fault ≢ names.Memory)) }
+{
+    let (code, line) = match fault {
+        ScopeFault::Undefined { line } => (StaticCode::Undefined, line),
+        ScopeFault::BadPlace { line } => (StaticCode::BadPlace, line),
+        ScopeFault::Conflict { line } => (StaticCode::Conflict, line),
+        ScopeFault::Private { line } => (StaticCode::Private, line),
+        ScopeFault::NoFile { line } => (StaticCode::NoFile, line),
+        ScopeFault::BadLabel { line } => (StaticCode::BadLabel, line),
+        ScopeFault::Memory => return None,
+    };
+    Some(StaticFault { code, line })
+}
+
+impl StaticCode {
+    /// Its word in the report.
+    pub fn text(self) -> &'static str
+        ensures { result.now ≡ word_of self }
+    {
+        match self {
+            StaticCode::BadToken => "bad_token",
+            StaticCode::BadIndent => "bad_indent",
+            StaticCode::Nested => "nested",
+            StaticCode::Syntax => "syntax",
+            StaticCode::Undefined => "undefined",
+            StaticCode::BadPlace => "bad_place",
+            StaticCode::Conflict => "conflict",
+            StaticCode::Private => "private",
+            StaticCode::NoFile => "no_file",
+            StaticCode::BadLabel => "bad_label",
+        }
+    }
+}
+
+impl StaticFault {
+    /// Its line in the report.
+    pub fn shown_line(self) -> usize
+        ensures { result ≡ static_line (fault_of self) }
+    {
+        match self.code {
+            StaticCode::Syntax => 0,
+            _ => self.line,
+        }
+    }
+}
+
+/// The word of a fault in the report.
+pub fn code_text(code: Code) -> &'static str
+    ensures { result.now ≡ code_word code }
+{
+    match code {
+        Code::Frozen => "frozen",
+        Code::Iterating => "iterating",
+        Code::BadType => "type",
+        Code::Index => "index",
+        Code::Key => "key",
+        Code::Overflow => "overflow",
+        Code::Unbound => "unbound",
+        Code::Recursion => "recursion",
+        Code::Args => "args",
+        Code::Zero => "zero",
+        Code::Fail => "fail",
+        Code::NoName => "no_name",
+        Code::Steps => "steps",
+        Code::Deep => "deep",
+        Code::Cut => "cut",
+        Code::BadValue => "value",
+    }
+}

@@ -1,0 +1,299 @@
+//! The reading of all files that roots reach, before any body runs.
+
+ghost use Rattle.std.specs.Prelude.{◌≡◌, ◌<◌, ◌∷◌, ◌++◌, None, Some, Ok, [], All, IfOk, IfSome, IsTrue, IsFalse};
+ghost use Rattle.std.specs.Prelude.{IsSome, MatchOption, MatchResult, OnOk, false, length, map, replicate};
+ghost use Rattle.std.specs.Prelude.{slice_set, vec_len};
+ghost use Rattle.std.specs.Option.{option_copied};
+ghost use Rattle.star_parser.specs.Sources.{Parses};
+ghost use Rattle.star_reading.specs.Found.{AreFound, Grew, IsMarked, IsRowOf, Within};
+ghost use Rattle.star_reading.specs.Readings.{AreReadAs, IsFaultOf, IsReadAs, loads_read, read_at};
+
+use crate::code::{StaticFault, of_scope, of_syntax};
+use star_label::files::Files as Labels;
+use star_parser::parse;
+use star_scope::loads::Load;
+use star_scope::program::{Prelude, Program, resolve};
+use star_tree::tree::Tree;
+use std::alloc::{AllocError, Global};
+use std::sync::Wait;
+use std::thread::Threads;
+
+/// What was read of a file: its program, or its static fault.
+#[derive(Drop)]
+pub enum Read<'t> {
+    Program(Program<'t>),
+    Fault(StaticFault),
+}
+
+/// The trees of the files that a run reads.
+#[derive(Drop)]
+pub struct Trees {
+    /// Each tree stays where it is while more are read.
+    pub all: boxcar::Vec<Tree>,
+}
+
+impl Trees {
+    /// No tree yet.
+    pub fn new(alloc: Global) -> Result<Trees, AllocError> {
+        Ok(Trees {
+            all: boxcar::Vec::new(alloc)?,
+        })
+    }
+}
+
+/// What a run has read of its files, by their numbers: none of a file that no root reaches.
+#[derive(Drop)]
+pub struct Reads<'t> {
+    /// A place for each file of the run.
+    pub all: Vec<Option<Read<'t>>>,
+}
+
+impl<'t> Reads<'t> {
+    /// Nothing yet.
+    pub fn new(alloc: Global) -> Reads<'t> {
+        Reads {
+            all: Vec::new(alloc),
+        }
+    }
+}
+
+/// What files are read by: their texts, the place of their trees, the prelude, and the roots.
+#[derive(Drop)]
+pub struct Reader<'s, 't> {
+    pub alloc: Global,
+    pub files: &'s Labels,
+    pub trees: &'t boxcar::Vec<Tree>,
+    pub prelude: Option<&'s Prelude<'t>>,
+    pub roots: &'s [usize],
+}
+
+/// The tree of a text, which is kept with the other trees: its static fault where it does not parse.
+pub fn tree_of<'t, R: Wait>(
+    rt: &R,
+    alloc: Global,
+    trees: &'t boxcar::Vec<Tree>,
+    text: &str,
+) -> Result<Result<&'t Tree, StaticFault>, AllocError>
+    ensures { IfOk result (λ tree. MatchResult tree
+        (λ t. Parses text.now (Ok t.now))
+        (IsFaultOf text.now)) }
+{
+    let tree = match parse(alloc, text) {
+        Ok(tree) => tree,
+        Err(fault) => {
+            return match of_syntax(fault) {
+                Some(fault) => Ok(Err(fault)),
+                None => Err(AllocError),
+            };
+        }
+    };
+    match trees.push_shown(rt, tree) {
+        Ok(pushed) => Ok(Ok(trees.value(&pushed))),
+        Err(_) => Err(AllocError),
+    }
+}
+
+impl<'s, 't> Reader<'s, 't> {
+    /// Reads and resolves a file.
+    pub(crate) fn read<R: Wait>(&self, rt: &R, n: usize) -> Result<Read<'t>, AllocError>
+        requires { n < length self.now.files.now }
+        ensures { IfOk result (IsReadAs self.now.files.now (option_copied self.now.prelude) n) }
+    {
+        let tree = match tree_of(rt, self.alloc, self.trees, self.files.text(n))? {
+            Ok(tree) => tree,
+            Err(fault) => return Ok(Read::Fault(fault)),
+        };
+        match resolve(self.alloc, self.files, n, tree, self.prelude) {
+            Ok(program) => Ok(Read::Program(program)),
+            Err(fault) => match of_scope(fault) {
+                Some(fault) => Ok(Read::Fault(fault)),
+                None => Err(AllocError),
+            },
+        }
+    }
+
+    /// Reads the next file that was found, unless it was read.
+    fn read_next<R: Wait>(
+        &self,
+        rt: &R,
+        found: &mut Found<'t>,
+        ahead: &mut Found<'t>,
+        n: usize,
+    ) -> Result<(), AllocError>
+        requires ahead { AreReadAs self.now.files.now (option_copied self.now.prelude) ahead.old.reads.items }
+        requires file { n < length self.now.files.now }
+        requires prelude { IfSome self.now.prelude (λ p. p.now.file < length self.now.files.now) }
+        requires found { AreFound self.now.files.now (option_copied self.now.prelude) self.now.roots.now
+            found.old.reads.items found.old.marks.items (found.old.todo.items ++ n ∷ []) }
+        ensures found { OnOk result (AreFound self.now.files.now (option_copied self.now.prelude) self.now.roots.now
+            found.new.reads.items found.new.marks.items found.new.todo.items) }
+        ensures ahead { AreReadAs self.now.files.now (option_copied self.now.prelude) ahead.new.reads.items }
+    {
+        if found.is_read(n) {
+            return Ok(());
+        }
+        let read = self.read_once(rt, ahead, n)?;
+        found.add(n, read)?;
+        Ok(())
+    }
+
+    /// The roots are found, and nothing is read yet.
+    fn start(&self) -> Result<Found<'t>, AllocError>
+        requires { Within self.now.files.now self.now.roots.now }
+        ensures { IfOk result (λ f. AreFound self.now.files.now (option_copied self.now.prelude) self.now.roots.now
+            f.reads.items f.marks.items f.todo.items) }
+    {
+        let mut found = Found::new(self.alloc, self.files.len())?;
+        found.mark_each(self.roots)?;
+        Ok(found)
+    }
+
+    /// Reads all files that the roots reach, by so many threads: the roots, and the loads of all that is read. A file
+    /// with a static fault has no loads.
+    pub fn read_all<R: Threads + Wait + Sync>(
+        &self,
+        rt: &R,
+        threads: usize,
+    ) -> Result<Vec<Option<Read<'t>>>, AllocError>
+        requires roots { Within self.now.files.now self.now.roots.now }
+        requires prelude { IfSome self.now.prelude (λ p. p.now.file < length self.now.files.now) }
+        ensures { IfOk result (λ row. IsRowOf self.now.files.now (option_copied self.now.prelude)
+            self.now.roots.now row.items) }
+    {
+        let mut ahead = self.read_ahead(rt, threads)?;
+        let mut found = self.start()?;
+        for _ in rt.forever() {
+            let Some(n) = found.next() else {
+                let Found { reads, .. } = found;
+                return Ok(reads);
+            };
+            self.read_next(rt, &mut found, &mut ahead, n)?;
+        }
+        unreachable!()
+    }
+}
+
+/// The loads of what was read: none where it is a static fault.
+pub(crate) fn loads_of<'a>(read: &'a Read) -> &'a [Load]
+    ensures { result.now ≡ loads_read read.now }
+{
+    match read {
+        Read::Program(program) => program.loads(),
+        Read::Fault(_) => &[],
+    }
+}
+
+/// The numbers of the files that loads lead to.
+pub fn numbers(alloc: Global, loads: &[Load]) -> Result<Vec<usize>, AllocError>
+    ensures { IfOk result (λ v. v.items ≡ map (λ l. l.file) loads.now) }
+{
+    loads.iter().map(|load| load.file).collect(alloc)
+}
+
+/// The files that were found so far: what was read of them, whether each was found, and the numbers of those that wait
+/// to be read.
+#[derive(Drop)]
+pub(crate) struct Found<'t> {
+    pub reads: Vec<Option<Read<'t>>>,
+    pub marks: Vec<bool>,
+    pub todo: Vec<usize>,
+}
+
+impl<'t> Found<'t> {
+    /// Nothing of so many files.
+    pub(crate) fn new(alloc: Global, count: usize) -> Result<Found<'t>, AllocError>
+        ensures reads { IfOk result (λ f. vec_len f.reads ≡ count) }
+        ensures none { IfOk result (λ f. All (λ o. o ≡ None) f.reads.items) }
+        ensures marks { IfOk result (λ f. f.marks.items ≡ replicate count false) }
+        ensures todo { IfOk result (λ f. f.todo.items ≡ []) }
+    {
+        let mut reads = Vec::new(alloc);
+        for _ in 0..count {
+            reads.push(None)?;
+        }
+        Ok(Found {
+            reads,
+            marks: vec![in alloc; false; count]?,
+            todo: Vec::new(alloc),
+        })
+    }
+
+    /// Takes a file that waits to be read.
+    fn next(&mut self) -> Option<usize>
+        ensures reads { self.new.reads ≡ self.old.reads }
+        ensures marks { self.new.marks ≡ self.old.marks }
+        ensures todo { MatchOption result
+            (self.old.todo.items ≡ [])
+            (λ n. self.old.todo.items ≡ self.new.todo.items ++ n ∷ []) }
+    {
+        self.todo.pop()
+    }
+
+    /// Whether a file was read.
+    fn is_read(&self, n: usize) -> bool
+        ensures yes { IsTrue result → IsSome (read_at self.now.reads.items n) }
+        ensures no { IsFalse result → read_at self.now.reads.items n ≡ None }
+    {
+        match self.reads.get(n) {
+            Some(Some(_)) => true,
+            _ => false,
+        }
+    }
+
+    /// A file is found.
+    fn mark(&mut self, n: usize) -> Result<(), AllocError>
+        ensures reads { self.new.reads ≡ self.old.reads }
+        ensures grew { OnOk result (Grew (n ∷ []) self.old.marks.items self.old.todo.items
+            self.new.marks.items self.new.todo.items) }
+        ensures there { OnOk result (n < length self.old.marks.items → IsMarked self.new.marks.items n) }
+    {
+        if n < self.marks.len() && !self.marks[n] {
+            self.todo.push(n)?;
+            self.marks[n] = true;
+        }
+        Ok(())
+    }
+
+    /// Several files are found.
+    pub(crate) fn mark_each(&mut self, numbers: &[usize]) -> Result<(), AllocError>
+        ensures reads { self.new.reads ≡ self.old.reads }
+        ensures grew { OnOk result (Grew numbers.now self.old.marks.items self.old.todo.items
+            self.new.marks.items self.new.todo.items) }
+        ensures there { OnOk result (All
+            (λ n. n < length self.old.marks.items → IsMarked self.new.marks.items n) numbers.now) }
+    {
+        for n in numbers {
+            self.mark(*n)?;
+        }
+        Ok(())
+    }
+
+    /// The files of loads are found.
+    fn mark_loads(&mut self, loads: &[Load]) -> Result<(), AllocError>
+        ensures reads { self.new.reads ≡ self.old.reads }
+        ensures grew { OnOk result (Grew (map (λ l. l.file) loads.now) self.old.marks.items self.old.todo.items
+            self.new.marks.items self.new.todo.items) }
+        ensures there { OnOk result (All
+            (λ l. l.file < length self.old.marks.items → IsMarked self.new.marks.items l.file) loads.now) }
+    {
+        for load in loads {
+            self.mark(load.file)?;
+        }
+        Ok(())
+    }
+
+    /// A file was read, and its loads are found.
+    pub(crate) fn add(&mut self, n: usize, read: Read<'t>) -> Result<(), AllocError>
+        requires { n < vec_len self.old.reads }
+        ensures reads { OnOk result (self.new.reads.items ≡ slice_set self.old.reads.items n (Some read.entry)) }
+        ensures grew { OnOk result (Grew (map (λ l. l.file) (loads_read read.entry))
+            self.old.marks.items self.old.todo.items self.new.marks.items self.new.todo.items) }
+        ensures there { OnOk result (All
+            (λ l. l.file < length self.old.marks.items → IsMarked self.new.marks.items l.file)
+            (loads_read read.entry)) }
+    {
+        self.mark_loads(loads_of(&read))?;
+        self.reads[n] = Some(read);
+        Ok(())
+    }
+}

@@ -1,0 +1,146 @@
+-- The files by which files fail, as they are found among the modules of a run.
+use Rattle.std.proofs.Common.{arith, ◌≡◌, ◌<◌, ◌≤◌, ◌+◌, ◌↔◌, ◌⊎◌, inl, inr, ℕ, zero, suc, List, [], map, length, replicate, get_or, Option, Some, None, refl, ap, sym, subst, ◌∙◌}
+use Rattle.std.specs.Prelude.{All, Contains, IfSome, slice_get, slice_index_or, slice_set}
+use Rattle.std.proofs.lemmas.Bool.{cases_eq, cases_lt}
+use Rattle.std.proofs.lemmas.List.{get_or-map, length-map}
+use Rattle.std.proofs.lemmas.List.Elements.{All-contains}
+use Rattle.std.proofs.lemmas.Option.{slice_get-get_or}
+use Rattle.star_meaning.specs.Module.{Good as WentWell}
+use Rattle.star_outcome.specs.Views.{shown_texts}
+use Rattle.star_plan.specs.Causes.{FailsBy}
+use Rattle.star_plan.specs.Plan.{Plan, Reading, loaded, loads_in, read_of}
+use Rattle.star_plan.specs.Reached.{IsReached}
+use Rattle.star_plan.proofs.Causes.{one_next, stops}
+use Rattle.star_plan.proofs.Outcomes.{no_bad}
+use Rattle.star_cause.specs.Ends.{AreWithin}
+use Rattle.star_cause.specs.Ways.{Goes, Nexts}
+use Rattle.star_cause.proofs.Settles.{get_set_other, get_set_same}
+use Rattle.star_reading.specs.Codes.{fault_of}
+use Rattle.star_report.specs.Fails.{AreBelow, AreFails, AreFailsBelow}
+use Rattle.star_outcome.specs.Kept.{AreModules, KeptView}
+use Rattle.star_outcome.specs.Views.{IsEnd, IsModule}
+use Rattle.star_outcome.specs.declared.module.Ended.{Ended}
+use Rattle.star_outcome.specs.declared.module.Ended.TheVariants.{Static, Load as Unloaded, Stopped, Good}
+use Rattle.star_outcome.specs.declared.module.Module.{Module}
+
+-- ---- of one module
+
+no_load : (plan : Plan) (n m : ℕ) (e : Ended) → IsEnd plan n e → ((index line : ℕ) → e ≡ Unloaded index line → ⊥) → FailsBy plan n m → ⊥
+no_load plan n m (Static f) is other fails = stops plan n m (inl (fault_of f, is)) fails
+no_load plan n m (Unloaded index line) is other fails = other index line refl
+no_load plan n m (Stopped code line lines) is other fails = stops plan n m (inr (record { code = code; line = line }, lines.items, is)) fails
+no_load plan n m (Good body) is other fails = no_bad plan is.outcome.0 n (WentWell is.shelf is.globals (shown_texts body.shown.items) body.lines.items) fails.0 is.outcome.1 fails.1
+
+-- a module that ended otherwise fails by no file
+pub fails_not : (it : Module) → ((index line : ℕ) → it.ended ≡ Unloaded index line → ⊥) → (plan : Plan) (n m : ℕ) → IsModule plan n it → (None ≡ Some m) ↔ FailsBy plan n m
+fails_not it other plan n m is = (λ e. absurd (let no : ⊥ = cc in no), λ fails. absurd (no_load plan n m it.ended is.ended other fails))
+
+fails_at : (plan : Plan) (n index line : ℕ) (it : Module) → it.ended ≡ Unloaded index line → index < length it.loads.items → IsModule plan n it → FailsBy plan n (get_or it.loads.items index 0)
+fails_at plan n index line it e inside is =
+    let end : IsEnd plan n (Unloaded index line) = subst (IsEnd plan n) e is.ended in
+    let there : slice_get it.loads.items index ≡ Some (get_or it.loads.items index 0) = slice_get-get_or it.loads.items index 0 inside in
+    (index, end.0, subst (λ ls. slice_get ls index ≡ Some (get_or it.loads.items index 0)) is.loads there)
+
+-- .. and one that ended by a load fails by its file
+pub fails_by : (it : Module) (index line : ℕ) → it.ended ≡ Unloaded index line → index < length it.loads.items → (x : ℕ) → x ≡ get_or it.loads.items index 0 → (plan : Plan) (n m : ℕ) → IsModule plan n it → (Some x ≡ Some m) ↔ FailsBy plan n m
+fails_by it index line e inside x at plan n m is = (to, from)
+  where
+    own : FailsBy plan n x
+    own = subst (FailsBy plan n) (sym at) (fails_at plan n index line it e inside is)
+
+    to : Some x ≡ Some m → FailsBy plan n m
+    to both = subst (FailsBy plan n) (let same : x ≡ m = cc in same) own
+
+    from : FailsBy plan n m → Some x ≡ Some m
+    from fails = ap Some (one_next plan n x m own fails)
+
+pub next_below : (count : ℕ) (loads : List ℕ) (o : Option ℕ) → All (λ k. k < count) loads → IfSome o (Contains loads) → (m : ℕ) → o ≡ Some m → m < count
+next_below count loads o all among m e = All-contains (λ k. k < count) loads m all (subst (λ r. IfSome r (Contains loads)) e among)
+
+-- ---- of the modules so far
+
+none_there : (count n m : ℕ) → slice_get (replicate {A = Option ℕ} count None) n ≡ Some (Some m) → ⊥
+none_there zero n m is = let no : ⊥ = cc in no
+none_there (suc count) zero m is = let no : ⊥ = cc in no
+none_there (suc count) (suc n) m is = none_there count n m is
+
+pub below_none : (count : ℕ) → AreBelow count (replicate count None)
+below_none count n m goes = absurd (none_there count n m goes)
+
+pub fails_none : (plan : Plan) (ks : List KeptView) (count : ℕ) → AreFailsBelow plan ks 0 (replicate count None)
+fails_none plan ks count = record {
+  right = λ n m goes. absurd (none_there count n m goes);
+  all = λ k d less. absurd (let no : ⊥ = omega (arith, less) in no);
+}
+
+pub below_more : (count : ℕ) (nexts : Nexts) (n : ℕ) (o : Option ℕ) → n < length nexts → ((m : ℕ) → o ≡ Some m → m < count) → AreBelow count nexts → AreBelow count (slice_set nexts n o)
+below_more count nexts n o inside low was x m goes = turn (cases_eq x n)
+  where
+    turn : ((x ≡ n) ⊎ (x ≡ n → ⊥)) → m < count
+    turn (inl same) =
+        let both : Some o ≡ Some (Some m) = sym (get_set_same nexts n o inside) ∙ (ap (slice_get (slice_set nexts n o)) (sym same) ∙ goes) in
+        low m (let one : o ≡ Some m = cc in one)
+    turn (inr other) = was x m (sym (get_set_other nexts n x o other) ∙ goes)
+
+pub fails_more : (plan : Plan) (ks : List KeptView) (i n : ℕ) (nexts : Nexts) (o : Option ℕ) → ((d : KeptView) → (slice_index_or ks i d).number ≡ n) → n < length nexts → ((m : ℕ) → (o ≡ Some m) ↔ FailsBy plan n m)
+    → AreFailsBelow plan ks i nexts → AreFailsBelow plan ks (i + 1) (slice_set nexts n o)
+fails_more plan ks i n nexts o at inside own was = record {
+  right = λ x m goes. right_at x m goes (cases_eq x n);
+  all = λ k d less m fails. all_at (slice_index_or ks k d).number m fails (cases_eq (slice_index_or ks k d).number n) (λ other. was.all k d (low k d less other) m fails);
+}
+  where
+    right_at : (x m : ℕ) → Goes (slice_set nexts n o) x m → ((x ≡ n) ⊎ (x ≡ n → ⊥)) → FailsBy plan x m
+    right_at x m goes (inl same) =
+        let both : Some o ≡ Some (Some m) = sym (get_set_same nexts n o inside) ∙ (ap (slice_get (slice_set nexts n o)) (sym same) ∙ goes) in
+        let one : o ≡ Some m = cc in
+        subst (λ z. FailsBy plan z m) (sym same) ((own m).0 one)
+    right_at x m goes (inr other) = was.right x m (sym (get_set_other nexts n x o other) ∙ goes)
+
+    low : (k : ℕ) (d : KeptView) → k < i + 1 → ((slice_index_or ks k d).number ≡ n → ⊥) → k < i
+    low k d less other = turn (cases_lt k i)
+      where
+        turn : ((k < i) ⊎ (i ≤ k)) → k < i
+        turn (inl below) = below
+        turn (inr above) =
+            let same : k ≡ i = omega (arith, less, above) in
+            absurd (other (ap (λ j. (slice_index_or ks j d).number) same ∙ at d))
+
+    all_at : (x m : ℕ) → FailsBy plan x m → ((x ≡ n) ⊎ (x ≡ n → ⊥)) → ((x ≡ n → ⊥) → Goes nexts x m) → Goes (slice_set nexts n o) x m
+    all_at x m fails (inl same) others =
+        let one : o ≡ Some m = (own m).1 (subst (λ z. FailsBy plan z m) same fails) in
+        ap (slice_get (slice_set nexts n o)) same ∙ (get_set_same nexts n o inside ∙ ap Some one)
+    all_at x m fails (inr other) others = get_set_other nexts n x o other ∙ others other
+
+-- ---- of all modules
+
+no_note : KeptView
+no_note = record { number = 0; cell = 0; known = None }
+
+-- a file that fails by a load was read
+fails_read : (plan : Plan) (n m : ℕ) → FailsBy plan n m → (r : Reading) × (read_of plan n ≡ Some r)
+fails_read plan n m (i, bad, at) = turn (read_of plan n) refl
+  where
+    turn : (o : Option Reading) → read_of plan n ≡ o → (r : Reading) × (read_of plan n ≡ Some r)
+    turn (Some r) e = (r, e)
+    turn None e =
+        let none : loaded plan n ≡ [] = ap (λ r. map (λ l. l.file) (loads_in r)) e in
+        let there : slice_get [] i ≡ Some m = subst (λ ns. slice_get ns i ≡ Some m) none at in
+        absurd (let no : ⊥ = cc in no)
+
+pub fails_all : (ks : List KeptView) (count : ℕ) (nexts : Nexts) → count ≡ length ks → ((plan : Plan) → AreModules plan ks → AreFailsBelow plan ks count nexts) → AreFails ks nexts
+fails_all ks count nexts size so files plan planned are n m = ((so plan are).right n m, all_at)
+  where
+    all_at : FailsBy plan n m → Goes nexts n m
+    all_at fails =
+        let read = fails_read plan n m fails in
+        let reached : IsReached plan n = (planned.reached n).1 read in
+        let among = (are.reached n).0 reached in
+        let long = length-map ks (λ (k : KeptView). k.number) in
+        let less : among.0 < length (map (λ (k : KeptView). k.number) ks) = among.1 in
+        let inside : among.0 < length ks = omega (arith, less, long) in
+        let number : (slice_index_or ks among.0 no_note).number ≡ n = sym (get_or-map (λ (k : KeptView). k.number) ks among.0 no_note n inside) ∙ among.2 in
+        let low : among.0 < count = omega (arith, inside, size) in
+        subst (λ z. Goes nexts z m) number ((so plan are).all among.0 no_note low m (subst (λ z. FailsBy plan z m) (sym number) fails))
+
+pub within_all : (count : ℕ) (nexts : Nexts) → length nexts ≡ count → AreBelow count nexts → AreWithin nexts
+within_all count nexts size below n m goes = let less : m < count = below n m goes in omega (arith, less, size)

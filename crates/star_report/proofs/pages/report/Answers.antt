@@ -1,0 +1,31 @@
+use Rattle.std.proofs.Common.{◌≡◌, ◌∙◌, List, arith, ap, sym, subst, length, map, string_bytes}
+use Rattle.std.proofs.lemmas.Result.{IfOk-weaker}
+use Rattle.star_cause.specs.Causes.{AreNextsOf}
+use Rattle.star_outcome.specs.Kept.{AreModules, KeptView}
+use Rattle.star_report.specs.Pages.{AreWritten}
+use Rattle.star_report.specs.Shown.{IsReportBut}
+use Rattle.star_report.specs.declared.pages.Page.{Page}
+use Rattle.star_outcome.proofs.Lent.{written_back}
+use Rattle.star_report.proofs.Sheets.{both_ok, pages_text}
+use Rattle.star_report.proofs.pages.report.Goals as goal
+
+pub returns-clause-text : goal.returns-clause-text
+returns-clause-text g c =
+    let files = c.args.files.now in
+    let ks = c.args.run.now.kept in
+    let nexts = c.in_ok-causes.causes in
+    let old : List Page = c.in_ok-pages.pages.items in
+    let new : List Page = c.as_slice.result.now in
+    let same : c.kept.new.self ≡ c.args.run.now = c.in_ok-kept.ensures.same ∙ c.in_ok-nexts.ensures.same in
+    let known = c.in_ok-pages.ensures.known ∙ ap (λ r. map (λ (k : KeptView). k.known) r.kept) same in
+    let lent = ap length c.as_mut_slice-2.ensures.value in
+    let long : length c.write_pages.new.pages ≡ c.in_ok-pages.pages.len = omega (arith, c.write_pages.auto.pages, c.as_mut_slice-2.ensures.len) in
+    let back : c.as_slice.result.now ≡ c.write_pages.new.pages = c.as_slice.ensures.value ∙ written_back c.in_ok-pages.pages.len c.write_pages.new.pages _ long in
+    let written : AreWritten files nexts old new =
+    subst (AreWritten files nexts old) (sym back) (subst (λ (o : List Page). AreWritten files nexts o c.write_pages.new.pages) c.as_mut_slice-2.ensures.value c.write_pages.ensures) in
+    let as_long : length new ≡ length old = omega (arith, ap length back, c.write_pages.auto.pages, lent) in
+    IfOk-weaker c.joined.result _ _ (λ s h plan planned are.
+    let fails = c.in_ok-nexts.ensures.fails files plan planned are in
+    subst (λ b. IsReportBut files plan (length ks) b (string_bytes s)) (c.begun.ensures ∙ ap (λ r. r.begun) same)
+    (pages_text files plan nexts ks old new c.begun.result (string_bytes s) known written as_long h.0 h.1 planned are (subst (AreNextsOf plan) (sym c.in_ok-causes.ensures) fails)))
+    (both_ok c.joined.result _ _ c.joined.ensures.written c.joined.ensures.text)

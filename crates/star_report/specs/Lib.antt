@@ -1,0 +1,3 @@
+pub mod Fails
+pub mod Shown
+pub mod Pages

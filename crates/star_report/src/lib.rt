@@ -1,0 +1,5 @@
+//! The report of a run.
+#![tactic(auto)]
+
+mod pages;
+pub mod report;

@@ -1,0 +1,9 @@
+//! What a run is given, and its variables by their places.
+#![tactic(auto)]
+
+pub mod files;
+pub mod loads;
+pub mod parts;
+pub mod programs;
+pub mod variables;
+pub mod world;

@@ -1,0 +1,85 @@
+//! What a load statement binds.
+
+ghost use Rattle.std.specs.Prelude.{◌≡◌};
+ghost use Rattle.std.specs.Option.{option_and_then, option_copied};
+ghost use Rattle.star_store.specs.Store.{global_of};
+ghost use Rattle.star_machine.specs.Gives.{Gives};
+ghost use Rattle.star_meaning.specs.Run.{all_of};
+ghost use Rattle.star_meaning.specs.Statements as spec;
+ghost use Rattle.star_world.specs.World.{variables};
+
+use crate::variables::bind;
+use crate::world::World;
+use star_machine::fault::{Stop, faulted};
+use star_machine::machine::Machine;
+use star_meaning::fault::Code;
+use star_meaning::place::Place;
+use star_store::arena::Frozen;
+use star_store::values::Value;
+use star_tree::tree::{LoadedName, Position};
+
+/// The published module of a load statement.
+fn published<'w>(world: &'w World<'_, '_>, position: Position) -> Option<&'w Frozen>
+    ensures { option_copied result ≡ spec.module_of world.now.setting position }
+{
+    match world.setting().loaded(position.token) {
+        Some(file) => world.setting().published(file),
+        None => None,
+    }
+}
+
+/// The global of a loaded module.
+fn global(published: Option<&Frozen>, name: &LoadedName) -> Option<Value>
+    ensures { result ≡ option_and_then (λ q. global_of name.now.loaded.text q.globals) (option_copied published.entry) }
+{
+    match published {
+        Some(published) => published.global(name.loaded.text.as_str()),
+        None => None,
+    }
+}
+
+/// Binds a loaded name to the global of the loaded module. `NoName` where that is missing or unbound.
+fn load_name(
+    machine: &mut Machine,
+    world: &World,
+    place: &Place,
+    published: Option<&Frozen>,
+    name: &LoadedName,
+) -> Result<(), Stop>
+    ensures { Gives (spec.load_name (variables world.now) place.now (option_copied published.entry) name.now machine.old) result machine.new }
+{
+    let Some(value) = global(published, name) else {
+        return Err(faulted(Code::NoName, place.line));
+    };
+    bind(machine, world, place, &name.local, value)
+}
+
+/// Binds loaded names, one after another.
+fn load_each(
+    machine: &mut Machine,
+    world: &World,
+    place: &Place,
+    published: Option<&Frozen>,
+    names: &[LoadedName],
+) -> Result<(), Stop>
+    ensures { Gives (all_of (spec.load_name (variables world.now) place.now (option_copied published.entry)) names.now machine.old) result machine.new }
+{
+    for name in names {
+        load_name(machine, world, place, published, name)?;
+    }
+    Ok(())
+}
+
+/// Binds the names of a load statement to the globals of the module that it loads. `NoName` where one is missing or unbound.
+pub fn load_names(
+    machine: &mut Machine,
+    world: &World,
+    place: &Place,
+    position: Position,
+    names: &[LoadedName],
+) -> Result<(), Stop>
+    ensures { Gives (all_of (spec.load_name (variables world.now) place.now (spec.module_of world.now.setting position)) names.now machine.old) result machine.new }
+{
+    let published = published(world, position);
+    load_each(machine, world, place, published, names)
+}

@@ -1,0 +1,131 @@
+//! Parts of expressions and statements that evaluate nothing themselves.
+
+ghost use Rattle.std.specs.Prelude.{◌≡◌, ◌+◌, ◌∷◌, [], MatchOption};
+ghost use Rattle.star_machine.specs.Gives.{Gives};
+ghost use Rattle.star_meaning.specs.Calls.{answer_of};
+ghost use Rattle.star_meaning.specs.Comprehensions.{inner};
+ghost use Rattle.star_meaning.specs.Module.{at_line};
+ghost use Rattle.star_meaning.specs.Run.{build};
+ghost use Rattle.star_meaning.specs.Values.{new_text};
+ghost use Rattle.star_store.specs.declared.values.Cell.TheVariants as cell;
+ghost use Rattle.star_world.specs.World.{variables};
+
+use crate::variables::paid_frame;
+use crate::world::World;
+use sqlite_items::Boxed;
+use star_machine::fault::Stop;
+use star_machine::machine::Machine;
+use star_meaning::place::{Flow, Place};
+use star_store::values::{Cell, Entries, Function, Value, Values};
+use star_text::Text;
+use star_tree::tree::Statement;
+
+/// Where a statement runs: one of the running module's own file gives a fault its line.
+pub fn place_of(world: &World, place: &Place, statement: &Statement) -> Place
+    ensures { result ≡ at_line world.now.setting place.now statement.now }
+{
+    if place.file != world.setting().home() {
+        return *place;
+    }
+    Place {
+        file: place.file,
+        frame: place.frame,
+        line: statement.position.line,
+    }
+}
+
+/// The first value, and those behind it.
+pub fn split_first(values: &[Value]) -> Option<(Value, &[Value])>
+    ensures { MatchOption result (values.now ≡ []) (λ x. values.now ≡ x.0 ∷ x.1.now) }
+{
+    match values {
+        [first, rest @ ..] => Some((*first, rest)),
+        [] => None,
+    }
+}
+
+/// What a function answers whose statements end so: None without a `return`.
+pub fn answer_of(flow: Flow) -> Value
+    ensures { result ≡ answer_of flow }
+{
+    match flow {
+        Flow::Return(value) => value,
+        _ => Value::NoneValue,
+    }
+}
+
+/// A new string of these bytes, which pays 1 and one for each.
+#[inline(never)]
+pub fn new_string(machine: &mut Machine, line: usize, text: &Text) -> Result<Value, Stop>
+    ensures { Gives (new_text line text.now machine.old) result machine.new }
+{
+    let copy = text.share()?;
+    machine.new_text(line, copy)
+}
+
+/// A new function, which pays 1.
+pub fn new_closure(
+    machine: &mut Machine,
+    place: &Place,
+    token: usize,
+    name: &str,
+    defaults: Values,
+) -> Result<Value, Stop>
+    ensures { Gives (build place.now.line 1 (cell.Func (record { file = place.now.file; definition = token; name = name.now; defaults = defaults; frame = place.now.frame })) machine.old) result machine.new }
+{
+    let Ok(definition) = u32::try_from(token) else {
+        return Err(Stop::Memory);
+    };
+    let function = Function {
+        file: place.file,
+        definition,
+        name: Text::new(machine.alloc(), name)?,
+        defaults,
+        frame: place.frame,
+    };
+    let function = Boxed::new(machine.alloc(), function)?;
+    machine.build(place.line, 1, Cell::Func(function))
+}
+
+/// A new list of no items, which pays 1.
+pub fn new_row(machine: &mut Machine, line: usize) -> Result<Value, Stop>
+    ensures { Gives (build line 1 (cell.List []) machine.old) result machine.new }
+{
+    let items = Values::new(Vec::new(machine.alloc()));
+    machine.build(line, 1, Cell::List(items))
+}
+
+/// A new dictionary of no entries, which pays 1.
+pub fn new_table(machine: &mut Machine, line: usize) -> Result<Value, Stop>
+    ensures { Gives (build line 1 (cell.Dict []) machine.old) result machine.new }
+{
+    let entries = Entries::new(machine.alloc());
+    machine.build(line, 1, Cell::Dict(entries))
+}
+
+/// The place inside of a comprehension: its frame, around which the running one stands. 1 is paid.
+pub fn enter(
+    machine: &mut Machine,
+    world: &World,
+    place: &Place,
+    token: usize,
+) -> Result<Place, Stop>
+    ensures { Gives (inner (variables world.now) place.now (1 + token) machine.old) result machine.new }
+{
+    let Some(block) = token.checked_add(1) else {
+        return Err(Stop::Memory);
+    };
+    let frame = paid_frame(
+        machine,
+        world,
+        place.line,
+        place.file,
+        block,
+        Some(place.frame),
+    )?;
+    Ok(Place {
+        file: place.file,
+        frame,
+        line: place.line,
+    })
+}

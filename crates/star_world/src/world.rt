@@ -1,0 +1,114 @@
+//! What a run is given.
+
+ghost use Rattle.std.specs.Prelude.{◌≡◌, []};
+ghost use Rattle.std.specs.Option.{option_copied, option_map, unwrap_or};
+ghost use Rattle.star_meaning.specs.Local.{outlines};
+ghost use Rattle.star_meaning.specs.Module.{loaded_names};
+ghost use Rattle.star_meaning.specs.Program as program;
+ghost use Rattle.star_meaning.specs.Programs.{load_files, tables_of, trees_of};
+ghost use Rattle.star_scope.specs.Definitions.{definition_of};
+ghost use Rattle.star_scope.specs.Names.{has_name};
+
+use crate::files::Files;
+use star_machine::setting::Setting;
+use star_scope::blocks::BlockNames;
+use star_scope::loads::Load;
+use star_scope::outline::Definition;
+use star_scope::spot::Spot;
+use star_store::arena::Homes;
+use std::marker::Model;
+
+/// What a run is given: its setting, and the programs of all files.
+#[derive(Drop)]
+pub struct World<'a, 't> {
+    setting: Setting<'a>,
+    files: &'a Files<'a, 't>,
+}
+
+impl<'a, 't> Model for World<'a, 't> {
+    ghost use Rattle.star_world.specs.World.{AreOutlined, World as Given};
+
+    ghost Value = { Given };
+
+    ghost use Rattle.std.specs.Coded.{codes};
+    ghost use Rattle.star_tree.specs.contracts.tree.Expression as expression;
+    ghost use Rattle.star_tree.specs.contracts.tree.Parameter as parameter;
+    ghost use Rattle.star_tree.specs.contracts.tree.Statement as statement;
+
+    ghost coded = { Prim.hlevel (codes, expression.the_row.coded, parameter.the_row.coded, statement.the_row.coded) };
+
+    ghost view = { λ w. record { setting = w.setting; files = w.files.now } };
+
+    ghost invariant = { λ w. AreOutlined w.setting w.files.now };
+}
+
+impl<'a, 't> World<'a, 't> {
+    /// What the run of a file is given: the stores that it reaches, the programs of all files, its own loads, and the prelude's
+    /// file.
+    pub fn new(
+        home: u32,
+        homes: &'a Homes<'a>,
+        files: &'a Files<'a, 't>,
+        loads: &'a [Load],
+        prelude: Option<u32>,
+    ) -> World<'a, 't>
+        ensures { result ≡ record { setting = record { home = home; outlines = outlines (trees_of files.now); shelf = homes.now; loads = load_files loads.now; prelude = prelude }; files = files.now } }
+    {
+        let statements = files.statements();
+        let setting = Setting::over(home, homes, statements, loads, prelude);
+        World { setting, files }
+    }
+
+    /// The setting.
+    pub fn setting(&self) -> &Setting<'a>
+        ensures { result.now ≡ self.now.setting }
+    {
+        &self.setting
+    }
+
+    /// The outlines of the setting are those of the files.
+    pub fn are_outlined(&self)
+        ensures { self.now.setting.outlines ≡ outlines (trees_of self.now.files) }
+    {
+        let _ = &self.setting;
+    }
+
+    /// The spot of the name at a token of a file, in constant time.
+    pub fn spot(&self, file: u32, token: usize) -> Option<Spot>
+        ensures { result ≡ (tables_of self.now.files).spots file token }
+    {
+        self.files.programs().spot(file as usize, token)
+    }
+
+    /// How many slots a block of a file has.
+    pub fn slots(&self, file: u32, block: usize) -> usize
+        ensures { result ≡ (tables_of self.now.files).slots file block }
+    {
+        self.files.programs().slots(file as usize, block)
+    }
+
+    /// The definition with a number in a file, in constant time.
+    pub fn definition(&self, file: u32, number: u32) -> Option<Definition<'t>>
+        ensures { option_map definition_of result ≡ program.definition_of self.now.setting file number }
+    {
+        self.files
+            .programs()
+            .definition(file as usize, number as usize)
+    }
+
+    /// Whether a file loads this local name.
+    #[tactic(auto, using(crate::proofs::Rows::loaded_there))]
+    pub fn is_loaded(&self, file: u32, name: &str) -> bool
+        ensures { result ≡ has_name (loaded_names (program.outline_of self.now.setting file)) name.now }
+    {
+        self.files.programs().is_loaded(file as usize, name)
+    }
+
+    /// The names of a block of a file, by their slots: none where there is no such block.
+    #[tactic(auto, using(crate::proofs::Rows::names_there))]
+    pub fn names(&self, file: u32, block: usize) -> Option<&'a BlockNames<'t>>
+        ensures { unwrap_or (option_copied result) [] ≡ program.names_of self.now.setting file block }
+    {
+        self.files.programs().names(file as usize, block)
+    }
+}
