@@ -28,6 +28,10 @@ use std::test::Fail;
 /// at 24. The definition of `f` has the number 4.
 const FILE: &str = "x = 1\ndef f(y):\n  return [x, y, z, len, k, n]\nz = 2\nload(':p.star', 'n')\n";
 
+/// The definition of `f` has the number 0, and 17 parameters: 2 names alone, then names with defaults.
+const MANY: &str =
+    "def f(a, b, c=0, d=0, e=0, g=0, h=0, i=0, j=0, k=0, l=0, m=0, n=0, o=0, p=0, q=0, r=0):\n  return a\n";
+
 /// The labels of `//:a.star` and of the prelude `//:p.star`.
 pub(crate) fn two(alloc: Global) -> Result<Labels, Fail> {
     let mut labels = BTreeMap::new(alloc);
@@ -223,6 +227,52 @@ fn names_are_read_and_bound_by_their_places(rt: HostRuntime) -> Result<(), Fail>
     let first = parse(alloc, "k = 5\nn = 6\n")?;
     let tree = parse(alloc, FILE)?;
     names_are_read_and_bound_by_their_places_of(&rt, alloc, &labels, &first, &tree)
+}
+
+fn many_parameters_stand_in_order_over(rt: &impl Abort, files: &Files, homes: &Homes) {
+    let world = World::new(0, homes, files, &[], None);
+    match world.order(0, 0) {
+        Some(order) => {
+            assert_eq!(rt; order.plain, 2);
+            assert_eq!(rt; order.names.len(), 17);
+        }
+        None => assert!(rt; false),
+    }
+    assert!(rt; world.order(0, 1).is_none());
+    assert!(rt; world.order(1, 0).is_none());
+}
+
+fn many_parameters_stand_in_order_with(
+    rt: &impl Abort,
+    alloc: Global,
+    program: &Program,
+) -> Result<(), Fail>
+    requires { IsOfFile program.now }
+{
+    let mut files = Files::new(alloc);
+    files.push(Some(program))?;
+    let homes = Homes::new(alloc);
+    many_parameters_stand_in_order_over(rt, &files, &homes);
+    Ok(())
+}
+
+fn many_parameters_stand_in_order_of(
+    rt: &impl Abort,
+    alloc: Global,
+    labels: &Labels,
+    tree: &Tree,
+) -> Result<(), Fail> {
+    assert!(rt; 0 < labels.len());
+    let program = program_of(alloc, labels, 0, tree, None)?;
+    many_parameters_stand_in_order_with(rt, alloc, &program)
+}
+
+#[test]
+fn many_parameters_stand_in_order(rt: HostRuntime) -> Result<(), Fail> {
+    let alloc = rt.alloc();
+    let labels = two(alloc)?;
+    let tree = parse(alloc, MANY)?;
+    many_parameters_stand_in_order_of(&rt, alloc, &labels, &tree)
 }
 
 #[test]

@@ -3,3 +3,4 @@ pub mod Kept
 pub mod Named
 pub mod Seen
 pub mod Steps
+pub mod Defined

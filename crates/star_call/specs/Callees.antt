@@ -55,6 +55,20 @@ number_in _ = None
 abbrev pub definition_for : Setting → Content → Option Definition
 definition_for w c = option_and_then (λ n. in_setting w n.0 n.1) (number_in c)
 
+-- a function that is called has the definition that its file has at its number
+abbrev pub HasDefinition : Function → Option Definition → HeldCallee → Type 0
+HasDefinition f d (held.AFunction c) = (c.file ≡ f.file) × (c.number ≡ f.definition) × (d ≡ Some (definition_of c.definition))
+HasDefinition f d (held.ABuiltIn b) = Unit {0}
+HasDefinition f d (held.AMethod m v) = Unit {0}
+
+abbrev pub IsDefined : Setting → Called → Type 0
+IsDefined w c = in_setting w c.file c.number ≡ Some (definition_of c.definition)
+
+abbrev pub IsFound : Setting → HeldCallee → Type 0
+IsFound w (held.AFunction c) = IsDefined w c
+IsFound w (held.ABuiltIn b) = Unit {0}
+IsFound w (held.AMethod m v) = Unit {0}
+
 -- what may be called, where this is the definition of a function, if it has one
 abbrev pub callee_in : ℕ → Option Definition → Content → Action Callee
 callee_in line d (Held (cell.Func f)) = with_definition line f d

@@ -1,6 +1,6 @@
 //! What may be called.
 
-ghost use Rattle.std.specs.Prelude.{◌≡◌};
+ghost use Rattle.std.specs.Prelude.{◌≡◌, IfOk};
 ghost use Rattle.std.specs.Option.{option_map};
 ghost use Rattle.star_scope.specs.Definitions.{definition_of};
 ghost use Rattle.star_meaning.specs.Binding.{bound_to};
@@ -8,7 +8,7 @@ ghost use Rattle.star_meaning.specs.Calls as spec;
 ghost use Rattle.star_machine.specs.Gives.{Gives, GivesBy};
 ghost use Rattle.star_meaning.specs.Run.{found};
 ghost use Rattle.star_meaning.specs.Values.{content};
-ghost use Rattle.star_call.specs.Callees.{GivesCallee, callee_in, defaults_in, definition_for, number_in, shown, with_definition};
+ghost use Rattle.star_call.specs.Callees.{GivesCallee, HasDefinition, IsFound, callee_in, defaults_in, definition_for, number_in, shown, with_definition};
 
 use crate::binding::bound_to;
 use crate::shares::Shares;
@@ -81,7 +81,8 @@ fn function_callee<'t>(
     function: &Function,
     definition: Option<Definition<'t>>,
 ) -> Result<Callee<'t>, Stop>
-    ensures { GivesCallee value function.now (with_definition line function.now (option_map definition_of definition.entry) machine.now) result machine.now }
+    ensures answer { GivesCallee value function.now (with_definition line function.now (option_map definition_of definition.entry) machine.now) result machine.now }
+    ensures has { IfOk result (HasDefinition function.now (option_map definition_of definition.entry)) }
 {
     if machine.is_active(function) {
         return Err(faulted(Code::Recursion, line));
@@ -124,6 +125,7 @@ impl<'t> Callee<'t> {
     ) -> Result<Callee<'t>, Stop>
         ensures answer { GivesBy (shown (content setting.now machine.now)) (callee_in line (option_map definition_of definition.entry) (content setting.now machine.now value) machine.now) result machine.now }
         ensures found { option_map definition_of definition.entry ≡ definition_for setting.now (content setting.now machine.now value) → GivesBy (shown (content setting.now machine.now)) (spec.callee setting.now line value machine.now) result machine.now }
+        ensures defined { option_map definition_of definition.entry ≡ definition_for setting.now (content setting.now machine.now value) → IfOk result (IsFound setting.now) }
     {
         match machine.content(setting, value) {
             Content::BuiltInFunction(function) => Ok(Callee::ABuiltIn(function)),

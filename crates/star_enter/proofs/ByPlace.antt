@@ -136,7 +136,7 @@ pub bound_by_place : (ps : List Parameter) (ds : List Value) (g : Given) → Fit
 bound_by_place ps ds g h = bound_of ps ds g.plain g.named h.plain h.as_many h.unnamed
 
 -- such shares are the values themselves
-made_by_place : (line : ℕ) (xs : List (Name × Value)) (s : State) → make_shares line (map (λ x. (x.0, One x.1)) xs) s ≡ Done xs s
+pub made_by_place : (line : ℕ) (xs : List (Name × Value)) (s : State) → make_shares line (map (λ x. (x.0, One x.1)) xs) s ≡ Done xs s
 unfolding make_shares
 made_by_place line [] s = refl
 made_by_place line (x ∷ xs) s = ap (λ (r : Outcome (List (Name × Value))). and_then r (λ ys. give (x ∷ ys))) (made_by_place line xs s)

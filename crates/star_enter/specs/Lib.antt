@@ -1,2 +1,3 @@
 pub mod ByPlace
 pub mod Entering
+pub mod Ordered

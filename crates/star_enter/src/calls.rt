@@ -1,13 +1,13 @@
 //! Parts of calls that run nothing themselves.
 
-ghost use Rattle.std.specs.Prelude.{◌≡◌, map, true};
+ghost use Rattle.std.specs.Prelude.{◌≡◌, map, true, IfOk};
 ghost use Rattle.std.specs.Option.{option_map};
 ghost use Rattle.star_scope.specs.Definitions.{definition_of};
 ghost use Rattle.star_meaning.specs.Calls as spec;
 ghost use Rattle.star_machine.specs.Gives.{Gives, GivesBy};
 ghost use Rattle.star_meaning.specs.Run.{Done, give};
 ghost use Rattle.star_meaning.specs.Values.{content};
-ghost use Rattle.star_call.specs.Callees.{definition_for, shown};
+ghost use Rattle.star_call.specs.Callees.{IsFound, definition_for, shown};
 ghost use Rattle.star_call.specs.Shares.{bound_value};
 ghost use Rattle.std.specs.List.{list_all};
 ghost use Rattle.star_enter.specs.ByPlace.{FitByPlace, by_place, expression_of, is_plain, is_positional};
@@ -47,7 +47,8 @@ pub fn callee_of<'t>(
     line: usize,
     value: Value,
 ) -> Result<Callee<'t>, Stop>
-    ensures { GivesBy (shown (content world.now.setting machine.now)) (spec.callee world.now.setting line value machine.now) result machine.now }
+    ensures answer { GivesBy (shown (content world.now.setting machine.now)) (spec.callee world.now.setting line value machine.now) result machine.now }
+    ensures found { IfOk result (IsFound world.now.setting) }
 {
     let definition = definition_of(machine, world, value);
     Callee::of(machine, world.setting(), line, value, definition)

@@ -1,6 +1,6 @@
 //! Expressions and calls.
 
-ghost use Rattle.std.specs.Prelude.{◌≡◌, ◌+◌};
+ghost use Rattle.std.specs.Prelude.{◌≡◌, ◌+◌, List};
 ghost use Rattle.star_machine.specs.Gives.{Gives, GivesBy};
 ghost use Rattle.star_meaning.specs.Calls as calls;
 ghost use Rattle.star_meaning.specs.Expressions.{defaults, entry_of, maybe, new_function, node};
@@ -12,7 +12,10 @@ ghost use Rattle.star_enter.specs.ByPlace.{called_by_place, called_with, express
 ghost use Rattle.star_enter.specs.Entering.{left};
 ghost use Rattle.star_world.specs.World.{meant, variables};
 ghost use Rattle.star_meaning.specs.Values.{content};
-ghost use Rattle.star_call.specs.Callees.{function_of, shown};
+ghost use Rattle.star_call.specs.Callees.{IsDefined, IsFound, function_of, shown};
+ghost use Rattle.star_enter.specs.Ordered.{HasBound, as_shares};
+ghost use Rattle.star_tree.specs.declared.tree.Name.{Name};
+ghost use Rattle.star_store.specs.declared.values.Value.{Value as AnyValue};
 ghost use Rattle.star_call.specs.Passed as passing;
 
 use crate::comprehensions::{make_dict, make_list};
@@ -31,12 +34,15 @@ use star_call::shares::Shares;
 use star_enter::calls::{
     are_positional, callee_of, enter_by_place, enter_call, expression_of, fit_by_place,
 };
+use star_enter::ordered::{enter_with_slots, slots_of};
 use star_machine::fault::{Stop, faulted};
 use star_machine::machine::Machine;
 use star_meaning::fault::Code;
 use star_meaning::given::Given;
 use star_meaning::place::Place;
 use star_scope::outline::{Body, Definition};
+use star_store::defaults::Defaults;
+use star_store::slots::Slots;
 use star_store::values::{Entries, Value, Values};
 use star_tree::tree::{Argument, Entry, Expression, Parameter};
 use star_world::parts::{answer_of, new_closure, new_string};
@@ -311,17 +317,17 @@ fn evaluate_defaults(
     levels: u32,
     place: &Place,
     parameters: &[Parameter],
-) -> Result<Values, Stop>
+) -> Result<Defaults, Stop>
     ensures { Gives (defaults (meant world.now levels) place.now parameters.now machine.old) result machine.new }
 {
-    let mut values = Values::new(Vec::new(machine.alloc()));
+    let mut values = Vec::new(machine.alloc());
     for parameter in parameters {
         if let Parameter::Default { default, .. } = parameter {
             let value = evaluate(machine, world, levels, place, default)?;
             values.push(value)?;
         }
     }
-    Ok(values)
+    Ok(Defaults::new(values)?)
 }
 
 /// A new function: its defaults in order, then 1.
@@ -475,6 +481,7 @@ fn call_on(
     callee: Callee<'_>,
     given: &Given,
 ) -> Result<Value, Stop>
+    requires { IsFound world.now.setting callee }
     ensures { Gives (calls.called world.now.setting levels (meant world.now levels) place.now (shown (content world.now.setting machine.old) callee.entry) given.now machine.old) result machine.new }
 {
     let line = place.line;
@@ -497,7 +504,8 @@ fn call_on(
     }
 }
 
-/// A call of a function: its arguments are bound, or `Args`; then it runs.
+/// A call of a function: its arguments are bound, or `Args`; then it runs. Where each parameter gets the value at its own place, or the
+/// parameters stand in the first slots of the frame, they are not bound one by one.
 #[cycle(run)]
 #[tactic(auto, using(star_enter::proofs::ByPlace::bound_by_place))]
 fn call_function(
@@ -508,6 +516,7 @@ fn call_function(
     called: Called<'_>,
     given: &Given,
 ) -> Result<Value, Stop>
+    requires { IsDefined world.now.setting called }
     ensures { Gives (calls.called world.now.setting levels (meant world.now levels) place.now (AFunction (function_of (content world.now.setting machine.old called.entry.value) called.entry) (definition_of called.entry.definition)) given.now machine.old) result machine.new }
 {
     if fit_by_place(called.definition.parameters, given) {
@@ -519,6 +528,9 @@ fn call_function(
             called,
             given.plain.as_slice(),
         );
+    }
+    if let Some(slots) = slots_of(machine, world, &called, given)? {
+        return run_with_slots(machine, world, levels, place, called, slots);
     }
     let shares = called.bind(machine, world.setting(), place.line, given)?;
     run_function(machine, world, levels, place, called, &shares)
@@ -541,6 +553,26 @@ fn run_by_place(
         return Err(faulted(Code::Deep, place.line));
     }
     let place = enter_by_place(machine, world, place.line, called, values)?;
+    run_left(machine, world, levels - 1, &place, called.definition)
+}
+
+/// The run of a function whose frame has these slots from the start. `Deep` where no level is left.
+#[cycle(run)]
+#[tactic(auto, using(star_meaning::proofs::Levels::call_at, star_meaning::proofs::Levels::call_at_none, star_enter::proofs::OrderedFrames::run_with_is))]
+fn run_with_slots(
+    machine: &mut Machine,
+    world: &World,
+    levels: u32,
+    place: &Place,
+    called: Called<'_>,
+    slots: Slots,
+) -> Result<Value, Stop>
+    ensures { (values : List (Name × AnyValue)) → HasBound world.now called.entry.file called.entry.number called.entry.frame values slots → Gives ((meant world.now levels).call place.now (function_of (content world.now.setting machine.old called.entry.value) called.entry) (definition_of called.entry.definition) (as_shares values) machine.old) result machine.new }
+{
+    if levels == 0 {
+        return Err(faulted(Code::Deep, place.line));
+    }
+    let place = enter_with_slots(machine, place.line, called, slots)?;
     run_left(machine, world, levels - 1, &place, called.definition)
 }
 

@@ -9,6 +9,7 @@ use denote.Struct.Tuple.{TupleAt}
 use denote.Param.Send.{AllSync, IsSync, sendable}
 use denote.Param.SendFields.{variants_sync}
 use Rattle.std.proofs.Crossing.{crosses}
+use Rattle.std.proofs.MapsCrossing as maps
 use Rattle.std.specs.declared.sync.ledger.Ledger
 use Rattle.star_cache.specs.contracts.cache.LoadCache as cache
 use Rattle.star_cache.proofs.cache.LoadCache.TheSendSync as of_cache
@@ -16,6 +17,7 @@ use Rattle.star_world.specs.contracts.files.Files as files
 use Rattle.star_flow.specs.contracts.flow.Flow as flow
 use Rattle.star_flow.proofs.flow.Flow.TheSendSync as of_flow
 use Rattle.star_label.proofs.files.Files.TheSendSync as of_labels
+use Rattle.star_world.specs.contracts.placed.Placed as placed
 use Rattle.star_world.specs.contracts.programs.Programs as programs
 use Rattle.star_reading.specs.contracts.reading.Read as read
 use Rattle.star_outcome.specs.contracts.told.Told as told
@@ -34,8 +36,11 @@ use Rattle.star_outcome.proofs.trace.Trace.TheSendSync as of_trace
 read_sync : (κ : NamedLft) → IsSync (read.the_row κ)
 read_sync κ = variants_sync (read.enum κ) ((program_sync κ, tt), ((of_fault.the_sync, tt), tt))
 
+placed_sync : (κ ν : NamedLft) → IsSync (placed.the_row κ ν)
+placed_sync κ ν = let p = program_sync ν in search (sendable, crosses, maps.crosses) depth 40
+
 programs_sync : (κ ν : NamedLft) → IsSync (programs.the_row κ ν)
-programs_sync κ ν = let p = program_sync ν in search (sendable, crosses) depth 40
+programs_sync κ ν = let p = placed_sync κ ν in search (sendable, crosses) depth 40
 
 files_sync : (κ ν : NamedLft) → IsSync (files.the_row κ ν)
 files_sync κ ν = let p = programs_sync κ ν in let s = statement_sync in search (sendable, crosses) depth 40

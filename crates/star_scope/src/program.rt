@@ -210,6 +210,13 @@ impl<'t> Program<'t> {
         self.statements
     }
 
+    /// The definitions of the file, in the order in which they begin.
+    pub fn definitions(&self) -> &[Definition<'t>]
+        ensures { map definition_of result.now ≡ self.now.definitions }
+    {
+        self.definitions.as_slice()
+    }
+
     /// The definition that begins at this token, in constant time.
     pub fn definition(&self, number: usize) -> Option<Definition<'t>>
         ensures { option_map definition_of result ≡ definition_in self.now.definitions number }

@@ -6,7 +6,8 @@ use Rattle.std.specs.Global.{Box}
 use Rattle.std.proofs.lemmas.Option.{slice_get_past}
 use Rattle.std.proofs.lemmas.List.{set_past, length-append, length-replicate}
 use Rattle.star_store.specs.declared.values.Value.{Value}
-use Rattle.star_store.specs.Slots.{far_at, row, slot_at}
+use Rattle.star_store.specs.declared.slots.Under.{Under}
+use Rattle.star_store.specs.Slots.{default_at, far_at, row, slot_at, under_at}
 
 -- ---- rows
 
@@ -70,8 +71,13 @@ room (x ∷ xs) m (suc i) = room xs m i
 -- ---- slots
 
 -- where no slot was bound
-pub row_unbound : (m n : ℕ) → row (slot_at (replicate m None) None) n ≡ replicate n None
+pub row_unbound : (m n : ℕ) → row (slot_at (replicate m None) None None) n ≡ replicate n None
 row_unbound m n = row_all _ None n (λ i. ap (λ o. option_or o None) (room_unbound m i))
+
+-- where no slot was bound, and the slots stand on defaults
+pub row_over : (near : List (Option Value)) (under : Box Under) (from : ℕ) (ds : List Value) (n : ℕ)
+    → near ≡ [] → under.value ≡ record { from = from; defaults = ds } → row (slot_at near None (Some under)) n ≡ row (default_at from ds) n
+row_over near under from ds n e h = row_same _ _ n (λ i. ap (λ xs. slot_at xs None (Some under) i) e ∙ ap (λ (u : Under). default_at u.from u.defaults i) h)
 
 abbrev unbound : Option Value
 unbound = None
@@ -79,34 +85,42 @@ unbound = None
 width : (near : List (Option Value)) (at : ℕ) → length near ≤ at → at < length (near ++ replicate (at + 1 - length near) None)
 width near at h = omega (arith, length-append near (replicate (at + 1 - length near) unbound), length-replicate (at + 1 - length near) unbound)
 
+-- what a slot has that has no value in the row
+abbrev rest : Option (Box (BTreeMap ℕ Value)) → Option (Box Under) → ℕ → Option Value
+rest far under at = option_or (far_at far at) (under_at under at)
+
 -- a slot of the row gets a value, after room for it was made
-pub row_put_near : (near new : List (Option Value)) (far : Option (Box (BTreeMap ℕ Value))) (n at : ℕ) (v : Value)
-    → length near ≤ at → new ≡ set (near ++ replicate (at + 1 - length near) None) at (Some v) → set (row (slot_at near far) n) at (Some v) ≡ row (slot_at new far) n
-row_put_near near new far n at v h put =
+pub row_put_near : (near new : List (Option Value)) (far : Option (Box (BTreeMap ℕ Value))) (under : Option (Box Under)) (n at : ℕ) (v : Value)
+    → length near ≤ at → new ≡ set (near ++ replicate (at + 1 - length near) None) at (Some v)
+    → set (row (slot_at near far under) n) at (Some v) ≡ row (slot_at new far under) n
+row_put_near near new far under n at v h put =
     let wide = near ++ replicate (at + 1 - length near) None in
     row_set _ _ n at (Some v)
-    (ap (λ xs. slot_at xs far at) put ∙ ap (λ o. option_or (option_flatten o) (far_at far at)) (set_at wide at (Some v) (width near at h)))
-    (λ i d. ap (λ xs. slot_at xs far i) put ∙ ap (λ o. option_or (option_flatten o) (far_at far i)) (set_other wide at i (Some v) d) ∙ ap (λ o. option_or o (far_at far i)) (room near (at + 1 - length near) i))
+    (ap (λ xs. slot_at xs far under at) put ∙ ap (λ o. option_or (option_flatten o) (rest far under at)) (set_at wide at (Some v) (width near at h)))
+    (λ i d. ap (λ xs. slot_at xs far under i) put ∙ ap (λ o. option_or (option_flatten o) (rest far under i)) (set_other wide at i (Some v) d) ∙ ap (λ o. option_or o (rest far under i)) (room near (at + 1 - length near) i))
 
-pub row_put_here : (near : List (Option Value)) (far : Option (Box (BTreeMap ℕ Value))) (n at : ℕ) (v : Value)
-    → at < length near → set (row (slot_at near far) n) at (Some v) ≡ row (slot_at (set near at (Some v)) far) n
-row_put_here near far n at v h =
+pub row_put_here : (near : List (Option Value)) (far : Option (Box (BTreeMap ℕ Value))) (under : Option (Box Under)) (n at : ℕ) (v : Value)
+    → at < length near → set (row (slot_at near far under) n) at (Some v) ≡ row (slot_at (set near at (Some v)) far under) n
+row_put_here near far under n at v h =
     row_set _ _ n at (Some v)
-    (ap (λ o. option_or (option_flatten o) (far_at far at)) (set_at near at (Some v) h))
-    (λ i d. ap (λ o. option_or (option_flatten o) (far_at far i)) (set_other near at i (Some v) d))
+    (ap (λ o. option_or (option_flatten o) (rest far under at)) (set_at near at (Some v) h))
+    (λ i d. ap (λ o. option_or (option_flatten o) (rest far under i)) (set_other near at i (Some v) d))
+
+here : (at : ℕ) (v : Value) (o : Option Value) → (if nat_eq at at then Some v else o) ≡ Some v
+here at v o = grind arith
 
 apart : (i at : ℕ) (v : Value) (o : Option Value) → i ≢ at → (if nat_eq i at then Some v else o) ≡ o
 apart i at v o d = grind (arith, d)
 
 -- a slot gets a value in the map
-pub row_put_far : (near : List (Option Value)) (old new : Option (Box (BTreeMap ℕ Value))) (n at : ℕ) (v : Value)
+pub row_put_far : (near : List (Option Value)) (old new : Option (Box (BTreeMap ℕ Value))) (under : Option (Box Under)) (n at : ℕ) (v : Value)
     → length near ≤ at → ((i : ℕ) → far_at new i ≡ (if nat_eq i at then Some v else far_at old i))
-    → set (row (slot_at near old) n) at (Some v) ≡ row (slot_at near new) n
-row_put_far near old new n at v h put =
+    → set (row (slot_at near old under) n) at (Some v) ≡ row (slot_at near new under) n
+row_put_far near old new under n at v h put =
     row_set _ _ n at (Some v)
-    (ap (λ o. option_or (option_flatten o) (far_at new at)) (slice_get_past near at h) ∙ put at ∙ grind arith)
-    (λ i d. ap (option_or (option_flatten (slice_get near i))) (put i ∙ apart i at v (far_at old i) d))
+    (ap (λ o. option_or (option_flatten o) (rest new under at)) (slice_get_past near at h) ∙ ap (λ o. option_or o (under_at under at)) (put at ∙ here at v (far_at old at)))
+    (λ i d. ap (λ o. option_or (option_flatten (slice_get near i)) (option_or o (under_at under i))) (put i ∙ apart i at v (far_at old i) d))
 
-pub row_kept : (near : List (Option Value)) (old new : Option (Box (BTreeMap ℕ Value))) (n : ℕ)
-    → ((i : ℕ) → far_at new i ≡ far_at old i) → row (slot_at near new) n ≡ row (slot_at near old) n
-row_kept near old new n kept = row_same _ _ n (λ i. ap (option_or (option_flatten (slice_get near i))) (kept i))
+pub row_kept : (near : List (Option Value)) (old new : Option (Box (BTreeMap ℕ Value))) (under : Option (Box Under)) (n : ℕ)
+    → ((i : ℕ) → far_at new i ≡ far_at old i) → row (slot_at near new under) n ≡ row (slot_at near old under) n
+row_kept near old new under n kept = row_same _ _ n (λ i. ap (λ o. option_or (option_flatten (slice_get near i)) (option_or o (under_at under i))) (kept i))

@@ -1,5 +1,6 @@
 pub mod Arithmetic
 pub mod Content
+pub mod Defaults
 pub mod Equal
 pub mod Index
 pub mod Key

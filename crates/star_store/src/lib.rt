@@ -6,6 +6,7 @@ pub mod arena;
 pub mod arithmetic;
 pub mod budget;
 pub mod content;
+pub mod defaults;
 pub mod equal;
 pub mod fault;
 mod globals;

@@ -1,8 +1,9 @@
 // The variables of a frame.
 
 ghost use Rattle.std.specs.Prelude.{◌≡◌, ◌+◌, ◌^◌, ◌<◌, ◌≤◌, ℕ, None, Some, if◌then◌else◌, length, nat_eq, replicate, slice_get, slice_set, IfOk, OnErr, OnOk};
-ghost use Rattle.star_store.specs.Slots.{far_at, slot_at, widened};
+ghost use Rattle.star_store.specs.Slots.{default_at, far_at, row, slot_at, under_at, widened};
 
+use crate::defaults::Defaults;
 use crate::values::Value;
 use std::alloc::{AllocError, Global};
 use std::collections::BTreeMap;
@@ -12,13 +13,22 @@ use std::marker::Model;
 const REACH: usize = 12;
 
 /// The variables of a frame by their slots, each with a value or unbound. First slots have room in a row, and the others
-/// stand in a map once they are bound: so the memory is in proportion to the number of slots that were bound.
+/// stand in a map once they are bound: so the memory is in proportion to the number of slots that were bound. What is in
+/// neither is as it is under the slots, where they stand on defaults.
 #[derive(Drop)]
 pub struct Slots {
     alloc: Global,
     count: usize,
     near: Vec<Option<Value>>,
     far: Option<Box<BTreeMap<usize, Value>>>,
+    under: Option<Box<Under>>,
+}
+
+/// The defaults on which slots stand, and the slot that has the first of them.
+#[derive(Drop)]
+struct Under {
+    from: usize,
+    defaults: Defaults,
 }
 
 impl Model for Slots {
@@ -28,7 +38,7 @@ impl Model for Slots {
 
     ghost Value = { List (Option AnyValue) };
 
-    ghost view = { λ s. row (slot_at s.near.items s.far) s.count };
+    ghost view = { λ s. row (slot_at s.near.items s.far s.under) s.count };
 }
 
 impl Slots {
@@ -44,6 +54,28 @@ impl Slots {
             count,
             near,
             far: None,
+            under: None,
+        })
+    }
+
+    /// So many slots that stand on defaults: the slot `from` has the first of them, the slot after it the second, and so
+    /// on. All other slots are unbound. No slot has room at first.
+    #[tactic(auto, using(crate::proofs::Rows::row_over))]
+    pub fn over(
+        alloc: Global,
+        count: usize,
+        from: usize,
+        defaults: Defaults,
+    ) -> Result<Slots, AllocError>
+        ensures { IfOk result (λ slots. slots ≡ row (default_at from defaults) count) }
+    {
+        let under = Box::new(alloc, Under { from, defaults })?;
+        Ok(Slots {
+            alloc,
+            count,
+            near: Vec::new(alloc),
+            far: None,
+            under: Some(under),
         })
     }
 
@@ -53,7 +85,7 @@ impl Slots {
         ensures { result ≡ slice_get self.now at }
     {
         if at < self.count {
-            return Some(slot_at(&self.near, &self.far, at));
+            return Some(slot_at(&self.near, &self.far, &self.under, at));
         }
         None
     }
@@ -83,14 +115,18 @@ impl Slots {
 fn slot_at(
     near: &[Option<Value>],
     far: &Option<Box<BTreeMap<usize, Value>>>,
+    under: &Option<Box<Under>>,
     at: usize,
 ) -> Option<Value>
-    ensures { result ≡ slot_at near.now far.now at }
+    ensures { result ≡ slot_at near.now far.now under.now at }
 {
-    match near.get(at) {
-        Some(Some(value)) => Some(*value),
-        _ => far_at(far, at),
+    if let Some(Some(value)) = near.get(at) {
+        return Some(*value);
     }
+    if let Some(value) = far_at(far, at) {
+        return Some(value);
+    }
+    under_at(under, at)
 }
 
 /// The value of a slot in the map.
@@ -101,6 +137,19 @@ fn far_at(far: &Option<Box<BTreeMap<usize, Value>>>, at: usize) -> Option<Value>
         Some(map) => map.get(&at).copied(),
         None => None,
     }
+}
+
+/// The default under a slot.
+fn under_at(under: &Option<Box<Under>>, at: usize) -> Option<Value>
+    ensures { result ≡ under_at under.now at }
+{
+    let Some(under) = under else {
+        return None;
+    };
+    if at < under.from {
+        return None;
+    }
+    under.defaults.get(at - under.from)
 }
 
 /// Makes room up to a slot, and gives it a value.

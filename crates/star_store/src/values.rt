@@ -3,6 +3,7 @@
 ghost use Rattle.std.specs.Prelude.{◌≡◌, ◌<◌, ◌≤◌, List, ℕ, Some, [], ◌∷◌, ◌++◌, length, slice_get, slice_set, IfOk, OnOk, OnErr};
 ghost use Rattle.std.specs.List.{insert, remove};
 
+use crate::defaults::Defaults;
 use crate::names::{BuiltIn, Method};
 use crate::range::Range;
 use crate::roomy::Roomy;
@@ -23,7 +24,7 @@ pub enum Value {
     Ref { home: u32, at: u32 },
 }
 
-/// A row of values: the items of a list or a tuple, or the defaults of a function.
+/// A row of values: the items of a list or a tuple.
 #[derive(Drop)]
 pub struct Values {
     items: Roomy<Value>,
@@ -60,7 +61,7 @@ pub struct Function {
     pub file: u32,
     pub definition: u32,
     pub name: Text,
-    pub defaults: Values,
+    pub defaults: Defaults,
     pub frame: Value,
 }
 

@@ -1,3 +1,4 @@
 pub mod Frames
+pub mod InOrder
 pub mod ProgramRows
 pub mod Rows

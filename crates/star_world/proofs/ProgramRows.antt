@@ -1,45 +1,20 @@
--- Rows of programs: the file at a place, one file more, and its outline.
-use Rattle.std.proofs.Common.{◌≡◌, ℕ, zero, suc, Bool, true, false, not, ◌&&◌, ◌||◌, List, [], ◌∷◌, ◌++◌, slice_get, Option, Some, None, refl, ap, sym, ◌∙◌}
-use Rattle.std.specs.Prelude.{⊤, MatchOption}
-use Rattle.std.specs.Option.{is_some, option_flatten, option_map}
+-- The programs of files: what is known of each, and the outlines of all.
+use Rattle.std.proofs.Common.{◌≡◌, ℕ, ◌+◌, Bool, true, false, not, ◌&&◌, ◌||◌, List, [], ◌∷◌, length, slice_get, Option, Some, None, refl, ap, sym, subst, ◌∙◌}
+use Rattle.std.specs.Prelude.{IfSome}
+use Rattle.std.specs.Option.{is_some, option_and_then, option_flatten, option_map}
 use Rattle.std.proofs.lemmas.Option.{slice_get-map}
-use Rattle.std.proofs.lemmas.List.{map-append}
 use Rattle.std.proofs.lemmas.Map.Views.{any-filter_same}
 use Rattle.std.proofs.lemmas.Slice.Eq.{bytes_eq-Decides}
-use denote.Ref.{Bor}
 use Rattle.star_scope.specs.declared.program.Program.{Program}
+use Rattle.star_scope.specs.Definitions.{Definition, definition_in}
 use Rattle.star_scope.specs.Names.{Names, has_name, once, same_name, slot_of}
-use Rattle.star_scope.specs.Outlines.{outline}
+use Rattle.star_scope.specs.Outlines.{names_in, outline}
+use Rattle.star_scope.specs.Spots.{spot_at}
 use Rattle.star_scope.proofs.Numbers.{position_any}
 use Rattle.star_meaning.specs.Local.{outlines}
-use Rattle.star_meaning.specs.Programs.{AllOfFiles, Files, IsOfFile, PlacedFile, file_in, outline_at, placed_file, placed_files, trees_of}
-
-flat : (o : Option (Option (Bor Program))) → option_flatten (option_map (option_map (λ p. placed_file p.now)) o) ≡ option_map (λ p. placed_file p.now) (option_flatten o)
-flat None = refl
-flat (Some None) = refl
-flat (Some (Some p)) = refl
-
--- the file at a place is that of the program there
-pub file_at : (ps : List (Option (Bor Program))) (file : ℕ) → file_in (placed_files ps) file ≡ option_map (λ p. placed_file p.now) (option_flatten (slice_get ps file))
-file_at ps file = ap option_flatten (slice_get-map (option_map (λ p. placed_file p.now)) ps file) ∙ flat (slice_get ps file)
-
--- the program at a place is that of some file
-pub of_file_at : (ps : List (Option (Bor Program))) (file : ℕ) → AllOfFiles ps → MatchOption (option_flatten (slice_get ps file)) ⊤ (λ p. IsOfFile p.now)
-of_file_at [] file h = tt
-of_file_at (None ∷ ps) zero h = tt
-of_file_at (None ∷ ps) (suc file) h = of_file_at ps file h
-of_file_at (Some p ∷ ps) zero h = h.0
-of_file_at (Some p ∷ ps) (suc file) h = of_file_at ps file h.1
-
--- one more file
-pub all_pushed : (ps : List (Option (Bor Program))) (o : Option (Bor Program)) → AllOfFiles ps → MatchOption o ⊤ (λ p. IsOfFile p.now) → AllOfFiles (ps ++ o ∷ [])
-all_pushed [] None h k = tt
-all_pushed [] (Some p) h k = (k, tt)
-all_pushed (None ∷ ps) o h k = all_pushed ps o h k
-all_pushed (Some p ∷ ps) o h k = (h.0, all_pushed ps o h.1 k)
-
-pub placed_pushed : (ps : List (Option (Bor Program))) (o : Option (Bor Program)) → placed_files (ps ++ o ∷ []) ≡ placed_files ps ++ option_map (λ p. placed_file p.now) o ∷ []
-placed_pushed ps o = map-append (option_map (λ p. placed_file p.now)) ps (o ∷ [])
+use Rattle.star_meaning.specs.Programs.{Files, IsOfFile, PlacedFile, file_in, outline_at, slots_in, spots_in, tables_of, trees_of}
+use Rattle.star_world.specs.declared.orders.Order.{Order}
+use Rattle.star_world.specs.Orders.{AreInOrder, HasOrder}
 
 -- what is known of the program of some file
 pub definitions_are : (p : Program) → IsOfFile p → p.definitions ≡ (outline p.statements.now).definitions
@@ -47,6 +22,12 @@ definitions_are p h = h.4.definitions ∙ ap (λ ss. (outline ss).definitions) (
 
 pub blocks_are : (p : Program) → IsOfFile p → p.blocks ≡ (outline p.statements.now).blocks
 blocks_are p h = h.4.blocks ∙ ap (λ ss. (outline ss).blocks) (sym h.4.statements)
+
+-- the order of a definition
+pub order_known : (p : Program) (number plain : ℕ) (names : Names) → IsOfFile p → HasOrder p number plain → names ≡ names_in p.blocks (1 + number)
+    → (d : Definition) → definition_in (outline p.statements.now).definitions number ≡ Some d → AreInOrder (spot_at p.spots) names plain d.parameters
+order_known p number plain names h k e d there =
+    subst (λ (ns : Names). AreInOrder (spot_at p.spots) ns plain d.parameters) (sym e) (k d (ap (λ ds. definition_in ds number) (definitions_are p h) ∙ there))
 
 -- a name stands among names where it stands among these, each once
 here_or_later : (b c : Bool) → (b || (not b && c)) ≡ (b || c)
@@ -76,3 +57,18 @@ pub outline_there : (files : Files) (file : ℕ) → option_flatten (slice_get (
 outline_there files file =
     ap option_flatten (slice_get-map (option_map outline) (trees_of files) file ∙ ap (option_map (option_map outline)) (slice_get-map (option_map (λ f. f.statements)) files file))
     ∙ flat_outline (slice_get files file)
+
+-- the order of a definition of the file at a place, and its slots
+pub order_there : (files : Files) (file number : ℕ) (f : PlacedFile) (o : Option Order) → Some f ≡ file_in files file
+    → IfSome o (λ r. (d : Definition) → definition_in (outline f.statements).definitions number ≡ Some d → AreInOrder (spot_at f.spots) r.names.now r.plain d.parameters)
+    → IfSome o (λ r. (d : Definition) → option_and_then (λ t. definition_in t.definitions number) (outline_at files file) ≡ Some d → AreInOrder ((tables_of files).spots file) r.names.now r.plain d.parameters)
+order_there files file number f None e h = tt
+order_there files file number f (Some r) e h = λ d there.
+    let found : definition_in (outline f.statements).definitions number ≡ Some d = ap (λ g. option_and_then (λ t. definition_in t.definitions number) (option_map (λ x. outline x.statements) g)) e ∙ there in
+    subst (λ (g : Option PlacedFile). AreInOrder (spots_in g) r.names.now r.plain d.parameters) e (h d found)
+
+pub slots_there : (files : Files) (file number : ℕ) (f : PlacedFile) (o : Option Order) → Some f ≡ file_in files file
+    → IfSome o (λ r. r.names.now ≡ names_in (outline f.statements).blocks (1 + number))
+    → IfSome o (λ r. length r.names.now ≡ (tables_of files).slots file (1 + number))
+slots_there files file number f None e h = tt
+slots_there files file number f (Some r) e h = ap length h ∙ ap (λ g. slots_in g (1 + number)) e

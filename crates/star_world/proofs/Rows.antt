@@ -1,6 +1,6 @@
 -- Files more, and what a setting knows of the files whose outlines it has.
 use Rattle.std.proofs.Common.{◌≡◌, ℕ, List, [], ◌∷◌, ◌++◌, map, Option, Some, None, Result, Ok, Err, refl, ap, sym, ◌∙◌, slice_get}
-use Rattle.std.specs.Prelude.{IfOk}
+use Rattle.std.specs.Prelude.{IfOk, IfSome}
 use Rattle.std.specs.Option.{option_and_then, option_flatten, option_map}
 use Rattle.std.proofs.lemmas.List.{map-append}
 use denote.Ref.{Bor}
@@ -9,14 +9,16 @@ use Rattle.star_tree.specs.declared.tree.Statement.{Statement}
 use Rattle.star_scope.specs.declared.error.ScopeFault.{ScopeFault}
 use Rattle.star_scope.specs.declared.program.Prelude.{Prelude}
 use Rattle.star_scope.specs.declared.program.Program.{Program}
-use Rattle.star_scope.specs.Definitions.{definition_in}
+use Rattle.star_scope.specs.Definitions.{Definition, definition_in}
 use Rattle.star_scope.specs.Names.{has_name}
 use Rattle.star_scope.specs.Outlines.{names_in}
 use Rattle.star_scope.specs.Resolve.{Resolves}
 use Rattle.star_meaning.specs.Module.{loaded_names}
 use Rattle.star_meaning.specs.Program.{Setting, blocks_in, definition_of, names_of, outline_of}
-use Rattle.star_meaning.specs.Programs.{Files, IsOfFile, outline_at, placed_file, trees_of}
+use Rattle.star_meaning.specs.Programs.{Files, IsOfFile, outline_at, placed_file, tables_of, trees_of}
 use Rattle.star_world.proofs.ProgramRows.{outline_there}
+use Rattle.star_world.specs.declared.orders.Order.{Order}
+use Rattle.star_world.specs.Orders.{AreInOrder}
 use Rattle.star_world.specs.World.{AreOutlined}
 
 rows : List (Option (Bor (List Statement))) → List (Option (List Statement))
@@ -56,3 +58,9 @@ names_there w files file number h = sym (ap (λ o. names_in (blocks_in o) number
 pub loaded_there : (w : Setting) (files : Files) (file : ℕ) (name : List ℕ) → AreOutlined w files
     → has_name (loaded_names (outline_at files file)) name ≡ has_name (loaded_names (outline_of w file)) name
 loaded_there w files file name h = sym (ap (λ o. has_name (loaded_names o) name) (outline_in w files file h))
+
+pub order_given : (w : Setting) (files : Files) (file number : ℕ) (o : Option Order) → AreOutlined w files
+    → IfSome o (λ r. (d : Definition) → option_and_then (λ t. definition_in t.definitions number) (outline_at files file) ≡ Some d → AreInOrder ((tables_of files).spots file) r.names.now r.plain d.parameters)
+    → IfSome o (λ r. (d : Definition) → definition_of w file number ≡ Some d → AreInOrder ((tables_of files).spots file) r.names.now r.plain d.parameters)
+order_given w files file number None h k = tt
+order_given w files file number (Some r) h k = λ d e. k d (definition_there w files file number h ∙ e)

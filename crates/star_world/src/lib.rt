@@ -3,7 +3,9 @@
 
 pub mod files;
 pub mod loads;
+pub mod orders;
 pub mod parts;
+pub mod placed;
 pub mod programs;
 pub mod variables;
 pub mod world;

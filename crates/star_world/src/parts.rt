@@ -16,6 +16,7 @@ use sqlite_items::Boxed;
 use star_machine::fault::Stop;
 use star_machine::machine::Machine;
 use star_meaning::place::{Flow, Place};
+use star_store::defaults::Defaults;
 use star_store::values::{Cell, Entries, Function, Value, Values};
 use star_text::Text;
 use star_tree::tree::Statement;
@@ -69,7 +70,7 @@ pub fn new_closure(
     place: &Place,
     token: usize,
     name: &str,
-    defaults: Values,
+    defaults: Defaults,
 ) -> Result<Value, Stop>
     ensures { Gives (build place.now.line 1 (cell.Func (record { file = place.now.file; definition = token; name = name.now; defaults = defaults; frame = place.now.frame })) machine.old) result machine.new }
 {

@@ -1,14 +1,17 @@
 //! The programs of files.
 
-ghost use Rattle.std.specs.Prelude.{◌≡◌, ◌∷◌, ◌++◌, [], ⊤, MatchOption, OnErr, OnOk, slice_get};
-ghost use Rattle.std.specs.Option.{option_and_then, option_copied, option_flatten, option_map, unwrap_or};
-ghost use Rattle.star_scope.specs.Definitions.{definition_in, definition_of};
+ghost use Rattle.std.specs.Prelude.{◌≡◌, ◌+◌, ◌∷◌, ◌++◌, [], ⊤, length, IfSome, MatchOption, OnErr, OnOk, Some};
+ghost use Rattle.std.specs.Option.{option_and_then, option_copied, option_map, unwrap_or};
+ghost use Rattle.star_scope.specs.Definitions.{Definition as OneDefinition, definition_in, definition_of};
 ghost use Rattle.star_scope.specs.Names.{has_name};
 ghost use Rattle.star_scope.specs.Outlines.{names_in};
 ghost use Rattle.star_meaning.specs.Module.{loaded_names};
 ghost use Rattle.star_meaning.specs.Program.{blocks_in};
 ghost use Rattle.star_meaning.specs.Programs.{IsOfFile, file_in, outline_at, placed_file, tables_of};
+ghost use Rattle.star_world.specs.Orders.{AreInOrder};
 
+use crate::orders::Order;
+use crate::placed::{Placed, place_program};
 use star_scope::blocks::BlockNames;
 use star_scope::outline::Definition;
 use star_scope::program::Program;
@@ -16,14 +19,16 @@ use star_scope::spot::Spot;
 use std::alloc::{AllocError, Global};
 use std::marker::Model;
 
-/// The programs of files, each at the place of its file's number.
+/// The programs of files, each at the place of its file's number; and whether some definition has many parameters in order.
 #[derive(Drop)]
 pub struct Programs<'a, 't> {
-    programs: Vec<Option<&'a Program<'t>>>,
+    alloc: Global,
+    programs: Vec<Option<Placed<'a, 't>>>,
+    has_orders: bool,
 }
 
 impl<'a, 't> Model for Programs<'a, 't> {
-    ghost use Rattle.star_meaning.specs.Programs.{AllOfFiles, Files, placed_files};
+    ghost use Rattle.star_meaning.specs.Programs.{Files};
 
     ghost Value = { Files };
 
@@ -32,9 +37,7 @@ impl<'a, 't> Model for Programs<'a, 't> {
 
     ghost coded = { Prim.hlevel (codes, statement.the_row.coded) };
 
-    ghost view = { λ s. placed_files s.programs.items };
-
-    ghost invariant = { λ s. AllOfFiles s.programs.items };
+    ghost view = { λ s. s.programs.items };
 }
 
 impl<'a, 't> Programs<'a, 't> {
@@ -43,28 +46,34 @@ impl<'a, 't> Programs<'a, 't> {
         ensures { result ≡ [] }
     {
         Programs {
+            alloc,
             programs: Vec::new(alloc),
+            has_orders: false,
         }
     }
 
     /// The next file: its program, or none where its text does not parse or has a static fault.
-    #[tactic(auto, using(crate::proofs::ProgramRows::all_pushed, crate::proofs::ProgramRows::placed_pushed))]
     pub fn push(&mut self, program: Option<&'a Program<'t>>) -> Result<(), AllocError>
         requires { MatchOption program ⊤ (λ p. IsOfFile p.now) }
         ensures pushed { OnOk result (self.new ≡ self.old ++ option_map (λ p. placed_file p.now) program.entry ∷ []) }
         ensures refused { OnErr result (self.new ≡ self.old) }
     {
-        self.programs.push(program)?;
+        let placed = place_program(self.alloc, program)?;
+        let has_orders = have_orders(&placed);
+        self.programs.push(placed)?;
+        self.has_orders = self.has_orders || has_orders;
         Ok(())
     }
 
     /// The program of a file.
-    #[tactic(auto, using(crate::proofs::ProgramRows::file_at, crate::proofs::ProgramRows::of_file_at))]
     fn program(&self, file: usize) -> Option<&'a Program<'t>>
         ensures placed { option_map (λ p. placed_file p.now) result ≡ file_in self.now file }
         ensures of_file { MatchOption result ⊤ (λ p. IsOfFile p.now) }
     {
-        program_at(&self.programs, file)
+        match placed_at(&self.programs, file) {
+            Some(placed) => Some(placed.program()),
+            None => None,
+        }
     }
 
     /// The spot of the name at a token of a file, in constant time.
@@ -99,6 +108,22 @@ impl<'a, 't> Programs<'a, 't> {
         }
     }
 
+    /// How the many parameters of the definition with a number in a file stand, where they stand in order, in logarithmic time;
+    /// in constant time where no definition of the files has such.
+    #[tactic(auto, using(crate::proofs::ProgramRows::slots_there))]
+    pub fn order(&self, file: usize, number: u32) -> Option<Order<'a, 't>>
+        ensures in_order { IfSome result (λ o. (d : OneDefinition) → option_and_then (λ o. definition_in o.definitions number) (outline_at self.now file) ≡ Some d → AreInOrder ((tables_of self.now).spots file) o.names.now o.plain d.parameters) }
+        ensures names { IfSome result (λ o. length o.names.now ≡ (tables_of self.now).slots file (1 + number)) }
+    {
+        if !self.has_orders {
+            return None;
+        }
+        match placed_at(&self.programs, file) {
+            Some(placed) => placed.order(number),
+            None => None,
+        }
+    }
+
     /// Whether a file loads this local name.
     #[tactic(auto, using(crate::proofs::ProgramRows::loaded_are))]
     pub fn is_loaded(&self, file: usize, name: &str) -> bool
@@ -123,11 +148,22 @@ impl<'a, 't> Programs<'a, 't> {
 }
 
 /// What stands at the place of a file.
-fn program_at<'a, 't>(programs: &[Option<&'a Program<'t>>], file: usize) -> Option<&'a Program<'t>>
-    ensures { result ≡ option_flatten (slice_get programs.now file) }
+fn placed_at<'p, 'a, 't>(
+    programs: &'p [Option<Placed<'a, 't>>],
+    file: usize,
+) -> Option<&'p Placed<'a, 't>>
+    ensures { option_copied result ≡ file_in programs.now file }
 {
     match programs.get(file) {
-        Some(program) => *program,
-        None => None,
+        Some(Some(placed)) => Some(placed),
+        _ => None,
+    }
+}
+
+/// Whether some definition of a program, if there is one, has many parameters in order.
+fn have_orders(placed: &Option<Placed<'_, '_>>) -> bool {
+    match placed {
+        Some(placed) => placed.has_orders(),
+        None => false,
     }
 }

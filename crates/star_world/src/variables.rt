@@ -8,7 +8,7 @@ ghost use Rattle.star_machine.specs.Gives.{Gives};
 ghost use Rattle.star_meaning.specs.Places.{at_spot, bind_spot, frame_above, joined, new_slots, own_spot, read_spot, slot_in};
 ghost use Rattle.star_meaning.specs.Program.{published_of, seen};
 ghost use Rattle.star_meaning.specs.Programs.{tables_of};
-ghost use Rattle.star_meaning.specs.Run.{Done, and_then, pay};
+ghost use Rattle.star_meaning.specs.Run.{Done, and_then, build, pay};
 ghost use Rattle.star_meaning.specs.Variables.{built_ins, frame_of, outermost};
 
 use crate::world::World;
@@ -201,7 +201,7 @@ pub fn read(machine: &Machine, world: &World, place: &Place, name: &Name) -> Res
 }
 
 /// The slot of a name in the innermost frame: none for a name that stands elsewhere.
-fn own_spot(spot: Option<Spot>) -> Option<usize>
+pub(crate) fn own_spot(spot: Option<Spot>) -> Option<usize>
     ensures { result ≡ own_spot spot }
 {
     match spot {
@@ -227,17 +227,16 @@ pub fn bind(
     }
 }
 
-/// The frame of a block of a file, in which all names are unbound.
+/// The cell of a frame with these slots.
 fn frame_cell(
     alloc: Global,
-    world: &World,
     file: u32,
     block: u32,
     parent: Option<Value>,
+    slots: Slots,
 ) -> Result<Cell, AllocError>
-    ensures { IfOk result (λ c. c ≡ Cell.Frame (record { file = file; block = block; parent = parent; slots = replicate ((tables_of world.now.files).slots file block) None })) }
+    ensures { IfOk result (λ c. c ≡ Cell.Frame (record { file = file; block = block; parent = parent; slots = slots })) }
 {
-    let slots = Slots::unbound(alloc, world.slots(file, block as usize))?;
     let frame = Frame {
         file,
         block,
@@ -247,7 +246,7 @@ fn frame_cell(
     Ok(Cell::Frame(BoxedFrame::new(alloc, frame)?))
 }
 
-/// A new frame of a block that is not paid for, as that of a file is.
+/// A new frame of a block that is not paid for, as that of a file is. All names of the block are unbound in it.
 #[tactic(auto, unfolding(star_meaning::specs::Places::new_slots))]
 pub fn new_frame(
     machine: &mut Machine,
@@ -259,11 +258,30 @@ pub fn new_frame(
     requires { length machine.old.store.cells + machine.old.steps + 1 < 2 ^ 32 }
     ensures { Gives (new_slots (tables_of world.now.files) file block parent machine.old) result machine.new }
 {
-    let cell = frame_cell(machine.alloc(), world, file, block, parent)?;
+    let slots = Slots::unbound(machine.alloc(), world.slots(file, block as usize))?;
+    let cell = frame_cell(machine.alloc(), file, block, parent, slots)?;
     machine.make(cell)
 }
 
-/// A new frame of a block, for which 1 is paid, as that of a call or of a comprehension.
+/// A new frame of a block with these slots, for which 1 is paid.
+pub fn frame_with(
+    machine: &mut Machine,
+    line: usize,
+    file: u32,
+    block: usize,
+    parent: Option<Value>,
+    slots: Slots,
+) -> Result<Value, Stop>
+    ensures { Gives (build line 1 (Cell.Frame (record { file = file; block = block; parent = parent; slots = slots })) machine.old) result machine.new }
+{
+    let Ok(block) = u32::try_from(block) else {
+        return Err(Stop::Memory);
+    };
+    let cell = frame_cell(machine.alloc(), file, block, parent, slots)?;
+    machine.build(line, 1, cell)
+}
+
+/// A new frame of a block, for which 1 is paid, as that of a call or of a comprehension. All names of the block are unbound in it.
 #[tactic(auto, unfolding(star_meaning::specs::Places::new_slots, star_meaning::specs::Run::build))]
 pub fn paid_frame(
     machine: &mut Machine,
@@ -275,9 +293,6 @@ pub fn paid_frame(
 ) -> Result<Value, Stop>
     ensures { Gives (and_then (pay line 1 machine.old) (λ _. new_slots (tables_of world.now.files) file block parent)) result machine.new }
 {
-    let Ok(block) = u32::try_from(block) else {
-        return Err(Stop::Memory);
-    };
-    let cell = frame_cell(machine.alloc(), world, file, block, parent)?;
-    machine.build(line, 1, cell)
+    let slots = Slots::unbound(machine.alloc(), world.slots(file, block))?;
+    frame_with(machine, line, file, block, parent, slots)
 }

@@ -10,6 +10,7 @@ use star_meaning::fault::Code;
 use star_meaning::given::Given;
 use star_scope::outline::{Body, Definition};
 use star_store::arena::Homes;
+use star_store::defaults::Defaults;
 use star_store::names::{BuiltIn, Method};
 use star_store::values::{Cell, Function, Value, Values};
 use star_text::Text;
@@ -24,7 +25,7 @@ fn function(alloc: Global, machine: &mut Machine) -> Result<Value, Fail> {
         file: 0,
         definition: 3,
         name: Text::new(alloc, "f")?,
-        defaults: Values::new(Vec::from_slice(alloc, &[Value::Int(8), Value::Int(9)])?),
+        defaults: Defaults::new(Vec::from_slice(alloc, &[Value::Int(8), Value::Int(9)])?)?,
         frame: Value::NoneValue,
     };
     let function = Boxed::new(alloc, function)?;

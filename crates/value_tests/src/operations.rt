@@ -13,6 +13,7 @@ use star_operators::slices::slice;
 use star_operators::subscript::{index, set_index};
 use star_scope::loads::Load;
 use star_store::arena::{Arena, Homes, freeze};
+use star_store::defaults::Defaults;
 use star_store::values::{Cell, Function, Value, Values};
 use star_text::Text;
 use star_tree::tree::{BinaryOperator, Comparator, UnaryOperator};
@@ -155,7 +156,7 @@ fn definitions_are_active_until_they_end(
         file: 0,
         definition: 4,
         name: Text::new(alloc, "f")?,
-        defaults: Values::new(Vec::new(alloc)),
+        defaults: Defaults::new(Vec::new(alloc))?,
         frame: Value::NoneValue,
     };
     machine.activate(0, 4)?;

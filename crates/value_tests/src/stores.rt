@@ -5,6 +5,7 @@ use star_store::arena::write::Change;
 use star_store::arena::{Arena, Homes, freeze};
 use star_store::budget::Budget;
 use star_store::content::{Atom, content};
+use star_store::defaults::Defaults;
 use star_store::equal::equal;
 use star_store::fault::StoreFault;
 use star_store::key::check_key;
@@ -523,6 +524,36 @@ fn slots_near_and_far(rt: HostRuntime) -> Result<(), Fail> {
     Ok(())
 }
 
+// Slots over defaults have them until they are bound, and so has what shares the defaults.
+#[test]
+fn slots_over_defaults(rt: HostRuntime) -> Result<(), Fail> {
+    let alloc = rt.alloc();
+    let row = vec![in alloc; Value::Int(70), Value::Int(71), Value::Int(72)]?;
+    let defaults = Defaults::new(row)?;
+    let mut slots = Slots::over(alloc, 6, 2, defaults.share()?)?;
+    slots.set(3, Value::Int(1))?;
+    for (at, slot) in [
+        (1, Some(None)),
+        (2, Some(Some(Value::Int(70)))),
+        (3, Some(Some(Value::Int(1)))),
+        (4, Some(Some(Value::Int(72)))),
+        (5, Some(None)),
+        (6, None),
+    ] {
+        assert_eq!(rt; slots.get(at), slot);
+    }
+    let far = Slots::over(alloc, 30, 20, defaults.share()?)?;
+    assert_eq!(rt; far.get(21), Some(Some(Value::Int(71))));
+    assert!(rt; defaults.as_slice() == [Value::Int(70), Value::Int(71), Value::Int(72)].as_slice());
+    assert_eq!(rt; defaults.len(), 3);
+    assert_eq!(rt; defaults.get(2), Some(Value::Int(72)));
+    assert_eq!(rt; defaults.get(3), None);
+    let none = Defaults::new(Vec::new(alloc))?;
+    assert!(rt; none.as_slice().is_empty());
+    assert_eq!(rt; none.share()?.len(), 0);
+    Ok(())
+}
+
 // A frame's slot is bound, and a function shows its name.
 fn frames_and_functions(
     rt: &impl Abort,
@@ -548,7 +579,7 @@ fn frames_and_functions(
         file: 0,
         definition: 3,
         name: Text::new(alloc, "f")?,
-        defaults: Values::new(Vec::new(alloc)),
+        defaults: Defaults::new(Vec::new(alloc))?,
         frame,
     };
     let function = Boxed::new(alloc, function)?;

@@ -103,6 +103,9 @@ decreases-evaluate::evaluate_arguments l = 2 ^ 70 * l.levels + 1
 abbrev pub decreases-evaluate::run_by_place : goal.decreases-evaluate::run_by_place
 decreases-evaluate::run_by_place l = 2 ^ 70 * l.levels
 
+abbrev pub decreases-evaluate::run_with_slots : goal.decreases-evaluate::run_with_slots
+decreases-evaluate::run_with_slots l = 2 ^ 70 * l.levels
+
 abbrev pub decreases-execute::execute_turns : goal.decreases-execute::execute_turns
 decreases-execute::execute_turns l = 2 ^ 70 * l.levels + 3
 
@@ -218,7 +221,7 @@ invariant-evaluate::evaluate_entries-loop-entry l =
 abbrev pub invariant-evaluate::evaluate_defaults-loop-parameter : goal.invariant-evaluate::evaluate_defaults-loop-parameter
 invariant-evaluate::evaluate_defaults-loop-parameter l =
     let f = defaults (meant l.world l.levels) l.place in
-    with_front l.values (f (drop l.parameter-index l.parameters) l.machine) ≡ f l.parameters l.fn.machine
+    with_front l.values.items (f (drop l.parameter-index l.parameters) l.machine) ≡ f l.parameters l.fn.machine
 
 abbrev pub invariant-evaluate::evaluate_arguments-loop-argument : goal.invariant-evaluate::evaluate_arguments-loop-argument
 invariant-evaluate::evaluate_arguments-loop-argument l =

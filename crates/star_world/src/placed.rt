@@ -1,0 +1,85 @@
+//! The program of a file, with the orders of its definitions.
+
+ghost use Rattle.std.specs.Prelude.{◌≡◌, ◌+◌, IfOk, IfSome, MatchOption, Some, ⊤};
+ghost use Rattle.std.specs.Option.{option_map};
+ghost use Rattle.star_scope.specs.Definitions.{Definition, definition_in};
+ghost use Rattle.star_scope.specs.Outlines.{names_in, outline};
+ghost use Rattle.star_scope.specs.Spots.{spot_at};
+ghost use Rattle.star_meaning.specs.Programs.{IsOfFile, placed_file};
+ghost use Rattle.star_world.specs.Orders.{AreInOrder};
+
+use crate::orders::{Order, Orders, slot_names};
+use star_scope::program::Program;
+use std::alloc::{AllocError, Global};
+use std::marker::Model;
+
+/// The program of some file, and which of its definitions have parameters in order.
+#[derive(Drop)]
+pub struct Placed<'a, 't> {
+    program: &'a Program<'t>,
+    orders: Orders,
+}
+
+impl<'a, 't> Model for Placed<'a, 't> {
+    ghost use Rattle.star_meaning.specs.Programs.{IsOfFile, PlacedFile, placed_file};
+    ghost use Rattle.star_world.specs.Orders.{HaveOrders};
+
+    ghost Value = { PlacedFile };
+
+    ghost use Rattle.std.specs.Coded.{codes};
+    ghost use Rattle.star_tree.specs.contracts.tree.Statement as statement;
+
+    ghost coded = { Prim.hlevel (codes, statement.the_row.coded) };
+
+    ghost view = { λ p. placed_file p.program.now };
+
+    ghost invariant = { λ p. IsOfFile p.program.now × HaveOrders p.program.now p.orders.plain };
+}
+
+impl<'a, 't> Placed<'a, 't> {
+    /// A program, whose definitions are gone through once.
+    fn new(alloc: Global, program: &'a Program<'t>) -> Result<Placed<'a, 't>, AllocError>
+        requires { IsOfFile program.now }
+        ensures { IfOk result (λ placed. placed ≡ placed_file program.now) }
+    {
+        let orders = Orders::of(alloc, program)?;
+        Ok(Placed { program, orders })
+    }
+
+    /// The program.
+    pub(crate) fn program(&self) -> &'a Program<'t>
+        ensures placed { placed_file result.now ≡ self.now }
+        ensures of_file { IsOfFile result.now }
+    {
+        self.program
+    }
+
+    /// Whether some definition has its parameters in order, and many.
+    pub(crate) fn has_orders(&self) -> bool {
+        !self.orders.is_empty()
+    }
+
+    /// How the many parameters of the definition with a number stand, where they stand in order.
+    pub(crate) fn order(&self, number: u32) -> Option<Order<'a, 't>>
+        ensures in_order { IfSome result (λ o. (d : Definition) → definition_in (outline self.now.statements).definitions number ≡ Some d → AreInOrder (spot_at self.now.spots) o.names.now o.plain d.parameters) }
+        ensures names { IfSome result (λ o. o.names.now ≡ names_in (outline self.now.statements).blocks (1 + number)) }
+    {
+        let plain = self.orders.plain(number as usize)?;
+        let names = slot_names(self.program, number as usize)?;
+        Some(Order { plain, names })
+    }
+}
+
+/// The program of a file, if it has one.
+pub(crate) fn place_program<'a, 't>(
+    alloc: Global,
+    program: Option<&'a Program<'t>>,
+) -> Result<Option<Placed<'a, 't>>, AllocError>
+    requires { MatchOption program ⊤ (λ p. IsOfFile p.now) }
+    ensures { IfOk result (λ placed. placed ≡ option_map (λ p. placed_file p.now) program.entry) }
+{
+    match program {
+        Some(program) => Ok(Some(Placed::new(alloc, program)?)),
+        None => Ok(None),
+    }
+}
