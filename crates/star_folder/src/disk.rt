@@ -23,7 +23,11 @@ pub struct DiskFolder<'a, R> {
 
 impl<'a, R> DiskFolder<'a, R> {
     /// The folder at this path. Nothing has failed yet.
-    pub fn new(rt: &'a R, top: &'a str) -> Self {
+    pub fn new(rt: &'a R, top: &'a str) -> Self
+        ensures top { result.top.now ≡ top.now }
+        ensures listings { result.failed_listings ≡ 0 }
+        ensures reads { result.failed_reads ≡ 0 }
+    {
         DiskFolder {
             rt,
             top,

@@ -1,6 +1,6 @@
 //! A file whose loads are asked for.
 
-ghost use Rattle.std.specs.Prelude.{◌≡◌, ◌<◌, ◌≤◌, ◌+◌, ◌^◌, None, length, map, IfSome};
+ghost use Rattle.std.specs.Prelude.{◌≡◌, ◌<◌, ◌≤◌, ◌+◌, ◌^◌, [], None, length, map, IfSome, OnOk, OnErr};
 ghost use Rattle.star_plan.specs.Plan.{loaded, loads_of};
 ghost use Rattle.star_plan.specs.Results.{IsFirstBad};
 ghost use Rattle.star_outcome.specs.Fits.{IsAsked};
@@ -43,9 +43,10 @@ impl<'s, J: Naming> Model for Frame<'s, J> {
 }
 
 impl<'s, J: Naming> Frame<'s, J> {
-    /// A file that was begun.
+    /// A file that was begun, of whose loads none was told.
     pub fn new(alloc: Global, n: usize) -> Frame<'s, J>
         requires { IsAsked J.files J.plan n }
+        ensures { result ≡ record { n = n; told = 0; failed = None; modules = [] } }
     {
         Frame {
             n,
@@ -93,6 +94,9 @@ impl<'s, J: Naming> Frame<'s, J> {
         requires load { self.old.told < length (loads_of J.plan self.old.n) }
         requires fits { self.old.told + 1 < 2 ^ 64 }
         requires bad { IsBadLoad J.plan self.old.n self.old.told }
+        ensures file { self.new.n ≡ self.old.n }
+        ensures told { self.new.told ≡ self.old.told + 1 }
+        ensures modules { self.new.modules ≡ self.old.modules }
     {
         if self.failed.is_some() {
             self.told += 1;
@@ -102,11 +106,14 @@ impl<'s, J: Naming> Frame<'s, J> {
         self.told += 1;
     }
 
-    /// Its next load has ended with this module.
+    /// Its next load has ended with this module. Where a growth is refused, nothing was told.
     pub fn tell(&mut self, it: &'s Module) -> Result<(), AllocError>
         requires load { self.old.told < length (loads_of J.plan self.old.n) }
         requires fits { self.old.told + 1 < 2 ^ 64 }
         requires right { IsModuleAt J.plan self.old.n self.old.told it.now }
+        ensures file { self.new.n ≡ self.old.n }
+        ensures told { OnOk result (self.new.told ≡ self.old.told + 1) }
+        ensures refused { OnErr result (self.new ≡ self.old) }
     {
         if !it.is_good() {
             self.refuse();

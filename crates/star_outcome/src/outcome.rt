@@ -1,6 +1,6 @@
 //! What a run answers.
 
-ghost use Rattle.std.specs.Prelude.{◌≡◌, ◌<◌, length, slice_index_or, IfOk, Some};
+ghost use Rattle.std.specs.Prelude.{◌≡◌, ◌<◌, ◌==◌, length, slice_index_or, IfOk, Some};
 ghost use Rattle.star_outcome.specs.Kept.{AllKept, IsSound, KeptView};
 
 use crate::module::Module;
@@ -126,7 +126,9 @@ impl Run {
     }
 
     /// Whether no file was reached.
-    pub fn is_empty(&self) -> bool {
+    pub fn is_empty(&self) -> bool
+        ensures { result ≡ (length self.now.kept == 0) }
+    {
         self.kept.is_empty()
     }
 

@@ -50,7 +50,9 @@ pub struct Reads<'t> {
 
 impl<'t> Reads<'t> {
     /// Nothing yet.
-    pub fn new(alloc: Global) -> Reads<'t> {
+    pub fn new(alloc: Global) -> Reads<'t>
+        ensures { result.all.items ≡ [] }
+    {
         Reads {
             all: Vec::new(alloc),
         }
