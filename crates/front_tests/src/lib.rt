@@ -1,11 +1,23 @@
-//! Tests of what reads a file: the parser and the resolver.
+//! Tests of what reads files: texts, labels, bundles and folders, the lexer, the parser and the resolver.
 #![tactic(auto)]
 
+#[cfg(test)]
+mod bundle;
+#[cfg(test)]
+mod folder;
+#[cfg(test)]
+mod labels;
 #[cfg(test)]
 mod names;
 #[cfg(test)]
 mod programs;
 #[cfg(test)]
+mod rows;
+#[cfg(test)]
 mod static_faults;
+#[cfg(test)]
+mod text;
+#[cfg(test)]
+mod tokens;
 #[cfg(test)]
 mod trees;

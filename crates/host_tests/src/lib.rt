@@ -1,6 +1,10 @@
-//! Tests of the host: whole runs by several loaders, and their reports.
+//! Tests of the host: the cache, the schedule, and whole runs by several loaders with their reports.
 #![tactic(auto)]
 
+#[cfg(test)]
+mod cache;
+#[cfg(test)]
+mod flow;
 #[cfg(test)]
 mod meeting;
 #[cfg(test)]

@@ -3,5 +3,3 @@
 
 pub mod bundle;
 pub mod error;
-#[cfg(test)]
-mod tests;

@@ -17,6 +17,3 @@ pub use law::{ByDepth, no_cycle_is_good};
 pub use product::Product;
 pub use reply::{BookError, Reply};
 pub use seat::Seat;
-
-#[cfg(test)]
-mod tests;

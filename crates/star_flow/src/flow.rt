@@ -3,7 +3,6 @@
 ghost use Rattle.std.specs.Prelude.{◌≡◌, ◌<◌, IfOk, length};
 
 use crate::schedule::{Next, Schedule};
-use std::alloc::{AllocError, Global};
 use std::sync::{Condvar, Mutex, Wait};
 
 /// Hands out files to loaders, each when all its loads have ended. It is a hint: that a file is handed out promises nothing

@@ -8,6 +8,3 @@ mod schedule;
 pub use flow::Flow;
 pub use graph::Graph;
 pub use schedule::{Next, Schedule};
-
-#[cfg(test)]
-mod tests;

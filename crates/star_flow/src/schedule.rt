@@ -3,7 +3,6 @@
 ghost use Rattle.std.specs.Prelude.{◌≡◌, ◌-◌, ◌∷◌, ◌≤◌, [], All, false};
 ghost use Rattle.star_flow.specs.Schedules.{HasAll, IsNext, IsReadyOf};
 
-use std::alloc::{AllocError, Global};
 use std::marker::Model;
 
 /// What a loader that asks for a file does next.

@@ -8,6 +8,4 @@ pub mod memory;
 mod path;
 mod places;
 mod state;
-#[cfg(test)]
-mod tests;
 pub mod walk;

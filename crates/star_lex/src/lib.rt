@@ -26,8 +26,3 @@ pub fn lex(alloc: Global, text: &str) -> Result<Vec<Token>, SyntaxFault>
     let cuts = cut::pieces(alloc, bytes)?;
     lay::lay(alloc, &cuts, 1 + cut::line_ends(bytes), bytes.len())
 }
-
-#[cfg(test)]
-mod rows;
-#[cfg(test)]
-mod tests;

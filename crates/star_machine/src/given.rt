@@ -8,11 +8,9 @@ ghost use Rattle.star_machine.specs.Gives.{Gives, GivesBy};
 
 use crate::fault::{Stop, faulted};
 use crate::machine::Machine;
-use sqlite_items::Items;
 use star_meaning::fault::Code;
 use star_meaning::given::{Given, NamedValue};
-use star_store::values::{Value, Values};
-use star_text::Text;
+use star_store::values::Value;
 
 /// Whether each value given by name has this one.
 fn have_name(named: &[NamedValue], name: &str) -> bool

@@ -272,26 +272,6 @@ fn multiply(
     }
 }
 
-/// Puts an entry in: a key that is there keeps its place.
-pub fn with_entry(
-    machine: &Machine,
-    setting: &Setting,
-    entries: &mut Entries,
-    entry: (Value, Value),
-) -> Result<(), AllocError>
-    ensures { OnOk result (entries.new ≡ spec.with_entry setting.now machine.now entries.old entry) }
-{
-    let (key, value) = entry;
-    let Some(at) = machine.place_of(setting, key, entries) else {
-        entries.push(key, value)?;
-        return Ok(());
-    };
-    if let Some((there, _old)) = entries.get(at) {
-        entries.set(at, there, value);
-    }
-    Ok(())
-}
-
 /// A copy of the entries.
 fn copied(alloc: Global, entries: &Entries) -> Result<Entries, AllocError>
     ensures { IfOk result (λ r. r ≡ entries.now) }

@@ -1,4 +1,4 @@
-//! `x[i]`, `x[i] = v` and `x[a:b:c]`.
+//! `x[i]` and `x[i] = v`.
 
 ghost use Rattle.std.specs.Prelude.{◌≡◌, [], ◌∷◌, ◌<◌, ◌≤◌, ◌+◌, ◌*◌, length, pos, IfOk, OnOk, ◌≤ℤ◌, ◌-ℤ◌, ◌+ℤ◌, slice_get};
 ghost use Rattle.star_machine.specs.Gives.{Gives};
@@ -7,14 +7,14 @@ ghost use Rattle.star_meaning.specs.Subscript as spec;
 ghost use Rattle.star_operators.specs.Wanted.{place_wanted};
 ghost use Rattle.star_meaning.specs.Values.{content};
 
-use star_machine::content::{Content, Kind};
+use star_machine::content::Kind;
 use star_machine::fault::{Stop, faulted};
 use star_machine::machine::Machine;
 use star_machine::setting::Setting;
 use star_machine::subscript::{place_from, put_entry};
 use star_meaning::fault::Code;
 use star_store::arena::write::Change;
-use star_store::values::{Cell, Value, Values};
+use star_store::values::{Value, Values};
 use star_text::Text;
 use std::alloc::{AllocError, Global};
 

@@ -11,7 +11,7 @@ use crate::error::{Refusal, ScopeFault, earlier};
 use star_label::error::LabelError;
 use star_label::files::Files;
 use star_label::label::Label;
-use star_tree::tree::{Form, Literal, LoadedName, Position, Statement};
+use star_tree::tree::{Form, LoadedName, Position, Statement};
 use std::alloc::{AllocError, Global};
 
 /// What a module string leads to.

@@ -4,7 +4,7 @@
 ghost use Rattle.std.specs.Prelude.{◌≡◌, ◌<◌, ◌≤◌, ◌++◌, ◌∷◌, [], List, length, drop, take, replicate, slice_get, slice_set, OnOk, OnErr, IfOk};
 ghost use Rattle.std.specs.List.{insert, remove};
 
-use std::alloc::{AllocError, Global};
+use std::alloc::AllocError;
 use std::marker::Model;
 
 /// Among fewer items all are moved as fast.

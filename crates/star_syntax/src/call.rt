@@ -10,7 +10,7 @@ use crate::level::{Level, Suffix};
 use crate::reader::{Grammar, Read, keyword_at, name, sign};
 use sqlite_items::{Boxed, Items};
 use star_lex::token::{Keyword, Sign};
-use star_tree::tree::{Argument, Expression, Name, Parameter};
+use star_tree::tree::{Argument, Expression, Parameter};
 use std::alloc::Global;
 
 /// Whether what stands behind the positional arguments is in order.

@@ -1,3 +1,1 @@
-pub mod Stream
 pub mod Options
-pub mod Serve

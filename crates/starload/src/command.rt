@@ -4,8 +4,8 @@ ghost use Rattle.std.specs.Prelude.{◌≡◌, ◌≤◌, true, false, Some, IfO
 ghost use Rattle.clap.specs.Matches.{first_value, found_of, one_text};
 ghost use Rattle.starload.specs.Options as spec;
 
-use crate::serve::Options;
 use clap::{Arg, ArgAction, ArgMatches, Command, value_parser};
+use star_serve::serve::Options;
 use std::alloc::{AllocError, Global};
 
 /// What stands after the options in the help.

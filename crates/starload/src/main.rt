@@ -7,21 +7,14 @@
 ghost use Rattle.std.specs.Prelude.{◌≤◌};
 
 mod command;
-mod dir;
-mod ends;
-mod read;
-mod serve;
-mod stream;
-#[cfg(test)]
-mod tests;
 
 use clap::error::ErrorKind;
 use command::{command, options};
-use dir::serve_dir;
-use ends::{CountedReader, CountedWriter};
-use serve::{Options, serve};
 use star_bundle::error::{ServeError, status};
 use star_folder::disk::DiskFolder;
+use star_serve::dir::serve_dir;
+use star_serve::ends::{CountedReader, CountedWriter};
+use star_serve::serve::{Options, serve};
 use std::alloc::Global;
 use std::process::ExitCode;
 use std::sync::Wait;

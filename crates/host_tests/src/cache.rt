@@ -1,0 +1,5 @@
+//! The book of the cache, its lock and its seats.
+
+mod alone;
+mod kept;
+mod locked;

@@ -1,0 +1,5 @@
+//! Tests of the whole way from bytes to bytes.
+#![tactic(auto)]
+
+#[cfg(test)]
+mod tests;

@@ -1,0 +1,510 @@
+//! Bundles and folders from bytes to bytes, over scripted streams that say their bytes and folders that say what they hold.
+
+ghost use Rattle.std.specs.Prelude.{◌≤◌, IfOk, None, Some, false, ◌==◌, if◌then◌else◌};
+ghost use Rattle.star_folder.specs.Memory.{contents_of, rows_of};
+
+mod bundles;
+mod faults;
+mod more_values;
+mod static_faults;
+mod values;
+
+use star_bundle::error::{ServeError, status};
+use star_folder::folder::{Folder, FolderError, Kind};
+use star_folder::memory::{MemoryFolder, Row};
+use star_label::label::Label;
+use star_serve::dir::serve_dir;
+use star_serve::serve::{Options, serve};
+use star_serve::stream::{Failed, Sink, Source};
+use std::alloc::{AllocError, Global};
+use std::collections::BTreeMap;
+use std::process::Abort;
+use std::sync::Wait;
+use std::test::Fail;
+use std::thread::Threads;
+
+/// A bundle with the words that ask for its files, and what comes of it.
+struct Case {
+    bundle: &'static str,
+    roots: &'static [&'static str],
+    prelude: Option<&'static str>,
+    steps: u32,
+    /// What one loader writes to standard error, where the trace is asked for.
+    trace: Option<&'static str>,
+    answer: Result<bool, ServeError>,
+    report: &'static str,
+}
+
+/// Gives bytes, at most so many at a time. The read with a given number fails, counted from 0.
+#[derive(Drop)]
+struct Script<'a> {
+    rest: &'a [u8],
+    piece: usize,
+    calls: usize,
+    fails_at: usize,
+    failed: u64,
+    ended: bool,
+}
+
+impl<'a> Source for Script<'a> {
+    ghost said = { λ s. record { given = None; left = Some s.rest.now; ended = s.ended } };
+
+    ghost failed = { λ s. s.failed };
+
+    fn read(&mut self, buffer: &mut [u8]) -> Result<usize, Failed> {
+        let call = self.calls;
+        self.calls = usize::saturating_add(call, 1);
+        if call == self.fails_at && self.failed < u64::MAX {
+            self.failed += 1;
+            return Err(Failed);
+        }
+        let count = self
+            .rest
+            .len()
+            .min(buffer.len())
+            .min(usize::max(self.piece, 1));
+        let (front, rest) = self.rest.split_at(count);
+        buffer[..count].copy_from_slice(front);
+        self.rest = rest;
+        self.ended = count == 0;
+        Ok(count)
+    }
+}
+
+/// Gives spaces for ever.
+#[derive(Drop)]
+struct Spaces;
+
+impl Source for Spaces {
+    ghost said = { λ s. record { given = None; left = None; ended = false } };
+
+    ghost failed = { λ s. 0 };
+
+    fn read(&mut self, buffer: &mut [u8]) -> Result<usize, Failed> {
+        buffer.fill(b' ');
+        Ok(buffer.len())
+    }
+}
+
+/// Keeps what it takes. The write with a given number fails, counted from 0.
+#[derive(Drop)]
+struct Kept {
+    bytes: Vec<u8>,
+    calls: usize,
+    fails_at: usize,
+    failed: u64,
+}
+
+impl Sink for Kept {
+    ghost taken = { λ s. if s.failed == 18446744073709551615 then None else Some s.bytes.items };
+
+    ghost failed = { λ s. s.failed };
+
+    fn write(&mut self, bytes: &[u8]) -> Result<(), Failed> {
+        if self.failed == u64::MAX {
+            return Ok(());
+        }
+        let call = self.calls;
+        self.calls = usize::saturating_add(call, 1);
+        if call != self.fails_at && self.bytes.extend_from_slice(bytes).is_ok() {
+            return Ok(());
+        }
+        self.failed += 1;
+        Err(Failed)
+    }
+}
+
+/// More calls than are made: none fails.
+const NEVER: usize = 1_000_000;
+
+fn scripted(bytes: &[u8], piece: usize, fails_at: usize) -> Script<'_> {
+    Script {
+        rest: bytes,
+        piece,
+        calls: 0,
+        fails_at,
+        failed: 0,
+        ended: false,
+    }
+}
+
+fn writer_of(alloc: Global, fails_at: usize) -> Kept {
+    Kept {
+        bytes: Vec::new(alloc),
+        calls: 0,
+        fails_at,
+        failed: 0,
+    }
+}
+
+/// What is asked for: the root `//:a.star`, with so many loaders.
+fn options_of(alloc: Global, loaders: usize) -> Result<Options, AllocError>
+    requires { (1 ≤ loaders) × (loaders ≤ 64) }
+    ensures { IfOk result (λ o. (1 ≤ o.loaders) × (o.loaders ≤ 64) × (1 ≤ o.steps) × (o.steps ≤ 100000000)) }
+{
+    let mut roots = Vec::new(alloc);
+    roots.push(String::from_str(alloc, "//:a.star")?)?;
+    Ok(Options {
+        loaders,
+        steps: 10_000,
+        roots,
+        prelude: None,
+        trace: true,
+        dir: None,
+    })
+}
+
+/// What `serve` answers for the root `//:a.star`, and what it wrote. The write of the report fails where that is wanted.
+fn served<H: Threads + Wait + Sync, R: Source>(
+    rt: &H,
+    alloc: Global,
+    reader: &mut R,
+    fails: bool,
+) -> Result<(Result<bool, ServeError>, Vec<u8>), AllocError> {
+    let mut writer = writer_of(alloc, if fails { 0 } else { NEVER });
+    let mut errors = writer_of(alloc, NEVER);
+    let options = options_of(alloc, 2)?;
+    let outcome = serve(rt, alloc, reader, &mut writer, &mut errors, &options);
+    let Kept { bytes, .. } = writer;
+    Ok((outcome, bytes))
+}
+
+/// The input is refused so, and nothing is written.
+fn refuses<H: Abort + Threads + Wait + Sync>(
+    rt: &H,
+    alloc: Global,
+    input: &[u8],
+    want: ServeError,
+) -> Result<(), Fail> {
+    let (outcome, written) = served(rt, alloc, &mut scripted(input, 7, NEVER), false)?;
+    assert_eq!(rt; outcome, Err(want));
+    assert!(rt; written.is_empty());
+    Ok(())
+}
+
+fn asked_by(alloc: Global, case: &Case, loaders: usize) -> Result<Options, AllocError>
+    ensures { IfOk result (λ o. (1 ≤ o.loaders) × (o.loaders ≤ 64) × (1 ≤ o.steps) × (o.steps ≤ 100000000)) }
+{
+    let mut roots = Vec::new(alloc);
+    for root in case.roots {
+        roots.push(String::from_str(alloc, *root)?)?;
+    }
+    let prelude = match case.prelude {
+        Some(prelude) => Some(String::from_str(alloc, prelude)?),
+        None => None,
+    };
+    Ok(Options {
+        loaders: loaders.clamp(1, 64),
+        steps: case.steps.clamp(1, 100_000_000),
+        roots,
+        prelude,
+        trace: case.trace.is_some(),
+        dir: None,
+    })
+}
+
+/// What the case says is answered and written. The lines of the trace are those of one loader.
+fn comes_of<H: Abort + Threads + Wait + Sync>(
+    rt: &H,
+    alloc: Global,
+    case: &Case,
+    loaders: usize,
+) -> Result<(), Fail> {
+    let options = asked_by(alloc, case, loaders)?;
+    let mut reader = scripted(case.bundle.as_bytes(), 5, NEVER);
+    let (mut writer, mut errors) = (writer_of(alloc, NEVER), writer_of(alloc, NEVER));
+    let answer = serve(rt, alloc, &mut reader, &mut writer, &mut errors, &options);
+    assert_eq!(rt; answer, case.answer);
+    assert_eq!(rt; writer.bytes.as_slice(), case.report.as_bytes());
+    if loaders == 1 || case.trace.is_none() {
+        assert_eq!(rt;
+            errors.bytes.as_slice(),
+            case.trace.unwrap_or("").as_bytes()
+        );
+    }
+    Ok(())
+}
+
+#[test]
+fn files_that_end_well(rt: HostRuntime) -> Result<(), Fail> {
+    for case in &values::VALUES {
+        for loaders in [1, 3] {
+            comes_of(&rt, rt.alloc(), case, loaders)?;
+        }
+    }
+    Ok(())
+}
+
+#[test]
+fn more_files_that_end_well(rt: HostRuntime) -> Result<(), Fail> {
+    for case in &more_values::MORE_VALUES {
+        for loaders in [1, 3] {
+            comes_of(&rt, rt.alloc(), case, loaders)?;
+        }
+    }
+    Ok(())
+}
+
+#[test]
+fn files_with_a_static_fault(rt: HostRuntime) -> Result<(), Fail> {
+    for case in &static_faults::STATIC_FAULTS {
+        for loaders in [1, 3] {
+            comes_of(&rt, rt.alloc(), case, loaders)?;
+        }
+    }
+    Ok(())
+}
+
+#[test]
+fn files_that_stop(rt: HostRuntime) -> Result<(), Fail> {
+    for case in &faults::FAULTS {
+        for loaders in [1, 3] {
+            comes_of(&rt, rt.alloc(), case, loaders)?;
+        }
+    }
+    Ok(())
+}
+
+#[test]
+fn many_files(rt: HostRuntime) -> Result<(), Fail> {
+    for case in &bundles::BUNDLES {
+        for loaders in [1, 2, 3, 4, 64] {
+            comes_of(&rt, rt.alloc(), case, loaders)?;
+        }
+    }
+    Ok(())
+}
+
+#[test]
+fn what_is_no_bundle(rt: HostRuntime) -> Result<(), Fail> {
+    for input in [
+        "",
+        "{\"//:a.star\":\"x",
+        "[]",
+        "{\"//:a.star\":1}",
+        "{\"//:a.star\":\"\\ud800\"}",
+        "{\"//:a.star\":\"\"} x",
+    ] {
+        refuses(&rt, rt.alloc(), input.as_bytes(), ServeError::BadBundle)?;
+    }
+    refuses(
+        &rt,
+        rt.alloc(),
+        b"{\"//:a.star\":\"\xff\"}",
+        ServeError::BadBundle,
+    )?;
+    refuses(&rt, rt.alloc(), b"{\"a\":\"\"}", ServeError::BadKey)?;
+    refuses(&rt, rt.alloc(), b"{\":a\":\"\"}", ServeError::BadKey)?;
+    refuses(&rt, rt.alloc(), b"{\"a\":1}", ServeError::BadBundle)?;
+    refuses(&rt, rt.alloc(), b"{\"//:b.star\":\"\"}", ServeError::NoRoot)
+}
+
+#[test]
+fn two_hundred_arrays(rt: HostRuntime) -> Result<(), Fail> {
+    let alloc = rt.alloc();
+    let opened = "[".repeat(alloc, 200)?;
+    let closed = "]".repeat(alloc, 200)?;
+    let input = format!(in alloc; "{{\"//:a.star\":{opened}{closed}}}")?;
+    refuses(&rt, rt.alloc(), input.as_bytes(), ServeError::BadBundle)
+}
+
+#[test]
+fn a_text_that_is_too_long(rt: HostRuntime) -> Result<(), Fail> {
+    let alloc = rt.alloc();
+    let text = " ".repeat(alloc, 1_048_577)?;
+    let input = format!(in alloc; "{{\"//:a.star\":\"{text}\"}}")?;
+    refuses(&rt, rt.alloc(), input.as_bytes(), ServeError::TooLong)
+}
+
+/// Sixteen bytes are given in six reads, and a seventh finds the end.
+#[test]
+fn a_reader_that_fails_at_each_call(rt: HostRuntime) -> Result<(), Fail> {
+    let alloc = rt.alloc();
+    for fails_at in 0..7 {
+        let mut reader = scripted(b"{\"//:a.star\":\"\"}", 3, fails_at);
+        let (outcome, written) = served(&rt, alloc, &mut reader, false)?;
+        assert_eq!(rt; outcome, Err(ServeError::Read));
+        assert!(rt; written.is_empty());
+        assert_eq!(rt; reader.failed, 1);
+    }
+    let mut reader = scripted(b"{\"//:a.star\":\"\"}", 3, 7);
+    let (outcome, _) = served(&rt, alloc, &mut reader, false)?;
+    assert_eq!(rt; outcome, Ok(true));
+    Ok(())
+}
+
+#[test]
+fn a_reader_that_never_ends(rt: HostRuntime) -> Result<(), Fail> {
+    let (outcome, written) = served(&rt, rt.alloc(), &mut Spaces, false)?;
+    assert_eq!(rt; outcome, Err(ServeError::TooBig));
+    assert!(rt; written.is_empty());
+    Ok(())
+}
+
+#[test]
+fn a_writer_that_fails(rt: HostRuntime) -> Result<(), Fail> {
+    let mut reader = scripted(b"{\"//:a.star\":\"\"}", 9, NEVER);
+    let (outcome, written) = served(&rt, rt.alloc(), &mut reader, true)?;
+    assert_eq!(rt; outcome, Err(ServeError::Write));
+    assert!(rt; written.is_empty());
+    Ok(())
+}
+
+/// The line that cannot be written ends the trace, and the report stands.
+#[test]
+fn a_trace_that_fails(rt: HostRuntime) -> Result<(), Fail> {
+    let alloc = rt.alloc();
+    let bundle =
+        "{\"//:a.star\":\"load(':a.star', 'x')\\nload(':b.star', 'y')\",\"//:b.star\":\"load(':b.star', 'z')\"}";
+    let line = "starload: cycle: //:a.star loads //:a.star\n";
+    for (fails_at, want) in [(0, ""), (1, line)] {
+        let options = options_of(alloc, 1)?;
+        let mut reader = scripted(bundle.as_bytes(), 9, NEVER);
+        let (mut writer, mut errors) = (writer_of(alloc, NEVER), writer_of(alloc, fails_at));
+        let outcome = serve(&rt, alloc, &mut reader, &mut writer, &mut errors, &options);
+        assert_eq!(rt; outcome, Ok(false));
+        assert!(rt; !writer.bytes.is_empty());
+        assert_eq!(rt; errors.bytes.as_slice(), want.as_bytes());
+        assert_eq!(rt; errors.failed, 1);
+    }
+    Ok(())
+}
+
+#[test]
+fn statuses(rt: HostRuntime) -> Result<(), Fail> {
+    assert_eq!(rt; status(&Ok(true)), 0);
+    assert_eq!(rt; status(&Ok(false)), 1);
+    assert_eq!(rt; status(&Err(ServeError::NoRoot)), 2);
+    assert_eq!(rt; ServeError::NoRoot.text(), "no such root");
+    Ok(())
+}
+
+/// A folder in memory whose call with this number fails, counted from 0.
+#[derive(Drop)]
+struct Failing<'a> {
+    folder: MemoryFolder<'a>,
+    fails_at: usize,
+    calls: usize,
+    failed_listings: u64,
+    failed_reads: u64,
+}
+
+impl<'a> Folder for Failing<'a> {
+    ghost holds = { λ s. contents_of (rows_of s.folder) };
+
+    ghost failed_listings = { λ s. s.failed_listings };
+
+    ghost failed_reads = { λ s. s.failed_reads };
+
+    fn list(&mut self, alloc: Global, path: &str) -> Result<BTreeMap<String, Kind>, FolderError> {
+        let call = self.calls;
+        self.calls = usize::saturating_add(call, 1);
+        if call == self.fails_at && self.failed_listings < u64::MAX {
+            self.failed_listings += 1;
+            return Err(FolderError::Failed);
+        }
+        self.folder.list(alloc, path)
+    }
+
+    fn read(&mut self, alloc: Global, label: &Label) -> Result<Vec<u8>, FolderError> {
+        let call = self.calls;
+        self.calls = usize::saturating_add(call, 1);
+        if call == self.fails_at && self.failed_reads < u64::MAX {
+            self.failed_reads += 1;
+            return Err(FolderError::Failed);
+        }
+        self.folder.read(alloc, label)
+    }
+}
+
+fn row<'a>(path: &'a str, name: &'a str, kind: Kind, bytes: &'a [u8]) -> Row<'a> {
+    Row {
+        path,
+        name,
+        kind,
+        bytes,
+    }
+}
+
+/// What `serve_dir` answers for the root `//:a.star` of a folder with these entries, and what it wrote.
+fn served_dir<H: Threads + Wait + Sync>(
+    rt: &H,
+    alloc: Global,
+    rows: &[Row<'_>],
+    fails_at: usize,
+    fails: bool,
+    loaders: usize,
+) -> Result<(Result<bool, ServeError>, Vec<u8>), AllocError>
+    requires { (1 ≤ loaders) × (loaders ≤ 64) }
+{
+    let mut folder = Failing {
+        folder: MemoryFolder::new(rows),
+        fails_at,
+        calls: 0,
+        failed_listings: 0,
+        failed_reads: 0,
+    };
+    let mut writer = writer_of(alloc, if fails { 0 } else { NEVER });
+    let mut errors = writer_of(alloc, NEVER);
+    let options = options_of(alloc, loaders)?;
+    let outcome = serve_dir(rt, alloc, &mut folder, &mut writer, &mut errors, &options);
+    let Kept { bytes, .. } = writer;
+    Ok((outcome, bytes))
+}
+
+fn two_files() -> [Row<'static>; 4] {
+    [
+        row("", "lib", Kind::Folder, b""),
+        row("lib", "b.star", Kind::File, b"k = 1"),
+        row("", "readme.txt", Kind::File, b"\xff"),
+        row(
+            "",
+            "a.star",
+            Kind::File,
+            b"load(\"//lib:b.star\", \"k\")\nx = k",
+        ),
+    ]
+}
+
+#[test]
+fn a_folder_is_reported(rt: HostRuntime) -> Result<(), Fail> {
+    let want =
+        "{\"begun\":2,\"modules\":[{\"globals\":{\"x\":\"1\"},\"label\":\"//:a.star\",\"lines\":[],\"status\":\"ok\"},{\"globals\":{\"k\":\"1\"},\"label\":\"//lib:b.star\",\"lines\":[],\"status\":\"ok\"}]}\n";
+    for loaders in [1, 3] {
+        let rows = two_files();
+        let (outcome, written) = served_dir(&rt, rt.alloc(), &rows, 99, false, loaders)?;
+        assert_eq!(rt; outcome, Ok(true));
+        assert_eq!(rt; written.as_slice(), want.as_bytes());
+    }
+    Ok(())
+}
+
+/// The top is listed, `a.star` read, `lib` listed and `b.star` read.
+#[test]
+fn a_folder_that_fails(rt: HostRuntime) -> Result<(), Fail> {
+    for (fails_at, want) in [
+        (0, ServeError::BadDir),
+        (1, ServeError::BadFile),
+        (2, ServeError::BadDir),
+        (3, ServeError::BadFile),
+    ] {
+        let rows = two_files();
+        let (outcome, written) = served_dir(&rt, rt.alloc(), &rows, fails_at, false, 1)?;
+        assert_eq!(rt; outcome, Err(want));
+        assert!(rt; written.is_empty());
+    }
+    let (outcome, _) = served_dir(&rt, rt.alloc(), &two_files(), 4, true, 1)?;
+    assert_eq!(rt; outcome, Err(ServeError::Write));
+    Ok(())
+}
+
+#[test]
+fn a_folder_that_is_refused(rt: HostRuntime) -> Result<(), Fail> {
+    let rows = [row("", "a.star", Kind::File, b"\xff")];
+    let (outcome, written) = served_dir(&rt, rt.alloc(), &rows, 99, false, 1)?;
+    assert_eq!(rt; outcome, Err(ServeError::NotText));
+    assert!(rt; written.is_empty());
+    let (outcome, _) = served_dir(&rt, rt.alloc(), &[], 99, false, 1)?;
+    assert_eq!(rt; outcome, Err(ServeError::NoRoot));
+    Ok(())
+}

@@ -1,3 +1,0 @@
-mod alone;
-mod kept;
-mod locked;

@@ -1,0 +1,93 @@
+use Rattle.std.proofs.Common.{◌≡◌, List, Ok, refl, sym, ◌∙◌, arith, map, string_bytes}
+use Rattle.std.specs.Option.{option_map}
+use Rattle.std.proofs.lemmas.Result.{IfOk-weaker}
+use Rattle.star_label.specs.Files.{File}
+use Rattle.star_bundle.specs.Bundle.{asked_among}
+use Rattle.star_bundle.specs.View.{asked_view}
+use Rattle.star_folder.specs.Refusal.{IsStopped}
+use Rattle.star_folder.specs.Walk.{AreFilesOf}
+use Rattle.star_folder.proofs.StopKinds.{of_walk}
+use Rattle.star_serve.proofs.Refusals.{IsOfWords, if_err, words_kind}
+use Rattle.star_serve.proofs.FolderRefusals.{run_counts, run_refused, stopped_refused, stopped_writes, words_failed, words_refused}
+use Rattle.star_serve.proofs.Spoken.{words_of}
+use Rattle.star_serve.proofs.dir.serve_dir.Goals as goal
+
+pub returns-in-Err-clause-refused : goal.returns-in-Err-clause-refused
+returns-in-Err-clause-refused g c =
+    let held = g.F.Folder.holds c.args.folder.now in
+    stopped_refused (IsStopped held)
+    (λ r. (files : List File) × AreFilesOf held files × (asked_among (map string_bytes c.args.options.now.roots.items) (option_map string_bytes c.args.options.now.prelude) files ≡ r))
+    (c.args.writer.now ≡ c.args.writer.now)
+    c.in-Err.error (of_walk held c.in-Err.error c.in-Err.ensures.stopped) c.in-Err.ensures.stopped refl
+
+pub returns-in-Err-clause-writes : goal.returns-in-Err-clause-writes
+returns-in-Err-clause-writes g c =
+    omega (arith, stopped_writes c.in-Err.error (of_walk (g.F.Folder.holds c.args.folder.now) c.in-Err.error c.in-Err.ensures.stopped))
+
+pub returns-in-Err-asked_in-clause-refused : goal.returns-in-Err-asked_in-clause-refused
+returns-in-Err-asked_in-clause-refused g c =
+    let held = g.F.Folder.holds c.args.folder.now in
+    let roots = map string_bytes c.as_slice.result.now in
+    let prelude = option_map (λ p. string_bytes p.now) c.as_ref.result in
+    let given = asked_among roots prelude c.in-Ok.files in
+    let words = words_of c.as_ref.result c.args.options.now.prelude c.as_ref.ensures.value in
+    let same : asked_among (map string_bytes c.args.options.now.roots.items) (option_map string_bytes c.args.options.now.prelude) c.in-Ok.files ≡ given =
+    rw (c.as_slice.ensures.value, words) refl in
+    words_refused (IsStopped held)
+    (λ r. (files : List File) × AreFilesOf held files × (asked_among (map string_bytes c.args.options.now.roots.items) (option_map string_bytes c.args.options.now.prelude) files ≡ r))
+    (c.args.writer.now ≡ c.args.writer.now)
+    c.in-Err-asked_in.error given c.in-Err-asked_in.ensures.asked (words_kind IsOfWords roots prelude c.in-Ok.files tt tt tt tt)
+    (c.in-Ok.files, c.in-Ok.ensures.files, same) refl
+
+pub returns-in-Err-asked_in-clause-listings : goal.returns-in-Err-asked_in-clause-listings
+returns-in-Err-asked_in-clause-listings g c =
+    let roots = map string_bytes c.as_slice.result.now in
+    let prelude = option_map (λ p. string_bytes p.now) c.as_ref.result in
+    let none = words_failed c.in-Err-asked_in.error (asked_among roots prelude c.in-Ok.files) c.in-Err-asked_in.ensures.asked (words_kind IsOfWords roots prelude c.in-Ok.files tt tt tt tt) in
+    omega (arith, none.0, c.in-Ok.ensures.listings)
+
+pub returns-in-Err-asked_in-clause-reads : goal.returns-in-Err-asked_in-clause-reads
+returns-in-Err-asked_in-clause-reads g c =
+    let roots = map string_bytes c.as_slice.result.now in
+    let prelude = option_map (λ p. string_bytes p.now) c.as_ref.result in
+    let none = words_failed c.in-Err-asked_in.error (asked_among roots prelude c.in-Ok.files) c.in-Err-asked_in.ensures.asked (words_kind IsOfWords roots prelude c.in-Ok.files tt tt tt tt) in
+    omega (arith, none.1, c.in-Ok.ensures.reads)
+
+pub returns-in-Err-asked_in-clause-writes : goal.returns-in-Err-asked_in-clause-writes
+returns-in-Err-asked_in-clause-writes g c =
+    let roots = map string_bytes c.as_slice.result.now in
+    let prelude = option_map (λ p. string_bytes p.now) c.as_ref.result in
+    let none = words_failed c.in-Err-asked_in.error (asked_among roots prelude c.in-Ok.files) c.in-Err-asked_in.ensures.asked (words_kind IsOfWords roots prelude c.in-Ok.files tt tt tt tt) in
+    omega (arith, none.2)
+
+pub returns-clause-refused : goal.returns-clause-refused
+returns-clause-refused g c =
+    let held = g.F.Folder.holds c.args.folder.now in
+    let roots = map string_bytes c.as_slice.result.now in
+    let prelude = option_map (λ p. string_bytes p.now) c.as_ref.result in
+    let words = words_of c.as_ref.result c.args.options.now.prelude c.as_ref.ensures.value in
+    let same : asked_among (map string_bytes c.args.options.now.roots.items) (option_map string_bytes c.args.options.now.prelude) c.in-Ok.files ≡ asked_among roots prelude c.in-Ok.files =
+    rw (c.as_slice.ensures.value, words) refl in
+    let found = same ∙ c.in-Ok-asked_in.ensures.asked in
+    if_err c.reported.result _ _
+    (λ e h. run_refused (IsStopped held)
+    (λ r. (files : List File) × AreFilesOf held files × (asked_among (map string_bytes c.args.options.now.roots.items) (option_map string_bytes c.args.options.now.prelude) files ≡ r))
+    (c.reported.new.writer ≡ c.args.writer.now)
+    e (asked_view c.in-Ok-asked_in.asked) h (c.in-Ok.files, c.in-Ok.ensures.files, found))
+    c.reported.ensures.refused
+
+pub returns-clause-listings : goal.returns-clause-listings
+returns-clause-listings g c = omega (arith, (run_counts _ c.reported.result c.reported.ensures.refused).0, c.in-Ok.ensures.listings)
+
+pub returns-clause-reads : goal.returns-clause-reads
+returns-clause-reads g c = omega (arith, (run_counts _ c.reported.result c.reported.ensures.refused).1, c.in-Ok.ensures.reads)
+
+pub returns-clause-ok : goal.returns-clause-ok
+returns-clause-ok g c =
+    let roots = map string_bytes c.as_slice.result.now in
+    let prelude = option_map (λ p. string_bytes p.now) c.as_ref.result in
+    let words = words_of c.as_ref.result c.args.options.now.prelude c.as_ref.ensures.value in
+    let same : asked_among (map string_bytes c.args.options.now.roots.items) (option_map string_bytes c.args.options.now.prelude) c.in-Ok.files ≡ asked_among roots prelude c.in-Ok.files =
+    rw (c.as_slice.ensures.value, words) refl in
+    let found = same ∙ c.in-Ok-asked_in.ensures.asked in
+    IfOk-weaker c.reported.result _ _ (λ all_ok h. (c.in-Ok.files, c.in-Ok.ensures.files, asked_view c.in-Ok-asked_in.asked, found, h)) c.reported.ensures.ok

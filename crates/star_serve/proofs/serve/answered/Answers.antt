@@ -1,0 +1,16 @@
+use Rattle.std.proofs.Common.{◌≡◌, string_bytes, sym, subst}
+use Rattle.star_outcome.specs.Kept.{AllGood, AreModulesOf}
+use Rattle.star_report.proofs.Shows.{report_of}
+use Rattle.star_serve.proofs.serve.answered.Goals as goal
+
+pub returns-clause-good : goal.returns-clause-good
+returns-clause-good g c = λ e. subst (λ r. AllGood r.kept) (sym c.all_good-all_ok.ensures.same) (c.all_good-all_ok.ensures.good e)
+
+pub returns-clause-bad : goal.returns-clause-bad
+returns-clause-bad g c = λ e all. c.all_good-all_ok.ensures.bad e (subst (λ r. AllGood r.kept) c.all_good-all_ok.ensures.same all)
+
+pub returns-clause-text : goal.returns-clause-text
+returns-clause-text g c =
+    let asked = c.args.asked.now in
+    report_of asked.files asked.roots.items asked.prelude c.args.steps c.in-Ok.run'.kept c.in-Ok.run'.begun (string_bytes c.in_ok-text.text) c.in-Ok.ensures.begun
+    (subst (λ roots. AreModulesOf asked.files roots asked.prelude c.args.steps c.in-Ok.run'.kept) c.as_slice-roots.ensures.value c.in-Ok.ensures.modules) c.in_ok-text.ensures.text

@@ -1,0 +1,76 @@
+use Rattle.std.proofs.Common.{◌≡◌, ℕ, ◌<◌, ◌≤◌, List, length, Ok, refl, sym, ◌∙◌, arith, map, string_bytes}
+use Rattle.std.specs.Option.{option_map}
+use Rattle.std.proofs.lemmas.Result.{IfOk-weaker}
+use Rattle.star_bundle.specs.Bundle.{asked_of}
+use Rattle.star_serve.specs.Serve.{ReadsAll, input_limit}
+use Rattle.star_serve.specs.Stream.{GaveFirst, Gives}
+use Rattle.star_bundle.specs.View.{asked_view}
+use Rattle.star_serve.proofs.Refusals.{asked_kind, refused_by, run_refused, run_reads, if_err, no_read_failed, no_write_failed}
+use Rattle.star_serve.proofs.Spoken.{words_of}
+use Rattle.star_serve.proofs.serve.serve.Goals as goal
+
+pub returns-in-Err-asked_for-clause-refused : goal.returns-in-Err-asked_for-clause-refused
+returns-in-Err-asked_for-clause-refused g c =
+    let roots = map string_bytes c.as_slice-2.result.now in
+    let prelude = option_map (λ p. string_bytes p.now) c.as_ref.result in
+    let given = asked_of roots prelude c.as_slice.result.now in
+    let words = words_of c.as_ref.result c.args.options.now.prelude c.as_ref.ensures.value in
+    let same : asked_of (map string_bytes c.args.options.now.roots.items) (option_map string_bytes c.args.options.now.prelude) c.in-Ok.bytes.items ≡ given =
+    rw (c.as_slice.ensures.value, c.as_slice-2.ensures.value, words) refl in
+    refused_by
+    (λ r. (x : List ℕ) × ReadsAll (g.R.Source.said c.args.reader.now) (g.R.Source.said c.read_all.new.reader) x
+    × (asked_of (map string_bytes c.args.options.now.roots.items) (option_map string_bytes c.args.options.now.prelude) x ≡ r))
+    ((x : List ℕ) × GaveFirst (g.R.Source.said c.args.reader.now) (g.R.Source.said c.read_all.new.reader) x × (length x ≤ input_limit))
+    ((x : List ℕ) × Gives (g.R.Source.said c.args.reader.now) (g.R.Source.said c.read_all.new.reader) x × (input_limit < length x))
+    (c.args.writer.now ≡ c.args.writer.now)
+    c.in-Err-asked_for.error given c.in-Err-asked_for.ensures.asked (asked_kind roots prelude c.as_slice.result.now)
+    (c.in-Ok.bytes.items, (c.in-Ok.ensures.ok, c.in-Ok.ensures.within), same) refl
+
+pub returns-in-Err-asked_for-clause-reads : goal.returns-in-Err-asked_for-clause-reads
+returns-in-Err-asked_for-clause-reads g c =
+    let roots = map string_bytes c.as_slice-2.result.now in
+    let prelude = option_map (λ p. string_bytes p.now) c.as_ref.result in
+    let none = no_read_failed c.in-Err-asked_for.error (asked_of roots prelude c.as_slice.result.now) c.in-Err-asked_for.ensures.asked (asked_kind roots prelude c.as_slice.result.now) in
+    omega (arith, none, c.in-Ok.ensures.counts)
+
+pub returns-in-Err-asked_for-clause-writes : goal.returns-in-Err-asked_for-clause-writes
+returns-in-Err-asked_for-clause-writes g c =
+    let roots = map string_bytes c.as_slice-2.result.now in
+    let prelude = option_map (λ p. string_bytes p.now) c.as_ref.result in
+    let none = no_write_failed c.in-Err-asked_for.error (asked_of roots prelude c.as_slice.result.now) c.in-Err-asked_for.ensures.asked (asked_kind roots prelude c.as_slice.result.now) in
+    omega (arith, none)
+
+pub returns-clause-refused : goal.returns-clause-refused
+returns-clause-refused g c =
+    let roots = map string_bytes c.as_slice-2.result.now in
+    let prelude = option_map (λ p. string_bytes p.now) c.as_ref.result in
+    let words = words_of c.as_ref.result c.args.options.now.prelude c.as_ref.ensures.value in
+    let same : asked_of (map string_bytes c.args.options.now.roots.items) (option_map string_bytes c.args.options.now.prelude) c.in-Ok.bytes.items ≡ asked_of roots prelude c.as_slice.result.now =
+    rw (c.as_slice.ensures.value, c.as_slice-2.ensures.value, words) refl in
+    let asked = asked_view c.in-Ok-asked_for.asked in
+    let found = same ∙ c.in-Ok-asked_for.ensures.asked in
+    if_err c.reported.result _ _
+    (λ e h. run_refused
+    (λ r. (x : List ℕ) × ReadsAll (g.R.Source.said c.args.reader.now) (g.R.Source.said c.read_all.new.reader) x
+    × (asked_of (map string_bytes c.args.options.now.roots.items) (option_map string_bytes c.args.options.now.prelude) x ≡ r))
+    ((x : List ℕ) × GaveFirst (g.R.Source.said c.args.reader.now) (g.R.Source.said c.read_all.new.reader) x × (length x ≤ input_limit))
+    ((x : List ℕ) × Gives (g.R.Source.said c.args.reader.now) (g.R.Source.said c.read_all.new.reader) x × (input_limit < length x))
+    (c.reported.new.writer ≡ c.args.writer.now)
+    e asked h (c.in-Ok.bytes.items, (c.in-Ok.ensures.ok, c.in-Ok.ensures.within), found))
+    c.reported.ensures.refused
+
+pub returns-clause-reads : goal.returns-clause-reads
+returns-clause-reads g c = omega (arith, run_reads _ c.reported.result c.reported.ensures.refused, c.in-Ok.ensures.counts)
+
+pub returns-clause-ok : goal.returns-clause-ok
+returns-clause-ok g c =
+    let roots = map string_bytes c.as_slice-2.result.now in
+    let prelude = option_map (λ p. string_bytes p.now) c.as_ref.result in
+    let words = words_of c.as_ref.result c.args.options.now.prelude c.as_ref.ensures.value in
+    let same : asked_of (map string_bytes c.args.options.now.roots.items) (option_map string_bytes c.args.options.now.prelude) c.in-Ok.bytes.items ≡ asked_of roots prelude c.as_slice.result.now =
+    rw (c.as_slice.ensures.value, c.as_slice-2.ensures.value, words) refl in
+    let asked = asked_view c.in-Ok-asked_for.asked in
+    let found = same ∙ c.in-Ok-asked_for.ensures.asked in
+    IfOk-weaker c.reported.result _ _
+    (λ all_ok h. (c.in-Ok.bytes.items, (c.in-Ok.ensures.ok, c.in-Ok.ensures.within), asked, found, h))
+    c.reported.ensures.ok

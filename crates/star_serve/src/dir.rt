@@ -1,0 +1,67 @@
+//! From the files of a folder to the report's bytes.
+
+ghost use Rattle.std.specs.Prelude.{◌≡◌, ◌+◌, ◌≤◌, List, map, option_map, string_bytes, IfOk, IfErr, Ok};
+ghost use Rattle.star_label.specs.Files.{File};
+ghost use Rattle.star_bundle.specs.Bundle as bundle;
+ghost use Rattle.star_bundle.specs.Refusal.{writes_failed};
+ghost use Rattle.star_folder.specs.Refusal.{IsStopped, files_failed, listings_failed};
+ghost use Rattle.star_folder.specs.Walk.{AreFilesOf};
+ghost use Rattle.star_serve.specs.Serve.{IsRefusedDir, Reports};
+
+use crate::serve::{Options, reported};
+use crate::stream::Sink;
+use star_bundle::bundle::asked_in;
+use star_bundle::error::ServeError;
+use star_folder::folder::Folder;
+use star_folder::walk::files_in;
+use std::alloc::Global;
+use std::sync::Wait;
+use std::thread::Threads;
+
+/// Loads the roots from the files of a folder and writes the report, and the trace to `errors` where that is wanted. It answers whether
+/// every module of the report is ok.
+///
+/// The rules are those of `docs/FOLDERS.md` and `docs/REPORT.md`: which files a folder has, the refusals in their order, and the report.
+pub fn serve_dir<H: Threads + Wait + Sync, F: Folder, W: Sink, E: Sink>(
+    rt: &H,
+    alloc: Global,
+    folder: &mut F,
+    writer: &mut W,
+    errors: &mut E,
+    options: &Options,
+) -> Result<bool, ServeError>
+    requires loaders { (1 ≤ options.now.loaders) × (options.now.loaders ≤ 64) }
+    requires steps { (1 ≤ options.now.steps) × (options.now.steps ≤ 100000000) }
+
+    // The walk came to its end, its files have each root and the prelude, and their report was written, and nothing else.
+    ensures ok { IfOk result (λ all_ok. (files : List File) × AreFilesOf (F.holds folder.old) files
+        × (asked : bundle.Asked)
+        × (bundle.asked_among (map string_bytes options.now.roots.items) (option_map string_bytes options.now.prelude) files ≡ Ok asked)
+        × Reports asked options.now.steps (W.taken writer.old) (W.taken writer.new) all_ok) }
+
+    // The walk stopped so, or what is asked for of its files is refused so, and nothing was written.
+    ensures refused { IfErr result (IsRefusedDir (IsStopped (F.holds folder.old))
+        (λ given. (files : List File) × AreFilesOf (F.holds folder.old) files
+        × (bundle.asked_among (map string_bytes options.now.roots.items) (option_map string_bytes options.now.prelude) files ≡ given))
+        (writer.new ≡ writer.old)) }
+
+    // A listing, a read or a write failed just where the answer says so.
+    ensures listings { F.failed_listings folder.new ≡ F.failed_listings folder.old + listings_failed result }
+    ensures reads { F.failed_reads folder.new ≡ F.failed_reads folder.old + files_failed result }
+    ensures writes { W.failed writer.new ≡ W.failed writer.old + writes_failed result }
+{
+    let files = match files_in(alloc, folder) {
+        Ok(files) => files,
+        Err(error) => return Err(error),
+    };
+    let asked = match asked_in(
+        alloc,
+        files,
+        options.roots.as_slice(),
+        options.prelude.as_ref(),
+    ) {
+        Ok(asked) => asked,
+        Err(error) => return Err(error),
+    };
+    reported(rt, alloc, &asked, writer, errors, options)
+}
