@@ -6,7 +6,7 @@ ghost use Rattle.std.specs.Option.{option_map};
 ghost use Rattle.star_attribute.specs.Fields.{as_found, as_numbering, field_text, next_value, numbered_value, text_and_numbering};
 ghost use Rattle.star_meaning.specs.BuiltIns.{is_digit, number_from};
 ghost use Rattle.star_meaning.specs.Format as spec;
-ghost use Rattle.star_machine.specs.Gives.{Gives, GivesBy};
+ghost use Rattle.star_machine.specs.Gives.{GivesBy};
 ghost use Rattle.star_scope.specs.Names.{same_name};
 
 use star_machine::fault::{Stop, faulted};

@@ -1,6 +1,5 @@
 //! Calls of built-in functions.
 
-ghost use Rattle.std.specs.Prelude.{◌≡◌};
 ghost use Rattle.star_meaning.specs.BuiltIns.{call_built_in};
 ghost use Rattle.star_machine.specs.Gives.{Gives};
 

@@ -1,6 +1,6 @@
 //! The work of `abs`, `int` and `len`.
 
-ghost use Rattle.std.specs.Prelude.{◌≡◌, pos, unsigned_abs};
+ghost use Rattle.std.specs.Prelude.{◌≡◌, unsigned_abs};
 ghost use Rattle.star_meaning.specs.BuiltIns as spec;
 ghost use Rattle.star_machine.specs.Gives.{Gives};
 ghost use Rattle.star_machine.specs.Shown.{shown};

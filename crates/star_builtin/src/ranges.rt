@@ -1,6 +1,5 @@
 //! The work of `range`.
 
-ghost use Rattle.std.specs.Prelude.{◌≡◌};
 ghost use Rattle.star_meaning.specs.BuiltIns as spec;
 ghost use Rattle.star_machine.specs.Gives.{Gives};
 ghost use Rattle.star_builtin.specs.Parts as part;

@@ -1,6 +1,6 @@
 //! The work of `list`, `tuple`, `reversed`, `enumerate` and `zip`.
 
-ghost use Rattle.std.specs.Prelude.{◌≡◌, [], ◌∷◌, IfOk, ◌+ℤ◌, pos, reverse};
+ghost use Rattle.std.specs.Prelude.{◌≡◌, [], ◌∷◌, IfOk, reverse};
 ghost use Rattle.star_meaning.specs.BuiltIns as spec;
 ghost use Rattle.star_machine.specs.Gives.{Gives, GivesBy};
 ghost use Rattle.star_meaning.specs.Run.{collect, each};

@@ -1,4 +1,4 @@
-//! The work of `print`, `fail` and `type`.
+//! The work of `print`, `fail`, `repr`, `str` and `type`.
 
 ghost use Rattle.std.specs.Prelude.{◌≡◌, ◌∷◌, IfOk, OnOk, string_bytes};
 ghost use Rattle.star_meaning.specs.BuiltIns as spec;

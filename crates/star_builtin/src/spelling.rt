@@ -1,6 +1,6 @@
 //! Ints that strings spell.
 
-ghost use Rattle.std.specs.Prelude.{◌≡◌, ◌∷◌, ◌^◌, min, neg_ℤ, pos};
+ghost use Rattle.std.specs.Prelude.{◌≡◌, ◌^◌, neg_ℤ, pos};
 ghost use Rattle.std.specs.List.{list_all};
 ghost use Rattle.std.specs.Option.{option_map};
 ghost use Rattle.star_store.specs.Arithmetic.{checked};

@@ -1,4 +1,4 @@
-ghost use Rattle.std.specs.Prelude.{◌≡◌, ◌≢◌, ℕ, true, false, ◌<◌, ◌≤◌, ◌↔◌, All, List, length, vec_len, IfOk, MatchResult, MatchOption, IsTrue, Option, Some, None};
+ghost use Rattle.std.specs.Prelude.{◌≡◌, ◌≢◌, ℕ, true, false, ◌<◌, ◌≤◌, ◌↔◌, All, length, vec_len, IfOk, MatchResult, MatchOption, IsTrue, Option, Some, None};
 ghost use Rattle.star_cache.specs.Tells.{Tells, IsCyclic};
 
 use crate::entry::{Entry, Standing, standing_of};
@@ -48,7 +48,7 @@ impl<P: Product> Model for Book<P> {
 }
 
 impl<P: Product> Book<P> {
-    ghost use Rattle.star_cache.specs.State.{BookState, HasEnded, IsLawful, Loads, Links, IsIn, top_of, stack_of, entry_at, awaited_by, loader_at, begun_count};
+    ghost use Rattle.star_cache.specs.State.{BookState, HasEnded, Loads, top_of, stack_of, entry_at, awaited_by, loader_at, begun_count};
     ghost use Rattle.star_cache.specs.Step.{IsBook, MayAsk, IsTurnRefused, IsStanding, MeetsSeat, IsAsked, IsAskRefused, IsWoken, IsWakeRefused, after_begin, after_wait, after_wake, after_end, after_abandon, fresh_book};
 
     /// The book of so many files, none of which has been asked for, and of 1 to 64 loaders that have done nothing.

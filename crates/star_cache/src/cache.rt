@@ -1,10 +1,10 @@
-ghost use Rattle.std.specs.Prelude.{◌≡◌, ◌≢◌, ◌+◌, ◌-◌, ◌<◌, ◌≤◌, ◌↔◌, ◌⊎◌, ◌++◌, ℕ, true, false, All, List, length, map, replicate, sum_by, vec_len, IfOk, IfErr, IsTrue, MatchOption, MatchResult, Option, Some, None};
+ghost use Rattle.std.specs.Prelude.{◌≡◌, ◌≢◌, ◌+◌, ◌-◌, ◌<◌, ◌≤◌, ◌↔◌, ◌⊎◌, true, false, All, List, length, sum_by, vec_len, IfOk, IfErr, IsTrue, MatchOption, MatchResult, Option, Some};
 ghost use Rattle.std.specs.List.{Any};
 ghost use Rattle.star_cache.specs.declared.entry.Entry.{Entry};
-ghost use Rattle.star_cache.specs.State.{HasEnded, LoaderState, Loads, awaited_by, begun_count};
+ghost use Rattle.star_cache.specs.State.{HasEnded, LoaderState, Loads, awaited_by};
 ghost use Rattle.star_cache.specs.Step.{MayAsk, IsAsked, IsAskRefused, IsTurnRefused, IsWoken, after_end, after_abandon};
 ghost use Rattle.star_cache.specs.Tells.{Tells, IsCyclic, begins};
-ghost use Rattle.star_cache.specs.Seats.{SeatState, AreAll, AreNew, IsClosing, counts_of};
+ghost use Rattle.star_cache.specs.Seats.{AreAll, AreNew, IsClosing, counts_of};
 
 use crate::book::Book;
 use crate::product::Product;

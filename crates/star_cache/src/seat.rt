@@ -1,6 +1,5 @@
-ghost use Rattle.std.specs.Prelude.{◌≡◌, ◌<◌, ◌↔◌, ℕ, IsTrue};
-ghost use Rattle.std.specs.List.{Any};
-ghost use Rattle.star_cache.specs.Seats.{SeatState, AreAll};
+ghost use Rattle.std.specs.Prelude.{◌≡◌, ◌<◌};
+ghost use Rattle.star_cache.specs.Seats.{SeatState};
 
 use crate::product::Product;
 use std::marker::Model;

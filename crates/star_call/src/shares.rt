@@ -4,7 +4,7 @@ ghost use Rattle.std.specs.Prelude.{◌≡◌, map};
 ghost use Rattle.star_meaning.specs.Binding as spec;
 ghost use Rattle.star_machine.specs.Gives.{Gives, GivesBy};
 ghost use Rattle.star_meaning.specs.Run.{each};
-ghost use Rattle.star_call.specs.Shares.{all_named, all_shown, bound_value, share_of, shown};
+ghost use Rattle.star_call.specs.Shares.{all_named, all_shown, bound_value, share_of};
 
 use star_machine::fault::Stop;
 use star_machine::machine::Machine;

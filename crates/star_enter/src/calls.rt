@@ -5,7 +5,7 @@ ghost use Rattle.std.specs.Option.{option_map};
 ghost use Rattle.star_scope.specs.Definitions.{definition_of};
 ghost use Rattle.star_meaning.specs.Calls as spec;
 ghost use Rattle.star_machine.specs.Gives.{Gives, GivesBy};
-ghost use Rattle.star_meaning.specs.Run.{Done, give};
+ghost use Rattle.star_meaning.specs.Run.{give};
 ghost use Rattle.star_meaning.specs.Values.{content};
 ghost use Rattle.star_call.specs.Callees.{IsFound, definition_for, shown};
 ghost use Rattle.star_call.specs.Shares.{bound_value};

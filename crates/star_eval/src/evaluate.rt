@@ -1,6 +1,6 @@
 //! Expressions and calls.
 
-ghost use Rattle.std.specs.Prelude.{◌≡◌, ◌+◌, List};
+ghost use Rattle.std.specs.Prelude.{List};
 ghost use Rattle.star_machine.specs.Gives.{Gives, GivesBy};
 ghost use Rattle.star_meaning.specs.Calls as calls;
 ghost use Rattle.star_meaning.specs.Expressions.{defaults, entry_of, maybe, new_function, node};

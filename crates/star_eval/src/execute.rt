@@ -1,6 +1,6 @@
 //! Statements, and what values are assigned to.
 
-ghost use Rattle.std.specs.Prelude.{◌≡◌, Some};
+ghost use Rattle.std.specs.Prelude.{Some};
 ghost use Rattle.star_machine.specs.Gives.{Gives, GivesBy};
 ghost use Rattle.star_meaning.specs.Meaning.{block, turns};
 ghost use Rattle.star_meaning.specs.Statements as spec;

@@ -1,6 +1,5 @@
 //! The nodes of expressions, form by form.
 
-ghost use Rattle.std.specs.Prelude.{◌≡◌};
 ghost use Rattle.star_machine.specs.Gives.{Gives};
 ghost use Rattle.star_meaning.specs.Expressions.{node};
 ghost use Rattle.star_tree.specs.declared.tree.Argument.TheOpen as tree;

@@ -1,6 +1,6 @@
 //! The schedule under its lock.
 
-ghost use Rattle.std.specs.Prelude.{◌≡◌, ◌<◌, IfOk, length};
+ghost use Rattle.std.specs.Prelude.{◌<◌};
 
 use crate::schedule::{Next, Schedule};
 use std::sync::{Condvar, Mutex, Wait};

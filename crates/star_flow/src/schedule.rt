@@ -1,6 +1,6 @@
 //! What is ready to run.
 
-ghost use Rattle.std.specs.Prelude.{◌≡◌, ◌-◌, ◌∷◌, ◌≤◌, [], All, false};
+ghost use Rattle.std.specs.Prelude.{◌≡◌, ◌-◌, ◌∷◌, [], All, false};
 ghost use Rattle.star_flow.specs.Schedules.{HasAll, IsNext, IsReadyOf};
 
 use std::marker::Model;

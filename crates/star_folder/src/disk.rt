@@ -1,6 +1,6 @@
 //! A folder on the disk.
 
-ghost use Rattle.std.specs.Prelude.{◌≡◌, ℕ, ◌≤◌, IfOk, vec_len};
+ghost use Rattle.std.specs.Prelude.{◌≡◌, ◌≤◌, IfOk, vec_len};
 ghost use Rattle.star_folder.specs.Folder.{unsaid};
 
 use crate::folder::{FRONT, Folder, FolderError, Kind};

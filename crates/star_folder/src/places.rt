@@ -1,12 +1,12 @@
 //! Where the entries of a folder lead.
 
-ghost use Rattle.std.specs.Prelude.{◌≡◌, [], ◌∷◌, ◌++◌, ◌&&◌, Some, None, IfOk, IfErr, OnOk, if◌then◌else◌, map, option_map, string_bytes};
+ghost use Rattle.std.specs.Prelude.{◌≡◌, [], ◌∷◌, ◌++◌, Some, None, IfOk, IfErr, OnOk, if◌then◌else◌, map, option_map, string_bytes};
 ghost use Rattle.std.specs.List.{cons_option, filter};
 ghost use Rattle.star_label.specs.Label.{is_segment, label_text};
 ghost use Rattle.star_label.specs.View.{text_of};
 ghost use Rattle.star_folder.specs.Folder.{entry_of};
 ghost use Rattle.star_folder.specs.Views.{left_of, path_of, place_view};
-ghost use Rattle.star_folder.specs.Walk.{Listed, is_file, is_folder, is_star, leads_to, opened};
+ghost use Rattle.star_folder.specs.Walk.{Listed, is_file, is_folder, leads_to, opened};
 
 use crate::folder::Kind;
 use crate::path::FolderPath;

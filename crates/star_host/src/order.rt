@@ -1,6 +1,6 @@
 //! The order in which a loader asks for the roots.
 
-ghost use Rattle.std.specs.Prelude.{◌≡◌, ◌<◌, ◌≤◌};
+ghost use Rattle.std.specs.Prelude.{◌<◌, ◌≤◌};
 
 /// The place of the root at which a loader begins: loader k of N begins at place k * R / N of R.
 pub(crate) fn first_place(loader: usize, loaders: usize, count: usize) -> usize

@@ -1,8 +1,7 @@
 //! The run: each loader asks for all roots.
 
-ghost use Rattle.std.specs.Prelude.{◌≡◌, ◌<◌, ◌≤◌, ◌⊎◌, ℕ, None, Some, length, map, sum, vec_len, IfOk, IfSome, OnOk};
+ghost use Rattle.std.specs.Prelude.{◌≡◌, ◌<◌, ◌≤◌, ◌⊎◌, ℕ, None, Some, length, map, sum, vec_len, IfOk, IfSome};
 ghost use Rattle.std.specs.Option.{option_copied};
-ghost use Rattle.star_cache.specs.Seats.{AreAll};
 ghost use Rattle.star_plan.specs.Reading.{IsPrelude};
 ghost use Rattle.star_outcome.specs.Fits.{IsAsked, IsWithin};
 ghost use Rattle.star_reading.specs.Found.{IsReadOf, Within};

@@ -1,6 +1,6 @@
 //! Cuts a text into pieces.
 
-ghost use Rattle.std.specs.Prelude.{◌≡◌, ◌+◌, ◌≤◌, ◌∷◌, length, map, take, IfSome, IfOk, true};
+ghost use Rattle.std.specs.Prelude.{◌≡◌, ◌+◌, ◌≤◌, ◌∷◌, length, map, IfSome, IfOk};
 ghost use Rattle.star_lex.specs.Tokens as spec;
 ghost use Rattle.star_lex.specs.Pieces as pieces;
 ghost use Rattle.star_lex.specs.Signs as signs;

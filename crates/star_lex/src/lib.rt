@@ -7,7 +7,7 @@ mod run;
 pub mod token;
 pub mod value;
 
-ghost use Rattle.std.specs.Prelude.{◌≡◌, length, IfOk};
+ghost use Rattle.std.specs.Prelude.{length, IfOk};
 ghost use Rattle.star_lex.specs.Lines.{Answers, InOrder, lexed};
 
 use std::alloc::Global;

@@ -5,7 +5,7 @@ ghost use Rattle.star_machine.specs.Kinds.{kind_of};
 ghost use Rattle.star_machine.specs.Search.{some_above, some_under};
 ghost use Rattle.star_machine.specs.Shown.{shown};
 ghost use Rattle.std.specs.Option.{option_copied};
-ghost use Rattle.star_meaning.specs.Values.{Held, content, count_in, held, int_of, item_in, range_item};
+ghost use Rattle.star_meaning.specs.Values.{Held, count_in, held, item_in, range_item};
 
 use star_store::names::{BuiltIn, Method};
 use star_store::range::Range;

@@ -1,6 +1,6 @@
 //! The operators.
 
-ghost use Rattle.std.specs.Prelude.{◌≡◌, ◌<◌, ◌≤◌, ◌+◌, ◌*◌, ◌^◌, ◌++◌, length, pos, IfOk, OnOk, ◌≤ℤ◌};
+ghost use Rattle.std.specs.Prelude.{◌≡◌, ◌<◌, ◌+◌, ◌*◌, ◌^◌, ◌++◌, IfOk};
 ghost use Rattle.star_store.specs.Arithmetic.{checked, floored_by};
 ghost use Rattle.star_machine.specs.Gives.{Gives};
 ghost use Rattle.star_meaning.specs.Operators as spec;

@@ -1,6 +1,6 @@
 //! `x[i]` and `x[i] = v`.
 
-ghost use Rattle.std.specs.Prelude.{◌≡◌, [], ◌∷◌, ◌<◌, ◌≤◌, ◌+◌, ◌*◌, length, pos, IfOk, OnOk, ◌≤ℤ◌, ◌-ℤ◌, ◌+ℤ◌, slice_get};
+ghost use Rattle.std.specs.Prelude.{◌≡◌, [], ◌∷◌, ◌<◌, IfOk};
 ghost use Rattle.star_machine.specs.Gives.{Gives};
 ghost use Rattle.star_machine.specs.Kinds.{bytes_of, size_of};
 ghost use Rattle.star_meaning.specs.Subscript as spec;

@@ -81,7 +81,7 @@ impl<J: Naming> Told<J> {
 }
 
 impl<J: Naming> Product for Told<J> {
-    ghost use Rattle.std.specs.Prelude.{◌≡◌, ℕ, length, true};
+    ghost use Rattle.std.specs.Prelude.{◌≡◌, length, true};
     ghost use Rattle.std.proofs.Common.{refl};
     ghost use Rattle.star_plan.specs.Plan.{loaded};
     ghost use Rattle.star_outcome.specs.Views.{IsTold};

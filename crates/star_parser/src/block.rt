@@ -1,6 +1,5 @@
 //! Reading statements that hold others, and files.
 
-ghost use Rattle.std.specs.Prelude.{◌≡◌};
 ghost use Rattle.star_syntax.specs.Grammar.{first, run, statement as at_statement};
 ghost use Rattle.star_syntax.specs.Expressions as expressions;
 ghost use Rattle.star_syntax.specs.Statements as spec;

@@ -1,6 +1,6 @@
 //! Files that are read by several threads, before they are asked for.
 
-ghost use Rattle.std.specs.Prelude.{◌≡◌, ◌<◌, [], All, IfOk, IfSome, List, OnOk, Option, length, vec_len};
+ghost use Rattle.std.specs.Prelude.{◌<◌, All, IfOk, IfSome, List, OnOk, Option, length};
 ghost use Rattle.std.specs.Option.{option_copied};
 ghost use Rattle.star_label.specs.Files.{File};
 ghost use Rattle.star_scope.specs.declared.program.Prelude.{Prelude as PreludeView};

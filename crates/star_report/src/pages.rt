@@ -1,8 +1,7 @@
 //! The text of the report: a page for each module, which several threads write.
 
-ghost use Rattle.std.specs.Prelude.{◌≡◌, ◌<◌, ◌++◌, false, All, IfOk, IfSome, IsSome, OnOk, length, map, string_bytes};
-ghost use Rattle.serde_json.specs.View.{view};
-ghost use Rattle.serde_json.specs.Written.{comma_if, compact_text, has_float};
+ghost use Rattle.std.specs.Prelude.{◌≡◌, ◌<◌, ◌++◌, All, IfOk, IsSome, OnOk, length, map, string_bytes};
+ghost use Rattle.serde_json.specs.Written.{comma_if};
 ghost use Rattle.star_plan.specs.Plan.{Plan};
 ghost use Rattle.star_plan.specs.Reading.{IsPlanOf};
 ghost use Rattle.star_outcome.specs.Kept.{AreModules};

@@ -1,20 +1,18 @@
 //! The report.
 
-ghost use Rattle.std.specs.Prelude.{◌≡◌, ◌<◌, ◌↔◌, ◌++◌, ◌∷◌, ℕ, true, false, [], All, Contains, Some, IfOk, IfSome, OnOk};
+ghost use Rattle.std.specs.Prelude.{◌≡◌, ◌<◌, ◌↔◌, ℕ, true, false, [], All, Contains, Some, IfOk, IfSome, OnOk};
 ghost use Rattle.std.specs.Prelude.{codes, fold, length, map, string_bytes, vec_len};
-ghost use Rattle.serde_json.specs.Data.{array, member, no_members, number, object, string, unsigned};
-ghost use Rattle.serde_json.specs.View.{items_of, members_view, view};
-ghost use Rattle.serde_json.specs.Written.{compact_text, has_float};
+ghost use Rattle.serde_json.specs.Data.{no_members, number, string};
+ghost use Rattle.serde_json.specs.View.{members_view, view};
 ghost use Rattle.star_cause.specs.Ends.{AreWithin};
 ghost use Rattle.star_label.specs.Files.{label_at};
 ghost use Rattle.star_outcome.specs.Views.{shown_texts};
 ghost use Rattle.star_plan.specs.Causes.{Culprit, Cycle, FailsBy};
 ghost use Rattle.star_plan.specs.Plan.{Plan};
-ghost use Rattle.star_plan.specs.Reading.{IsPlanOf};
 ghost use Rattle.star_plan.specs.Text.{ill_data, load_data, static_line, static_word, well_data, with_global};
 ghost use Rattle.star_reading.specs.Codes.{fault_of};
 ghost use Rattle.star_report.specs.Fails.{AreFails};
-ghost use Rattle.star_outcome.specs.Kept.{AllGood, AreModules, IsLoadBelow};
+ghost use Rattle.star_outcome.specs.Kept.{AllGood, IsLoadBelow};
 ghost use Rattle.star_report.specs.Shown.{IsLoadShown, IsShown};
 ghost use Rattle.star_outcome.specs.Views.{IsModule};
 

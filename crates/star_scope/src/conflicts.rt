@@ -1,12 +1,12 @@
 //! Names that are bound more than once where one binding has to be the only one.
 
-ghost use Rattle.std.specs.Prelude.{◌≡◌, ◌∷◌, [], List, ℕ, if◌then◌else◌, IfOk, IfErr, OnOk};
+ghost use Rattle.std.specs.Prelude.{◌≡◌, ◌∷◌, [], List, if◌then◌else◌, IfOk, IfErr, OnOk};
 ghost use Rattle.std.specs.List.{flat_map};
 ghost use Rattle.std.specs.Cmp.Lexicographic.{slice_cmp};
 ghost use Rattle.std.specs.Ordering.{nat_cmp};
 ghost use Rattle.std.specs.BTreeSet.{insert_key};
 ghost use Rattle.star_scope.specs.declared.error.ScopeFault.TheVariants.{Memory};
-ghost use Rattle.star_scope.specs.Bound.{Binds, Knows, binding, is_in, names_of};
+ghost use Rattle.star_scope.specs.Bound.{Binds, binding, is_in, names_of};
 ghost use Rattle.star_scope.specs.Conflicts.{arms_bindings, block_conflicts, conflict_at, form_bindings, loaded_binding, parameter_binding, parameter_bindings, repeated_parameters, statements_bindings, target_bindings, targets_bindings};
 ghost use Rattle.star_scope.specs.Faults.{first, first_from};
 

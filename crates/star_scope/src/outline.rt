@@ -1,6 +1,6 @@
 //! What stands in a file: its definitions and its blocks.
 
-ghost use Rattle.std.specs.Prelude.{◌≡◌, ◌∷◌, ◌++◌, ℕ, [], map, IfOk, ◌+◌, OnOk};
+ghost use Rattle.std.specs.Prelude.{◌≡◌, ◌∷◌, ◌++◌, [], map, ◌+◌, OnOk};
 ghost use Rattle.std.specs.Option.{option_map};
 ghost use Rattle.star_scope.specs.Names.{with_names};
 ghost use Rattle.star_scope.specs.Syntax.{form_of, position_of};

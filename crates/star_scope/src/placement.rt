@@ -1,8 +1,8 @@
 //! Statements that stand where they must not.
 
 ghost use Rattle.std.specs.Prelude.{◌≡◌};
-ghost use Rattle.star_scope.specs.Faults.{at, first, first_from};
-ghost use Rattle.star_scope.specs.Placement.{in_arm, in_arms, in_form, in_statement, in_statements, misplaced, of_file, of_function, of_if, of_loop, only};
+ghost use Rattle.star_scope.specs.Faults.{first, first_from};
+ghost use Rattle.star_scope.specs.Placement.{in_arms, in_form, in_statements, misplaced, of_if, of_loop, only};
 
 use crate::error::{Refusal, ScopeFault, earlier};
 use star_tree::tree::{Arm, Form, Position, Statement};

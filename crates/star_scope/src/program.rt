@@ -1,6 +1,6 @@
 //! The program of a file: what it means to those that run it, or its first static fault.
 
-ghost use Rattle.std.specs.Prelude.{◌≡◌, ◌<◌, ◌∷◌, [], length, map, IfOk, IfErr, OnOk, Some, None};
+ghost use Rattle.std.specs.Prelude.{◌≡◌, ◌<◌, length, map, IfOk, IfErr, OnOk, Some, None};
 ghost use Rattle.std.specs.Option.{is_some, option_copied, option_map};
 ghost use Rattle.star_scope.specs.declared.error.ScopeFault.TheVariants.{Memory};
 ghost use Rattle.star_scope.specs.Chains.{names_outside};

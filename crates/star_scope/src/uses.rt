@@ -1,6 +1,6 @@
 //! The spots of all names of a file.
 
-ghost use Rattle.std.specs.Prelude.{◌≡◌, ◌∷◌, ◌++◌, [], None, map, IfOk, IfErr, OnOk};
+ghost use Rattle.std.specs.Prelude.{◌≡◌, ◌∷◌, ◌++◌, [], None, IfOk, IfErr, OnOk};
 ghost use Rattle.std.specs.Option.{option_map};
 ghost use Rattle.star_scope.specs.declared.error.ScopeFault.TheVariants as fault;
 ghost use Rattle.star_scope.specs.declared.error.ScopeFault.TheVariants.{Memory};

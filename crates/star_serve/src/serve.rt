@@ -1,7 +1,6 @@
 //! From the bundle's bytes to the report's bytes.
 
 ghost use Rattle.std.specs.Prelude.{true, false, ◌≡◌, ◌+◌, ◌<◌, ◌≤◌, ◌⊎◌, ℕ, List, All, map, length, option_map, string_bytes, IfOk, IfErr, IfSome, Ok};
-ghost use Rattle.std.specs.Option.{option_copied};
 ghost use Rattle.star_bundle.specs.Bundle as bundle;
 ghost use Rattle.star_bundle.specs.View.{asked_view};
 ghost use Rattle.star_bundle.specs.Refusal.{reads_failed, writes_failed};

@@ -1,6 +1,6 @@
 // The store of a module while it runs, and the published stores that it reaches.
 
-ghost use Rattle.std.specs.Prelude.{◌≡◌, List, ℕ, [], ◌∷◌, ◌++◌, ◌+◌, ◌<◌, ◌^◌, length, OnOk, OnErr, IfOk, IfErr, slice_get, map, replicate, string_bytes, ◌-◌};
+ghost use Rattle.std.specs.Prelude.{◌≡◌, List, [], ◌++◌, ◌+◌, ◌<◌, ◌^◌, length, OnOk, OnErr, IfOk, IfErr, slice_get, map, replicate, string_bytes, ◌-◌};
 ghost use Rattle.std.specs.Option.{option_copied, option_flatten};
 ghost use Rattle.star_store.specs.Store.{bound, bound_cell, changed_at, closed, closed_in, counted_at, global_of, is_container, is_taken, iterations_in, iterations_of, look, made, next_value, opened, opened_in, published_cells, put_up};
 ghost use Rattle.star_store.specs.declared.fault.StoreFault.TheVariants.{Memory};

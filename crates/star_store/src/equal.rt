@@ -1,6 +1,6 @@
 // Equality of values, which pays a step for each pair that it visits.
 
-ghost use Rattle.std.specs.Prelude.{◌≡◌, List, ℕ, ◌≤◌, ◌&&◌, ◌-◌, nat_eq, length, slice_get};
+ghost use Rattle.std.specs.Prelude.{◌≡◌, List, ◌≤◌, ◌&&◌, ◌-◌};
 ghost use Rattle.star_store.specs.Index.{entries_of};
 ghost use Rattle.star_store.specs.Store.{look};
 ghost use Rattle.star_store.specs.Spend.{Spends};

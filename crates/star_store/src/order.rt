@@ -1,6 +1,6 @@
 // The order of values, which pays a step for each pair that it visits.
 
-ghost use Rattle.std.specs.Prelude.{◌≡◌, List, ℕ, ◌≤◌, length, slice_get};
+ghost use Rattle.std.specs.Prelude.{◌≡◌, List, ◌≤◌};
 ghost use Rattle.std.specs.Option.{option_copied};
 ghost use Rattle.star_store.specs.Store.{look};
 ghost use Rattle.star_store.specs.Spend.{Spends};

@@ -4,7 +4,6 @@ ghost use Rattle.std.specs.Prelude.{◌≡◌, ◌≤◌, ◌<◌, ◌++◌, ◌
 ghost use Rattle.std.specs.Char.{digit_char};
 ghost use Rattle.std.specs.Fmt.{signed_decimal};
 ghost use Rattle.std.specs.Option.{option_copied};
-ghost use Rattle.star_store.specs.Names.{built_in_name};
 ghost use Rattle.star_store.specs.Store.{look};
 ghost use Rattle.star_store.specs.Text.{Says, Tells, behind, bool_text, bounds_parts, built_in_parts, function_parts, method_parts, on_path, plain_char, quoted, range_behind, same_address, say_cell, say_dict, say_entries, say_entry, say_items, say_list, say_new_dict, say_new_list, say_place, say_tuple, say_value, separator, shown, shown_char, text, tuple_end};
 

@@ -1,6 +1,5 @@
 //! The readers of expressions to a depth.
 
-ghost use Rattle.std.specs.Prelude.{◌≡◌};
 ghost use Rattle.star_syntax.specs.Grammar.{level as at_level, run};
 ghost use Rattle.star_syntax.specs.Expressions as spec;
 ghost use Rattle.star_syntax.specs.Language.{Gives, reads, rule};

@@ -1,6 +1,6 @@
 //! Variables by their places.
 
-ghost use Rattle.std.specs.Prelude.{◌≡◌, ◌<◌, ◌+◌, ◌^◌, None, Some, length, map, replicate, slice_get, IfOk};
+ghost use Rattle.std.specs.Prelude.{◌≡◌, ◌<◌, ◌+◌, ◌^◌, None, Some, length, map, slice_get, IfOk};
 ghost use Rattle.std.specs.Option.{option_and_then, option_copied};
 ghost use Rattle.star_store.specs.Names.{built_in_name};
 ghost use Rattle.star_store.specs.Store.{global_of};
@@ -8,7 +8,7 @@ ghost use Rattle.star_machine.specs.Gives.{Gives};
 ghost use Rattle.star_meaning.specs.Places.{at_spot, bind_spot, frame_above, joined, new_slots, own_spot, read_spot, slot_in};
 ghost use Rattle.star_meaning.specs.Program.{published_of, seen};
 ghost use Rattle.star_meaning.specs.Programs.{tables_of};
-ghost use Rattle.star_meaning.specs.Run.{Done, and_then, build, pay};
+ghost use Rattle.star_meaning.specs.Run.{and_then, build, pay};
 ghost use Rattle.star_meaning.specs.Variables.{built_ins, frame_of, outermost};
 
 use crate::world::World;

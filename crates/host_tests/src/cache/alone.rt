@@ -1,5 +1,4 @@
 // The book alone, without a lock.
-ghost use Rattle.std.specs.Prelude.{ℕ};
 
 use super::kept::{Kept, ended};
 use star_cache::{Book, BookError, ByDepth, Entry, Reply, no_cycle_is_good};

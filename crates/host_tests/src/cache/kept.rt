@@ -1,5 +1,5 @@
 // A product for tests: 64 files, each of which loads the next and the first; those from the eighth on are good.
-ghost use Rattle.std.specs.Prelude.{◌≡◌, ◌<◌, ◌≤◌, ◌↔◌, ℕ, true, Contains};
+ghost use Rattle.std.specs.Prelude.{◌≡◌, ◌<◌, ◌≤◌, ◌↔◌, true, Contains};
 ghost use Rattle.star_cache.specs.Ring.{ring};
 
 use star_cache::Product;

@@ -1,5 +1,5 @@
 // The cache under its lock, with threads.
-ghost use Rattle.std.specs.Prelude.{◌≡◌, ◌<◌, ◌≤◌, ℕ, IfOk, MatchOption};
+ghost use Rattle.std.specs.Prelude.{◌≡◌, ◌<◌, ◌≤◌, MatchOption};
 ghost use Rattle.star_cache.specs.Ring.{ring};
 ghost use Rattle.star_cache.specs.State.{Loads};
 

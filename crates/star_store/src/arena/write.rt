@@ -1,11 +1,11 @@
 // Reading dictionaries, and writing lists and dictionaries.
 
-ghost use Rattle.std.specs.Prelude.{◌≡◌, ◌<◌, length, slice_get, option_and_then};
+ghost use Rattle.std.specs.Prelude.{◌≡◌, ◌<◌};
 ghost use Rattle.std.specs.Option.{option_copied};
 ghost use Rattle.star_store.specs.Key.{find_in};
 ghost use Rattle.star_store.specs.Spend.{Answers};
 ghost use Rattle.star_store.specs.Store.{iterations_of, look};
-ghost use Rattle.star_store.specs.Write.{Writes, allowed, cell_at, change_cell, change_entries, change_items, delete, in_cells, is_good_key, is_own, key_of, leads_to_container, may_change, may_write, place_in, put, suits, write};
+ghost use Rattle.star_store.specs.Write.{Writes, allowed, cell_at, change_cell, change_entries, change_items, delete, in_cells, is_good_key, is_own, key_of, may_change, may_write, place_in, put, suits, write};
 
 use crate::arena::rows::change_row;
 use crate::arena::{Arena, Homes, is_container};
