@@ -2,7 +2,9 @@
 use Rattle.std.proofs.Common.{◌≡◌, ℕ, zero, suc, ◌+◌, ◌-◌, ◌<◌, ◌≤◌, ◌≢◌, List, [], ◌∷◌, ◌++◌, length, set, replicate, slice_get, Option, Some, None, refl, ap, sym, ◌∙◌, arith, nat_eq, if◌then◌else◌}
 use Rattle.std.specs.Option.{option_flatten, option_or}
 use Rattle.std.specs.BTreeMap.{BTreeMap}
-use Rattle.std.specs.Global.{Box}
+use Rattle.std.specs.Arc.{arc_slice_items}
+use Rattle.std.specs.declared.sync.ArcSlice.{ArcSlice}
+use Rattle.std.specs.Global.{Box, Global}
 use Rattle.std.proofs.lemmas.Option.{slice_get_past}
 use Rattle.std.proofs.lemmas.List.{set_past, length-append, length-replicate}
 use Rattle.star_store.specs.declared.values.Value.{Value}
@@ -75,9 +77,9 @@ pub row_unbound : (m n : ℕ) → row (slot_at (replicate m None) None None) n �
 row_unbound m n = row_all _ None n (λ i. ap (λ o. option_or o None) (room_unbound m i))
 
 -- where no slot was bound, and the slots stand on defaults
-pub row_over : (near : List (Option Value)) (under : Box Under) (from : ℕ) (ds : List Value) (n : ℕ)
-    → near ≡ [] → under.value ≡ record { from = from; defaults = ds } → row (slot_at near None (Some under)) n ≡ row (default_at from ds) n
-row_over near under from ds n e h = row_same _ _ n (λ i. ap (λ xs. slot_at xs None (Some under) i) e ∙ ap (λ (u : Under). default_at u.from u.defaults i) h)
+pub row_over : (near : List (Option Value)) (under : Box Under) (ranks : ArcSlice (Option ℕ) Global) (ds : List Value) (n : ℕ)
+    → near ≡ [] → under.value ≡ record { ranks = ranks; defaults = ds } → row (slot_at near None (Some under)) n ≡ row (default_at (arc_slice_items ranks) ds) n
+row_over near under ranks ds n e h = row_same _ _ n (λ i. ap (λ xs. slot_at xs None (Some under) i) e ∙ ap (λ (u : Under). default_at (arc_slice_items u.ranks) u.defaults i) h)
 
 abbrev unbound : Option Value
 unbound = None

@@ -1,6 +1,7 @@
 -- The variables of a frame: what each slot has.
-use Rattle.std.specs.Prelude.{ℕ, zero, suc, ◌-◌, nat_lt, if◌then◌else◌, List, [], ◌∷◌, ◌++◌, length, replicate, Option, Some, None, slice_get}
-use Rattle.std.specs.Option.{option_flatten, option_or}
+use Rattle.std.specs.Prelude.{ℕ, zero, suc, ◌-◌, List, [], ◌∷◌, ◌++◌, length, replicate, Option, Some, None, slice_get}
+use Rattle.std.specs.Option.{option_and_then, option_flatten, option_or}
+use Rattle.std.specs.Arc.{arc_slice_items}
 use Rattle.std.specs.BTreeMap.{BTreeMap, get_by}
 use Rattle.std.specs.Ordering.{nat_cmp}
 use Rattle.std.specs.Global.{Box}
@@ -12,14 +13,14 @@ abbrev pub far_at : Option (Box (BTreeMap ℕ Value)) → ℕ → Option Value
 far_at None at = None
 far_at (Some far) at = get_by (nat_cmp at) far.value
 
--- the default of a slot, where the defaults are those of the slots after the first so many
-abbrev pub default_at : ℕ → List Value → ℕ → Option Value
-default_at from defaults at = if nat_lt at from then None else slice_get defaults (at - from)
+-- the default of a slot, where these are the numbers of the slots' defaults
+abbrev pub default_at : List (Option ℕ) → List Value → ℕ → Option Value
+default_at ranks defaults at = option_and_then (λ rank. slice_get defaults rank) (option_flatten (slice_get ranks at))
 
 -- the default that is under a slot, where the slots stand on defaults
 abbrev pub under_at : Option (Box Under) → ℕ → Option Value
 under_at None at = None
-under_at (Some under) at = default_at under.value.from under.value.defaults at
+under_at (Some under) at = default_at (arc_slice_items under.value.ranks) under.value.defaults at
 
 -- what a slot has: the value of the row, or else that of the map, or else the default under it
 abbrev pub slot_at : List (Option Value) → Option (Box (BTreeMap ℕ Value)) → Option (Box Under) → ℕ → Option Value

@@ -1,6 +1,7 @@
 // The variables of a frame.
 
 ghost use Rattle.std.specs.Prelude.{◌≡◌, ◌+◌, ◌^◌, ◌<◌, ◌≤◌, ℕ, None, Some, if◌then◌else◌, length, nat_eq, replicate, slice_get, slice_set, IfOk, OnErr, OnOk};
+ghost use Rattle.std.specs.Arc.{arc_slice_items};
 ghost use Rattle.star_store.specs.Slots.{default_at, far_at, row, slot_at, under_at, widened};
 
 use crate::defaults::Defaults;
@@ -8,6 +9,7 @@ use crate::values::Value;
 use std::alloc::{AllocError, Global};
 use std::collections::BTreeMap;
 use std::marker::Model;
+use std::sync::ArcSlice;
 
 /// A slot makes room for all slots before it where it stands at most so far after those that have room.
 const REACH: usize = 12;
@@ -24,10 +26,10 @@ pub struct Slots {
     under: Option<Box<Under>>,
 }
 
-/// The defaults on which slots stand, and the slot that has the first of them.
+/// The defaults on which slots stand, and for each slot the number of its default, if it has one.
 #[derive(Drop)]
 struct Under {
-    from: usize,
+    ranks: ArcSlice<Option<usize>>,
     defaults: Defaults,
 }
 
@@ -58,18 +60,18 @@ impl Slots {
         })
     }
 
-    /// So many slots that stand on defaults: the slot `from` has the first of them, the slot after it the second, and so
-    /// on. All other slots are unbound. No slot has room at first.
+    /// So many slots that stand on defaults: `ranks` has for each slot the number of its default, if it has one. All other
+    /// slots are unbound. No slot has room at first.
     #[tactic(auto, using(crate::proofs::Rows::row_over))]
     pub fn over(
         alloc: Global,
         count: usize,
-        from: usize,
+        ranks: ArcSlice<Option<usize>>,
         defaults: Defaults,
     ) -> Result<Slots, AllocError>
-        ensures { IfOk result (λ slots. slots ≡ row (default_at from defaults) count) }
+        ensures { IfOk result (λ slots. slots ≡ row (default_at (arc_slice_items ranks) defaults) count) }
     {
-        let under = Box::new(alloc, Under { from, defaults })?;
+        let under = Box::new(alloc, Under { ranks, defaults })?;
         Ok(Slots {
             alloc,
             count,
@@ -146,10 +148,10 @@ fn under_at(under: &Option<Box<Under>>, at: usize) -> Option<Value>
     let Some(under) = under else {
         return None;
     };
-    if at < under.from {
+    let Some(Some(rank)) = under.ranks.as_slice().get(at) else {
         return None;
-    }
-    under.defaults.get(at - under.from)
+    };
+    under.defaults.get(*rank)
 }
 
 /// Makes room up to a slot, and gives it a value.

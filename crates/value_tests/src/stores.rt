@@ -19,6 +19,7 @@ use star_text::Text;
 use std::alloc::Global;
 use std::cmp::Ordering;
 use std::process::Abort;
+use std::sync::ArcSlice;
 use std::test::Fail;
 
 const AMPLE: Budget = Budget {
@@ -530,7 +531,8 @@ fn slots_over_defaults(rt: HostRuntime) -> Result<(), Fail> {
     let alloc = rt.alloc();
     let row = vec![in alloc; Value::Int(70), Value::Int(71), Value::Int(72)]?;
     let defaults = Defaults::new(row)?;
-    let mut slots = Slots::over(alloc, 6, 2, defaults.share()?)?;
+    let ranks = vec![in alloc; None, None, Some(0), Some(1), Some(2)]?;
+    let mut slots = Slots::over(alloc, 6, ArcSlice::from_vec(ranks)?, defaults.share()?)?;
     slots.set(3, Value::Int(1))?;
     for (at, slot) in [
         (1, Some(None)),
@@ -542,7 +544,16 @@ fn slots_over_defaults(rt: HostRuntime) -> Result<(), Fail> {
     ] {
         assert_eq!(rt; slots.get(at), slot);
     }
-    let far = Slots::over(alloc, 30, 20, defaults.share()?)?;
+    let ranks = vec![in alloc; Some(1), None, Some(7)]?;
+    let turned = Slots::over(alloc, 3, ArcSlice::from_vec(ranks)?, defaults.share()?)?;
+    assert_eq!(rt; turned.get(0), Some(Some(Value::Int(71))));
+    assert_eq!(rt; turned.get(1), Some(None));
+    assert_eq!(rt; turned.get(2), Some(None));
+    let mut ranks = Vec::new(alloc);
+    ranks.resize(21, None)?;
+    ranks.push(Some(1))?;
+    let far = Slots::over(alloc, 30, ArcSlice::from_vec(ranks)?, defaults.share()?)?;
+    assert_eq!(rt; far.get(20), Some(None));
     assert_eq!(rt; far.get(21), Some(Some(Value::Int(71))));
     assert!(rt; defaults.as_slice() == [Value::Int(70), Value::Int(71), Value::Int(72)].as_slice());
     assert_eq!(rt; defaults.len(), 3);
