@@ -14,7 +14,7 @@ use Rattle.star_scope.proofs.Numbers.{position_any}
 use Rattle.star_meaning.specs.Local.{outlines}
 use Rattle.star_meaning.specs.Programs.{Files, IsOfFile, PlacedFile, file_in, outline_at, slots_in, spots_in, tables_of, trees_of}
 use Rattle.star_world.specs.declared.orders.Order.{Order}
-use Rattle.star_world.specs.Orders.{AreInOrder, HasOrder}
+use Rattle.star_world.specs.Orders.{AreLaidOut, HasLayout, Layout}
 
 -- what is known of the program of some file
 pub definitions_are : (p : Program) → IsOfFile p → p.definitions ≡ (outline p.statements.now).definitions
@@ -24,10 +24,10 @@ pub blocks_are : (p : Program) → IsOfFile p → p.blocks ≡ (outline p.statem
 blocks_are p h = h.4.blocks ∙ ap (λ ss. (outline ss).blocks) (sym h.4.statements)
 
 -- the order of a definition
-pub order_known : (p : Program) (number plain : ℕ) (names : Names) → IsOfFile p → HasOrder p number plain → names ≡ names_in p.blocks (1 + number)
-    → (d : Definition) → definition_in (outline p.statements.now).definitions number ≡ Some d → AreInOrder (spot_at p.spots) names plain d.parameters
-order_known p number plain names h k e d there =
-    subst (λ (ns : Names). AreInOrder (spot_at p.spots) ns plain d.parameters) (sym e) (k d (ap (λ ds. definition_in ds number) (definitions_are p h) ∙ there))
+pub order_known : (p : Program) (number : ℕ) (l : Layout) (names : Names) → IsOfFile p → HasLayout p number l → names ≡ names_in p.blocks (1 + number)
+    → (d : Definition) → definition_in (outline p.statements.now).definitions number ≡ Some d → AreLaidOut (spot_at p.spots) names l d.parameters
+order_known p number l names h k e d there =
+    subst (λ (ns : Names). AreLaidOut (spot_at p.spots) ns l d.parameters) (sym e) (k d (ap (λ ds. definition_in ds number) (definitions_are p h) ∙ there))
 
 -- a name stands among names where it stands among these, each once
 here_or_later : (b c : Bool) → (b || (not b && c)) ≡ (b || c)
@@ -60,12 +60,12 @@ outline_there files file =
 
 -- the order of a definition of the file at a place, and its slots
 pub order_there : (files : Files) (file number : ℕ) (f : PlacedFile) (o : Option Order) → Some f ≡ file_in files file
-    → IfSome o (λ r. (d : Definition) → definition_in (outline f.statements).definitions number ≡ Some d → AreInOrder (spot_at f.spots) r.names.now r.plain d.parameters)
-    → IfSome o (λ r. (d : Definition) → option_and_then (λ t. definition_in t.definitions number) (outline_at files file) ≡ Some d → AreInOrder ((tables_of files).spots file) r.names.now r.plain d.parameters)
+    → IfSome o (λ r. (d : Definition) → definition_in (outline f.statements).definitions number ≡ Some d → AreLaidOut (spot_at f.spots) r.names.now r.layout.now d.parameters)
+    → IfSome o (λ r. (d : Definition) → option_and_then (λ t. definition_in t.definitions number) (outline_at files file) ≡ Some d → AreLaidOut ((tables_of files).spots file) r.names.now r.layout.now d.parameters)
 order_there files file number f None e h = tt
 order_there files file number f (Some r) e h = λ d there.
     let found : definition_in (outline f.statements).definitions number ≡ Some d = ap (λ g. option_and_then (λ t. definition_in t.definitions number) (option_map (λ x. outline x.statements) g)) e ∙ there in
-    subst (λ (g : Option PlacedFile). AreInOrder (spots_in g) r.names.now r.plain d.parameters) e (h d found)
+    subst (λ (g : Option PlacedFile). AreLaidOut (spots_in g) r.names.now r.layout.now d.parameters) e (h d found)
 
 pub slots_there : (files : Files) (file number : ℕ) (f : PlacedFile) (o : Option Order) → Some f ≡ file_in files file
     → IfSome o (λ r. r.names.now ≡ names_in (outline f.statements).blocks (1 + number))

@@ -1,5 +1,5 @@
--- Definitions whose parameters stand in the first slots of their frames, in order: names alone, then names with defaults.
-use Rattle.std.specs.Prelude.{◌≡◌, ◌<◌, ◌≤◌, ◌+◌, ℕ, suc, List, [], ◌∷◌, length, Some}
+-- How the parameters of a definition stand in the first slots of its frames, in order.
+use Rattle.std.specs.Prelude.{◌≡◌, ◌<◌, ◌≤◌, ◌+◌, ◌&&◌, ℕ, suc, nat_eq, nat_lt, not, Bool, true, false, List, [], ◌∷◌, length, Option, Some, None, slice_get}
 use Rattle.std.specs.BTreeMap.{BTreeMap, get}
 use Rattle.std.specs.Ordering.{nat_cmp}
 use Rattle.star_tree.specs.declared.tree.Argument.TheOpen as tree
@@ -13,30 +13,103 @@ use Rattle.star_scope.specs.Places.{Spots}
 use Rattle.star_scope.specs.Spots.{spot_at}
 use Rattle.star_scope.specs.Syntax.{ParameterForm, parameter}
 use Rattle.star_meaning.specs.Places.{own_spot}
+use Rattle.star_world.specs.declared.layouts.Cursor.{Cursor}
+use Rattle.star_world.specs.declared.layouts.Stage.{Stage}
+use Rattle.star_world.specs.declared.layouts.Stage.TheVariants as stage
+
+-- a layout of parameters: how many slots they have, how many of the first slots take values by place, and how many defaults there are; for each slot the number of its default, if it has one;
+-- the slots that need a value; and the slots of `*name` and `**name`
+pub record Layout : Type 0 where
+  pub count : ℕ
+  pub by_place : ℕ
+  pub defaults : ℕ
+  pub ranks : List (Option ℕ)
+  pub needed : List ℕ
+  pub rest : Option ℕ
+  pub names : Option ℕ
+
+-- whether a slot, if there is one, is that one
+abbrev pub is_at : Option ℕ → ℕ → Bool
+is_at None i = false
+is_at (Some j) i = nat_eq j i
+
+-- whether the value of a slot can be given by name
+abbrev pub is_own : Layout → ℕ → Bool
+is_own l i = nat_lt i l.count && (not (is_at l.rest i) && not (is_at l.names i))
 
 -- a name has this slot of its frame
 abbrev pub IsSlot : Spots → Names → ℕ → Name → Type 0
 IsSlot spots names i n = (own_spot (spots n.position.token) ≡ Some i) × (slot_of n.text names ≡ Some i)
 
--- a parameter with the slot i: it has a name alone before `plain`, a default from there on
-abbrev pub StandsAt : Spots → Names → ℕ → ℕ → ParameterForm → Type 0
-StandsAt spots names plain i (tree.Plain n) = (i < plain) × IsSlot spots names i n
-StandsAt spots names plain i (tree.Default n e) = (plain ≤ i) × IsSlot spots names i n
-StandsAt spots names plain i _ = ⊥
+-- a parameter that gets one value may stand here: before the end of those that take values by place, or after it
+abbrev pub MayStand : Layout → Stage → ℕ → Type 0
+MayStand l stage.ByPlace i = i < l.by_place
+MayStand l stage.ByName i = l.by_place ≤ i
+MayStand l stage.Ended i = ⊥
 
--- parameters that stand in order from the slot i on
-abbrev pub InOrder : Spots → Names → ℕ → ℕ → List Parameter → Type 0
-InOrder spots names plain i [] = Unit {0}
-InOrder spots names plain i (p ∷ ps) = StandsAt spots names plain i (parameter p) × InOrder spots names plain (suc i) ps
+-- those that take values by place end here; the values by place that are left go to this slot, if there is one
+abbrev pub PlacesEnd : Layout → Stage → ℕ → Option ℕ → Type 0
+PlacesEnd l stage.ByPlace i rest = (i ≡ l.by_place) × (l.rest ≡ rest)
+PlacesEnd l stage.ByName i rest = ⊥
+PlacesEnd l stage.Ended i rest = ⊥
 
--- all parameters stand in order, `plain` of them with names alone
-abbrev pub AreInOrder : Spots → Names → ℕ → List Parameter → Type 0
-AreInOrder spots names plain ps = InOrder spots names plain 0 ps × (plain ≤ length ps)
+-- they end here, or ended before
+abbrev pub PlacesAreOver : Layout → Stage → ℕ → Type 0
+PlacesAreOver l stage.ByPlace i = (i ≡ l.by_place) × (l.rest ≡ None)
+PlacesAreOver l stage.ByName i = Unit {0}
+PlacesAreOver l stage.Ended i = ⊥
+
+-- a parameter has the slot at the cursor: one with a name alone needs a value, one with a default has the next default
+abbrev pub StandsAt : Spots → Names → Layout → Cursor → ParameterForm → Type 0
+StandsAt spots names l c (tree.Plain n) = MayStand l c.stage c.slot × IsSlot spots names c.slot n × (is_own l c.slot ≡ true) × (slice_get l.ranks c.slot ≡ Some None) × (slice_get l.needed c.needed ≡ Some c.slot)
+StandsAt spots names l c (tree.Default n e) = MayStand l c.stage c.slot × IsSlot spots names c.slot n × (is_own l c.slot ≡ true) × (slice_get l.ranks c.slot ≡ Some (Some c.rank)) × (c.rank < l.defaults)
+StandsAt spots names l c (tree.Parameter-F.Parameter::Star n) = PlacesEnd l c.stage c.slot (Some c.slot) × IsSlot spots names c.slot n
+StandsAt spots names l c tree.BareStar = PlacesEnd l c.stage c.slot None
+StandsAt spots names l c (tree.Parameter-F.Parameter::StarStar n) = PlacesAreOver l c.stage c.slot × IsSlot spots names c.slot n × (is_at l.rest c.slot ≡ false) × (l.names ≡ Some c.slot)
+
+-- the cursor after a parameter
+abbrev pub after : Cursor → ParameterForm → Cursor
+after c (tree.Plain n) = record c { slot = suc c.slot; needed = suc c.needed }
+after c (tree.Default n e) = record c { slot = suc c.slot; rank = suc c.rank }
+after c (tree.Parameter-F.Parameter::Star n) = record c { stage = stage.ByName; slot = suc c.slot }
+after c tree.BareStar = record c { stage = stage.ByName }
+after c (tree.Parameter-F.Parameter::StarStar n) = record c { stage = stage.Ended; slot = suc c.slot }
+
+-- the cursor before all parameters
+abbrev pub start : Cursor
+start = record { stage = stage.ByPlace; slot = 0; rank = 0; needed = 0 }
+
+-- no parameter is missing after the last
+abbrev pub MayEnd : Layout → Stage → ℕ → Type 0
+MayEnd l stage.ByPlace i = (i ≡ l.by_place) × (l.rest ≡ None) × (l.names ≡ None)
+MayEnd l stage.ByName i = l.names ≡ None
+MayEnd l stage.Ended i = Unit {0}
+
+-- parameters stand in order from the cursor on
+abbrev pub InOrder : Spots → Names → Layout → Cursor → List Parameter → Type 0
+InOrder spots names l c [] = (c.slot ≡ l.count) × MayEnd l c.stage c.slot
+InOrder spots names l c (p ∷ ps) = StandsAt spots names l c (parameter p) × InOrder spots names l (after c (parameter p)) ps
+
+-- a slot, if there is one, is one of the first so many
+abbrev pub IsBelow : Option ℕ → ℕ → Type 0
+IsBelow None n = Unit {0}
+IsBelow (Some i) n = i < n
+
+-- a layout of no other slots than those of the parameters
+pub record IsBounded (l : Layout) : Type 0 where
+  pub places : l.by_place ≤ l.count
+  pub ranks : length l.ranks ≤ l.count
+  pub rest : IsBelow l.rest l.count
+  pub names : IsBelow l.names l.count
+
+-- all parameters stand in the first slots as a layout says
+abbrev pub AreLaidOut : Spots → Names → Layout → List Parameter → Type 0
+AreLaidOut spots names l ps = InOrder spots names l start ps × IsBounded l
 
 -- so do those of the definition of a program with this number
-abbrev pub HasOrder : Program → ℕ → ℕ → Type 0
-HasOrder p number plain = (d : Definition) → definition_in p.definitions number ≡ Some d → AreInOrder (spot_at p.spots) (names_in p.blocks (1 + number)) plain d.parameters
+abbrev pub HasLayout : Program → ℕ → Layout → Type 0
+HasLayout p number l = (d : Definition) → definition_in p.definitions number ≡ Some d → AreLaidOut (spot_at p.spots) (names_in p.blocks (1 + number)) l d.parameters
 
 -- what a map has for numbers holds of the definitions with them
-abbrev pub HaveOrders : Program → BTreeMap ℕ ℕ → Type 0
-HaveOrders p plain = (number count : ℕ) → get nat_cmp plain number ≡ Some count → HasOrder p number count
+abbrev pub HaveLayouts : Program → BTreeMap ℕ Layout → Type 0
+HaveLayouts p layouts = (number : ℕ) (l : Layout) → get nat_cmp layouts number ≡ Some l → HasLayout p number l

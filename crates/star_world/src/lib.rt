@@ -2,6 +2,7 @@
 #![tactic(auto)]
 
 pub mod files;
+pub mod layouts;
 pub mod loads;
 pub mod orders;
 pub mod parts;

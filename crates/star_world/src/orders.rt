@@ -1,13 +1,15 @@
 //! Definitions whose parameters stand in the first slots of their frames, in order.
 
-ghost use Rattle.std.specs.Prelude.{◌≡◌, ◌↔◌, ◌≤◌, ◌+◌, length, IfOk, IfSome, IsTrue, Some};
+ghost use Rattle.std.specs.Prelude.{◌≡◌, ◌↔◌, ◌+◌, IfOk, IfSome, IsTrue, Some, slice_get};
 ghost use Rattle.std.specs.BTreeMap.{btree_map_len, get};
+ghost use Rattle.std.specs.Option.{option_copied};
 ghost use Rattle.std.specs.Ordering.{nat_cmp};
 ghost use Rattle.star_scope.specs.Outlines.{names_in};
 ghost use Rattle.star_scope.specs.Spots.{spot_at};
 ghost use Rattle.star_scope.specs.Syntax as form;
-ghost use Rattle.star_world.specs.Orders.{AreInOrder, HasOrder, HaveOrders, InOrder, IsSlot, StandsAt};
+ghost use Rattle.star_world.specs.Orders.{AreLaidOut, HasLayout, HaveLayouts, InOrder, IsSlot, MayEnd, MayStand, PlacesAreOver, PlacesEnd, StandsAt, is_own, start};
 
+use crate::layouts::{Cursor, Layout, Stage, is_at};
 use crate::variables::own_spot;
 use star_scope::blocks::BlockNames;
 use star_scope::program::Program;
@@ -18,10 +20,10 @@ use std::collections::BTreeMap;
 /// A definition with so many parameters gets its arguments one by one, with no regard to their order.
 const FEW: usize = 16;
 
-/// How the parameters of a definition stand in order: so many have names alone, and the names of the slots.
+/// How the parameters of a definition stand in order, and the names of the slots.
 #[derive(Clone, Copy)]
 pub struct Order<'a, 't> {
-    pub plain: usize,
+    pub layout: &'a Layout,
     pub names: &'a BlockNames<'t>,
 }
 
@@ -33,20 +35,107 @@ fn is_slot(program: &Program<'_>, names: &BlockNames<'_>, slot: usize, name: &Na
         && names.slot(name.text.as_str()) == Some(slot)
 }
 
-/// Whether a parameter has this slot: one with a name alone before `plain`, one with a default from there on.
+/// Whether a parameter that gets one value may stand at a cursor.
+fn may_stand(layout: &Layout, cursor: Cursor) -> bool
+    ensures { IsTrue result → MayStand layout.now cursor.stage cursor.slot }
+{
+    match cursor.stage {
+        Stage::ByPlace => cursor.slot < layout.by_place(),
+        Stage::ByName => layout.by_place() <= cursor.slot,
+        Stage::Ended => false,
+    }
+}
+
+/// Whether those that take values by place end at a cursor, and the values that are left go to this slot.
+fn places_end(layout: &Layout, cursor: Cursor, rest: Option<usize>) -> bool
+    ensures { IsTrue result → PlacesEnd layout.now cursor.stage cursor.slot rest }
+{
+    match cursor.stage {
+        Stage::ByPlace => cursor.slot == layout.by_place() && layout.rest() == rest,
+        _ => false,
+    }
+}
+
+/// Whether they end there, or ended before.
+fn places_are_over(layout: &Layout, cursor: Cursor) -> bool
+    ensures { IsTrue result → PlacesAreOver layout.now cursor.stage cursor.slot }
+{
+    match cursor.stage {
+        Stage::ByPlace => cursor.slot == layout.by_place() && layout.rest() == None,
+        Stage::ByName => true,
+        Stage::Ended => false,
+    }
+}
+
+/// Whether no parameter is missing after the last.
+fn may_end(layout: &Layout, cursor: Cursor) -> bool
+    ensures { IsTrue result → MayEnd layout.now cursor.stage cursor.slot }
+{
+    match cursor.stage {
+        Stage::ByPlace => {
+            cursor.slot == layout.by_place() && layout.rest() == None && layout.names() == None
+        }
+        Stage::ByName => layout.names() == None,
+        Stage::Ended => true,
+    }
+}
+
+/// Whether a name has the slot at a cursor, which gets one value.
+fn has_own_slot(
+    program: &Program<'_>,
+    names: &BlockNames<'_>,
+    layout: &Layout,
+    cursor: Cursor,
+    name: &Name,
+) -> bool
+    ensures may_stand { IsTrue result → MayStand layout.now cursor.stage cursor.slot }
+    ensures slot { IsTrue result → IsSlot (spot_at program.now.spots) names.now cursor.slot name.now }
+    ensures own { IsTrue result → IsTrue (is_own layout.now cursor.slot) }
+{
+    may_stand(layout, cursor)
+        && is_slot(program, names, cursor.slot, name)
+        && layout.is_own(cursor.slot)
+}
+
+/// Whether the slot at a cursor is the next that needs a value.
+fn is_needed(layout: &Layout, cursor: Cursor) -> bool
+    ensures { IsTrue result → slice_get layout.now.needed cursor.needed ≡ Some cursor.slot }
+{
+    layout.needed().get(cursor.needed).copied() == Some(cursor.slot)
+}
+
+/// Whether a parameter has the slot at a cursor.
 fn stands_at(
     program: &Program<'_>,
     names: &BlockNames<'_>,
-    plain: usize,
-    slot: usize,
+    layout: &Layout,
+    cursor: Cursor,
     parameter: &Parameter,
 ) -> bool
-    ensures { IsTrue result → StandsAt (spot_at program.now.spots) names.now plain slot (form.parameter parameter.now) }
+    ensures { IsTrue result → StandsAt (spot_at program.now.spots) names.now layout.now cursor (form.parameter parameter.now) }
 {
+    let slot = cursor.slot;
     match parameter {
-        Parameter::Plain(name) => slot < plain && is_slot(program, names, slot, name),
-        Parameter::Default { name, .. } => plain <= slot && is_slot(program, names, slot, name),
-        _ => false,
+        Parameter::Plain(name) => {
+            has_own_slot(program, names, layout, cursor, name)
+                && layout.rank(slot) == Some(None)
+                && is_needed(layout, cursor)
+        }
+        Parameter::Default { name, .. } => {
+            has_own_slot(program, names, layout, cursor, name)
+                && layout.rank(slot) == Some(Some(cursor.rank))
+                && cursor.rank < layout.defaults()
+        }
+        Parameter::Star(name) => {
+            places_end(layout, cursor, Some(slot)) && is_slot(program, names, slot, name)
+        }
+        Parameter::BareStar => places_end(layout, cursor, None),
+        Parameter::StarStar(name) => {
+            places_are_over(layout, cursor)
+                && is_slot(program, names, slot, name)
+                && !is_at(layout.rest(), slot)
+                && layout.names() == Some(slot)
+        }
     }
 }
 
@@ -55,30 +144,22 @@ fn stands_at(
 fn are_in_order(
     program: &Program<'_>,
     names: &BlockNames<'_>,
-    plain: usize,
+    layout: &Layout,
     parameters: &[Parameter],
 ) -> bool
-    ensures { IsTrue result → InOrder (spot_at program.now.spots) names.now plain 0 parameters.now }
+    ensures { IsTrue result → InOrder (spot_at program.now.spots) names.now layout.now start parameters.now }
 {
-    for (slot, parameter) in parameters.iter().enumerate() {
-        if !stands_at(program, names, plain, slot, parameter) {
+    let mut cursor = Cursor::start();
+    for parameter in parameters {
+        if !stands_at(program, names, layout, cursor, parameter) {
             return false;
         }
+        let Some(next) = cursor.after(parameter) else {
+            return false;
+        };
+        cursor = next;
     }
-    true
-}
-
-/// How many parameters have names alone, before the first that has not.
-fn count_plain(parameters: &[Parameter]) -> usize
-    ensures { result ≤ length parameters.now }
-{
-    for (place, parameter) in parameters.iter().enumerate() {
-        match parameter {
-            Parameter::Plain(_) => {}
-            _ => return place,
-        }
-    }
-    parameters.len()
+    cursor.slot == layout.count() && may_end(layout, cursor)
 }
 
 /// The names of the slots of the definition with a number.
@@ -91,66 +172,78 @@ pub(crate) fn slot_names<'a, 't>(
     program.blocks().names(number.checked_add(1)?)
 }
 
-/// How many parameters of the definition with a number have names alone, where all stand in order.
-fn order_of(program: &Program<'_>, number: usize, parameters: &[Parameter]) -> Option<usize>
-    ensures { IfSome result (λ plain. AreInOrder (spot_at program.now.spots) (names_in program.now.blocks (1 + number)) plain parameters.now) }
+/// How the parameters of the definition with a number stand, where all stand in order.
+fn layout_of(
+    alloc: Global,
+    program: &Program<'_>,
+    number: usize,
+    parameters: &[Parameter],
+) -> Result<Option<Layout>, AllocError>
+    ensures { IfOk result (λ o. IfSome o (λ layout. AreLaidOut (spot_at program.now.spots) (names_in program.now.blocks (1 + number)) layout parameters.now)) }
 {
-    let names = slot_names(program, number)?;
-    let plain = count_plain(parameters);
-    if are_in_order(program, names, plain, parameters) {
-        Some(plain)
+    let Some(names) = slot_names(program, number) else {
+        return Ok(None);
+    };
+    let layout = Layout::of(alloc, parameters)?;
+    if are_in_order(program, names, &layout, parameters) && layout.is_bounded() {
+        Ok(Some(layout))
     } else {
-        None
+        Ok(None)
     }
 }
 
 /// The same of the definition of a program with a number, where it has many parameters.
-#[tactic(auto, using(crate::proofs::InOrder::order_there))]
-fn order_at(program: &Program<'_>, number: usize) -> Option<usize>
-    ensures { IfSome result (HasOrder program.now number) }
+#[tactic(auto, using(crate::proofs::InOrder::layout_there))]
+fn layout_at(
+    alloc: Global,
+    program: &Program<'_>,
+    number: usize,
+) -> Result<Option<Layout>, AllocError>
+    ensures { IfOk result (λ o. IfSome o (HasLayout program.now number)) }
 {
     match program.definition(number) {
-        Some(definition) if definition.parameters.len() > FEW => order_of(
+        Some(definition) if definition.parameters.len() > FEW => layout_of(
+            alloc,
             program,
             number,
             definition.parameters,
         ),
-        _ => None,
+        _ => Ok(None),
     }
 }
 
-/// The definitions of a program with many parameters that stand in order, by their numbers: how many parameters have names alone.
+/// The definitions of a program with many parameters that stand in order, by their numbers: how they stand.
 #[derive(Drop)]
 pub struct Orders {
-    plain: BTreeMap<usize, usize>,
+    layouts: BTreeMap<usize, Layout>,
 }
 
 impl Orders {
     /// Those of a program.
     pub(crate) fn of(alloc: Global, program: &Program<'_>) -> Result<Orders, AllocError>
-        ensures { IfOk result (λ orders. HaveOrders program.now orders.plain) }
+        ensures { IfOk result (λ orders. HaveLayouts program.now orders.layouts) }
     {
-        let mut plain = BTreeMap::new(alloc);
+        let mut layouts = BTreeMap::new(alloc);
         for definition in program.definitions() {
             let number = definition.number;
-            if let Some(count) = order_at(program, number) {
-                plain.insert(number, count)?;
+            if let Some(layout) = layout_at(alloc, program, number)? {
+                layouts.insert(number, layout)?;
             }
         }
-        Ok(Orders { plain })
+        Ok(Orders { layouts })
     }
 
-    /// How many parameters of the definition with a number have names alone, where all stand in order.
-    pub(crate) fn plain(&self, number: usize) -> Option<usize>
-        ensures { result ≡ get nat_cmp self.now.plain number }
+    /// How the parameters of the definition with a number stand, where all stand in order.
+    pub(crate) fn layout(&self, number: usize) -> Option<&Layout>
+        ensures { option_copied result ≡ get nat_cmp self.now.layouts number }
     {
-        self.plain.get(&number).copied()
+        self.layouts.get(&number)
     }
 
     /// Whether there is no such definition.
     pub(crate) fn is_empty(&self) -> bool
-        ensures { IsTrue result ↔ (btree_map_len self.now.plain ≡ 0) }
+        ensures { IsTrue result ↔ (btree_map_len self.now.layouts ≡ 0) }
     {
-        self.plain.is_empty()
+        self.layouts.is_empty()
     }
 }

@@ -6,7 +6,7 @@ ghost use Rattle.star_scope.specs.Definitions.{Definition, definition_in};
 ghost use Rattle.star_scope.specs.Outlines.{names_in, outline};
 ghost use Rattle.star_scope.specs.Spots.{spot_at};
 ghost use Rattle.star_meaning.specs.Programs.{IsOfFile, placed_file};
-ghost use Rattle.star_world.specs.Orders.{AreInOrder};
+ghost use Rattle.star_world.specs.Orders.{AreLaidOut};
 
 use crate::orders::{Order, Orders, slot_names};
 use star_scope::program::Program;
@@ -22,7 +22,7 @@ pub struct Placed<'a, 't> {
 
 impl<'a, 't> Model for Placed<'a, 't> {
     ghost use Rattle.star_meaning.specs.Programs.{IsOfFile, PlacedFile, placed_file};
-    ghost use Rattle.star_world.specs.Orders.{HaveOrders};
+    ghost use Rattle.star_world.specs.Orders.{HaveLayouts};
 
     ghost Value = { PlacedFile };
 
@@ -33,7 +33,7 @@ impl<'a, 't> Model for Placed<'a, 't> {
 
     ghost view = { λ p. placed_file p.program.now };
 
-    ghost invariant = { λ p. IsOfFile p.program.now × HaveOrders p.program.now p.orders.plain };
+    ghost invariant = { λ p. IsOfFile p.program.now × HaveLayouts p.program.now p.orders.layouts };
 }
 
 impl<'a, 't> Placed<'a, 't> {
@@ -60,13 +60,13 @@ impl<'a, 't> Placed<'a, 't> {
     }
 
     /// How the many parameters of the definition with a number stand, where they stand in order.
-    pub(crate) fn order(&self, number: u32) -> Option<Order<'a, 't>>
-        ensures in_order { IfSome result (λ o. (d : Definition) → definition_in (outline self.now.statements).definitions number ≡ Some d → AreInOrder (spot_at self.now.spots) o.names.now o.plain d.parameters) }
+    pub(crate) fn order(&self, number: u32) -> Option<Order<'_, 't>>
+        ensures in_order { IfSome result (λ o. (d : Definition) → definition_in (outline self.now.statements).definitions number ≡ Some d → AreLaidOut (spot_at self.now.spots) o.names.now o.layout.now d.parameters) }
         ensures names { IfSome result (λ o. o.names.now ≡ names_in (outline self.now.statements).blocks (1 + number)) }
     {
-        let plain = self.orders.plain(number as usize)?;
+        let layout = self.orders.layout(number as usize)?;
         let names = slot_names(self.program, number as usize)?;
-        Some(Order { plain, names })
+        Some(Order { layout, names })
     }
 }
 

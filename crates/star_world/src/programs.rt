@@ -8,7 +8,7 @@ ghost use Rattle.star_scope.specs.Outlines.{names_in};
 ghost use Rattle.star_meaning.specs.Module.{loaded_names};
 ghost use Rattle.star_meaning.specs.Program.{blocks_in};
 ghost use Rattle.star_meaning.specs.Programs.{IsOfFile, file_in, outline_at, placed_file, tables_of};
-ghost use Rattle.star_world.specs.Orders.{AreInOrder};
+ghost use Rattle.star_world.specs.Orders.{AreLaidOut};
 
 use crate::orders::Order;
 use crate::placed::{Placed, place_program};
@@ -111,8 +111,8 @@ impl<'a, 't> Programs<'a, 't> {
     /// How the many parameters of the definition with a number in a file stand, where they stand in order, in logarithmic time;
     /// in constant time where no definition of the files has such.
     #[tactic(auto, using(crate::proofs::ProgramRows::slots_there))]
-    pub fn order(&self, file: usize, number: u32) -> Option<Order<'a, 't>>
-        ensures in_order { IfSome result (λ o. (d : OneDefinition) → option_and_then (λ o. definition_in o.definitions number) (outline_at self.now file) ≡ Some d → AreInOrder ((tables_of self.now).spots file) o.names.now o.plain d.parameters) }
+    pub fn order(&self, file: usize, number: u32) -> Option<Order<'_, 't>>
+        ensures in_order { IfSome result (λ o. (d : OneDefinition) → option_and_then (λ o. definition_in o.definitions number) (outline_at self.now file) ≡ Some d → AreLaidOut ((tables_of self.now).spots file) o.names.now o.layout.now d.parameters) }
         ensures names { IfSome result (λ o. length o.names.now ≡ (tables_of self.now).slots file (1 + number)) }
     {
         if !self.has_orders {

@@ -1,6 +1,6 @@
 //! What a run is given.
 
-ghost use Rattle.std.specs.Prelude.{◌≡◌, ◌≤◌, ◌+◌, [], length, IfSome, Some};
+ghost use Rattle.std.specs.Prelude.{◌≡◌, ◌+◌, [], length, IfSome, Some};
 ghost use Rattle.std.specs.Option.{option_copied, option_map, unwrap_or};
 ghost use Rattle.star_meaning.specs.Local.{outlines};
 ghost use Rattle.star_meaning.specs.Module.{loaded_names};
@@ -8,7 +8,7 @@ ghost use Rattle.star_meaning.specs.Program as program;
 ghost use Rattle.star_meaning.specs.Programs.{load_files, tables_of, trees_of};
 ghost use Rattle.star_scope.specs.Definitions.{Definition as OneDefinition, definition_of};
 ghost use Rattle.star_scope.specs.Names.{has_name};
-ghost use Rattle.star_world.specs.Orders.{InOrder};
+ghost use Rattle.star_world.specs.Orders.{AreLaidOut};
 
 use crate::files::Files;
 use crate::orders::Order;
@@ -101,7 +101,7 @@ impl<'a, 't> World<'a, 't> {
     /// How the many parameters of the definition with a number in a file stand, where they stand in order, in logarithmic time;
     /// in constant time where no definition of the files has such.
     pub fn order(&self, file: u32, number: u32) -> Option<Order<'a, 't>>
-        ensures in_order { IfSome result (λ o. (d : OneDefinition) → program.definition_of self.now.setting file number ≡ Some d → InOrder ((tables_of self.now.files).spots file) o.names.now o.plain 0 d.parameters × (o.plain ≤ length d.parameters)) }
+        ensures in_order { IfSome result (λ o. (d : OneDefinition) → program.definition_of self.now.setting file number ≡ Some d → AreLaidOut ((tables_of self.now.files).spots file) o.names.now o.layout.now d.parameters) }
         ensures slots { IfSome result (λ o. length o.names.now ≡ (tables_of self.now.files).slots file (1 + number)) }
     {
         self.files.programs().order(file as usize, number)
