@@ -70,8 +70,8 @@ fn keys_and_values(
     Ok(entries)
 }
 
-/// A share as a value: `*name` is a new tuple, `**name` a new dictionary.
-fn made_of(
+/// A share as a value: `*name` is a new tuple, `**name` a new dictionary of the values by name that are left.
+pub fn made_of(
     machine: &mut Machine,
     line: usize,
     share: Share<'_>,

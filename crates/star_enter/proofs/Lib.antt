@@ -2,5 +2,6 @@ pub mod ByPlace
 pub mod Called
 pub mod Entering
 pub mod OrderedShares
+pub mod OrderedMade
 pub mod OrderedFrames
 pub mod OrderedRows

@@ -1,40 +1,46 @@
--- Calls of functions whose parameters stand in order: slots over the defaults, to which values by name and by place are given.
-use Rattle.std.proofs.Common.{◌≡◌, ◌≢◌, ◌<◌, ◌≤◌, ◌⊎◌, inl, inr, ℕ, zero, suc, ◌+◌, ◌-◌, nat_eq, Bool, true, false, List, [], ◌∷◌, ◌++◌, length, slice_get, slice_set, Option, Some, None, if◌then◌else◌, cond, refl, ap, sym, subst, ◌∙◌, arith, eq-eqb, ne_eqb, le-ltb, lt-ltb}
+-- Calls of functions whose parameters have a layout: slots over the defaults, to which values by name and by place are given.
+use Rattle.std.proofs.Common.{◌≡◌, ◌≢◌, ◌<◌, ◌≤◌, ◌⊎◌, inl, inr, ℕ, zero, suc, ◌+◌, ◌-◌, nat_eq, Bool, true, false, List, [], ◌∷◌, ◌++◌, drop, length, take, slice_get, slice_set, Option, Some, None, if◌then◌else◌, cond, refl, ap, sym, subst, ◌∙◌, arith, ◌&&◌, eq-eqb, eqb-true, ne_eqb, le-ltb, lt-ltb}
 use Rattle.std.specs.Prelude.{is_some, nat_lt}
-use Rattle.std.specs.List.{find}
+use Rattle.std.specs.List.{find, list_all}
 use Rattle.std.specs.Option.{option_map, option_or}
 use Rattle.star_store.specs.declared.values.Value.{Value}
 use Rattle.star_store.specs.Slots.{default_at, row}
 use Rattle.star_store.proofs.Rows.{row_at, row_past, row_same, row_set}
-use Rattle.star_tree.specs.declared.tree.Parameter.{Parameter}
-use Rattle.star_scope.specs.Names.{Names, slot_of}
+use Rattle.star_scope.specs.Names.{Names}
 use Rattle.star_meaning.specs.declared.given.Given.{Given}
 use Rattle.star_meaning.specs.declared.given.NamedValue.{NamedValue}
 use Rattle.star_meaning.specs.Places.{joined}
-use Rattle.star_enter.specs.Ordered.{AreBetween, AreSet, FitsInOrder, IsBetween, bound_at, bound_row, is_at, named_at, with_named, with_plain, with_slot}
+use Rattle.star_world.specs.Orders.{Layout, is_at}
+use Rattle.star_enter.specs.Ordered.{AreTaken, FitsLayout, IsTaken, bound_at, bound_row, is_set, named_at, own_slot, placed, unplaced, with_named, with_plain, with_slot}
+use Rattle.star_enter.proofs.OrderedMade.{with_made, with_value}
 use Rattle.star_enter.proofs.OrderedShares.{side}
 
--- values by name
-slot_row : (o : Option ℕ) (v : Value) (f : ℕ → Option Value) (n : ℕ) → with_slot o v (row f n) ≡ row (λ i. if is_at o i then Some v else f i) n
-slot_row None v f n = row_same f (λ i. if is_at None i then Some v else f i) n (λ i. refl)
-slot_row (Some j) v f n =
-    row_set f (λ i. if nat_eq j i then Some v else f i) n j (Some v)
-    (ap (λ b. if b then Some v else f j) (eq-eqb j j refl))
-    (λ i d. ap (λ b. if b then Some v else f i) (ne_eqb j i (λ e. d (sym e))))
+-- one slot, if there is such
+value_row : (o : Option ℕ) (v : Option Value) (f : ℕ → Option Value) (n : ℕ) → with_value o v (row f n) ≡ row (λ i. if is_at o i then v else f i) n
+value_row None v f n = row_same f (λ i. if is_at None i then v else f i) n (λ i. refl)
+value_row (Some j) v f n =
+    row_set f (λ i. if nat_eq j i then v else f i) n j v
+    (ap (λ b. if b then v else f j) (eq-eqb j j refl))
+    (λ i d. ap (λ b. if b then v else f i) (ne_eqb j i (λ e. d (sym e))))
 
+slot_row : (o : Option ℕ) (v : Value) (f : ℕ → Option Value) (n : ℕ) → with_slot o v (row f n) ≡ row (λ i. if is_at o i then Some v else f i) n
+slot_row None v f n = value_row None (Some v) f n
+slot_row (Some j) v f n = value_row (Some j) (Some v) f n
+
+-- values by name
 named_first : (b : Bool) (m : NamedValue) (o : Option NamedValue) (x : Option Value)
     → (if b then Some m.value else option_or (option_map (λ n. n.value) o) x) ≡ option_or (option_map (λ n. n.value) (cond b (Some m) o)) x
 named_first true m o x = refl
 named_first false m o x = refl
 
-named_row : (names : Names) (ns : List NamedValue) (f : ℕ → Option Value) (n : ℕ) → with_named names ns (row f n) ≡ row (λ i. option_or (named_at names ns i) (f i)) n
-named_row names [] f n = row_same f (λ i. option_or (named_at names [] i) (f i)) n (λ i. refl)
-named_row names (m ∷ ns) f n =
-    let rest : ℕ → Option Value = λ i. option_or (named_at names ns i) (f i) in
-    ap (with_slot (slot_of m.name names) m.value) (named_row names ns f n)
-    ∙ slot_row (slot_of m.name names) m.value rest n
-    ∙ row_same (λ i. if is_at (slot_of m.name names) i then Some m.value else rest i) (λ i. option_or (named_at names (m ∷ ns) i) (f i)) n
-    (λ i. named_first (is_at (slot_of m.name names) i) m (find (λ n. is_at (slot_of n.name names) i) ns) (f i))
+named_row : (l : Layout) (names : Names) (ns : List NamedValue) (f : ℕ → Option Value) (n : ℕ) → with_named l names ns (row f n) ≡ row (λ i. option_or (named_at l names ns i) (f i)) n
+named_row l names [] f n = row_same f (λ i. option_or (named_at l names [] i) (f i)) n (λ i. refl)
+named_row l names (m ∷ ns) f n =
+    let rest : ℕ → Option Value = λ i. option_or (named_at l names ns i) (f i) in
+    ap (with_slot (own_slot l names m) m.value) (named_row l names ns f n)
+    ∙ slot_row (own_slot l names m) m.value rest n
+    ∙ row_same (λ i. if is_at (own_slot l names m) i then Some m.value else rest i) (λ i. option_or (named_at l names (m ∷ ns) i) (f i)) n
+    (λ i. named_first (is_at (own_slot l names m) i) m (find (λ n. is_at (own_slot l names n) i) ns) (f i))
 
 -- values by place
 get_from : ℕ → List Value → ℕ → Option Value
@@ -89,29 +95,76 @@ plain_row vs f n = plain_from 0 vs f n ∙ row_same (λ i. option_or (get_from 0
     ap (λ b. option_or (if b then None else slice_get vs (i - 0)) (f i)) (le-ltb i 0 (omega arith)) ∙ ap (λ m. option_or (slice_get vs m) (f i)) (let z : i - 0 ≡ i = omega arith in z))
 
 -- defaults, then values by name, then those by place
-pub bound_slots : (names : Names) (plain : ℕ) (ds : List Value) (g : Given) → with_plain 0 g.plain (with_named names g.named (row (default_at plain ds) (length names))) ≡ bound_row names plain ds g
-bound_slots names plain ds g =
-    ap (with_plain 0 g.plain) (named_row names g.named (default_at plain ds) (length names))
-    ∙ plain_row g.plain (λ i. option_or (named_at names g.named i) (default_at plain ds i)) (length names)
+pub bound_slots : (l : Layout) (names : Names) (ds : List Value) (g : Given) → with_plain 0 (placed l g) (with_named l names g.named (row (default_at l.ranks ds) (length names))) ≡ bound_row l names ds g
+bound_slots l names ds g =
+    ap (with_plain 0 (placed l g)) (named_row l names g.named (default_at l.ranks ds) (length names))
+    ∙ plain_row (placed l g) (λ i. option_or (named_at l names g.named i) (default_at l.ranks ds i)) (length names)
 
-set_in : (f : ℕ → Option Value) (n i : ℕ) → is_some (joined (slice_get (row f n) i)) ≡ true → is_some (f i) ≡ true
+-- then the values of `*name` and `**name`, which have two slots
+pub made_slots : (l : Layout) (t d : Option Value) (f : ℕ → Option Value) (n : ℕ) → ((i : ℕ) → l.names ≡ Some i → is_at l.rest i ≡ false)
+    → with_value l.names d (with_value l.rest t (row f n)) ≡ row (with_made l t d f) n
+made_slots l t d f n h =
+    ap (with_value l.names d) (value_row l.rest t f n)
+    ∙ value_row l.names d (λ i. if is_at l.rest i then t else f i) n
+    ∙ row_same (λ i. if is_at l.names i then d else (if is_at l.rest i then t else f i)) (with_made l t d f) n (λ i. by l.names i refl)
+  where
+    two : (b c : Bool) (t d x : Option Value) → (b ≡ true → c ≡ false) → (if b then d else (if c then t else x)) ≡ (if c then t else (if b then d else x))
+    two true true t d x h = let q = h refl in absurd cc
+    two true false t d x h = refl
+    two false c t d x h = refl
+
+    by : (o : Option ℕ) (i : ℕ) → l.names ≡ o → (if is_at l.names i then d else (if is_at l.rest i then t else f i)) ≡ with_made l t d f i
+    by None i e = two (is_at l.names i) (is_at l.rest i) t d (f i) (λ q. let z : is_at l.names i ≡ false = ap (λ o. is_at o i) e in absurd cc)
+    by (Some j) i e =
+        two (is_at l.names i) (is_at l.rest i) t d (f i) (λ q. let same : j ≡ i = eqb-true j i (sym (ap (λ o. is_at o i) e) ∙ q) in h i (e ∙ ap Some same))
+
+set_in : (f : ℕ → Option Value) (n i : ℕ) → is_set (row f n) i ≡ true → is_some (f i) ≡ true
 set_in f n i h = by (side i n)
   where
     by : (i < n) ⊎ (n ≤ i) → is_some (f i) ≡ true
     by (inl e) = ap (λ o. is_some (joined o)) (sym (row_at f n i e)) ∙ h
-    by (inr e) = let q : is_some (joined (slice_get (row f n) i)) ≡ false = ap (λ o. is_some (joined o)) (row_past f n i e) in absurd cc
+    by (inr e) = let q : is_set (row f n) i ≡ false = ap (λ o. is_some (joined o)) (row_past f n i e) in absurd cc
 
-pub fits : (names : Names) (plain : ℕ) (ps : List Parameter) (ds : List Value) (g : Given) → length g.plain ≤ length ps → AreBetween names (length g.plain) (length ps) g.named → plain + length ds ≡ length ps
-    → AreSet plain (bound_row names plain ds g) → FitsInOrder names plain ps ds g
-fits names plain ps ds g h k d s = record { placed = h; known = k; defaults = d; needed = λ i l. set_in (bound_at names plain ds g) (length names) i (s i l) }
+first_set : (a b : Bool) → (a && b) ≡ true → (a ≡ true) × (b ≡ true)
+first_set true b h = (refl, h)
+first_set false b h = absurd cc
 
--- the last of the values by name is given its slot first
-pub named_end : (names : Names) (before : List NamedValue) (m : NamedValue) (i : ℕ) (xs : List (Option Value)) → slot_of m.name names ≡ Some i
-    → with_named names (before ++ m ∷ []) xs ≡ with_named names before (slice_set xs i (Some m.value))
-named_end names [] m i xs h = ap (λ o. with_slot o m.value xs) h
-named_end names (n ∷ ns) m i xs h = ap (with_slot (slot_of n.name names) n.value) (named_end names ns m i xs h)
+all_set : (test : ℕ → Bool) (is : List ℕ) → list_all test is ≡ true → (k i : ℕ) → slice_get is k ≡ Some i → test i ≡ true
+all_set test [] h k i e = absurd cc
+all_set test (j ∷ js) h zero i e = let same : j ≡ i = cc in ap test (sym same) ∙ (first_set (test j) (list_all test js) h).0
+all_set test (j ∷ js) h (suc k) i e = all_set test js (first_set (test j) (list_all test js) h).1 k i e
 
-pub between_end : (names : Names) (from to : ℕ) (before : List NamedValue) (m : NamedValue) (i : ℕ) → slot_of m.name names ≡ Some i → from ≤ i → i < to
-    → AreBetween names from to before → AreBetween names from to (before ++ m ∷ [])
-between_end names from to [] m i h l k b = (subst (λ o. IsBetween from to o) (sym h) (l, k), tt)
-between_end names from to (n ∷ ns) m i h l k b = (b.0, between_end names from to ns m i h l k b.1)
+pub fits : (l : Layout) (names : Names) (ds : List Value) (g : Given) → (l.rest ≡ None → unplaced l g ≡ []) → AreTaken l names (length (placed l g)) g.named → l.defaults ≤ length ds
+    → list_all (is_set (bound_row l names ds g)) l.needed ≡ true → FitsLayout l names ds g
+fits l names ds g h k d s =
+    record { places = h; taken = k; defaults = d; needed = λ k i e. set_in (bound_at l names ds g) (length names) i (all_set (is_set (bound_row l names ds g)) l.needed s k i e) }
+
+-- the last of the values by name is given its slot first, where it has one
+pub named_end : (l : Layout) (names : Names) (before : List NamedValue) (m : NamedValue) (i : ℕ) (xs : List (Option Value)) → own_slot l names m ≡ Some i
+    → with_named l names (before ++ m ∷ []) xs ≡ with_named l names before (slice_set xs i (Some m.value))
+named_end l names [] m i xs h = ap (λ o. with_slot o m.value xs) h
+named_end l names (n ∷ ns) m i xs h = ap (with_slot (own_slot l names n) n.value) (named_end l names ns m i xs h)
+
+pub unnamed_end : (l : Layout) (names : Names) (before : List NamedValue) (m : NamedValue) (xs : List (Option Value)) → own_slot l names m ≡ None
+    → with_named l names (before ++ m ∷ []) xs ≡ with_named l names before xs
+unnamed_end l names [] m xs h = ap (λ o. with_slot o m.value xs) h
+unnamed_end l names (n ∷ ns) m xs h = ap (with_slot (own_slot l names n) n.value) (unnamed_end l names ns m xs h)
+
+taken_last : (l : Layout) (names : Names) (from : ℕ) (before : List NamedValue) (m : NamedValue) → IsTaken l from (own_slot l names m) → AreTaken l names from before → AreTaken l names from (before ++ m ∷ [])
+taken_last l names from [] m h b = (h, tt)
+taken_last l names from (n ∷ ns) m h b = (b.0, taken_last l names from ns m h b.1)
+
+pub taken_end : (l : Layout) (names : Names) (from : ℕ) (before : List NamedValue) (m : NamedValue) (i : ℕ) → own_slot l names m ≡ Some i → from ≤ i
+    → AreTaken l names from before → AreTaken l names from (before ++ m ∷ [])
+taken_end l names from before m i h k b = taken_last l names from before m (subst (IsTaken l from) (sym h) k) b
+
+pub untaken_end : (l : Layout) (names : Names) (from : ℕ) (before : List NamedValue) (m : NamedValue) → own_slot l names m ≡ None → is_some l.names ≡ true
+    → AreTaken l names from before → AreTaken l names from (before ++ m ∷ [])
+untaken_end l names from before m h k b = taken_last l names from before m (subst (IsTaken l from) (sym h) k) b
+
+-- where there are fewer values by place than parameters that take them
+pub all_placed : (vs : List Value) (n : ℕ) → length vs < n → (vs ≡ take n vs) × ([] ≡ drop n vs)
+all_placed [] zero h = (refl, refl)
+all_placed [] (suc n) h = (refl, refl)
+all_placed (v ∷ vs) zero h = absurd (omega arith)
+all_placed (v ∷ vs) (suc n) h = let q = all_placed vs n (omega arith) in (ap (λ xs. v ∷ xs) q.0, q.1)

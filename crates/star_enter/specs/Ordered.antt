@@ -1,5 +1,5 @@
--- Calls of functions whose parameters stand in the first slots, in order: what the slots of a frame have once the parameters are bound.
-use Rattle.std.specs.Prelude.{◌≡◌, ◌<◌, ◌≤◌, ◌+◌, ◌-◌, ℕ, suc, nat_eq, nat_lt, Bool, true, false, List, [], ◌∷◌, length, map, Option, Some, None, is_some, slice_get, slice_set, if◌then◌else◌}
+-- Calls of functions whose parameters have a layout: what the slots of a frame have once the parameters are bound.
+use Rattle.std.specs.Prelude.{◌≡◌, ◌≤◌, ◌+◌, ℕ, suc, Bool, true, not, List, [], ◌∷◌, drop, filter, length, take, Option, Some, None, is_some, slice_get, slice_set, if◌then◌else◌}
 use Rattle.std.specs.List.{find}
 use Rattle.std.specs.Option.{option_map, option_or}
 use Rattle.star_store.specs.declared.values.Value.{Value}
@@ -7,64 +7,80 @@ use Rattle.star_store.specs.declared.values.Cell.TheVariants as cell
 use Rattle.star_store.specs.Slots.{default_at, row}
 use Rattle.star_tree.specs.declared.tree.Name.{Name}
 use Rattle.star_tree.specs.declared.tree.Parameter.{Parameter}
-use Rattle.star_tree.specs.declared.tree.Argument.TheOpen as tree
 use Rattle.star_scope.specs.Names.{Names, slot_of}
-use Rattle.star_scope.specs.Syntax.{ParameterForm, parameter}
 use Rattle.star_meaning.specs.declared.given.Given.{Given}
 use Rattle.star_meaning.specs.declared.given.NamedValue.{NamedValue}
 use Rattle.star_meaning.specs.declared.place.Place.{Place}
-use Rattle.star_meaning.specs.Binding.{Share, One, bound_to}
+use Rattle.star_meaning.specs.Binding.{Share, bound_to, made_of}
+use Rattle.star_meaning.specs.Binding as share
 use Rattle.star_meaning.specs.Places.{joined}
 use Rattle.star_meaning.specs.Run.{Action, State, ◌>>=◌, build, give}
-use Rattle.star_enter.specs.Entering.{begin, framed}
+use Rattle.star_call.specs.Shares.{all_named}
+use Rattle.star_world.specs.Orders.{Layout, is_at, is_own}
 use Rattle.star_world.specs.World.{World}
+use Rattle.star_enter.specs.declared.ordered.Bound.{Bound}
+use Rattle.star_enter.specs.Entering.{begin, entering}
 
--- whether a name with this slot has that one
-abbrev pub is_at : Option ℕ → ℕ → Bool
-is_at None i = false
-is_at (Some j) i = nat_eq j i
+-- the slot of a value that is given by name: none where no parameter can be given by that name
+abbrev pub own_in : Layout → Option ℕ → Option ℕ
+own_in l None = None
+own_in l (Some i) = if is_own l i then Some i else None
+
+abbrev pub own_slot : Layout → Names → NamedValue → Option ℕ
+own_slot l names n = own_in l (slot_of n.name names)
 
 -- the value by name that a slot gets
-abbrev pub named_at : Names → List NamedValue → ℕ → Option Value
-named_at names ns i = option_map (λ n. n.value) (find (λ n. is_at (slot_of n.name names) i) ns)
+abbrev pub named_at : Layout → Names → List NamedValue → ℕ → Option Value
+named_at l names ns i = option_map (λ n. n.value) (find (λ n. is_at (own_slot l names n) i) ns)
 
--- what a slot gets: the value at its place, else the one by name, else its default
-abbrev pub bound_at : Names → ℕ → List Value → Given → ℕ → Option Value
-bound_at names plain ds g i = option_or (slice_get g.plain i) (option_or (named_at names g.named i) (default_at plain ds i))
+-- the values by name that are no parameter's
+abbrev pub unowned : Layout → Names → List NamedValue → List NamedValue
+unowned l names ns = filter (λ n. not (is_some (own_slot l names n))) ns
 
--- all slots of a frame
-abbrev pub bound_row : Names → ℕ → List Value → Given → List (Option Value)
-bound_row names plain ds g = row (bound_at names plain ds g) (length names)
+-- the values by place that parameters get, each its own; and those that are left
+abbrev pub placed : Layout → Given → List Value
+placed l g = take l.by_place g.plain
 
--- the names of parameters, each with what its slot gets
-abbrev pub bound_name : ParameterForm → Option Value → List (Name × Value) → List (Name × Value)
-bound_name (tree.Plain n) (Some v) more = (n, v) ∷ more
-bound_name (tree.Default n e) (Some v) more = (n, v) ∷ more
-bound_name _ _ more = more
+abbrev pub unplaced : Layout → Given → List Value
+unplaced l g = drop l.by_place g.plain
 
-abbrev pub bound_names : (ℕ → Option Value) → ℕ → List Parameter → List (Name × Value)
-bound_names f i [] = []
-bound_names f i (p ∷ ps) = bound_name (parameter p) (f i) (bound_names f (suc i) ps)
+-- what the slot of a parameter gets: the value at its place, else the one by name, else its default
+abbrev pub bound_at : Layout → Names → List Value → Given → ℕ → Option Value
+bound_at l names ds g i = option_or (slice_get (placed l g) i) (option_or (named_at l names g.named i) (default_at l.ranks ds i))
 
--- values as shares
-abbrev pub as_shares : List (Name × Value) → List (Name × Share)
-as_shares xs = map (λ x. (x.0, One x.1)) xs
+-- all slots of a frame, but for those of `*name` and `**name`
+abbrev pub bound_row : Layout → Names → List Value → Given → List (Option Value)
+bound_row l names ds g = row (bound_at l names ds g) (length names)
 
--- each value by name has a slot between these
-abbrev pub IsBetween : ℕ → ℕ → Option ℕ → Type 0
-IsBetween from to None = ⊥
-IsBetween from to (Some j) = (from ≤ j) × (j < to)
+-- a value by name can be taken: by its parameter, which gets none by place, or by `**name`
+abbrev pub IsTaken : Layout → ℕ → Option ℕ → Type 0
+IsTaken l from None = is_some l.names ≡ true
+IsTaken l from (Some i) = from ≤ i
 
-abbrev pub AreBetween : Names → ℕ → ℕ → List NamedValue → Type 0
-AreBetween names from to [] = Unit {0}
-AreBetween names from to (n ∷ ns) = IsBetween from to (slot_of n.name names) × AreBetween names from to ns
+abbrev pub AreTaken : Layout → Names → ℕ → List NamedValue → Type 0
+AreTaken l names from [] = Unit {0}
+AreTaken l names from (n ∷ ns) = IsTaken l from (own_slot l names n) × AreTaken l names from ns
 
--- what a call gives fits parameters that stand in order: no value by place is left, each by name has a slot of its own, each parameter gets a value
-pub record FitsInOrder (names : Names) (plain : ℕ) (ps : List Parameter) (ds : List Value) (g : Given) : Type 0 where
-  pub placed : length g.plain ≤ length ps
-  pub known : AreBetween names (length g.plain) (length ps) g.named
-  pub defaults : plain + length ds ≡ length ps
-  pub needed : (i : ℕ) → i < plain → is_some (bound_at names plain ds g i) ≡ true
+-- what a call gives fits a layout: no value is left over, no parameter gets two, each that needs one gets it
+pub record FitsLayout (l : Layout) (names : Names) (ds : List Value) (g : Given) : Type 0 where
+  pub places : l.rest ≡ None → unplaced l g ≡ []
+  pub taken : AreTaken l names (length (placed l g)) g.named
+  pub defaults : l.defaults ≤ length ds
+  pub needed : (k i : ℕ) → slice_get l.needed k ≡ Some i → is_some (bound_at l names ds g i) ≡ true
+
+-- what is bound so: the slots, and what is left for `*name` and `**name`, where there are such parameters
+pub record IsBoundBy (l : Layout) (names : Names) (ds : List Value) (g : Given) (b : Bound) : Type 0 where
+  pub fits : FitsLayout l names ds g
+  pub slots : b.slots ≡ bound_row l names ds g
+  pub rest : b.rest ≡ l.rest
+  pub more : b.more.now ≡ unplaced l g
+  pub others : b.names ≡ l.names
+  pub left : all_named b.left.items ≡ unowned l names g.named
+
+-- slots in which one has a share, if there is such a slot: the share is made first
+abbrev pub with_share : ℕ → Option ℕ → Share → List (Option Value) → Action (List (Option Value))
+with_share line None x slots = give slots
+with_share line (Some i) x slots = made_of line x >>= λ v. give (slice_set slots i (Some v))
 
 -- a call whose frame is made with these slots: it is paid for, then the definition is active
 abbrev pub entering_with : {A : Type 0} → ℕ → ℕ → ℕ → Value → List (Option Value) → (Place → Action A) → Action A
@@ -73,28 +89,35 @@ entering_with line file number parent slots k = do
   _ ← begin file number
   k (record { file = file; frame = frame; line = line })
 
--- slots that a frame has after these values were bound in it, one after another
-abbrev pub HasBound : World → ℕ → ℕ → Value → List (Name × Value) → List (Option Value) → Type 0
-HasBound w file number parent values slots = (line : ℕ) (s : State) → framed w line file number parent values give s ≡ entering_with line file number parent slots give s
+-- the same of what is bound, after the tuple of `*name` and the dictionary of `**name` are made
+abbrev pub entering_bound : {A : Type 0} → ℕ → ℕ → ℕ → Value → Bound → (Place → Action A) → Action A
+entering_bound line file number parent b k = do
+  slots ← with_share line b.rest (share.Rest b.more.now) b.slots
+  all ← with_share line b.names (share.Names (all_named b.left.items)) slots
+  entering_with line file number parent all k
 
--- slots that a frame has after parameters were bound to what is given
-abbrev pub AreBound : World → ℕ → ℕ → Value → List Parameter → List Value → Given → List (Option Value) → Type 0
-AreBound w file number parent ps ds g slots = (values : List (Name × Value)) × (bound_to ps ds g ≡ Some (as_shares values)) × HasBound w file number parent values slots
+-- so a call is entered whose parameters get these shares
+abbrev pub HasBound : World → ℕ → ℕ → Value → List (Name × Share) → Bound → Type 0
+HasBound w file number parent shares b = (line : ℕ) (s : State) → entering w line file number parent shares give s ≡ entering_bound line file number parent b give s
+
+-- and these shares are what the parameters get
+abbrev pub AreBound : World → ℕ → ℕ → Value → List Parameter → List Value → Given → Bound → Type 0
+AreBound w file number parent ps ds g b = (shares : List (Name × Share)) × (bound_to ps ds g ≡ Some shares) × HasBound w file number parent shares b
 
 -- slots with values by name: the first of each name
 abbrev pub with_slot : Option ℕ → Value → List (Option Value) → List (Option Value)
 with_slot None v xs = xs
 with_slot (Some i) v xs = slice_set xs i (Some v)
 
-abbrev pub with_named : Names → List NamedValue → List (Option Value) → List (Option Value)
-with_named names [] xs = xs
-with_named names (n ∷ ns) xs = with_slot (slot_of n.name names) n.value (with_named names ns xs)
+abbrev pub with_named : Layout → Names → List NamedValue → List (Option Value) → List (Option Value)
+with_named l names [] xs = xs
+with_named l names (n ∷ ns) xs = with_slot (own_slot l names n) n.value (with_named l names ns xs)
 
 -- slots with values by place, from a slot on
 abbrev pub with_plain : ℕ → List Value → List (Option Value) → List (Option Value)
 with_plain i [] xs = xs
 with_plain i (v ∷ vs) xs = with_plain (suc i) vs (slice_set xs i (Some v))
 
--- each of the first so many slots is bound
-abbrev pub AreSet : ℕ → List (Option Value) → Type 0
-AreSet n xs = (i : ℕ) → i < n → is_some (joined (slice_get xs i)) ≡ true
+-- whether a slot is bound
+abbrev pub is_set : List (Option Value) → ℕ → Bool
+is_set xs i = is_some (joined (slice_get xs i))

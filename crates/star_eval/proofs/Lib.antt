@@ -2,4 +2,4 @@ pub mod Clauses
 pub mod Fresh
 pub mod Spends
 pub mod Turns
-pub mod WithSlots
+pub mod Bound

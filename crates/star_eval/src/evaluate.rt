@@ -13,9 +13,9 @@ ghost use Rattle.star_enter.specs.Entering.{left};
 ghost use Rattle.star_world.specs.World.{meant, variables};
 ghost use Rattle.star_meaning.specs.Values.{content};
 ghost use Rattle.star_call.specs.Callees.{IsDefined, IsFound, function_of, shown};
-ghost use Rattle.star_enter.specs.Ordered.{HasBound, as_shares};
+ghost use Rattle.star_enter.specs.Ordered.{HasBound};
 ghost use Rattle.star_tree.specs.declared.tree.Name.{Name};
-ghost use Rattle.star_store.specs.declared.values.Value.{Value as AnyValue};
+ghost use Rattle.star_meaning.specs.Binding.{Share as AnyShare};
 ghost use Rattle.star_call.specs.Passed as passing;
 
 use crate::comprehensions::{make_dict, make_list};
@@ -34,7 +34,7 @@ use star_call::shares::Shares;
 use star_enter::calls::{
     are_positional, callee_of, enter_by_place, enter_call, expression_of, fit_by_place,
 };
-use star_enter::ordered::{enter_with_slots, slots_of};
+use star_enter::ordered::{Bound, bound_of, enter_bound};
 use star_machine::fault::{Stop, faulted};
 use star_machine::machine::Machine;
 use star_meaning::fault::Code;
@@ -42,7 +42,6 @@ use star_meaning::given::Given;
 use star_meaning::place::Place;
 use star_scope::outline::{Body, Definition};
 use star_store::defaults::Defaults;
-use star_store::slots::Slots;
 use star_store::values::{Entries, Value, Values};
 use star_tree::tree::{Argument, Entry, Expression, Parameter};
 use star_world::parts::{answer_of, new_closure, new_string};
@@ -505,7 +504,7 @@ fn call_on(
 }
 
 /// A call of a function: its arguments are bound, or `Args`; then it runs. Where each parameter gets the value at its own place, or the
-/// parameters stand in the first slots of the frame, they are not bound one by one.
+/// parameters have a layout, they are not bound one by one.
 #[cycle(run)]
 #[tactic(auto, using(star_enter::proofs::ByPlace::bound_by_place))]
 fn call_function(
@@ -529,8 +528,8 @@ fn call_function(
             given.plain.as_slice(),
         );
     }
-    if let Some(slots) = slots_of(machine, world, &called, given)? {
-        return run_with_slots(machine, world, levels, place, called, slots);
+    if let Some(bound) = bound_of(machine, world, &called, given)? {
+        return run_bound(machine, world, levels, place, called, bound);
     }
     let shares = called.bind(machine, world.setting(), place.line, given)?;
     run_function(machine, world, levels, place, called, &shares)
@@ -556,23 +555,23 @@ fn run_by_place(
     run_left(machine, world, levels - 1, &place, called.definition)
 }
 
-/// The run of a function whose frame has these slots from the start. `Deep` where no level is left.
+/// The run of a function to whose parameters this is bound. `Deep` where no level is left.
 #[cycle(run)]
-#[tactic(auto, using(star_meaning::proofs::Levels::call_at, star_meaning::proofs::Levels::call_at_none, star_enter::proofs::OrderedFrames::run_with_is))]
-fn run_with_slots(
+#[tactic(auto, using(star_meaning::proofs::Levels::call_at, star_meaning::proofs::Levels::call_at_none, star_enter::proofs::OrderedFrames::run_bound_is))]
+fn run_bound(
     machine: &mut Machine,
     world: &World,
     levels: u32,
     place: &Place,
     called: Called<'_>,
-    slots: Slots,
+    bound: Bound<'_>,
 ) -> Result<Value, Stop>
-    ensures { (values : List (Name × AnyValue)) → HasBound world.now called.entry.file called.entry.number called.entry.frame values slots → Gives ((meant world.now levels).call place.now (function_of (content world.now.setting machine.old called.entry.value) called.entry) (definition_of called.entry.definition) (as_shares values) machine.old) result machine.new }
+    ensures { (shares : List (Name × AnyShare)) → HasBound world.now called.entry.file called.entry.number called.entry.frame shares bound.entry → Gives ((meant world.now levels).call place.now (function_of (content world.now.setting machine.old called.entry.value) called.entry) (definition_of called.entry.definition) shares machine.old) result machine.new }
 {
     if levels == 0 {
         return Err(faulted(Code::Deep, place.line));
     }
-    let place = enter_with_slots(machine, place.line, called, slots)?;
+    let place = enter_bound(machine, place.line, called, bound)?;
     run_left(machine, world, levels - 1, &place, called.definition)
 }
 

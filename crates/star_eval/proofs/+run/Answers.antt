@@ -17,7 +17,7 @@ use Rattle.star_eval.proofs.Spends.{expression_spends}
 use Rattle.star_call.specs.Callees.{function_of}
 use Rattle.star_meaning.specs.Values.{content}
 use Rattle.star_scope.specs.Definitions.{definition_of}
-use Rattle.star_eval.proofs.WithSlots.{call_goes, call_stops}
+use Rattle.star_eval.proofs.Bound.{call_goes, call_stops}
 use Rattle.star_eval.proofs.+run.Goals as goal
 
 pub evaluate::call-returns-then-are_positional : goal.evaluate::call-returns-then-are_positional
@@ -100,15 +100,15 @@ evaluate::evaluate_entries-loop-entry-preserved t c =
     let next = drop_next c.args.entries.now c.loop-entry.entry-index c.entry-item.result c.loop-entry-test.true c.entry-item.is in
     each_more (entry_of (meant c.args.world.now c.args.levels) c.args.place.now) _ _ _ _ _ _ _ _ _ next c.in_ok-key.ensures c.in_ok-push.ensures.pushed c.loop-entry.invariant
 
-pub evaluate::run_with_slots-returns-in_err-place : goal.evaluate::run_with_slots-returns-in_err-place
-evaluate::run_with_slots-returns-in_err-place t c = λ values b.
+pub evaluate::run_bound-returns-in_err-place : goal.evaluate::run_bound-returns-in_err-place
+evaluate::run_bound-returns-in_err-place t c = λ shares b.
     let q = err_from_is_err_and c.from_residual.result c.from_residual.ensures.1 in
     let f = function_of (content c.args.world.now.setting c.args.machine.now c.args.called.value) c.args.called in
-    rw (q.1, q.2) (call_stops c.args.world.now c.args.levels c.args.place.now f (definition_of c.args.called.definition) c.args.slots c.args.machine.now c.enter_with_slots.new.machine c.in_err-place.field-0.0
-    (omega (arith, c.if-levels-eq0.false)) c.in_err-place.ensures values b)
+    rw (q.1, q.2) (call_stops c.args.world.now c.args.levels c.args.place.now f (definition_of c.args.called.definition) c.args.bound c.args.machine.now c.enter_bound.new.machine c.in_err-place.field-0.0
+    (omega (arith, c.if-levels-eq0.false)) c.in_err-place.ensures shares b)
 
-pub evaluate::run_with_slots-returns : goal.evaluate::run_with_slots-returns
-evaluate::run_with_slots-returns t c = λ values b.
+pub evaluate::run_bound-returns : goal.evaluate::run_bound-returns
+evaluate::run_bound-returns t c = λ shares b.
     let f = function_of (content c.args.world.now.setting c.args.machine.now c.args.called.value) c.args.called in
-    call_goes c.args.world.now c.args.levels c.args.place.now f (definition_of c.args.called.definition) c.args.slots c.args.machine.now c.enter_with_slots.new.machine c.run_left.new.machine c.in_ok-place.place c.run_left.result
-    (omega (arith, c.if-levels-eq0.false)) c.in_ok-place.ensures c.run_left.ensures values b
+    call_goes c.args.world.now c.args.levels c.args.place.now f (definition_of c.args.called.definition) c.args.bound c.args.machine.now c.enter_bound.new.machine c.run_left.new.machine c.in_ok-place.place c.run_left.result
+    (omega (arith, c.if-levels-eq0.false)) c.in_ok-place.ensures c.run_left.ensures shares b

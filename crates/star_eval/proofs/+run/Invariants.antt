@@ -103,8 +103,8 @@ decreases-evaluate::evaluate_arguments l = 2 ^ 70 * l.levels + 1
 abbrev pub decreases-evaluate::run_by_place : goal.decreases-evaluate::run_by_place
 decreases-evaluate::run_by_place l = 2 ^ 70 * l.levels
 
-abbrev pub decreases-evaluate::run_with_slots : goal.decreases-evaluate::run_with_slots
-decreases-evaluate::run_with_slots l = 2 ^ 70 * l.levels
+abbrev pub decreases-evaluate::run_bound : goal.decreases-evaluate::run_bound
+decreases-evaluate::run_bound l = 2 ^ 70 * l.levels
 
 abbrev pub decreases-execute::execute_turns : goal.decreases-execute::execute_turns
 decreases-execute::execute_turns l = 2 ^ 70 * l.levels + 3

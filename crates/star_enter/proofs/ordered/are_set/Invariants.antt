@@ -1,8 +1,7 @@
-use Rattle.std.proofs.Common.{◌≡◌, ℕ, ◌<◌, true}
-use Rattle.std.specs.Prelude.{is_some, slice_get}
-use Rattle.star_meaning.specs.Places.{joined}
-use Rattle.star_enter.specs.Ordered.{AreSet}
+use Rattle.std.proofs.Common.{◌≡◌, drop}
+use Rattle.std.specs.List.{list_all}
+use Rattle.star_enter.specs.Ordered.{is_set}
 use Rattle.star_enter.proofs.ordered.are_set.Given as goal
 
-abbrev pub invariant-loop-i : goal.invariant-loop-i
-invariant-loop-i l = AreSet l.i l.slots
+abbrev pub invariant-loop-slot : goal.invariant-loop-slot
+invariant-loop-slot l = list_all (is_set l.slots) (drop l.slot-index l.needed) ≡ list_all (is_set l.slots) l.needed

@@ -3,11 +3,8 @@ use Rattle.star_store.specs.declared.values.Cell.TheVariants as cell
 use Rattle.star_scope.specs.Definitions.{definition_of}
 use Rattle.star_meaning.specs.Values.{Held, content}
 use Rattle.star_call.specs.Callees.{defaults_in}
-use Rattle.star_enter.proofs.OrderedFrames.{slots_bound}
-use Rattle.star_enter.proofs.ordered.slots_of.Goals as goal
-
-pub row_of-requires : goal.row_of-requires
-row_of-requires c = (c.in-Some.ensures.in_order (definition_of c.args.called.now.definition) c.requires).1
+use Rattle.star_enter.proofs.OrderedFrames.{bound_there}
+use Rattle.star_enter.proofs.ordered.bound_of.Goals as goal
 
 pub returns-in-Held-Func : goal.returns-in-Held-Func
 returns-in-Held-Func c =
@@ -16,6 +13,5 @@ returns-in-Held-Func c =
     let order = c.in-Some.order in
     let f = c.get.result.now in
     let e : content w.setting c.args.machine.now called.value ≡ Held (cell.Func f) = ap (λ u. content u c.args.machine.now called.value) (sym c.setting.ensures) ∙ sym c.in-Held-Func.ensures ∙ ap Held (c.in-Held-Func.field-0-is ∙ ap cell.Func (sym c.get.ensures)) in
-    let ordered = c.in-Some.ensures.in_order (definition_of called.definition) c.requires in
-    slots_bound w order.names.now order.plain called.file called.number called.frame called.definition.parameters.now (defaults_in (content w.setting c.args.machine.now called.value)) f.defaults c.args.given.now
-    c.row_of.result ordered.0 c.in-Some.ensures.slots (sym (ap defaults_in e)) c.row_of.ensures.row c.row_of.ensures.fits
+    bound_there w order.names.now order.layout.now called.file called.number called.frame called.definition.parameters.now (defaults_in (content w.setting c.args.machine.now called.value)) f.defaults c.args.given.now
+    c.bind_in_order.result (c.in-Some.ensures.in_order (definition_of called.definition) c.requires) c.in-Some.ensures.slots (sym (ap defaults_in e)) c.bind_in_order.ensures
