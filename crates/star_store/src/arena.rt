@@ -147,11 +147,12 @@ impl Arena {
     {
         let home = self.home;
         let at = self.cells.len() as u32;
+        let is_dict = matches!(cell, Cell::Dict(_));
         self.cells.push(Counted {
             iterations: 0,
             cell,
         })?;
-        self.add_index(at);
+        self.index_new(at, is_dict);
         Ok(Value::Ref { home, at })
     }
 

@@ -27,6 +27,7 @@ impl Arena {
     }
 
     /// The value that a dictionary has for this key: none where the value is no dictionary.
+    #[inline(always)]
     pub fn key_value(&self, homes: &Homes, dict: Value, key: Value) -> Option<Value>
         ensures { result ≡ value_of (look self.now homes.now) key (entries_of (look self.now homes.now dict)) }
     {

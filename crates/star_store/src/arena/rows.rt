@@ -45,8 +45,19 @@ impl Arena {
         }
     }
 
+    /// Makes an index of a new cell, where it is a dictionary.
+    #[inline(always)]
+    pub(crate) fn index_new(&mut self, at: u32, is_dict: bool)
+        ensures { self.new ≡ self.old }
+    {
+        if is_dict {
+            self.add_index(at);
+        }
+    }
+
     /// Makes an index of the dictionary at an address, where it has enough entries, all keys have their content in this
     /// store, and memory suffices. No value changes.
+    #[inline(never)]
     pub(crate) fn add_index(&mut self, at: u32)
         ensures { self.new ≡ self.old }
     {
