@@ -96,6 +96,7 @@ impl Machine {
     }
 
     /// What a value is, or holds.
+    #[inline(always)]
     pub fn content<'a>(&'a self, setting: &'a Setting<'a>, value: Value) -> Content<'a>
         ensures { shown result ≡ content setting.now self.now value }
     {
@@ -109,6 +110,7 @@ impl Machine {
     }
 
     /// Of which kind a value is.
+    #[inline(always)]
     pub fn kind(&self, setting: &Setting, value: Value) -> Kind
         ensures { result ≡ kind_of (content setting.now self.now value) }
     {
@@ -123,6 +125,7 @@ impl Machine {
     }
 
     /// A new cell that is paid for.
+    #[inline(always)]
     #[tactic(auto, unfolding(star_meaning::specs::Run::build, star_meaning::specs::Run::make, star_meaning::specs::Run::pay))]
     pub fn build(&mut self, line: usize, cost: u128, cell: Cell) -> Result<Value, Stop>
         requires { 0 < cost }
@@ -199,6 +202,7 @@ impl Machine {
     }
 
     /// A new string: 1 and its bytes are paid.
+    #[inline(always)]
     pub fn new_text(&mut self, line: usize, text: Text) -> Result<Value, Stop>
         ensures { Gives (new_text line text self.old) result self.new }
     {
@@ -326,6 +330,7 @@ impl Machine {
     }
 
     /// Checks that a value is a key, which pays a step for each visit. `BadType` where it is none.
+    #[inline(always)]
     #[tactic(auto, unfolding(star_meaning::specs::Values::check_key))]
     pub fn check_key(
         &mut self,
@@ -665,6 +670,7 @@ impl Machine {
     }
 
     /// The value that a dictionary has for a key.
+    #[inline(always)]
     pub fn value_in(&self, setting: &Setting, dict: Value, key: Value) -> Option<Value>
         ensures { result ≡ value_in setting.now self.now key (entries_in (content setting.now self.now dict)) }
     {
