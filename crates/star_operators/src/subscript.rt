@@ -87,7 +87,9 @@ fn byte_at(
     machine.new_text(line, text)
 }
 
-/// The value under a key. `BadType` for what is no key, `Key` where it is absent.
+/// The value under a key. `BadType` for what is no key, `Key` where it is absent. It is a call of its own, in which the checks of the key
+/// stand inline.
+#[inline(never)]
 fn entry_value(
     machine: &mut Machine,
     setting: &Setting,
@@ -99,10 +101,10 @@ fn entry_value(
     ensures { Gives (spec.entry_value setting.now levels line (spec.entries_in (content setting.now machine.old dict)) key machine.old) result machine.new }
 {
     machine.check_key(setting, levels, line, key)?;
-    match machine.value_in(setting, dict, key) {
-        Some(value) => Ok(value),
-        None => Err(faulted(Code::Key, line)),
-    }
+    let Some(value) = machine.value_in(setting, dict, key) else {
+        return Err(faulted(Code::Key, line));
+    };
+    Ok(value)
 }
 
 /// `x[i]`.
