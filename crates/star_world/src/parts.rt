@@ -61,7 +61,7 @@ pub fn new_string(machine: &mut Machine, line: usize, text: &Text) -> Result<Val
     ensures { Gives (new_text line text.now machine.old) result machine.new }
 {
     let copy = text.share()?;
-    machine.new_text(line, copy)
+    Ok(machine.new_text(line, copy)?)
 }
 
 /// A new function, which pays 1.

@@ -179,7 +179,7 @@ fn at_spot(
     match spot {
         Some(Spot::Frame { up, slot }) => {
             let frame = frame_above(machine, setting, up, place.frame);
-            value_in(machine, setting, slot, frame)
+            return value_in(machine, setting, slot, frame);
         }
         Some(Spot::Prelude) => prelude_value(setting, name),
         Some(Spot::Outermost) => outermost_value(name),
