@@ -48,7 +48,8 @@ use star_world::parts::{answer_of, new_closure, new_string};
 use star_world::variables::read;
 use star_world::world::World;
 
-/// The value of an expression. `Deep` where no level is left; a node pays 1 as it begins.
+/// The value of an expression. `Deep` where no level is left; a node pays 1 as it begins. A name is read apart from other nodes, so
+/// that its value is not copied through memory.
 #[cycle(run)]
 #[tactic(auto, using(star_meaning::proofs::Levels::expr_at, star_meaning::proofs::Levels::expr_at_none))]
 pub fn evaluate(
@@ -64,6 +65,9 @@ pub fn evaluate(
         return Err(faulted(Code::Deep, place.line));
     }
     machine.pay(place.line, 1)?;
+    if let Expression::Name(_) = expression {
+        return evaluate_node(machine, world, levels - 1, place, expression);
+    }
     evaluate_node(machine, world, levels - 1, place, expression)
 }
 
