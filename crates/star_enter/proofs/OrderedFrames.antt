@@ -1,11 +1,10 @@
 -- Calls of functions whose parameters have a layout: the frame that has the slots of its parameters from the start.
-use Rattle.std.proofs.Common.{◌≡◌, ◌≢◌, ◌<◌, ◌≤◌, ◌⊎◌, inl, inr, ℕ, zero, suc, ◌+◌, ◌-◌, nat_eq, Bool, true, false, List, [], ◌∷◌, ◌++◌, ◌&&◌, cond, length, not, replicate, slice_get, slice_set, Option, Some, None, Result, Ok, Err, if◌then◌else◌, refl, ap, sym, subst, ◌∙◌, arith, eq-eqb, le-ltb, lt-ltb, ne_eqb}
+use Rattle.std.proofs.Common.{◌≡◌, ◌≢◌, ◌<◌, ◌≤◌, ◌⊎◌, inl, inr, ℕ, suc, ◌+◌, Bool, true, false, List, [], ◌∷◌, ◌++◌, ◌&&◌, cond, length, not, replicate, slice_get, slice_set, Option, Some, None, Result, Ok, Err, if◌then◌else◌, refl, ap, sym, subst, ◌∙◌, arith, eq-eqb, le-ltb, lt-ltb, ne_eqb}
 use Rattle.std.specs.Prelude.{nat_lt, IfOk, IfSome}
 use Rattle.std.specs.List.{find}
 use Rattle.std.specs.Option.{option_and_then, option_flatten, option_map, option_or}
 use Rattle.std.proofs.lemmas.Option.{slice_get_past}
 use Rattle.star_store.specs.declared.values.Value.{Value}
-use Rattle.star_store.specs.declared.values.Value.TheVariants as value
 use Rattle.star_store.specs.declared.values.Cell.TheVariants as cell
 use Rattle.star_store.specs.declared.values.Counted.{Counted}
 use Rattle.star_store.specs.declared.values.Frame.{Frame}
@@ -19,7 +18,6 @@ use Rattle.star_tree.specs.declared.tree.Parameter.{Parameter}
 use Rattle.star_tree.specs.declared.tree.Argument.TheOpen as tree
 use Rattle.star_scope.specs.Definitions.{Definition}
 use Rattle.star_scope.specs.Names.{Names, slot_of}
-use Rattle.star_scope.specs.Places.{Spots}
 use Rattle.star_scope.specs.Syntax.{ParameterForm, parameter}
 use Rattle.star_meaning.specs.declared.given.Given.{Given}
 use Rattle.star_meaning.specs.declared.place.Place.{Place}
@@ -259,7 +257,7 @@ laid_out : (w : World) (names : Names) (l : Layout) (line file number : ℕ) (pa
     → AreLaidOut ((tables_of w.files).spots file) names l ps → length names ≡ (tables_of w.files).slots file (1 + number)
     → entering w line file number parent (share_names (bound_at l names ds g) (unplaced l g) (unowned l names g.named) start ps) give s
     ≡ and_then (with_share line l.rest (share.Rest (unplaced l g)) (bound_row l names ds g) s) (λ slots.
-      with_share line l.names (share.Names (unowned l names g.named)) slots >>= λ all. entering_with line file number parent all give)
+    with_share line l.names (share.Names (unowned l names g.named)) slots >>= λ all. entering_with line file number parent all give)
 laid_out w names l line file number parent ps ds g s h c =
     ap (λ (r : Outcome (List (Name × Value))). and_then r (λ xs. framed w line file number parent xs give))
     (shares_made ((tables_of w.files).spots file) names l line (bound_at l names ds g) (unplaced l g) (unowned l names g.named) ps s h.0)
@@ -287,14 +285,17 @@ then_names line file number parent o ns slots = with_share line o (share.Names n
 pub are_bound : (w : World) (names : Names) (l : Layout) (file number : ℕ) (parent : Value) (ps : List Parameter) (ds : List Value) (g : Given) (b : Bound)
     → AreLaidOut ((tables_of w.files).spots file) names l ps → length names ≡ (tables_of w.files).slots file (1 + number) → IsBoundBy l names ds g b
     → AreBound w file number parent ps ds g b
-are_bound w names l file number parent ps ds g b h c k =
-    (share_names (bound_at l names ds g) (unplaced l g) (unowned l names g.named) start ps, shares_bound ((tables_of w.files).spots file) names l ps ds g h.0 k.fits, λ line s.
+are_bound w names l file number parent ps ds g b h c k = (
+  share_names (bound_at l names ds g) (unplaced l g) (unowned l names g.named) start ps,
+  shares_bound ((tables_of w.files).spots file) names l ps ds g h.0 k.fits,
+  λ line s.
       laid_out w names l line file number parent ps ds g s h c
       ∙ ap (λ r. and_then (with_share line l.rest (share.Rest (unplaced l g)) r s) (then_names line file number parent l.names (unowned l names g.named))) (sym k.slots)
       ∙ ap (λ xs. and_then (with_share line l.rest (share.Rest xs) b.slots s) (then_names line file number parent l.names (unowned l names g.named))) (sym k.more)
       ∙ ap (λ o. and_then (with_share line o (share.Rest b.more.now) b.slots s) (then_names line file number parent l.names (unowned l names g.named))) (sym k.rest)
       ∙ ap (λ ns. and_then (with_share line b.rest (share.Rest b.more.now) b.slots s) (then_names line file number parent l.names ns)) (sym k.left)
-      ∙ ap (λ o. and_then (with_share line b.rest (share.Rest b.more.now) b.slots s) (then_names line file number parent o (all_named b.left.items))) (sym k.others))
+      ∙ ap (λ o. and_then (with_share line b.rest (share.Rest b.more.now) b.slots s) (then_names line file number parent o (all_named b.left.items))) (sym k.others),
+)
 
 -- a call that is entered so is the call
 pub run_bound_is : (w : World) (m : Meaning) (p : Place) (f : Function) (d : Definition) (shares : List (Name × Share)) (b : Bound) (s : State)

@@ -1,6 +1,6 @@
 -- Calls of functions whose parameters have a layout: the values of `*name` and `**name` are made, and with them the shares are values.
 use Rattle.std.proofs.Common.{◌≡◌, ℕ, Bool, true, false, not, ◌&&◌, List, [], ◌∷◌, Option, Some, None, if◌then◌else◌, refl, ap, sym, ◌∙◌, eq-eqb}
-use Rattle.std.specs.Prelude.{nat_eq, nat_lt, slice_set}
+use Rattle.std.specs.Prelude.{nat_lt, slice_set}
 use Rattle.star_store.specs.declared.values.Value.{Value}
 use Rattle.star_tree.specs.declared.tree.Expression.{Expression}
 use Rattle.star_tree.specs.declared.tree.Name.{Name}

@@ -1,7 +1,7 @@
 -- Calls of functions whose parameters have a layout: what is bound to them.
-use Rattle.std.proofs.Common.{◌≡◌, ◌<◌, ◌≤◌, ◌⊎◌, inl, inr, ℕ, zero, suc, ◌+◌, ◌-◌, min, nat_eq, Bool, true, false, ◌||◌, ◌&&◌, not, List, [], ◌∷◌, length, map, drop, take, slice_get, Option, Some, None, if◌then◌else◌, cond, refl, ap, sym, subst, ◌∙◌, arith, eq-eqb, eqb-true, le-ltb, lt-ltb, ne_eqb}
+use Rattle.std.proofs.Common.{◌≡◌, ◌<◌, ◌≤◌, ◌⊎◌, inl, inr, ℕ, zero, suc, nat_eq, Bool, true, false, ◌||◌, ◌&&◌, not, List, [], ◌∷◌, length, drop, take, slice_get, Option, Some, None, if◌then◌else◌, cond, refl, ap, sym, ◌∙◌, arith, eq-eqb, eqb-true, le-ltb, lt-ltb, ne_eqb}
 use Rattle.std.specs.Prelude.{is_some, nat_lt}
-use Rattle.std.specs.List.{filter, find, list_any}
+use Rattle.std.specs.List.{find, list_any}
 use Rattle.std.specs.Option.{option_and_then, option_flatten, option_map, option_or}
 use Rattle.std.proofs.lemmas.List.{length-take}
 use Rattle.std.proofs.lemmas.Option.{slice_get_past}
@@ -24,7 +24,7 @@ use Rattle.star_meaning.specs.Binding as share
 use Rattle.star_world.specs.declared.layouts.Cursor.{Cursor}
 use Rattle.star_world.specs.declared.layouts.Stage.{Stage}
 use Rattle.star_world.specs.declared.layouts.Stage.TheVariants as stage
-use Rattle.star_world.specs.Orders.{AreLaidOut, InOrder, IsBounded, IsSlot, Layout, MayEnd, MayStand, PlacesAreOver, PlacesEnd, StandsAt, after, is_at, is_own, start}
+use Rattle.star_world.specs.Orders.{InOrder, Layout, MayEnd, MayStand, PlacesAreOver, PlacesEnd, StandsAt, after, is_at, is_own, start}
 use Rattle.star_enter.specs.Ordered.{AreTaken, FitsLayout, IsTaken, bound_at, named_at, own_in, own_slot, placed, unowned, unplaced}
 
 -- ---- slots of names
@@ -339,7 +339,7 @@ share_at l names g i n d es [] v known s o k e b =
     let q = drop_end g.plain i e in
     let none = taken_here g.plain l.by_place i k ∙ q.0 in
     let named : else_default (value_named n.text g.named) d ≡ Some v =
-        ap (λ o. else_default o d) (value_there l names n.text i g.named s o) ∙ either (named_at l names g.named i) d ∙ ap (λ o. option_or o (option_or (named_at l names g.named i) d)) (sym none) ∙ b in
+    ap (λ o. else_default o d) (value_there l names n.text i g.named s o) ∙ either (named_at l names g.named i) d ∙ ap (λ o. option_or o (option_or (named_at l names g.named i) d)) (sym none) ∙ b in
     ap (shared n (record { by_name = false; plain = []; defaults = es })) named ∙ ap (λ xs. Some ((n, share.One v) ∷ [], record { by_name = false; plain = xs; defaults = es })) (sym q.1)
 share_at l names g i n d es (x ∷ xs) v known s o k e b =
     let q = drop_here g.plain i x xs e in
@@ -356,8 +356,8 @@ share_named : (l : Layout) (names : Names) (g : Given) (i : ℕ) (n : Name) (d :
     → share_by n g.named d (record { by_name = true; plain = []; defaults = es }) ≡ Some ((n, share.One v) ∷ [], record { by_name = true; plain = []; defaults = es })
 share_named l names g i n d es v s o k b =
     let named : else_default (value_named n.text g.named) d ≡ Some v =
-        ap (λ o. else_default o d) (value_there l names n.text i g.named s o) ∙ either (named_at l names g.named i) d
-        ∙ ap (λ o. option_or o (option_or (named_at l names g.named i) d)) (sym (taken_past g.plain l.by_place i k)) ∙ b in
+    ap (λ o. else_default o d) (value_there l names n.text i g.named s o) ∙ either (named_at l names g.named i) d
+    ∙ ap (λ o. option_or o (option_or (named_at l names g.named i) d)) (sym (taken_past g.plain l.by_place i k)) ∙ b in
     ap (shared n (record { by_name = true; plain = []; defaults = es })) named
 
 -- ---- what a parameter with a name gets

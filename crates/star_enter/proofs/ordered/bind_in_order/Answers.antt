@@ -1,7 +1,6 @@
 use Rattle.std.proofs.Common.{◌≡◌, ◌≤◌, [], None, drop, length, take, true, ap, sym, subst, ◌∙◌, arith}
 use Rattle.std.specs.List.{list_all}
 use Rattle.star_store.specs.Slots.{default_at, row}
-use Rattle.star_call.specs.Shares.{all_named}
 use Rattle.star_enter.specs.Ordered.{AreTaken, bound_row, is_set, placed, unowned, unplaced, with_named, with_plain}
 use Rattle.star_enter.proofs.OrderedRows.{bound_slots, fits}
 use Rattle.star_enter.proofs.ordered.bind_in_order.Goals as goal
@@ -38,5 +37,5 @@ returns c =
       rest = c.rest.ensures;
       more = more;
       others = c.names.ensures;
-      left = c.in_ok-left_of.ensures (length c.split_plain.result.0.now) between ∙ ap (unowned l names) given
+      left = c.in_ok-left_of.ensures (length c.split_plain.result.0.now) between ∙ ap (unowned l names) given;
     }
