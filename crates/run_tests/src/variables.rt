@@ -16,6 +16,7 @@ use star_store::values::Value;
 use star_text::Text;
 use star_tree::tree::{Name, Position, Tree};
 use star_world::files::{Files, program_of};
+use star_world::layouts::Layout;
 use star_world::programs::Programs;
 use star_world::variables::{bind, new_frame, paid_frame, read};
 use star_world::world::World;
@@ -30,7 +31,7 @@ const FILE: &str = "x = 1\ndef f(y):\n  return [x, y, z, len, k, n]\nz = 2\nload
 
 /// The definition of `f` has the number 0, and 17 parameters: 2 names alone, then names with defaults.
 const MANY: &str =
-    "def f(a, b, c=0, d=0, e=0, g=0, h=0, i=0, j=0, k=0, l=0, m=0, n=0, o=0, p=0, q=0, r=0):\n  return a\n";
+    "def f(a, b, c=0, d=0, e=0, g=0, h=0, i=0, j=0, k=0, l=0, m=0, n=0, o=0, p=0, *q, r, s=0, **t):\n  return a\n";
 
 /// The labels of `//:a.star` and of the prelude `//:p.star`.
 pub(crate) fn two(alloc: Global) -> Result<Labels, Fail> {
@@ -229,20 +230,41 @@ fn names_are_read_and_bound_by_their_places(rt: HostRuntime) -> Result<(), Fail>
     names_are_read_and_bound_by_their_places_of(&rt, alloc, &labels, &first, &tree)
 }
 
-fn many_parameters_stand_in_order_over(rt: &impl Abort, files: &Files, homes: &Homes) {
+/// Asserts that the parameters of `MANY` have their layout.
+fn are_laid_out(rt: &impl Abort, layout: &Layout) -> Result<(), Fail> {
+    assert_eq!(rt; layout.count(), 19);
+    assert_eq!(rt; layout.by_place(), 15);
+    assert_eq!(rt; layout.defaults(), 14);
+    assert_eq!(rt; layout.needed().len(), 3);
+    assert_eq!(rt; layout.needed().last().copied(), Some(16));
+    assert_eq!(rt; layout.rest(), Some(15));
+    assert_eq!(rt; layout.names(), Some(18));
+    assert!(rt; layout.is_own(17) && !layout.is_own(15));
+    assert!(rt; !layout.is_own(18) && !layout.is_own(19));
+    let ranks = layout.ranks()?;
+    assert_eq!(rt; ranks.as_slice().get(17).copied(), Some(Some(13)));
+    Ok(())
+}
+
+fn many_parameters_have_a_layout_over(
+    rt: &impl Abort,
+    files: &Files,
+    homes: &Homes,
+) -> Result<(), Fail> {
     let world = World::new(0, homes, files, &[], None);
     match world.order(0, 0) {
         Some(order) => {
-            assert_eq!(rt; order.plain, 2);
-            assert_eq!(rt; order.names.len(), 17);
+            assert_eq!(rt; order.names.len(), 19);
+            are_laid_out(rt, order.layout)?;
         }
         None => assert!(rt; false),
     }
     assert!(rt; world.order(0, 1).is_none());
     assert!(rt; world.order(1, 0).is_none());
+    Ok(())
 }
 
-fn many_parameters_stand_in_order_with(
+fn many_parameters_have_a_layout_with(
     rt: &impl Abort,
     alloc: Global,
     program: &Program,
@@ -252,11 +274,10 @@ fn many_parameters_stand_in_order_with(
     let mut files = Files::new(alloc);
     files.push(Some(program))?;
     let homes = Homes::new(alloc);
-    many_parameters_stand_in_order_over(rt, &files, &homes);
-    Ok(())
+    many_parameters_have_a_layout_over(rt, &files, &homes)
 }
 
-fn many_parameters_stand_in_order_of(
+fn many_parameters_have_a_layout_of(
     rt: &impl Abort,
     alloc: Global,
     labels: &Labels,
@@ -264,15 +285,15 @@ fn many_parameters_stand_in_order_of(
 ) -> Result<(), Fail> {
     assert!(rt; 0 < labels.len());
     let program = program_of(alloc, labels, 0, tree, None)?;
-    many_parameters_stand_in_order_with(rt, alloc, &program)
+    many_parameters_have_a_layout_with(rt, alloc, &program)
 }
 
 #[test]
-fn many_parameters_stand_in_order(rt: HostRuntime) -> Result<(), Fail> {
+fn many_parameters_have_a_layout(rt: HostRuntime) -> Result<(), Fail> {
     let alloc = rt.alloc();
     let labels = two(alloc)?;
     let tree = parse(alloc, MANY)?;
-    many_parameters_stand_in_order_of(&rt, alloc, &labels, &tree)
+    many_parameters_have_a_layout_of(&rt, alloc, &labels, &tree)
 }
 
 #[test]
