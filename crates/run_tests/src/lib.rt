@@ -7,6 +7,8 @@ mod clauses;
 #[cfg(test)]
 mod modules;
 #[cfg(test)]
+mod parameters;
+#[cfg(test)]
 mod programs;
 #[cfg(test)]
 mod samples;

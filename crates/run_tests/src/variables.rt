@@ -16,7 +16,6 @@ use star_store::values::Value;
 use star_text::Text;
 use star_tree::tree::{Name, Position, Tree};
 use star_world::files::{Files, program_of};
-use star_world::layouts::Layout;
 use star_world::programs::Programs;
 use star_world::variables::{bind, new_frame, paid_frame, read};
 use star_world::world::World;
@@ -28,10 +27,6 @@ use std::test::Fail;
 /// The names that stand in it: `x` at the tokens 0 and 14, `y` at 7 and 16, `z` at 18 and 26, `len` at 20, `k` at 22, and `n`
 /// at 24. The definition of `f` has the number 4.
 const FILE: &str = "x = 1\ndef f(y):\n  return [x, y, z, len, k, n]\nz = 2\nload(':p.star', 'n')\n";
-
-/// The definition of `f` has the number 0, and 17 parameters: 2 names alone, then names with defaults.
-const MANY: &str =
-    "def f(a, b, c=0, d=0, e=0, g=0, h=0, i=0, j=0, k=0, l=0, m=0, n=0, o=0, p=0, *q, r, s=0, **t):\n  return a\n";
 
 /// The labels of `//:a.star` and of the prelude `//:p.star`.
 pub(crate) fn two(alloc: Global) -> Result<Labels, Fail> {
@@ -228,72 +223,6 @@ fn names_are_read_and_bound_by_their_places(rt: HostRuntime) -> Result<(), Fail>
     let first = parse(alloc, "k = 5\nn = 6\n")?;
     let tree = parse(alloc, FILE)?;
     names_are_read_and_bound_by_their_places_of(&rt, alloc, &labels, &first, &tree)
-}
-
-/// Asserts that the parameters of `MANY` have their layout.
-fn are_laid_out(rt: &impl Abort, layout: &Layout) -> Result<(), Fail> {
-    assert_eq!(rt; layout.count(), 19);
-    assert_eq!(rt; layout.by_place(), 15);
-    assert_eq!(rt; layout.defaults(), 14);
-    assert_eq!(rt; layout.needed().len(), 3);
-    assert_eq!(rt; layout.needed().last().copied(), Some(16));
-    assert_eq!(rt; layout.rest(), Some(15));
-    assert_eq!(rt; layout.names(), Some(18));
-    assert!(rt; layout.is_own(17) && !layout.is_own(15));
-    assert!(rt; !layout.is_own(18) && !layout.is_own(19));
-    let ranks = layout.ranks()?;
-    assert_eq!(rt; ranks.as_slice().get(17).copied(), Some(Some(13)));
-    Ok(())
-}
-
-fn many_parameters_have_a_layout_over(
-    rt: &impl Abort,
-    files: &Files,
-    homes: &Homes,
-) -> Result<(), Fail> {
-    let world = World::new(0, homes, files, &[], None);
-    match world.order(0, 0) {
-        Some(order) => {
-            assert_eq!(rt; order.names.len(), 19);
-            are_laid_out(rt, order.layout)?;
-        }
-        None => assert!(rt; false),
-    }
-    assert!(rt; world.order(0, 1).is_none());
-    assert!(rt; world.order(1, 0).is_none());
-    Ok(())
-}
-
-fn many_parameters_have_a_layout_with(
-    rt: &impl Abort,
-    alloc: Global,
-    program: &Program,
-) -> Result<(), Fail>
-    requires { IsOfFile program.now }
-{
-    let mut files = Files::new(alloc);
-    files.push(Some(program))?;
-    let homes = Homes::new(alloc);
-    many_parameters_have_a_layout_over(rt, &files, &homes)
-}
-
-fn many_parameters_have_a_layout_of(
-    rt: &impl Abort,
-    alloc: Global,
-    labels: &Labels,
-    tree: &Tree,
-) -> Result<(), Fail> {
-    assert!(rt; 0 < labels.len());
-    let program = program_of(alloc, labels, 0, tree, None)?;
-    many_parameters_have_a_layout_with(rt, alloc, &program)
-}
-
-#[test]
-fn many_parameters_have_a_layout(rt: HostRuntime) -> Result<(), Fail> {
-    let alloc = rt.alloc();
-    let labels = two(alloc)?;
-    let tree = parse(alloc, MANY)?;
-    many_parameters_have_a_layout_of(&rt, alloc, &labels, &tree)
 }
 
 #[test]

@@ -1,0 +1,188 @@
+// A call of a function with many parameters: how they take the slots of its frame, and what the slots have.
+
+ghost use Rattle.star_call.specs.Callees.{IsDefined, IsFound};
+ghost use Rattle.star_meaning.specs.Programs.{IsOfFile};
+
+use crate::variables::two;
+use star_call::callee::{Called, Callee};
+use star_call::passed::{Passed, given};
+use star_enter::calls::callee_of;
+use star_enter::ordered::{bound_of, enter_bound};
+use star_label::files::Files as Labels;
+use star_machine::content::Content;
+use star_machine::fault::Stop;
+use star_machine::machine::Machine;
+use star_meaning::given::Given;
+use star_meaning::place::Place;
+use star_parser::parse;
+use star_scope::program::Program;
+use star_store::arena::Homes;
+use star_store::defaults::Defaults;
+use star_store::values::{Cell, Value};
+use star_tree::tree::Tree;
+use star_world::files::{Files, program_of};
+use star_world::layouts::Layout;
+use star_world::parts::new_closure;
+use star_world::variables::paid_frame;
+use star_world::world::World;
+use std::alloc::{AllocError, Global};
+use std::process::Abort;
+use std::test::Fail;
+
+/// The definition of `f` has the number 0, and 19 parameters: 2 names alone, 13 with defaults, `*q`, a name alone, one with a
+/// default, and `**t`.
+const MANY: &str =
+    "def f(a, b, c=0, d=0, e=0, g=0, h=0, i=0, j=0, k=0, l=0, m=0, n=0, o=0, p=0, *q, r, s=0, **t):\n  return a\n";
+
+/// The values of its 14 defaults: 70 and the ints after it.
+fn defaults(alloc: Global) -> Result<Defaults, AllocError> {
+    let mut values = Vec::new(alloc);
+    for value in 70..84 {
+        values.push(Value::Int(value))?;
+    }
+    Defaults::new(values)
+}
+
+/// Asserts that its parameters have their layout.
+fn are_laid_out(rt: &impl Abort, layout: &Layout) -> Result<(), Fail> {
+    assert_eq!(rt; layout.count(), 19);
+    assert_eq!(rt; layout.by_place(), 15);
+    assert_eq!(rt; layout.defaults(), 14);
+    assert_eq!(rt; layout.needed().len(), 3);
+    assert_eq!(rt; layout.needed().last().copied(), Some(16));
+    assert_eq!(rt; layout.rest(), Some(15));
+    assert_eq!(rt; layout.names(), Some(18));
+    assert!(rt; layout.is_own(17) && !layout.is_own(15));
+    assert!(rt; !layout.is_own(18) && !layout.is_own(19));
+    let ranks = layout.ranks()?;
+    assert_eq!(rt; ranks.as_slice().get(17).copied(), Some(Some(13)));
+    Ok(())
+}
+
+/// Asserts what slots of its frame have: values by place and by name, defaults, and what is made of the values that are left.
+fn are_bound(rt: &impl Abort, machine: &Machine, world: &World, frame: Value) {
+    match machine.content(world.setting(), frame) {
+        Content::Held(Cell::Frame(frame)) => {
+            let slots = &frame.get().slots;
+            assert_eq!(rt; slots.get(1), Some(Some(Value::Int(2))));
+            assert_eq!(rt; slots.get(2), Some(Some(Value::Int(70))));
+            assert_eq!(rt; slots.get(16), Some(Some(Value::Int(3))));
+            assert_eq!(rt; slots.get(17), Some(Some(Value::Int(83))));
+            assert!(rt; slots.get(15) != Some(None) && slots.get(18) != Some(None));
+            assert!(rt; slots.get(19).is_none());
+        }
+        _ => assert!(rt; false),
+    }
+}
+
+fn a_call_is_bound_by_its_layout(
+    rt: &impl Abort,
+    machine: &mut Machine,
+    world: &World,
+    called: Called<'_>,
+    given: &Given,
+) -> Result<(), Fail>
+    requires { IsDefined world.now.setting called }
+{
+    match bound_of(machine, world, &called, given)? {
+        Some(bound) => {
+            let place = enter_bound(machine, 1, called, bound)?;
+            are_bound(rt, machine, world, place.frame);
+        }
+        None => assert!(rt; false),
+    }
+    Ok(())
+}
+
+fn a_callee_is_bound_by_its_layout(
+    rt: &impl Abort,
+    machine: &mut Machine,
+    world: &World,
+    callee: Callee<'_>,
+    given: &Given,
+) -> Result<(), Fail>
+    requires { IsFound world.now.setting callee }
+{
+    match callee {
+        Callee::AFunction(called) => {
+            a_call_is_bound_by_its_layout(rt, machine, world, called, given)
+        }
+        _ => {
+            assert!(rt; false);
+            Ok(())
+        }
+    }
+}
+
+/// The function, with its defaults.
+fn function(alloc: Global, machine: &mut Machine, world: &World) -> Result<Value, Stop> {
+    let frame = paid_frame(machine, world, 1, 0, 0, None)?;
+    let place = Place {
+        file: 0,
+        frame,
+        line: 1,
+    };
+    let defaults = defaults(alloc)?;
+    new_closure(machine, &place, 0, "f", defaults)
+}
+
+fn many_parameters_have_a_layout_over(
+    rt: &impl Abort,
+    alloc: Global,
+    files: &Files,
+    homes: &Homes,
+) -> Result<(), Fail> {
+    let world = World::new(0, homes, files, &[], None);
+    match world.order(0, 0) {
+        Some(order) => {
+            assert_eq!(rt; order.names.len(), 19);
+            are_laid_out(rt, order.layout)?;
+        }
+        None => assert!(rt; false),
+    }
+    assert!(rt; world.order(0, 1).is_none());
+    assert!(rt; world.order(1, 0).is_none());
+    let mut machine = Machine::new(alloc, 0, 1_000);
+    let passed = [
+        Passed::Plain(Value::Int(1)),
+        Passed::Plain(Value::Int(2)),
+        Passed::Named("r", Value::Int(3)),
+        Passed::Named("x", Value::Int(4)),
+    ];
+    let given = given(&mut machine, world.setting(), 1, &passed)?;
+    let function = function(alloc, &mut machine, &world)?;
+    let callee = callee_of(&machine, &world, 1, function)?;
+    a_callee_is_bound_by_its_layout(rt, &mut machine, &world, callee, &given)
+}
+
+fn many_parameters_have_a_layout_with(
+    rt: &impl Abort,
+    alloc: Global,
+    program: &Program,
+) -> Result<(), Fail>
+    requires { IsOfFile program.now }
+{
+    let mut files = Files::new(alloc);
+    files.push(Some(program))?;
+    let homes = Homes::new(alloc);
+    many_parameters_have_a_layout_over(rt, alloc, &files, &homes)
+}
+
+fn many_parameters_have_a_layout_of(
+    rt: &impl Abort,
+    alloc: Global,
+    labels: &Labels,
+    tree: &Tree,
+) -> Result<(), Fail> {
+    assert!(rt; 0 < labels.len());
+    let program = program_of(alloc, labels, 0, tree, None)?;
+    many_parameters_have_a_layout_with(rt, alloc, &program)
+}
+
+#[test]
+fn many_parameters_have_a_layout(rt: HostRuntime) -> Result<(), Fail> {
+    let alloc = rt.alloc();
+    let labels = two(alloc)?;
+    let tree = parse(alloc, MANY)?;
+    many_parameters_have_a_layout_of(&rt, alloc, &labels, &tree)
+}
