@@ -12,8 +12,8 @@ use std::collections::BTreeMap;
 use std::process::Abort;
 use std::test::Fail;
 
-/// Each row is a text, the text of the prelude (none where it is empty), and the spots of its names by their tokens (how many
-/// frames up and which slot, or `prelude`, or `outermost`), or the line of the first undefined name.
+/// Each row is a text, the text of the prelude (none where it is empty), and the spots of its names by their tokens
+/// (how many frames up and which slot, or `prelude`, or `outermost`), or the line of the first undefined name.
 const ROWS: &str = "\
     \x1ex = 1\ny = x\n\x1f\x1f0=0.0 4=0.1 6=0.0 \
     \x1edef f(a):\n  def g(b):\n    def h(c): return a + b + c + f\n\x1f\x1f\

@@ -1,6 +1,6 @@
 //! Worked texts and their tokens.
 
-/// Rows, each behind a byte 30: a text, a byte 31, and its fault or its tokens. A token is a letter for its kind, its
+/// Rows, each after a byte 30: a text, a byte 31, and its fault or its tokens. A token is a letter for its kind, its
 /// line, and the bytes at which it starts and ends.
 pub const ROWS: &str = "\
 \x1ex\x1fn1:0-1 N1:1-1 E1:1-1\

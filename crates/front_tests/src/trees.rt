@@ -9,7 +9,8 @@ use star_syntax::name::is_name;
 use star_tree::tree::{BinaryOperator, Expression, Form, Position, Target, Tree};
 use std::alloc::{AllocError, Global};
 
-/// A letter for the answer, and the line of a fault that has one: a tree, or a bad token, indentation, nesting or syntax.
+/// A letter for the answer, and the line of a fault that has one: a tree, or a bad token, indentation, nesting or
+/// syntax.
 fn shown(alloc: Global, answer: Result<Tree, SyntaxFault>) -> Result<String, AllocError> {
     match answer {
         Ok(_) => format!(in alloc; "t"),

@@ -44,8 +44,8 @@ pub fn sums(alloc: Global, count: u32) -> Result<Files, Fail>
     Ok(Files::new(alloc, files)?)
 }
 
-/// The text of one of three hundred files: the first thirty lie on rings of three; of the others each tenth loads one of
-/// these, and the nine after it are a chain.
+/// The text of one of three hundred files: the first thirty lie on rings of three; of the others each tenth loads one
+/// of these, and the nine after it are a chain.
 fn text_of(alloc: Global, n: u32) -> Result<String, Fail>
     requires { n < 300 }
 {

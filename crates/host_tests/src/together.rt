@@ -44,8 +44,8 @@ fn four_bodies_are_in_flight_at_once(rt: HostRuntime) -> Result<(), Fail> {
     Ok(())
 }
 
-// The body of a waits for that of d, before which the other loader reads the modules of b and c. That loader begins with c, whose body
-// waits for that of a.
+// The body of a waits for that of d, before which the other loader reads the modules of b and c. That loader begins
+// with c, whose body waits for that of a.
 #[test]
 fn modules_are_read_while_a_body_is_held(rt: HostRuntime) -> Result<(), Fail> {
     let alloc = rt.alloc();

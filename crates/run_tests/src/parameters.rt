@@ -29,8 +29,8 @@ use std::alloc::{AllocError, Global};
 use std::process::Abort;
 use std::test::Fail;
 
-/// The definition of `f` has the number 0, and 19 parameters: 2 names alone, 13 with defaults, `*q`, a name alone, one with a
-/// default, and `**t`.
+/// The definition of `f` has the number 0, and 19 parameters: 2 names alone, 13 with defaults, `*q`, a name alone, one
+/// with a default, and `**t`.
 const MANY: &str =
     "def f(a, b, c=0, d=0, e=0, g=0, h=0, i=0, j=0, k=0, l=0, m=0, n=0, o=0, p=0, *q, r, s=0, **t):\n  return a\n";
 
@@ -59,7 +59,8 @@ fn are_laid_out(rt: &impl Abort, layout: &Layout) -> Result<(), Fail> {
     Ok(())
 }
 
-/// Asserts what slots of its frame have: values by place and by name, defaults, and what is made of the values that are left.
+/// Asserts what slots of its frame have: values by place and by name, defaults, and what is made of the values that are
+/// left.
 fn are_bound(rt: &impl Abort, machine: &Machine, world: &World, frame: Value) {
     match machine.content(world.setting(), frame) {
         Content::Held(Cell::Frame(frame)) => {

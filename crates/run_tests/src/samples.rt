@@ -23,8 +23,8 @@ use std::alloc::Global;
 use std::process::Abort;
 use std::test::Fail;
 
-/// A program of `//:a.star`, the steps and levels that it has, and what is wanted of it: the text of its last value, which is
-/// empty where its last statement is no expression, or why it stops.
+/// A program of `//:a.star`, the steps and levels that it has, and what is wanted of it: the text of its last value,
+/// which is empty where its last statement is no expression, or why it stops.
 #[derive(Clone, Copy)]
 struct Sample<'s> {
     source: &'s str,
@@ -59,7 +59,7 @@ fn text_of_last(
     }
 }
 
-/// The text of the value of a program's last statement, behind those before it.
+/// The text of the value of a program's last statement, after those before it.
 fn text_of(
     machine: &mut Machine,
     world: &World,
@@ -197,8 +197,8 @@ fn needs(
     sample_is_as_wanted(rt, alloc, labels, short)
 }
 
-/// Asserts the least number of steps with which each program, whose last statement is no expression, ends well. With one less it
-/// ends in a line.
+/// Asserts the least number of steps with which each program, whose last statement is no expression, ends well. With
+/// one less it ends in a line.
 pub(crate) fn cost(
     rt: &impl Abort,
     alloc: Global,
@@ -223,8 +223,8 @@ pub(crate) fn cost(
     Ok(())
 }
 
-/// Asserts the least number of levels with which each program, whose last statement is no expression, ends well. With one less it
-/// ends in a line.
+/// Asserts the least number of levels with which each program, whose last statement is no expression, ends well. With
+/// one less it ends in a line.
 pub(crate) fn open(
     rt: &impl Abort,
     alloc: Global,

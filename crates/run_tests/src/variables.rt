@@ -24,8 +24,8 @@ use std::collections::BTreeMap;
 use std::process::Abort;
 use std::test::Fail;
 
-/// The names that stand in it: `x` at the tokens 0 and 14, `y` at 7 and 16, `z` at 18 and 26, `len` at 20, `k` at 22, and `n`
-/// at 24. The definition of `f` has the number 4.
+/// The names that stand in it: `x` at the tokens 0 and 14, `y` at 7 and 16, `z` at 18 and 26, `len` at 20, `k` at 22,
+/// and `n` at 24. The definition of `f` has the number 4.
 const FILE: &str = "x = 1\ndef f(y):\n  return [x, y, z, len, k, n]\nz = 2\nload(':p.star', 'n')\n";
 
 /// The labels of `//:a.star` and of the prelude `//:p.star`.

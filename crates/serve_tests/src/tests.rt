@@ -1,4 +1,5 @@
-//! Bundles and folders from bytes to bytes, over scripted streams that say their bytes and folders that say what they hold.
+//! Bundles and folders from bytes to bytes, over scripted streams that say their bytes and folders that say what they
+//! hold.
 
 ghost use Rattle.std.specs.Prelude.{◌≤◌, IfOk, None, Some, false, ◌==◌, if◌then◌else◌};
 ghost use Rattle.star_folder.specs.Memory.{contents_of, rows_of};
@@ -154,7 +155,8 @@ fn options_of(alloc: Global, loaders: usize) -> Result<Options, AllocError>
     })
 }
 
-/// What `serve` answers for the root `//:a.star`, and what it wrote. The write of the report fails where that is wanted.
+/// What `serve` answers for the root `//:a.star`, and what it wrote. The write of the report fails where that is
+/// wanted.
 fn served<H: Threads + Wait + Sync, R: Source>(
     rt: &H,
     alloc: Global,

@@ -98,11 +98,11 @@ closing b h k =
     let e : nat_eq b 125 ≡ true = other_two (nat_eq b 123) (nat_eq b 125) h k in
     grind (arith, nat_tests)
 
--- a `{` behind a `{`
+-- a `{` after a `{`
 pub field_opened : (w : Setting) (levels line : ℕ) (g : Given) (t field more : List ℕ) (b : ℕ) (k : Numbering) (out : List ℕ) → t ≡ field ++ b ∷ more → list_all (is_neither 123 125) field ≡ true → b ≡ 123 → formatted w levels line g t (Field []) k out ≡ (if nat_eq (length field) 0 then formatted w levels line g more Outside k (out ++ 123 ∷ []) else fail BadValue line)
 field_opened w levels line g t field more b k out e h j = field_cut w levels line g t field more b k out e h ∙ rw j refl
 
--- what is no `}` behind a `}`
+-- what is no `}` after a `}`
 pub closed_badly : (w : Setting) (levels line : ℕ) (g : Given) (t : List ℕ) (k : Numbering) (out : List ℕ) → begins_plainly t ≡ false → formatted w levels line g t Closing k out ≡ fail BadValue line
 closed_badly w levels line g [] k out h = refl
 closed_badly w levels line g (b ∷ bs) k out h =

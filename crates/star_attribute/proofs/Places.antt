@@ -21,6 +21,6 @@ place_beyond xs n i bs h e k =
     let m = sym e ∙ number_next n i bs h in
     sym (slice_get_past xs (number_from 0 bs) (rw m (omega arith)))
 
--- behind the last digit
+-- after the last digit
 pub place_whole : (n i : ℕ) (bs : List ℕ) → length bs ≤ i → number_from n (drop i bs) ≡ number_from 0 bs → n ≡ number_from 0 bs
 place_whole n i bs h e = ap (number_from n) (sym (drop_all i bs h)) ∙ e

@@ -1,4 +1,4 @@
--- The fields of the method `format`, by the next place and by number, and how reading goes on behind a brace.
+-- The fields of the method `format`, by the next place and by number, and how reading goes on after a brace.
 use Rattle.std.specs.Prelude.{◌≡◌, ℕ, List, Result, Ok, Err}
 use Rattle.star_store.specs.declared.values.Value.{Value}
 use Rattle.star_machine.specs.declared.fault.Stop.{Stop}

@@ -137,7 +137,8 @@ fn numbered_value(
     digits: &[u8],
     numbering: Numbering,
 ) -> Result<(Value, Numbering), Stop>
-    ensures { GivesBy as_found (numbered_value line values.now digits.now (as_numbering numbering) machine.now) result machine.now }
+    ensures { GivesBy as_found (numbered_value line values.now digits.now (as_numbering numbering) machine.now)
+        result machine.now }
 {
     if let Numbering::Automatic(_) = numbering {
         return Err(faulted(Code::BadValue, line));
@@ -156,7 +157,8 @@ fn named_value(
     name: &str,
     numbering: Numbering,
 ) -> Result<(Value, Numbering), Stop>
-    ensures { GivesBy as_found (spec.named_value line values.now name.now (as_numbering numbering) machine.now) result machine.now }
+    ensures { GivesBy as_found (spec.named_value line values.now name.now (as_numbering numbering) machine.now)
+        result machine.now }
 {
     match value_named(values, name) {
         Some(value) => Ok((value, numbering)),
@@ -164,8 +166,9 @@ fn named_value(
     }
 }
 
-/// The value of a field: `{}` is the next one, `{0}` one by its number, `{name}` one by its name. `BadValue` for another field and
-/// for numbers beside `{}`, `Index` for a place beyond all values, `Key` for a name that is not given.
+/// The value of a field: `{}` is the next one, `{0}` one by its number, `{name}` one by its name. `BadValue` for
+/// another field and for numbers beside `{}`, `Index` for a place beyond all values, `Key` for a name that is not
+/// given.
 fn field_value(
     machine: &Machine,
     line: usize,
@@ -173,7 +176,8 @@ fn field_value(
     field: &str,
     numbering: Numbering,
 ) -> Result<(Value, Numbering), Stop>
-    ensures { GivesBy as_found (spec.field_value line given.now field.now (as_numbering numbering) machine.now) result machine.now }
+    ensures { GivesBy as_found (spec.field_value line given.now field.now (as_numbering numbering) machine.now)
+        result machine.now }
 {
     if field.is_empty() {
         return next_value(machine, line, given.plain.as_slice(), numbering);
@@ -188,8 +192,8 @@ fn field_value(
     Err(faulted(Code::BadValue, line))
 }
 
-/// What `str` makes of the value of a field, and how fields find theirs from then on. The faults are those of the field and of the
-/// text.
+/// What `str` makes of the value of a field, and how fields find theirs from then on. The faults are those of the field
+/// and of the text.
 pub fn field_text(
     machine: &mut Machine,
     setting: &Setting,
@@ -199,7 +203,9 @@ pub fn field_text(
     field: &str,
     numbering: Numbering,
 ) -> Result<(Text, Numbering), Stop>
-    ensures { GivesBy text_and_numbering (field_text setting.now levels line given.now field.now (as_numbering numbering) machine.old) result machine.new }
+    ensures { GivesBy text_and_numbering
+        (field_text setting.now levels line given.now field.now (as_numbering numbering) machine.old)
+        result machine.new }
 {
     let (value, numbering) = field_value(machine, line, given, field, numbering)?;
     let text = machine.str(setting, levels, line, value)?;

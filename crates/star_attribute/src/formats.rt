@@ -20,8 +20,9 @@ use star_method::texts::pay_for_bytes;
 use star_store::values::Value;
 use star_text::Text;
 
-/// Puts what stands for the braces behind a `{`: the text of a field's value, or a `{` for another `{`. And what stands behind them,
-/// and how fields find their values from then on. `BadValue` where no brace follows, and for a `{` inside of a field.
+/// Puts what stands for the braces after a `{`: the text of a field's value, or a `{` for another `{`. And what stands
+/// after them, and how fields find their values from then on. `BadValue` where no brace follows, and for a `{` inside
+/// of a field.
 fn read_field<'a>(
     machine: &mut Machine,
     setting: &Setting,
@@ -32,7 +33,10 @@ fn read_field<'a>(
     after: &'a str,
     numbering: Numbering,
 ) -> Result<(&'a str, Numbering), Stop>
-    ensures reads { ReadsOn (spec.formatted setting.now levels line given.now after.now (spec.Field []) (as_numbering numbering) (string_bytes out.old) machine.old) (λ r. spec.formatted setting.now levels line given.now r.0.now spec.Outside (as_numbering r.1) (string_bytes out.new) machine.new) result machine.new }
+    ensures reads { ReadsOn (spec.formatted setting.now levels line given.now after.now (spec.Field [])
+        (as_numbering numbering) (string_bytes out.old) machine.old)
+        (λ r. spec.formatted setting.now levels line given.now r.0.now spec.Outside (as_numbering r.1)
+        (string_bytes out.new) machine.new) result machine.new }
     ensures shorter { IfOk result (λ r. length r.0.now ≤ length after.now) }
 {
     let Some((field, brace, more)) = cut_at(after, b'{', b'}') else {
@@ -50,8 +54,8 @@ fn read_field<'a>(
     Ok((more, numbering))
 }
 
-/// Puts what stands for a brace and for what belongs to it. And what stands behind that, and how fields find their values from then
-/// on. `BadValue` for a `{` that is not closed and for a `}` that closes nothing.
+/// Puts what stands for a brace and for what belongs to it. And what stands after that, and how fields find their
+/// values from then on. `BadValue` for a `{` that is not closed and for a `}` that closes nothing.
 fn read_brace<'a>(
     machine: &mut Machine,
     setting: &Setting,
@@ -64,7 +68,10 @@ fn read_brace<'a>(
     numbering: Numbering,
 ) -> Result<(&'a str, Numbering), Stop>
     requires { is_neither 123 125 brace ≡ false }
-    ensures reads { ReadsOn (spec.formatted setting.now levels line given.now (brace ∷ after.now) spec.Outside (as_numbering numbering) (string_bytes out.old) machine.old) (λ r. spec.formatted setting.now levels line given.now r.0.now spec.Outside (as_numbering r.1) (string_bytes out.new) machine.new) result machine.new }
+    ensures reads { ReadsOn (spec.formatted setting.now levels line given.now (brace ∷ after.now) spec.Outside
+        (as_numbering numbering) (string_bytes out.old) machine.old)
+        (λ r. spec.formatted setting.now levels line given.now r.0.now spec.Outside (as_numbering r.1)
+        (string_bytes out.new) machine.new) result machine.new }
     ensures shorter { IfOk result (λ r. length r.0.now ≤ length after.now) }
 {
     if brace == b'{' {
@@ -79,8 +86,8 @@ fn read_brace<'a>(
     }
 }
 
-/// The format from left to right, with the texts of the values in the places of its fields. `BadValue` for braces that are not
-/// paired, and the faults of the fields.
+/// The format from left to right, with the texts of the values in the places of its fields. `BadValue` for braces that
+/// are not paired, and the faults of the fields.
 fn formatted(
     machine: &mut Machine,
     setting: &Setting,
@@ -89,7 +96,8 @@ fn formatted(
     given: &Given,
     format: &str,
 ) -> Result<Text, Stop>
-    ensures { Gives (spec.formatted setting.now levels line given.now format.now spec.Outside spec.Unused [] machine.old) result machine.new }
+    ensures { Gives (spec.formatted setting.now levels line given.now format.now spec.Outside spec.Unused []
+        machine.old) result machine.new }
 {
     let mut out = String::new(machine.alloc());
     let mut rest = format;
@@ -106,9 +114,9 @@ fn formatted(
     Ok(Text::of(out)?)
 }
 
-/// `format(*x, **kw)`: the bytes are paid, then a new string, with the `str` of a value in the place of each `{}` (the next value),
-/// `{0}` (a value by its number) and `{name}`, and a brace for two. `BadValue` for another use of braces and for `{}` beside a
-/// number, `Index` for a place beyond all values, `Key` for a name that is not given.
+/// `format(*x, **kw)`: the bytes are paid, then a new string, with the `str` of a value in the place of each `{}` (the
+/// next value), `{0}` (a value by its number) and `{name}`, and a brace for two. `BadValue` for another use of braces
+/// and for `{}` beside a number, `Index` for a place beyond all values, `Key` for a name that is not given.
 pub fn call_format(
     machine: &mut Machine,
     setting: &Setting,
@@ -117,7 +125,8 @@ pub fn call_format(
     text: Value,
     given: &Given,
 ) -> Result<Value, Stop>
-    ensures { Gives (methods.call_format setting.now levels line (bytes_of (content setting.now machine.old text)) given.now machine.old) result machine.new }
+    ensures { Gives (methods.call_format setting.now levels line (bytes_of (content setting.now machine.old text))
+        given.now machine.old) result machine.new }
 {
     let format = machine.copied_text(setting, text)?;
     pay_for_bytes(machine, setting, line, text)?;

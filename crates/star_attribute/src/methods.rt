@@ -112,7 +112,8 @@ pub fn attribute(
     machine.build(line, 1, Cell::Bound(method, value))
 }
 
-/// A call of a method of a string. `BadType` for a receiver that is no string, and for a method that is none of a string.
+/// A call of a method of a string. `BadType` for a receiver that is no string, and for a method that is none of a
+/// string.
 fn call_on_text(
     machine: &mut Machine,
     setting: &Setting,
@@ -122,7 +123,8 @@ fn call_on_text(
     text: Value,
     given: &Given,
 ) -> Result<Value, Stop>
-    ensures { Gives (and_then (want_text setting.now line text machine.old) (λ t. spec.on_text setting.now levels line method t given.now)) result machine.new }
+    ensures { Gives (and_then (want_text setting.now line text machine.old)
+        (λ t. spec.on_text setting.now levels line method t given.now)) result machine.new }
 {
     machine.check_text(setting, line, text)?;
     match method {
@@ -142,8 +144,8 @@ fn call_on_text(
     }
 }
 
-/// A call of a bound method on its receiver and what the call gives, where so many levels may be opened by its visits. The faults are
-/// those of the method; `BadType` too where the receiver is not of the method's type.
+/// A call of a bound method on its receiver and what the call gives, where so many levels may be opened by its visits.
+/// The faults are those of the method; `BadType` too where the receiver is not of the method's type.
 #[tactic(auto, unfolding(star_meaning::specs::Methods::call_method))]
 pub fn call_method(
     machine: &mut Machine,
@@ -154,7 +156,8 @@ pub fn call_method(
     receiver: Value,
     given: &Given,
 ) -> Result<Value, Stop>
-    ensures { Gives (spec.call_method setting.now levels line method receiver given.now machine.old) result machine.new }
+    ensures { Gives (spec.call_method setting.now levels line method receiver given.now machine.old)
+        result machine.new }
 {
     match method {
         Method::ListAppend => call_append(machine, setting, line, receiver, given),

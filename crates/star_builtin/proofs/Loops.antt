@@ -17,7 +17,7 @@ front_more (Failed f lines) front y = refl
 pub each_next : {A B : Type 0} (f : A → Action B) (xs : List A) (i : ℕ) (d : A) (s : State) → i < length xs → each f (drop i xs) s ≡ and_then (f (get_or xs i d) s) (λ y. λ t. and_then (each f (drop (i + 1) xs) t) (λ ys. give (y ∷ ys)))
 each_next f xs i d s h = rw (add-one, drop-cons xs i d) refl
 
--- an item that went well leaves those behind it
+-- an item that went well leaves those after it
 pub each_taken : {A B : Type 0} (f : A → Action B) (xs : List A) (i : ℕ) (d : A) (s t : State) (front : List B) (y : B) → i < length xs → f (get_or xs i d) s ≡ Done y t → with_front (front ++ y ∷ []) (each f (drop (i + 1) xs) t) ≡ with_front front (each f (drop i xs) s)
 each_taken f xs i d s t front y h e = front_more (each f (drop (i + 1) xs) t) front y ∙ sym (ap (with_front front) (each_next f xs i d s h ∙ ap (λ o. and_then o (λ z. λ u. and_then (each f (drop (i + 1) xs) u) (λ ys. give (z ∷ ys)))) e))
 

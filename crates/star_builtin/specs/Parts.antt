@@ -1,4 +1,4 @@
--- Parts of the built-in functions, behind their arguments.
+-- Parts of the built-in functions, after their arguments.
 use Rattle.std.specs.Prelude.{ℕ, ◌+◌, ◌^◌, min, List, [], ◌∷◌, length, ℤ, pos}
 use Rattle.star_store.specs.declared.values.Value.{Value}
 use Rattle.star_meaning.specs.declared.fault.Code.TheVariants as code

@@ -32,7 +32,7 @@ impl Best {
     }
 }
 
-/// The best of a value and those behind it: the first of equals. `BadType` where two have no order.
+/// The best of a value and those after it: the first of equals. `BadType` where two have no order.
 fn best_of(
     machine: &mut Machine,
     setting: &Setting,
@@ -42,7 +42,8 @@ fn best_of(
     first: Value,
     rest: &[Value],
 ) -> Result<Value, Stop>
-    ensures { Gives (spec.best_of setting.now levels line (better wanted) first rest.now machine.old) result machine.new }
+    ensures { Gives (spec.best_of setting.now levels line (better wanted) first rest.now machine.old)
+        result machine.new }
 {
     let mut best = first;
     for item in rest {
@@ -71,8 +72,8 @@ fn best_in(
     }
 }
 
-/// The best of one value's items, or of several values: the first of equals. `Args` for no value, `BadType` for what is no iterable
-/// and where two have no order, `BadValue` for no item.
+/// The best of one value's items, or of several values: the first of equals. `Args` for no value, `BadType` for what is
+/// no iterable and where two have no order, `BadValue` for no item.
 fn best_among(
     machine: &mut Machine,
     setting: &Setting,
@@ -93,8 +94,9 @@ fn best_among(
     }
 }
 
-/// `max(x, ..)` or `min(x, ..)`: the best of the items of one value, or of several values, and the first of equals. `Args` for no
-/// value and for a name, `BadType` for what is no iterable and where two have no order, `BadValue` for no item.
+/// `max(x, ..)` or `min(x, ..)`: the best of the items of one value, or of several values, and the first of equals.
+/// `Args` for no value and for a name, `BadType` for what is no iterable and where two have no order, `BadValue` for no
+/// item.
 pub fn call_best(
     machine: &mut Machine,
     setting: &Setting,

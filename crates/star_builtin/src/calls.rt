@@ -18,8 +18,8 @@ use star_meaning::given::Given;
 use star_store::names::BuiltIn;
 use star_store::values::Value;
 
-/// What a built-in function answers to what a call gives, where so many levels may be opened by its visits. The faults are those of
-/// the function with that name.
+/// What a built-in function answers to what a call gives, where so many levels may be opened by its visits. The faults
+/// are those of the function with that name.
 #[tactic(auto, unfolding(star_meaning::specs::BuiltIns::call_built_in))]
 pub fn call_built_in(
     machine: &mut Machine,

@@ -103,7 +103,8 @@ fn taken_entries(
     Ok(entries)
 }
 
-/// The pairs of a dictionary are its entries; those of another iterable are its items, which are iterables of two items.
+/// The pairs of a dictionary are its entries; those of another iterable are its items, which are iterables of two
+/// items.
 fn pairs_in(
     machine: &mut Machine,
     setting: &Setting,
@@ -111,7 +112,8 @@ fn pairs_in(
     value: Value,
     count: usize,
 ) -> Result<Pairs, Stop>
-    ensures { GivesBy as_pairs (spec.pairs_in setting.now line value count (content setting.now machine.old value) machine.old) result machine.new }
+    ensures { GivesBy as_pairs (spec.pairs_in setting.now line value count (content setting.now machine.old value)
+        machine.old) result machine.new }
 {
     if let Kind::Dict = machine.kind(setting, value) {
         let entries = copied_entries(machine, setting, value)?;
@@ -129,7 +131,8 @@ fn pairs_in(
     })
 }
 
-/// The pairs of a value, and without one none. `BadType` for an item that is no iterable, `BadValue` for one without two items.
+/// The pairs of a value, and without one none. `BadType` for an item that is no iterable, `BadValue` for one without
+/// two items.
 #[tactic(auto, unfolding(star_meaning::specs::Pairs::pairs_of))]
 fn pairs_of(
     machine: &mut Machine,
@@ -178,7 +181,8 @@ fn put_pair(
     pair: (Value, Value),
 ) -> Result<(), Stop>
     requires { IsGathered setting.now machine.old.store gathered.old }
-    ensures put { Puts (spec.with_pair setting.now levels line are_keys gathered.old.entries pair machine.old) result gathered.new.entries machine.new }
+    ensures put { Puts (spec.with_pair setting.now levels line are_keys gathered.old.entries pair machine.old)
+        result gathered.new.entries machine.new }
     ensures gathered { OnOk result (IsGathered setting.now machine.new.store gathered.new) }
 {
     check_pair(machine, setting, levels, line, are_keys, pair.0)?;
@@ -194,7 +198,9 @@ fn with_pairs(
     line: usize,
     pairs: &Pairs,
 ) -> Result<Gathered, Stop>
-    ensures answer { GivesBy (λ g. g.entries) (spec.with_pairs setting.now levels line pairs.now.are_keys [] pairs.now.pairs.items machine.old) result machine.new }
+    ensures answer { GivesBy (λ g. g.entries)
+        (spec.with_pairs setting.now levels line pairs.now.are_keys [] pairs.now.pairs.items machine.old)
+        result machine.new }
     ensures gathered { IfOk result (λ g. IsGathered setting.now machine.new.store g) }
 {
     let mut gathered = Gathered::new(machine.alloc());
@@ -221,7 +227,8 @@ fn put_named(
     named: &NamedValue,
 ) -> Result<(), Stop>
     requires { IsGathered setting.now machine.old.store gathered.old }
-    ensures put { Puts (put_named setting.now line gathered.old.entries named.now machine.old) result gathered.new.entries machine.new }
+    ensures put { Puts (put_named setting.now line gathered.old.entries named.now machine.old)
+        result gathered.new.entries machine.new }
     ensures gathered { OnOk result (IsGathered setting.now machine.new.store gathered.new) }
 {
     let key = machine.key_for(line, named)?;
@@ -257,15 +264,16 @@ fn dict_of(
     pairs: &Pairs,
     named: &[NamedValue],
 ) -> Result<Value, Stop>
-    ensures { Gives (spec.dict_of setting.now levels line (as_pairs pairs.now) named.now machine.old) result machine.new }
+    ensures { Gives (spec.dict_of setting.now levels line (as_pairs pairs.now) named.now machine.old)
+        result machine.new }
 {
     let gathered = with_pairs(machine, setting, levels, line, pairs)?;
     let entries = with_named(machine, setting, line, gathered, named)?;
     machine.new_dict(line, entries)
 }
 
-/// `dict([x], **kw)`: a new dictionary of the pairs of a value and of named values. `Args` for more values, `BadType` for what is no
-/// iterable and for what is no key, `BadValue` for an item without two items.
+/// `dict([x], **kw)`: a new dictionary of the pairs of a value and of named values. `Args` for more values, `BadType`
+/// for what is no iterable and for what is no key, `BadValue` for an item without two items.
 pub fn call_dict(
     machine: &mut Machine,
     setting: &Setting,

@@ -25,8 +25,8 @@ fn new_range(machine: &mut Machine, line: usize, range: Range) -> Result<Value, 
     machine.build(line, 1, Cell::Range(range))
 }
 
-/// The range of a stop, of a start and a stop, or of these and a step. `Args` for another number of values, `BadType` for one that
-/// is no int, `BadValue` for a step of 0, `Overflow` for more than 2^63 - 1 ints.
+/// The range of a stop, of a start and a stop, or of these and a step. `Args` for another number of values, `BadType`
+/// for one that is no int, `BadValue` for a step of 0, `Overflow` for more than 2^63 - 1 ints.
 fn range_of(
     machine: &mut Machine,
     setting: &Setting,
@@ -65,8 +65,8 @@ fn range_of(
     }
 }
 
-/// `range([start], stop, [step])`. `Args` for another number of values and for a name, `BadType` for what is no int, `BadValue` for a
-/// step of 0, `Overflow` for more than 2^63 - 1 ints.
+/// `range([start], stop, [step])`. `Args` for another number of values and for a name, `BadType` for what is no int,
+/// `BadValue` for a step of 0, `Overflow` for more than 2^63 - 1 ints.
 pub fn call_range(
     machine: &mut Machine,
     setting: &Setting,

@@ -153,8 +153,8 @@ fn rows(
     Ok(Values::new(rows))
 }
 
-/// As many rows as the shortest value has items, each a new tuple of one item of each, in a new list. `BadType` for what is no
-/// iterable.
+/// As many rows as the shortest value has items, each a new tuple of one item of each, in a new list. `BadType` for
+/// what is no iterable.
 fn zipped(
     machine: &mut Machine,
     setting: &Setting,
@@ -196,8 +196,8 @@ pub fn call_tuple(
     machine.new_tuple(line, items)
 }
 
-/// `reversed(it)`: all items in the other order, in a new list. `Args` for another number of values and for a name, `BadType` for
-/// what is no iterable.
+/// `reversed(it)`: all items in the other order, in a new list. `Args` for another number of values and for a name,
+/// `BadType` for what is no iterable.
 pub fn call_reversed(
     machine: &mut Machine,
     setting: &Setting,
@@ -227,8 +227,9 @@ fn want_start(
     }
 }
 
-/// `enumerate(it, [start])`: for each item a new tuple of its number and itself, in a new list. `Args` for another number of values
-/// and for a name, `BadType` for what is no iterable or no int, `Overflow` for a number outside 64 bits.
+/// `enumerate(it, [start])`: for each item a new tuple of its number and itself, in a new list. `Args` for another
+/// number of values and for a name, `BadType` for what is no iterable or no int, `Overflow` for a number outside 64
+/// bits.
 pub fn call_enumerate(
     machine: &mut Machine,
     setting: &Setting,
@@ -245,8 +246,8 @@ pub fn call_enumerate(
     machine.new_list(line, pairs)
 }
 
-/// `zip(*it)`: as many new tuples as the shortest value has items, each of one item of each, in a new list. `Args` for a name,
-/// `BadType` for what is no iterable.
+/// `zip(*it)`: as many new tuples as the shortest value has items, each of one item of each, in a new list. `Args` for
+/// a name, `BadType` for what is no iterable.
 pub fn call_zip(
     machine: &mut Machine,
     setting: &Setting,

@@ -51,7 +51,7 @@ fn texts(
     Ok(texts)
 }
 
-/// Puts texts behind a line, each behind another text.
+/// Puts texts after a line, each after another text.
 fn push_texts(line: &mut String, by: &Text, texts: &[Text]) -> Result<(), AllocError>
     ensures { OnOk result (string_bytes line.new ≡ spec.joined by.now (string_bytes line.old ∷ texts.now)) }
 {
@@ -76,7 +76,8 @@ fn joined(alloc: Global, by: &Text, texts: &[Text]) -> Result<Text, AllocError>
     }
 }
 
-/// Adds a line of the `str` of each value, with a text between each and the next: 1 and the bytes of the line are paid before it.
+/// Adds a line of the `str` of each value, with a text between each and the next: 1 and the bytes of the line are paid
+/// before it.
 fn say(
     machine: &mut Machine,
     setting: &Setting,
@@ -114,8 +115,8 @@ fn type_name(content: Content) -> &'static str
     }
 }
 
-/// The line of `print` and of `fail`: the `str` of each value, with the separator between each and the next. `Args` for a name but
-/// `sep`, `BadType` for a separator that is no string.
+/// The line of `print` and of `fail`: the `str` of each value, with the separator between each and the next. `Args` for
+/// a name but `sep`, `BadType` for a separator that is no string.
 fn say_line(
     machine: &mut Machine,
     setting: &Setting,
@@ -144,8 +145,8 @@ pub fn call_print(
     Ok(Value::NoneValue)
 }
 
-/// `fail(*x, sep=" ")`: adds a line, and is then the fault `Fail`. `Args` for a name but `sep`, `BadType` for a separator that is no
-/// string.
+/// `fail(*x, sep=" ")`: adds a line, and is then the fault `Fail`. `Args` for a name but `sep`, `BadType` for a
+/// separator that is no string.
 pub fn call_fail(
     machine: &mut Machine,
     setting: &Setting,
@@ -174,7 +175,8 @@ pub fn call_repr(
     machine.new_text(line, text)
 }
 
-/// `str(x)`: a string as it is, else the text of a value, as a new string. `Args` for another number of values and for a name.
+/// `str(x)`: a string as it is, else the text of a value, as a new string. `Args` for another number of values and for
+/// a name.
 pub fn call_str(
     machine: &mut Machine,
     setting: &Setting,

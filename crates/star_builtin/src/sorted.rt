@@ -88,7 +88,9 @@ fn in_order(
     values: &[Value],
 ) -> Result<Vec<Value>, AllocError>
     requires { spec.can_sort (map (content setting.now machine.now) values.now) ≡ true }
-    ensures { IfOk result (λ r. r.items ≡ spec.in_order (λ x y. spec.is_before (content setting.now machine.now x) (content setting.now machine.now y)) values.now) }
+    ensures { IfOk result (λ r. r.items
+        ≡ spec.in_order (λ x y. spec.is_before (content setting.now machine.now x)
+        (content setting.now machine.now y)) values.now) }
 {
     let mut items = Vec::from_slice(machine.alloc(), values)?;
     items.sort_by(|x, y| order(machine, setting, *x, *y))?;
@@ -138,8 +140,9 @@ fn want_reverse(
     }
 }
 
-/// `sorted(it, reverse=False)`: all items in order, in a new list. `Args` for another number of values and for a name but `reverse`,
-/// `BadType` for what is no iterable, for a `reverse` that is no bool, and unless all items are ints, or all are strings.
+/// `sorted(it, reverse=False)`: all items in order, in a new list. `Args` for another number of values and for a name
+/// but `reverse`, `BadType` for what is no iterable, for a `reverse` that is no bool, and unless all items are ints, or
+/// all are strings.
 pub fn call_sorted(
     machine: &mut Machine,
     setting: &Setting,

@@ -60,7 +60,7 @@ fn above(bytes: &[u8]) -> Option<Result<i64, StoreFault>>
     }
 }
 
-/// The int below 0 that digits write behind its sign. `Overflow` outside 64 bits; none for other bytes.
+/// The int below 0 that digits write after its sign. `Overflow` outside 64 bits; none for other bytes.
 fn below(bytes: &[u8]) -> Option<Result<i64, StoreFault>>
     ensures { result ≡ option_map checked (spec.signed_by (λ n. neg_ℤ (pos n)) (spec.decimal_of bytes.now)) }
 {
@@ -70,7 +70,8 @@ fn below(bytes: &[u8]) -> Option<Result<i64, StoreFault>>
     }
 }
 
-/// The int that a string spells: a sign or none, and decimal digits. `Overflow` outside 64 bits; none for another string.
+/// The int that a string spells: a sign or none, and decimal digits. `Overflow` outside 64 bits; none for another
+/// string.
 pub fn spelled(text: &[u8]) -> Option<Result<i64, StoreFault>>
     ensures { result ≡ option_map checked (spec.spelled text.now) }
 {

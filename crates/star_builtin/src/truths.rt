@@ -57,8 +57,8 @@ fn truth_of(machine: &Machine, setting: &Setting, value: Option<Value>) -> Value
     }
 }
 
-/// Whether one of the items of the one value has the truth looked for. `Args` for another number of values and for a name, `BadType`
-/// for what is no iterable.
+/// Whether one of the items of the one value has the truth looked for. `Args` for another number of values and for a
+/// name, `BadType` for what is no iterable.
 fn some_item(
     machine: &mut Machine,
     setting: &Setting,
@@ -73,8 +73,8 @@ fn some_item(
     some_of(machine, setting, line, wanted, value, count)
 }
 
-/// `all(it)`: whether all items count as true; items are taken up to the first that does not. `Args` for another number of values
-/// and for a name, `BadType` for what is no iterable.
+/// `all(it)`: whether all items count as true; items are taken up to the first that does not. `Args` for another number
+/// of values and for a name, `BadType` for what is no iterable.
 pub fn call_all(
     machine: &mut Machine,
     setting: &Setting,
@@ -87,8 +87,8 @@ pub fn call_all(
     Ok(Value::Bool(!some))
 }
 
-/// `any(it)`: whether an item counts as true; items are taken up to the first that does. `Args` for another number of values and for
-/// a name, `BadType` for what is no iterable.
+/// `any(it)`: whether an item counts as true; items are taken up to the first that does. `Args` for another number of
+/// values and for a name, `BadType` for what is no iterable.
 pub fn call_any(
     machine: &mut Machine,
     setting: &Setting,

@@ -106,8 +106,8 @@ fn labelled(
     Ok(files)
 }
 
-/// The files of a bundle. `BadBundle` where the bytes are no JSON object of texts, `BadKey` where a key is no label in normal form,
-/// then `TooMany` and `TooLong`.
+/// The files of a bundle. `BadBundle` where the bytes are no JSON object of texts, `BadKey` where a key is no label in
+/// normal form, then `TooMany` and `TooLong`.
 #[tactic(auto, unfolding(crate::specs::Bundle::files_of))]
 pub fn files_in(alloc: Global, bytes: &[u8]) -> Result<Files, ServeError>
     ensures { Gives (λ files. files) result (bundle.files_of bytes.now) }
@@ -125,8 +125,8 @@ pub fn files_in(alloc: Global, bytes: &[u8]) -> Result<Files, ServeError>
     }
 }
 
-/// The number of the file that a word of the command line names: the first error where the word is no label in normal form, the
-/// second where no file has it.
+/// The number of the file that a word of the command line names: the first error where the word is no label in normal
+/// form, the second where no file has it.
 #[tactic(auto, unfolding(crate::specs::Bundle::number_of))]
 fn number_in(
     alloc: Global,
@@ -176,7 +176,8 @@ pub fn prelude_in(
     files: &Files,
     prelude: Option<&String>,
 ) -> Result<Option<usize>, ServeError>
-    ensures number { Gives (λ n. n) result (bundle.prelude_of files.now (option_map (λ p. string_bytes p.now) prelude.entry)) }
+    ensures number { Gives (λ n. n)
+        result (bundle.prelude_of files.now (option_map (λ p. string_bytes p.now) prelude.entry)) }
     ensures within { IfOk result (λ o. IfSome o (λ n. n < length files.now)) }
 {
     let Some(word) = prelude else {
@@ -200,8 +201,8 @@ pub struct AskedFor {
     pub prelude: Option<usize>,
 }
 
-/// What the words of the command line ask for of these files. The refusals come in this order: those of the roots, those of the
-/// prelude.
+/// What the words of the command line ask for of these files. The refusals come in this order: those of the roots,
+/// those of the prelude.
 #[tactic(auto, unfolding(crate::specs::Bundle::asked_among))]
 pub fn asked_in(
     alloc: Global,
@@ -223,8 +224,8 @@ pub fn asked_in(
     })
 }
 
-/// What the bytes of a bundle and the words of the command line ask for. The refusals come in this order: those of the bundle, those
-/// of the roots, those of the prelude.
+/// What the bytes of a bundle and the words of the command line ask for. The refusals come in this order: those of the
+/// bundle, those of the roots, those of the prelude.
 #[tactic(auto, unfolding(crate::specs::Bundle::asked_of))]
 pub fn asked_for(
     alloc: Global,

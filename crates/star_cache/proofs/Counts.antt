@@ -10,7 +10,7 @@ counts-more f zero m (x ∷ xs) d h = refl
 counts-more f (suc k) m [] d h = absurd (omega arith)
 counts-more f (suc k) m (x ∷ xs) d h = ap (λ row. f x ∷ row) (counts-more f k m xs d (omega arith))
 
--- the same with as many zeros behind as there are places left
+-- the same with as many zeros after as there are places left
 pub counts-next : (k : ℕ) (xs : List LoaderState) (d : LoaderState) (row : List ℕ) → k < length xs → length xs ≤ 64 → row ≡ map (λ (l : LoaderState). l.count) (take k xs) ++ replicate (64 - k) 0 → set row k (get_or xs k d).count ≡ map (λ (l : LoaderState). l.count) (take (k + 1) xs) ++ replicate (64 - (k + 1)) 0
 counts-next k xs d row h few is =
     let Before : ℕ → List ℕ = λ m. set (map (λ (l : LoaderState). l.count) (take k xs) ++ replicate m 0) k (get_or xs k d).count in

@@ -17,7 +17,7 @@ abbrev pub AreAll : ℕ → List SeatState → Type 0
 AreAll n xs = (length xs ≡ n) × ((k : ℕ) → k < n → Any (λ s. s.number ≡ k) xs)
 
 module _ {P : Type 0} where
-  -- the loaders' counts in the order of their seats, and 0 behind the last
+  -- the loaders' counts in the order of their seats, and 0 after the last
   abbrev pub counts_of : BookState P → List ℕ
   counts_of b = map (λ (l : LoaderState). l.count) b.loaders ++ replicate (64 - length b.loaders) 0
 

@@ -93,7 +93,8 @@ impl<P: Product> Book<P> {
 
     // Whether the seat is there and free, with this parent on top.
     fn check_turn(&self, seat: usize, parent: Option<usize>) -> Result<(), BookError>
-        ensures turn { MatchResult result (λ _. MayAsk self.now seat parent) (λ e. IsTurnRefused self.now seat parent e) }
+        ensures turn { MatchResult result (λ _. MayAsk self.now seat parent)
+            (λ e. IsTurnRefused self.now seat parent e) }
         ensures book { IsBook P.loads P.IsReached P.IsRight P.files self.now }
     {
         if seat >= self.loaders.len() {
@@ -185,10 +186,10 @@ impl<P: Product> Book<P> {
 
     /// The seat asks for a file: for the file on top of its stack, which loads it, or as a reached file of its own.
     ///
-    /// A fresh file is begun, and stands on top of the seat's stack until `finish` or `abandon`. A file that has ended is
-    /// answered with a share of its product. Where a file runs, the links from its loader are walked, from each loader to
-    /// the one that runs the entry that it awaits: if they reach the seat the load is a `Cycle`, else the seat awaits the
-    /// file. The walk and the new link are one step, so nothing happens between them.
+    /// A fresh file is begun, and stands on top of the seat's stack until `finish` or `abandon`. A file that has ended
+    /// is answered with a share of its product. Where a file runs, the links from its loader are walked, from each
+    /// loader to the one that runs the entry that it awaits: if they reach the seat the load is a `Cycle`, else the
+    /// seat awaits the file. The walk and the new link are one step, so nothing happens between them.
     ///
     /// Refused as `NoSuch`, `Waiting`, `NotTop` (`None` is for an empty stack) and `Memory`, the first that applies.
     pub fn ask(
@@ -201,7 +202,8 @@ impl<P: Product> Book<P> {
         ensures step { MatchResult result
             (λ reply. MayAsk self.old seat parent × IsAsked P.is_good self.old seat target reply self.new)
             (λ e. IsAskRefused P.always_shares self.old seat parent target e × (self.new ≡ self.old)) }
-        ensures tells { IfOk result (Tells P.IsRight P.IsGood (IsCyclic P.loads parent target) (awaited_by self.new seat ≡ Some target) target) }
+        ensures tells { IfOk result (Tells P.IsRight P.IsGood (IsCyclic P.loads parent target)
+            (awaited_by self.new seat ≡ Some target) target) }
         ensures alone { length self.old.loaders ≡ 1 → result ≢ Ok Reply.Wait }
     {
         self.check_turn(seat, parent)?;
@@ -225,7 +227,8 @@ impl<P: Product> Book<P> {
     // The entry that the seat awaits.
     fn waiting(&self, seat: usize) -> Result<usize, BookError>
         ensures awaited { MatchResult result
-            (λ e. (seat < length self.now.loaders) × (awaited_by self.now seat ≡ Some e) × (entry_at self.now e ≢ Entry.Fresh) × (e < length self.now.entries))
+            (λ e. (seat < length self.now.loaders) × (awaited_by self.now seat ≡ Some e)
+            × (entry_at self.now e ≢ Entry.Fresh) × (e < length self.now.entries))
             (λ e. IsWakeRefused P.always_shares self.now seat e) }
         ensures book { IsBook P.loads P.IsReached P.IsRight P.files self.now }
     {
@@ -254,13 +257,14 @@ impl<P: Product> Book<P> {
 
     /// Asks again for the file that the seat awaits.
     ///
-    /// It is `Wait` while the file runs, and then the seat awaits it still; else the answer is as of `ask`, and the seat
-    /// awaits nothing. Refused as `NoSuch`, `NotWaiting` and `Memory`, the first that applies.
+    /// It is `Wait` while the file runs, and then the seat awaits it still; else the answer is as of `ask`, and the
+    /// seat awaits nothing. Refused as `NoSuch`, `NotWaiting` and `Memory`, the first that applies.
     pub fn wake(&mut self, seat: usize) -> Result<Reply<P>, BookError>
         ensures step { MatchResult result
             (λ reply. (seat < length self.old.loaders) × IsWoken P.is_good self.old seat reply self.new)
             (λ e. IsWakeRefused P.always_shares self.old seat e × (self.new ≡ self.old)) }
-        ensures tells { (n : ℕ) → awaited_by self.old seat ≡ Some n → IfOk result (Tells P.IsRight P.IsGood ⊥ (self.new ≡ self.old) n) }
+        ensures tells { (n : ℕ) → awaited_by self.old seat ≡ Some n
+            → IfOk result (Tells P.IsRight P.IsGood ⊥ (self.new ≡ self.old) n) }
     {
         let awaited = self.waiting(seat)?;
         match self.standing(awaited)? {
@@ -278,7 +282,8 @@ impl<P: Product> Book<P> {
         requires there { seat < length self.old.loaders }
         requires free { awaited_by self.old seat ≡ None }
         requires on_top { top_of (stack_of self.old seat) ≡ Some n }
-        requires ended { (entry ≢ Entry.Fresh) × (entry ≢ Entry.Running) × ((p : P) → entry ≡ Entry.Done p → P.IsRight n p) }
+        requires ended { (entry ≢ Entry.Fresh) × (entry ≢ Entry.Running)
+            × ((p : P) → entry ≡ Entry.Done p → P.IsRight n p) }
         ensures { self.new ≡ after_end self.old seat n entry }
     {
         let loader = self.loaders[seat];

@@ -52,9 +52,12 @@ impl<P: Product> State<P> {
     ) -> Result<Reply<P>, BookError>
         requires load { MatchOption parent (P.IsReached target) (λ p. Loads P.loads p target) }
         ensures step { MatchResult result
-            (λ reply. MayAsk self.old seat.old.number parent × IsAsked P.is_good self.old seat.old.number target reply self.new)
-            (λ e. IsAskRefused P.always_shares self.old seat.old.number parent target e × (self.new ≡ self.old) × (seat.new ≡ seat.old)) }
-        ensures tells { IfOk result (Tells P.IsRight P.IsGood (IsCyclic P.loads parent target) (awaited_by self.new seat.old.number ≡ Some target) target) }
+            (λ reply. MayAsk self.old seat.old.number parent
+            × IsAsked P.is_good self.old seat.old.number target reply self.new)
+            (λ e. IsAskRefused P.always_shares self.old seat.old.number parent target e × (self.new ≡ self.old)
+            × (seat.new ≡ seat.old)) }
+        ensures tells { IfOk result (Tells P.IsRight P.IsGood (IsCyclic P.loads parent target)
+            (awaited_by self.new seat.old.number ≡ Some target) target) }
         ensures begun { IfOk result (λ reply. seat.new.begun ≡ seat.old.begun + begins reply) }
         ensures number { seat.new.number ≡ seat.old.number }
     {
@@ -68,9 +71,11 @@ impl<P: Product> State<P> {
     // The book's `wake`, for a seat that awaits this target.
     fn wake(&mut self, seat: &Seat<P>, target: usize) -> Result<Reply<P>, BookError>
         ensures step { MatchResult result
-            (λ reply. (awaited_by self.old seat.now.number ≡ Some target) × IsWoken P.is_good self.old seat.now.number reply self.new)
+            (λ reply. (awaited_by self.old seat.now.number ≡ Some target)
+            × IsWoken P.is_good self.old seat.now.number reply self.new)
             (λ error. (P.always_shares ≡ true → error ≢ BookError.Memory) × (self.new ≡ self.old)) }
-        ensures refused { IfErr result (λ error. (error ≡ BookError.NoSuch) ⊎ (error ≡ BookError.NotWaiting) ⊎ (error ≡ BookError.Memory)) }
+        ensures refused { IfErr result (λ error. (error ≡ BookError.NoSuch) ⊎ (error ≡ BookError.NotWaiting)
+            ⊎ (error ≡ BookError.Memory)) }
         ensures awaits { result ≡ Err BookError.NotWaiting → awaited_by self.old seat.now.number ≢ Some target }
         ensures tells { IfOk result (Tells P.IsRight P.IsGood ⊥ (self.new ≡ self.old) target) }
     {
@@ -87,7 +92,8 @@ impl<P: Product> State<P> {
     fn finish(&mut self, seat: &Seat<P>, n: usize, product: P) -> Result<(), (BookError, P)>
         requires right { P.IsRight n product }
         ensures step { MatchResult result
-            (λ _. MayAsk self.old seat.now.number (Some n) × (self.new ≡ after_end self.old seat.now.number n (Entry.Done product)))
+            (λ _. MayAsk self.old seat.now.number (Some n)
+            × (self.new ≡ after_end self.old seat.now.number n (Entry.Done product)))
             (λ back. IsTurnRefused self.old seat.now.number (Some n) back.0 × (back.1 ≡ product) × (self.new ≡ self.old)) }
     {
         self.book.finish(seat.number, n, product)
@@ -164,7 +170,7 @@ fn merged<P: Product>(mut all: Share<P::Name>, seats: Vec<Seat<P>>) -> Share<P::
     all
 }
 
-// The loaders' counts in the order of their seats, and 0 behind the last.
+// The loaders' counts in the order of their seats, and 0 after the last.
 fn counts<P: Product>(book: &Book<P>) -> [u32; 64]
     ensures { result ≡ counts_of book.now }
 {
@@ -215,8 +221,9 @@ impl<P: Product> LoadCache<P> {
 
     /// The seat asks for a file as with `Book::ask`, and waits until the reply is not `Wait`.
     ///
-    /// Refused as the book refuses it; `NotWaiting` also where the book does not have the seat awaiting the target after
-    /// a wait. Where it is refused memory after a wait the seat still awaits the file, and only `abandon` frees it.
+    /// Refused as the book refuses it; `NotWaiting` also where the book does not have the seat awaiting the target
+    /// after a wait. Where it is refused memory after a wait the seat still awaits the file, and only `abandon` frees
+    /// it.
     pub fn ask<R: Wait>(
         &self,
         rt: &R,
@@ -227,7 +234,8 @@ impl<P: Product> LoadCache<P> {
         requires load { MatchOption parent (P.IsReached target) (λ p. Loads P.loads p target) }
         ensures tells { IfOk result (Tells P.IsRight P.IsGood (IsCyclic P.loads parent target) ⊥ target) }
         ensures begun { IfOk result (λ reply. seat.new.begun ≡ seat.old.begun + begins reply) }
-        ensures refused { IfErr result (λ error. (P.always_shares ≡ true → error ≢ BookError.Memory) × (seat.new ≡ seat.old)) }
+        ensures refused { IfErr result (λ error. (P.always_shares ≡ true → error ≢ BookError.Memory)
+            × (seat.new ≡ seat.old)) }
         ensures number { seat.new.number ≡ seat.old.number }
     {
         let mut state = self.state.lock(rt);
@@ -275,7 +283,8 @@ impl<P: Product> LoadCache<P> {
         done
     }
 
-    /// Takes the seats back, and answers the book with the loaders' counts in the order of their seats, 0 behind the last.
+    /// Takes the seats back, and answers the book with the loaders' counts in the order of their seats, 0 after the
+    /// last.
     ///
     /// Refused where the seats are not all of the cache's; everything comes back then.
     pub fn close(

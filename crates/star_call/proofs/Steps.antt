@@ -21,7 +21,7 @@ also_more xs ys (Some zs) = ap (λ l. Some l) (append_assoc xs ys zs)
 shares_next : (ns left : List NamedValue) (ps : List Parameter) (i : ℕ) (d : Parameter) (q : Progress) → i < length ps → shares ns left (drop i ps) q ≡ option_and_then (λ (r : List (Name × Share) × Progress). also r.0 (shares ns left (drop (i + 1) ps) r.1)) (step ns left q (parameter (get_or ps i d)))
 shares_next ns left ps i d q h = rw (add-one, drop-cons ps i d) refl
 
--- a parameter that got its share leaves those behind it
+-- a parameter that got its share leaves those after it
 shares_taken : (ns left : List NamedValue) (ps : List Parameter) (i : ℕ) (d : Parameter) (q t : Progress) (front xs : List (Name × Share)) → i < length ps → step ns left q (parameter (get_or ps i d)) ≡ Some (xs, t) → also (front ++ xs) (shares ns left (drop (i + 1) ps) t) ≡ also front (shares ns left (drop i ps) q)
 shares_taken ns left ps i d q t front xs h e = also_more front xs (shares ns left (drop (i + 1) ps) t) ∙ sym (ap (also front) (shares_next ns left ps i d q h ∙ ap (option_and_then (λ (r : List (Name × Share) × Progress). also r.0 (shares ns left (drop (i + 1) ps) r.1))) e))
 

@@ -18,7 +18,8 @@ use star_tree::tree::{Name, Parameter};
 use std::alloc::{AllocError, Global};
 use std::collections::BTreeMap;
 
-/// Where binding stands: whether values by place can still be taken, those that are left, and the defaults that are left.
+/// Where binding stands: whether values by place can still be taken, those that are left, and the defaults that are
+/// left.
 #[derive(Clone, Copy)]
 struct Progress<'g, 'd> {
     by_name: bool,
@@ -26,7 +27,7 @@ struct Progress<'g, 'd> {
     defaults: &'d [Value],
 }
 
-/// A parameter's share, if it gets one, and where binding stands behind it.
+/// A parameter's share, if it gets one, and where binding stands after it.
 #[derive(Clone, Copy)]
 struct Turn<'t, 'g, 'd> {
     share: Option<(&'t Name, Share<'g>)>,
@@ -72,7 +73,8 @@ fn names_of<'t>(
     alloc: Global,
     parameters: &'t [Parameter],
 ) -> Result<BTreeMap<&'t str, ()>, AllocError>
-    ensures { IfOk result (λ names. (name : List ℕ) → has names name ≡ list_any (same_name name) (spec.own_names parameters.now)) }
+    ensures { IfOk result (λ names. (name : List ℕ) → has names name
+        ≡ list_any (same_name name) (spec.own_names parameters.now)) }
 {
     let mut names = BTreeMap::new(alloc);
     for parameter in parameters {
@@ -83,7 +85,8 @@ fn names_of<'t>(
     Ok(names)
 }
 
-/// The values by name that are no parameter's, where they or the parameters are few: each is compared with all parameters.
+/// The values by name that are no parameter's, where they or the parameters are few: each is compared with all
+/// parameters.
 fn few_unclaimed<'g>(
     alloc: Global,
     parameters: &[Parameter],
@@ -141,7 +144,8 @@ impl<'g> Names<'g> {
         progress: Progress<'g, 'd>,
         value: Option<Value>,
     ) -> Option<Turn<'t, 'g, 'd>>
-        ensures { option_map (turn_of (all_named self.now.left.items)) result ≡ spec.shared name.now (progress_of progress.entry) value }
+        ensures { option_map (turn_of (all_named self.now.left.items)) result
+            ≡ spec.shared name.now (progress_of progress.entry) value }
     {
         match value {
             Some(value) => Some(Turn {
@@ -152,15 +156,16 @@ impl<'g> Names<'g> {
         }
     }
 
-    /// The share of a parameter with a name: the next value by place, which must not be given by name too; else the one by name; else
-    /// the default.
+    /// The share of a parameter with a name: the next value by place, which must not be given by name too; else the one
+    /// by name; else the default.
     fn share_by<'t, 'd>(
         &self,
         name: &'t Name,
         default: Option<Value>,
         progress: Progress<'g, 'd>,
     ) -> Option<Turn<'t, 'g, 'd>>
-        ensures { option_map (turn_of (all_named self.now.left.items)) result ≡ spec.share_by name.now self.now.all default (progress_of progress.entry) }
+        ensures { option_map (turn_of (all_named self.now.left.items)) result
+            ≡ spec.share_by name.now self.now.all default (progress_of progress.entry) }
     {
         let own = name.text.as_str();
         match progress.plain {
@@ -178,13 +183,15 @@ impl<'g> Names<'g> {
         }
     }
 
-    /// A parameter's share, and where binding stands behind it: none where the arguments do not fit.
+    /// A parameter's share, and where binding stands after it: none where the arguments do not fit.
     fn step<'t, 'd>(
         &self,
         parameter: &'t Parameter,
         progress: Progress<'g, 'd>,
     ) -> Option<Turn<'t, 'g, 'd>>
-        ensures { option_map (turn_of (all_named self.now.left.items)) result ≡ spec.step self.now.all (all_named self.now.left.items) (progress_of progress.entry) (form.parameter parameter.now) }
+        ensures { option_map (turn_of (all_named self.now.left.items)) result
+            ≡ spec.step self.now.all (all_named self.now.left.items) (progress_of progress.entry)
+            (form.parameter parameter.now) }
     {
         match parameter {
             Parameter::Plain(name) => self.share_by(name, None, progress),
@@ -217,7 +224,9 @@ impl<'g> Names<'g> {
         name: &'t Name,
         progress: Progress<'g, 'd>,
     ) -> Option<Turn<'t, 'g, 'd>>
-        ensures { option_map (turn_of (all_named self.now.left.items)) result ≡ spec.share_by name.now self.now.all (spec.first_of_row progress.entry.defaults.now) (record (progress_of progress.entry) { defaults = spec.rest_of_row progress.entry.defaults.now }) }
+        ensures { option_map (turn_of (all_named self.now.left.items)) result
+            ≡ spec.share_by name.now self.now.all (spec.first_of_row progress.entry.defaults.now)
+            (record (progress_of progress.entry) { defaults = spec.rest_of_row progress.entry.defaults.now }) }
     {
         match progress.defaults {
             [] => self.share_by(name, None, progress),
@@ -231,14 +240,16 @@ impl<'g> Names<'g> {
         }
     }
 
-    /// The shares of parameters in order: none where the arguments do not fit. In the end no value by place may be left.
+    /// The shares of parameters in order: none where the arguments do not fit. In the end no value by place may be
+    /// left.
     fn shares<'t, 'd>(
         self,
         alloc: Global,
         parameters: &'t [Parameter],
         progress: Progress<'g, 'd>,
     ) -> Result<Option<Shares<'t, 'g>>, AllocError>
-        ensures { IfOk result (λ shares. shares ≡ spec.shares self.entry.all (all_named self.entry.left.items) parameters.now (progress_of progress.entry)) }
+        ensures { IfOk result (λ shares. shares ≡ spec.shares self.entry.all (all_named self.entry.left.items)
+            parameters.now (progress_of progress.entry)) }
     {
         let mut progress = progress;
         let mut shares = Vec::new(alloc);

@@ -22,8 +22,8 @@ use star_scope::outline::Definition;
 use star_store::names::{BuiltIn, Method};
 use star_store::values::{Cell, Function, Value};
 
-/// A function that is called: the value that leads to it, the file and the number of its definition, the frame in which it was
-/// defined, and the definition.
+/// A function that is called: the value that leads to it, the file and the number of its definition, the frame in which
+/// it was defined, and the definition.
 #[derive(Clone, Copy)]
 pub struct Called<'t> {
     pub value: Value,
@@ -61,7 +61,10 @@ impl<'t> Called<'t> {
         line: usize,
         given: &'g Given,
     ) -> Result<Shares<'t, 'g>, Stop>
-        ensures { Gives (found Code.Args line (bound_to self.now.definition.parameters.now (defaults_in (content setting.now machine.now self.now.value)) given.now) machine.now) result machine.now }
+        ensures { Gives (found Code.Args line
+            (bound_to self.now.definition.parameters.now
+            (defaults_in (content setting.now machine.now self.now.value)) given.now) machine.now)
+            result machine.now }
     {
         let defaults = defaults_of(machine, setting, self.value);
         let parameters = self.definition.parameters;
@@ -72,8 +75,8 @@ impl<'t> Called<'t> {
     }
 }
 
-/// A function that is called, with its definition, if it has one. `Recursion` where the definition is active, `BadType` where there
-/// is none.
+/// A function that is called, with its definition, if it has one. `Recursion` where the definition is active, `BadType`
+/// where there is none.
 fn function_callee<'t>(
     machine: &Machine,
     line: usize,
@@ -81,7 +84,8 @@ fn function_callee<'t>(
     function: &Function,
     definition: Option<Definition<'t>>,
 ) -> Result<Callee<'t>, Stop>
-    ensures answer { GivesCallee value function.now (with_definition line function.now (option_map definition_of definition.entry) machine.now) result machine.now }
+    ensures answer { GivesCallee value function.now
+        (with_definition line function.now (option_map definition_of definition.entry) machine.now) result machine.now }
     ensures has { IfOk result (HasDefinition function.now (option_map definition_of definition.entry)) }
 {
     if machine.is_active(function) {
@@ -113,8 +117,8 @@ pub fn definition_number(machine: &Machine, setting: &Setting, value: Value) -> 
 }
 
 impl<'t> Callee<'t> {
-    /// What is called by a value, where `definition` is what the setting has at its `definition_number`. `BadType` where it may not
-    /// be called or has no definition, `Recursion` where its definition is active.
+    /// What is called by a value, where `definition` is what the setting has at its `definition_number`. `BadType`
+    /// where it may not be called or has no definition, `Recursion` where its definition is active.
     #[tactic(auto, unfolding(star_meaning::specs::Calls::callee))]
     pub fn of(
         machine: &Machine,
@@ -123,9 +127,15 @@ impl<'t> Callee<'t> {
         value: Value,
         definition: Option<Definition<'t>>,
     ) -> Result<Callee<'t>, Stop>
-        ensures answer { GivesBy (shown (content setting.now machine.now)) (callee_in line (option_map definition_of definition.entry) (content setting.now machine.now value) machine.now) result machine.now }
-        ensures found { option_map definition_of definition.entry ≡ definition_for setting.now (content setting.now machine.now value) → GivesBy (shown (content setting.now machine.now)) (spec.callee setting.now line value machine.now) result machine.now }
-        ensures defined { option_map definition_of definition.entry ≡ definition_for setting.now (content setting.now machine.now value) → IfOk result (IsFound setting.now) }
+        ensures answer { GivesBy (shown (content setting.now machine.now))
+            (callee_in line (option_map definition_of definition.entry) (content setting.now machine.now value)
+            machine.now) result machine.now }
+        ensures found { option_map definition_of definition.entry
+            ≡ definition_for setting.now (content setting.now machine.now value)
+            → GivesBy (shown (content setting.now machine.now)) (spec.callee setting.now line value machine.now)
+            result machine.now }
+        ensures defined { option_map definition_of definition.entry
+            ≡ definition_for setting.now (content setting.now machine.now value) → IfOk result (IsFound setting.now) }
     {
         match machine.content(setting, value) {
             Content::BuiltInFunction(function) => Ok(Callee::ABuiltIn(function)),

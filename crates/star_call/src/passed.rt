@@ -61,7 +61,7 @@ fn named_of(alloc: Global, passed: &[Passed]) -> Result<Vec<NamedValue>, AllocEr
     Ok(named)
 }
 
-/// What stands behind `*`.
+/// What stands after `*`.
 fn star_of(passed: &[Passed]) -> Option<Value>
     ensures { result ≡ spec.star_of (all_shown passed.now) }
 {
@@ -73,7 +73,7 @@ fn star_of(passed: &[Passed]) -> Option<Value>
     None
 }
 
-/// What stands behind `**`.
+/// What stands after `**`.
 fn star_star_of(passed: &[Passed]) -> Option<Value>
     ensures { result ≡ spec.star_star_of (all_shown passed.now) }
 {
@@ -85,7 +85,7 @@ fn star_star_of(passed: &[Passed]) -> Option<Value>
     None
 }
 
-/// The number of items behind `*`. `BadType` where it is not iterable.
+/// The number of items after `*`. `BadType` where it is not iterable.
 fn star_count(
     machine: &Machine,
     setting: &Setting,
@@ -100,7 +100,7 @@ fn star_count(
     }
 }
 
-/// Takes the items behind `*`: 1 is paid before each.
+/// Takes the items after `*`: 1 is paid before each.
 fn take_star(
     machine: &mut Machine,
     setting: &Setting,
@@ -122,7 +122,8 @@ fn named_entry(
     setting: &Setting,
     entry: (Value, Value),
 ) -> Result<Option<NamedValue>, AllocError>
-    ensures { IfOk result (λ n. n ≡ spec.named_entry setting.now machine.now entry (text_of (content setting.now machine.now entry.0))) }
+    ensures { IfOk result (λ n. n ≡ spec.named_entry setting.now machine.now entry
+        (text_of (content setting.now machine.now entry.0))) }
 {
     let (key, value) = entry;
     match machine.content(setting, key) {
@@ -162,7 +163,8 @@ fn names_in(
     setting: &Setting,
     value: Value,
 ) -> Result<Option<Vec<NamedValue>>, AllocError>
-    ensures { IfOk result (λ r. option_map (λ v. v.items) r ≡ spec.names_in setting.now machine.now (content setting.now machine.now value)) }
+    ensures { IfOk result (λ r. option_map (λ v. v.items) r
+        ≡ spec.names_in setting.now machine.now (content setting.now machine.now value)) }
 {
     match machine.content(setting, value) {
         Content::Held(Cell::Dict(entries)) => named_entries(machine, setting, entries.as_slice()),
@@ -170,7 +172,7 @@ fn names_in(
     }
 }
 
-/// What stands behind `**`, by name. `BadType` unless it is a dictionary whose keys are all strings.
+/// What stands after `**`, by name. `BadType` unless it is a dictionary whose keys are all strings.
 fn star_star_names(
     machine: &Machine,
     setting: &Setting,
@@ -202,7 +204,7 @@ fn take_names(
     Ok(names)
 }
 
-/// The values that stand by place, and behind them these.
+/// The values that stand by place, and after them these.
 fn with_plain(alloc: Global, passed: &[Passed], items: &Values) -> Result<Values, AllocError>
     ensures { IfOk result (λ v. v ≡ spec.plain_of (all_shown passed.now) ++ items.now) }
 {
@@ -211,7 +213,7 @@ fn with_plain(alloc: Global, passed: &[Passed], items: &Values) -> Result<Values
     Ok(Values::new(plain))
 }
 
-/// The values that stand by name, and behind them these.
+/// The values that stand by name, and after them these.
 fn with_named(
     alloc: Global,
     passed: &[Passed],
@@ -225,9 +227,9 @@ fn with_named(
     Ok(Items::from_vec(named))
 }
 
-/// What a call gives: first what stands behind `*` and `**` is checked, then their items and entries are taken, 1 before each, and
-/// then no name may come twice. `BadType` where `*` has no iterable, or `**` no dictionary whose keys are all strings; `Steps`
-/// where a payment is too large; `Args` where a name comes twice.
+/// What a call gives: first what stands after `*` and `**` is checked, then their items and entries are taken, 1
+/// before each, and then no name may come twice. `BadType` where `*` has no iterable, or `**` no dictionary whose keys
+/// are all strings; `Steps` where a payment is too large; `Args` where a name comes twice.
 #[tactic(auto, unfolding(star_meaning::specs::Arguments::given))]
 pub fn given(
     machine: &mut Machine,

@@ -62,7 +62,7 @@ fn keys_and_values(
 ) -> Result<Entries, Stop>
     ensures { Gives (each (spec.key_and_value line) (all_named named.now) machine.old) result machine.new }
 {
-    let mut entries = Entries::new(machine.alloc());
+    let mut entries = Entries::with_capacity(machine.alloc(), named.len())?;
     for value in named {
         let key = machine.key_for(line, *value)?;
         entries.push(key, value.value)?;
@@ -100,7 +100,8 @@ fn all_made<'t>(
     shares: &[(&'t Name, Share<'_>)],
     left: &[&NamedValue],
 ) -> Result<Vec<(&'t Name, Value)>, Stop>
-    ensures { GivesBy (λ v. map bound_value v.items) (spec.make_shares line (all_shown (all_named left.now) shares.now) machine.old) result machine.new }
+    ensures { GivesBy (λ v. map bound_value v.items)
+        (spec.make_shares line (all_shown (all_named left.now) shares.now) machine.old) result machine.new }
 {
     let mut values = Vec::new(machine.alloc());
     for (name, share) in shares {
@@ -110,7 +111,8 @@ fn all_made<'t>(
     Ok(values)
 }
 
-/// Each share as a value, in order: `*name` is a new tuple, `**name` a new dictionary, whose keys are made first, in order.
+/// Each share as a value, in order: `*name` is a new tuple, `**name` a new dictionary, whose keys are made first, in
+/// order.
 pub fn make_shares<'t>(
     machine: &mut Machine,
     line: usize,

@@ -10,7 +10,8 @@ use crate::ends::{End, ends_of, trail};
 use std::alloc::{AllocError, Global};
 use std::marker::Model;
 
-/// For each file the file by which it fails, where there is one, and where the way along these leads: seen as the former.
+/// For each file the file by which it fails, where there is one, and where the way along these leads: seen as the
+/// former.
 #[derive(Drop)]
 pub struct Causes {
     nexts: Vec<Option<usize>>,
@@ -49,7 +50,8 @@ impl Causes {
         Ok(Causes { nexts, ends })
     }
 
-    /// The cause of a file: the file without a next one to which the way from it leads, or the cycle into which it does.
+    /// The cause of a file: the file without a next one to which the way from it leads, or the cycle into which it
+    /// does.
     pub fn of(&self, alloc: Global, n: usize) -> Result<Cause, AllocError>
         requires { n < length self.now }
         ensures way { IfOk result (λ c. EndsIn self.now n (cause_of c)) }

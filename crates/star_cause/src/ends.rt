@@ -6,7 +6,8 @@ ghost use Rattle.star_cause.specs.Ways.{HasWay, IsTrail};
 
 use std::alloc::{AllocError, Global};
 
-/// Where the way from a file ends: at a file without a next one, or in a cycle of so many files, by the first of them that is met.
+/// Where the way from a file ends: at a file without a next one, or in a cycle of so many files, by the first of them
+/// that is met.
 #[derive(Clone, Copy, Debug, PartialEq, Eq)]
 pub(crate) enum End {
     Last(usize),

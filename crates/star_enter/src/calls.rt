@@ -32,7 +32,8 @@ fn definition_of<'t>(
     world: &World<'_, 't>,
     value: Value,
 ) -> Option<Definition<'t>>
-    ensures { option_map definition_of result ≡ definition_for world.now.setting (content world.now.setting machine.now value) }
+    ensures { option_map definition_of result
+        ≡ definition_for world.now.setting (content world.now.setting machine.now value) }
 {
     match definition_number(machine, world.setting(), value) {
         Some((file, number)) => world.definition(file, number),
@@ -47,7 +48,8 @@ pub fn callee_of<'t>(
     line: usize,
     value: Value,
 ) -> Result<Callee<'t>, Stop>
-    ensures answer { GivesBy (shown (content world.now.setting machine.now)) (spec.callee world.now.setting line value machine.now) result machine.now }
+    ensures answer { GivesBy (shown (content world.now.setting machine.now))
+        (spec.callee world.now.setting line value machine.now) result machine.now }
     ensures found { IfOk result (IsFound world.now.setting) }
 {
     let definition = definition_of(machine, world, value);
@@ -133,8 +135,8 @@ fn bind_by_place(
     Ok(())
 }
 
-/// The place in which the body of a call runs, each of whose parameters gets the value at its own place: its frame, which pays 1,
-/// with the parameters in it; then its definition is active.
+/// The place in which the body of a call runs, each of whose parameters gets the value at its own place: its frame,
+/// which pays 1, with the parameters in it; then its definition is active.
 #[tactic(auto, unfolding(crate::specs::Entering::begin))]
 pub fn enter_by_place(
     machine: &mut Machine,
@@ -143,7 +145,8 @@ pub fn enter_by_place(
     called: Called<'_>,
     values: &[Value],
 ) -> Result<Place, Stop>
-    ensures { Gives (framed world.now line called.entry.file called.entry.number called.entry.frame (by_place called.entry.definition.parameters.now values.now) give machine.old) result machine.new }
+    ensures { Gives (framed world.now line called.entry.file called.entry.number called.entry.frame
+        (by_place called.entry.definition.parameters.now values.now) give machine.old) result machine.new }
 {
     let block = 1 + called.number as usize;
     let frame = paid_frame(machine, world, line, called.file, block, Some(called.frame))?;
@@ -157,8 +160,8 @@ pub fn enter_by_place(
     Ok(place)
 }
 
-/// The place in which the body of a call runs, whose parameters have these values: its frame, which pays 1, with the parameters in
-/// it; then its definition is active.
+/// The place in which the body of a call runs, whose parameters have these values: its frame, which pays 1, with the
+/// parameters in it; then its definition is active.
 #[tactic(auto, unfolding(crate::specs::Entering::begin))]
 fn enter_with(
     machine: &mut Machine,
@@ -167,7 +170,8 @@ fn enter_with(
     called: Called<'_>,
     values: &[(&Name, Value)],
 ) -> Result<Place, Stop>
-    ensures { Gives (framed world.now line called.entry.file called.entry.number called.entry.frame (map bound_value values.now) give machine.old) result machine.new }
+    ensures { Gives (framed world.now line called.entry.file called.entry.number called.entry.frame
+        (map bound_value values.now) give machine.old) result machine.new }
 {
     let block = 1 + called.number as usize;
     let frame = paid_frame(machine, world, line, called.file, block, Some(called.frame))?;
@@ -189,7 +193,8 @@ pub fn enter_call(
     called: Called<'_>,
     shares: &Shares<'_, '_>,
 ) -> Result<Place, Stop>
-    ensures { Gives (entering world.now line called.entry.file called.entry.number called.entry.frame shares.now give machine.old) result machine.new }
+    ensures { Gives (entering world.now line called.entry.file called.entry.number called.entry.frame shares.now give
+        machine.old) result machine.new }
 {
     let values = make_shares(machine, line, shares)?;
     enter_with(machine, world, line, called, &values)

@@ -1,5 +1,5 @@
-//! Calls of functions whose parameters have a layout. Their frames stand on the row of the defaults, and the time of a call follows
-//! what is given, however many parameters there are.
+//! Calls of functions whose parameters have a layout. Their frames stand on the row of the defaults, and the time of a
+//! call follows what is given, however many parameters there are.
 
 ghost use Rattle.std.specs.Prelude.{◌≡◌, ℕ, [], drop, take, true, IfOk, IfSome, None, OnOk};
 ghost use Rattle.std.specs.List.{list_all};
@@ -26,8 +26,8 @@ use star_world::variables::frame_with;
 use star_world::world::World;
 use std::alloc::{AllocError, Global};
 
-/// What is bound to parameters that have a layout: the slots of the frame, but for those of `*name` and `**name`; and what is left for
-/// these, where there are such parameters.
+/// What is bound to parameters that have a layout: the slots of the frame, but for those of `*name` and `**name`; and
+/// what is left for these, where there are such parameters.
 #[derive(Drop)]
 pub struct Bound<'g> {
     slots: Slots,
@@ -47,8 +47,8 @@ fn own_slot(order: &Order<'_, '_>, value: &NamedValue) -> Option<usize>
     }
 }
 
-/// Gives values by name their slots: of two with one name the first is taken. Whether each can be taken: by its parameter, which has
-/// the slot `from` or a later one, or by `**name`.
+/// Gives values by name their slots: of two with one name the first is taken. Whether each can be taken: by its
+/// parameter, which has the slot `from` or a later one, or by `**name`.
 #[tactic(auto, using(crate::proofs::OrderedRows::named_end, crate::proofs::OrderedRows::unnamed_end, crate::proofs::OrderedRows::taken_end, crate::proofs::OrderedRows::untaken_end))]
 fn set_named(
     slots: &mut Slots,
@@ -57,7 +57,8 @@ fn set_named(
     from: usize,
 ) -> Result<bool, AllocError>
     ensures taken { IfOk result (λ all. all ≡ true → AreTaken order.now.layout.now order.now.names.now from named.now) }
-    ensures set { IfOk result (λ all. all ≡ true → slots.new ≡ with_named order.now.layout.now order.now.names.now named.now slots.old) }
+    ensures set { IfOk result (λ all. all ≡ true → slots.new
+        ≡ with_named order.now.layout.now order.now.names.now named.now slots.old) }
 {
     let mut rest = named;
     while let Some((last, before)) = rest.split_last() {
@@ -154,7 +155,8 @@ fn left_of<'g>(
     order: &Order<'_, '_>,
     named: &'g [NamedValue],
 ) -> Result<Vec<&'g NamedValue>, AllocError>
-    ensures { (from : ℕ) → AreTaken order.now.layout.now order.now.names.now from named.now → IfOk result (λ v. all_named v.items ≡ unowned order.now.layout.now order.now.names.now named.now) }
+    ensures { (from : ℕ) → AreTaken order.now.layout.now order.now.names.now from named.now
+        → IfOk result (λ v. all_named v.items ≡ unowned order.now.layout.now order.now.names.now named.now) }
 {
     match order.layout.names() {
         Some(_) => all_unowned(alloc, order, named),
@@ -206,7 +208,9 @@ pub fn bound_of<'g>(
     given: &'g Given,
 ) -> Result<Option<Bound<'g>>, AllocError>
     requires { IsDefined world.now.setting called.now }
-    ensures { IfOk result (λ o. IfSome o (AreBound world.now called.now.file called.now.number called.now.frame called.now.definition.parameters.now (defaults_in (content world.now.setting machine.now called.now.value)) given.now)) }
+    ensures { IfOk result (λ o. IfSome o
+        (AreBound world.now called.now.file called.now.number called.now.frame called.now.definition.parameters.now
+        (defaults_in (content world.now.setting machine.now called.now.value)) given.now)) }
 {
     let Some(order) = world.order(called.file, called.number) else {
         return Ok(None);
@@ -231,7 +235,8 @@ fn with_share(
     left: &[&NamedValue],
     slots: Slots,
 ) -> Result<Slots, Stop>
-    ensures { Gives (with_share line slot (share_of (all_named left.now) share.entry) slots machine.old) result machine.new }
+    ensures { Gives (with_share line slot (share_of (all_named left.now) share.entry) slots machine.old)
+        result machine.new }
 {
     let Some(slot) = slot else {
         return Ok(slots);
@@ -242,8 +247,8 @@ fn with_share(
     Ok(slots)
 }
 
-/// The place in which the body of a call runs to whose parameters this is bound: the tuple of `*name` is made, then the dictionary of
-/// `**name`, then the frame, which pays 1; then its definition is active.
+/// The place in which the body of a call runs to whose parameters this is bound: the tuple of `*name` is made, then the
+/// dictionary of `**name`, then the frame, which pays 1; then its definition is active.
 #[tactic(auto, unfolding(crate::specs::Entering::begin))]
 pub fn enter_bound(
     machine: &mut Machine,
@@ -251,7 +256,8 @@ pub fn enter_bound(
     called: Called<'_>,
     bound: Bound<'_>,
 ) -> Result<Place, Stop>
-    ensures { Gives (entering_bound line called.entry.file called.entry.number called.entry.frame bound.entry give machine.old) result machine.new }
+    ensures { Gives (entering_bound line called.entry.file called.entry.number called.entry.frame bound.entry give
+        machine.old) result machine.new }
 {
     let Bound {
         slots,

@@ -20,12 +20,12 @@ use Rattle.star_eval.specs.declared.open_clause.OpenClause.{OpenClause}
 use Rattle.star_eval.specs.declared.targets.TargetParts.{TargetParts}
 use Rattle.star_world.specs.World.{World, meant, variables}
 
--- what a comprehension adds behind its clauses
+-- what a comprehension adds after its clauses
 abbrev pub last : World → ℕ → Place → Output → Action (Unit {0})
 last c levels p (output.Element e l) = add_element c.setting (meant c levels) p e.now l
 last c levels p (output.Entry e d) = add_entry c.setting levels (meant c levels) p e.now d
 
--- the clauses of a comprehension from one on, and what is added behind them
+-- the clauses of a comprehension from one on, and what is added after them
 abbrev pub behind : World → ℕ → Place → List Clause → Output → Action (Unit {0})
 behind c levels p cs o = clauses (variables c) c.setting (meant c levels) p cs (last c levels p o)
 

@@ -31,7 +31,8 @@ pub(crate) fn make_list(
     element: &Expression,
     clauses: &Clauses,
 ) -> Result<Value, Stop>
-    ensures { Gives (list_comprehension (variables world.now) world.now.setting (meant world.now levels) place.now (1 + token) element.now clauses.now machine.old) result machine.new }
+    ensures { Gives (list_comprehension (variables world.now) world.now.setting (meant world.now levels) place.now
+        (1 + token) element.now clauses.now machine.old) result machine.new }
 {
     let value = evaluate(machine, world, levels, place, clauses.iterable.get())?;
     let line = place.line;
@@ -53,7 +54,8 @@ fn fill_list(
     clauses: &Clauses,
     value: Value,
 ) -> Result<Value, Stop>
-    ensures { Gives (filled_list world.now levels line place.now element.entry clauses.now value machine.old) result machine.new }
+    ensures { Gives (filled_list world.now levels line place.now element.entry clauses.now value machine.old)
+        result machine.new }
 {
     let list = new_row(machine, line)?;
     let output = Output::Element { element, list };
@@ -71,7 +73,8 @@ pub(crate) fn make_dict(
     entry: &Entry,
     clauses: &Clauses,
 ) -> Result<Value, Stop>
-    ensures { Gives (dict_comprehension (variables world.now) world.now.setting levels (meant world.now levels) place.now (1 + token) entry.now clauses.now machine.old) result machine.new }
+    ensures { Gives (dict_comprehension (variables world.now) world.now.setting levels (meant world.now levels)
+        place.now (1 + token) entry.now clauses.now machine.old) result machine.new }
 {
     let value = evaluate(machine, world, levels, place, clauses.iterable.get())?;
     let line = place.line;
@@ -91,7 +94,8 @@ fn fill_dict(
     clauses: &Clauses,
     value: Value,
 ) -> Result<Value, Stop>
-    ensures { Gives (filled_dict world.now levels line place.now entry.entry clauses.now value machine.old) result machine.new }
+    ensures { Gives (filled_dict world.now levels line place.now entry.entry clauses.now value machine.old)
+        result machine.new }
 {
     let dict = new_table(machine, line)?;
     let output = Output::Entry { entry, dict };
@@ -157,8 +161,8 @@ fn run_turns<'t>(
     }
 }
 
-/// The next turn of an open clause: the next item is taken and assigned, and the clauses after it run up to the next `for`, which is
-/// opened.
+/// The next turn of an open clause: the next item is taken and assigned, and the clauses after it run up to the next
+/// `for`, which is opened.
 #[cycle(run)]
 #[tactic(auto, using(crate::proofs::Spends::item_pays, crate::proofs::Spends::target_spends))]
 fn run_turn<'t>(
@@ -181,8 +185,8 @@ fn run_turn<'t>(
     Ok(opened)
 }
 
-/// The clauses in order up to the next `for`, which is opened, and what is added after the last: nothing is opened then, nor where a
-/// condition is false.
+/// The clauses in order up to the next `for`, which is opened, and what is added after the last: nothing is opened
+/// then, nor where a condition is false.
 #[cycle(run)]
 #[tactic(auto, using(crate::proofs::Clauses::just_opened, crate::proofs::Spends::expression_spends, crate::proofs::Spends::iterate_spends, crate::proofs::Spends::last_spends))]
 fn run_clauses<'t>(
@@ -224,7 +228,8 @@ fn run_clauses<'t>(
     Ok(None)
 }
 
-/// What a comprehension adds behind its clauses: an element, then 1; or an entry, whose key is checked, then 1 where the key is new.
+/// What a comprehension adds after its clauses: an element, then 1; or an entry, whose key is checked, then 1 where
+/// the key is new.
 #[cycle(run)]
 fn add(
     machine: &mut Machine,

@@ -48,8 +48,8 @@ use star_world::parts::{answer_of, new_closure, new_string};
 use star_world::variables::read;
 use star_world::world::World;
 
-/// The value of an expression. `Deep` where no level is left; a node pays 1 as it begins. A name is read apart from other nodes, so
-/// that its value is not copied through memory.
+/// The value of an expression. `Deep` where no level is left; a node pays 1 as it begins. A name is read apart from
+/// other nodes, so that its value is not copied through memory.
 #[cycle(run)]
 #[tactic(auto, using(star_meaning::proofs::Levels::expr_at, star_meaning::proofs::Levels::expr_at_none))]
 pub fn evaluate(
@@ -81,7 +81,8 @@ fn evaluate_node(
     place: &Place,
     expression: &Expression,
 ) -> Result<Value, Stop>
-    ensures { Gives (node (variables world.now) world.now.setting levels (meant world.now levels) place.now (form.expression expression.now) machine.old) result machine.new }
+    ensures { Gives (node (variables world.now) world.now.setting levels (meant world.now levels) place.now
+        (form.expression expression.now) machine.old) result machine.new }
 {
     match expression {
         Expression::Name(name) => read(machine, world, place, name),
@@ -101,7 +102,8 @@ fn evaluate_any(
     place: &Place,
     expression: &Expression,
 ) -> Result<Value, Stop>
-    ensures { Gives (node (variables world.now) world.now.setting levels (meant world.now levels) place.now (form.expression expression.now) machine.old) result machine.new }
+    ensures { Gives (node (variables world.now) world.now.setting levels (meant world.now levels) place.now
+        (form.expression expression.now) machine.old) result machine.new }
 {
     match expression {
         Expression::Name(name) => read(machine, world, place, name),
@@ -249,7 +251,7 @@ pub(crate) fn evaluate_each(
 ) -> Result<Values, Stop>
     ensures { Gives (each ((meant world.now levels).expr place.now) expressions.now machine.old) result machine.new }
 {
-    let mut values = Values::new(Vec::new(machine.alloc()));
+    let mut values = Values::new(Vec::with_capacity(machine.alloc(), expressions.len())?);
     for expression in expressions {
         let value = evaluate(machine, world, levels, place, expression)?;
         values.push(value)?;
@@ -304,7 +306,7 @@ pub(crate) fn evaluate_entries(
 ) -> Result<Entries, Stop>
     ensures { Gives (each (entry_of (meant world.now levels) place.now) entries.now machine.old) result machine.new }
 {
-    let mut found = Entries::new(machine.alloc());
+    let mut found = Entries::with_capacity(machine.alloc(), entries.len())?;
     for entry in entries {
         let (key, value) = evaluate_entry(machine, world, levels, place, entry)?;
         found.push(key, value)?;
@@ -344,7 +346,8 @@ pub(crate) fn make_function(
     name: &str,
     parameters: &[Parameter],
 ) -> Result<Value, Stop>
-    ensures { Gives (new_function (meant world.now levels) place.now token name.now parameters.now machine.old) result machine.new }
+    ensures { Gives (new_function (meant world.now levels) place.now token name.now parameters.now machine.old)
+        result machine.new }
 {
     let defaults = evaluate_defaults(machine, world, levels, place, parameters)?;
     new_closure(machine, place, token, name, defaults)
@@ -359,7 +362,8 @@ fn pass<'t>(
     place: &Place,
     argument: &'t Argument,
 ) -> Result<Passed<'t>, Stop>
-    ensures { GivesBy passing.shown (calls.pass (meant world.now levels) place.now argument.now machine.old) result machine.new }
+    ensures { GivesBy passing.shown (calls.pass (meant world.now levels) place.now argument.now machine.old)
+        result machine.new }
 {
     match argument {
         Argument::Positional(value) => Ok(Passed::Plain(evaluate(
@@ -385,7 +389,8 @@ fn evaluate_arguments(
     place: &Place,
     arguments: &[Argument],
 ) -> Result<Values, Stop>
-    ensures { Gives (each (λ a. (meant world.now levels).expr place.now (expression_of a)) arguments.now machine.old) result machine.new }
+    ensures { Gives (each (λ a. (meant world.now levels).expr place.now (expression_of a)) arguments.now machine.old)
+        result machine.new }
 {
     let mut values = Values::new(Vec::new(machine.alloc()));
     for argument in arguments {
@@ -404,7 +409,8 @@ fn pass_each<'t>(
     place: &Place,
     arguments: &'t [Argument],
 ) -> Result<Vec<Passed<'t>>, Stop>
-    ensures { GivesBy (λ ps. passing.all_shown ps.items) (each (calls.pass (meant world.now levels) place.now) arguments.now machine.old) result machine.new }
+    ensures { GivesBy (λ ps. passing.all_shown ps.items)
+        (each (calls.pass (meant world.now levels) place.now) arguments.now machine.old) result machine.new }
 {
     let mut values = Vec::new(machine.alloc());
     for argument in arguments {
@@ -424,7 +430,8 @@ fn call(
     function: &Expression,
     arguments: &[Argument],
 ) -> Result<Value, Stop>
-    ensures { Gives (calls.call_node world.now.setting levels (meant world.now levels) place.now function.now arguments.now machine.old) result machine.new }
+    ensures { Gives (calls.call_node world.now.setting levels (meant world.now levels) place.now function.now
+        arguments.now machine.old) result machine.new }
 {
     let value = evaluate(machine, world, levels, place, function)?;
     if are_positional(arguments) {
@@ -485,7 +492,8 @@ fn call_on(
     given: &Given,
 ) -> Result<Value, Stop>
     requires { IsFound world.now.setting callee }
-    ensures { Gives (calls.called world.now.setting levels (meant world.now levels) place.now (shown (content world.now.setting machine.old) callee.entry) given.now machine.old) result machine.new }
+    ensures { Gives (calls.called world.now.setting levels (meant world.now levels) place.now
+        (shown (content world.now.setting machine.old) callee.entry) given.now machine.old) result machine.new }
 {
     let line = place.line;
     match callee {
@@ -507,8 +515,8 @@ fn call_on(
     }
 }
 
-/// A call of a function: its arguments are bound, or `Args`; then it runs. Where each parameter gets the value at its own place, or the
-/// parameters have a layout, they are not bound one by one.
+/// A call of a function: its arguments are bound, or `Args`; then it runs. Where each parameter gets the value at its
+/// own place, or the parameters have a layout, they are not bound one by one.
 #[cycle(run)]
 #[tactic(auto, using(star_enter::proofs::ByPlace::bound_by_place))]
 fn call_function(
@@ -520,7 +528,9 @@ fn call_function(
     given: &Given,
 ) -> Result<Value, Stop>
     requires { IsDefined world.now.setting called }
-    ensures { Gives (calls.called world.now.setting levels (meant world.now levels) place.now (AFunction (function_of (content world.now.setting machine.old called.entry.value) called.entry) (definition_of called.entry.definition)) given.now machine.old) result machine.new }
+    ensures { Gives (calls.called world.now.setting levels (meant world.now levels) place.now
+        (AFunction (function_of (content world.now.setting machine.old called.entry.value) called.entry)
+        (definition_of called.entry.definition)) given.now machine.old) result machine.new }
 {
     if fit_by_place(called.definition.parameters, given) {
         return run_by_place(
@@ -550,7 +560,10 @@ fn run_by_place(
     called: Called<'_>,
     values: &[Value],
 ) -> Result<Value, Stop>
-    ensures { Gives ((meant world.now levels).call place.now (function_of (content world.now.setting machine.old called.entry.value) called.entry) (definition_of called.entry.definition) (shares_by_place called.entry.definition.parameters.now values.now) machine.old) result machine.new }
+    ensures { Gives ((meant world.now levels).call place.now
+        (function_of (content world.now.setting machine.old called.entry.value) called.entry)
+        (definition_of called.entry.definition) (shares_by_place called.entry.definition.parameters.now values.now)
+        machine.old) result machine.new }
 {
     if levels == 0 {
         return Err(faulted(Code::Deep, place.line));
@@ -570,7 +583,11 @@ fn run_bound(
     called: Called<'_>,
     bound: Bound<'_>,
 ) -> Result<Value, Stop>
-    ensures { (shares : List (Name × AnyShare)) → HasBound world.now called.entry.file called.entry.number called.entry.frame shares bound.entry → Gives ((meant world.now levels).call place.now (function_of (content world.now.setting machine.old called.entry.value) called.entry) (definition_of called.entry.definition) shares machine.old) result machine.new }
+    ensures { (shares : List (Name × AnyShare))
+        → HasBound world.now called.entry.file called.entry.number called.entry.frame shares bound.entry
+        → Gives ((meant world.now levels).call place.now
+        (function_of (content world.now.setting machine.old called.entry.value) called.entry)
+        (definition_of called.entry.definition) shares machine.old) result machine.new }
 {
     if levels == 0 {
         return Err(faulted(Code::Deep, place.line));
@@ -579,7 +596,8 @@ fn run_bound(
     run_left(machine, world, levels - 1, &place, called.definition)
 }
 
-/// The run of a function: the values of its parameters, its frame, the parameters in it, its body. `Deep` where no level is left.
+/// The run of a function: the values of its parameters, its frame, the parameters in it, its body. `Deep` where no
+/// level is left.
 #[cycle(run)]
 #[tactic(auto, using(star_meaning::proofs::Levels::call_at, star_meaning::proofs::Levels::call_at_none, star_enter::proofs::Entering::run_is))]
 fn run_function(
@@ -590,7 +608,9 @@ fn run_function(
     called: Called<'_>,
     shares: &Shares<'_, '_>,
 ) -> Result<Value, Stop>
-    ensures { Gives ((meant world.now levels).call place.now (function_of (content world.now.setting machine.old called.entry.value) called.entry) (definition_of called.entry.definition) shares.now machine.old) result machine.new }
+    ensures { Gives ((meant world.now levels).call place.now
+        (function_of (content world.now.setting machine.old called.entry.value) called.entry)
+        (definition_of called.entry.definition) shares.now machine.old) result machine.new }
 {
     if levels == 0 {
         return Err(faulted(Code::Deep, place.line));
@@ -608,14 +628,16 @@ fn run_left(
     place: &Place,
     definition: Definition<'_>,
 ) -> Result<Value, Stop>
-    ensures { Gives (left (meant world.now levels) (definition_of definition.entry) place.now machine.old) result machine.new }
+    ensures { Gives (left (meant world.now levels) (definition_of definition.entry) place.now machine.old)
+        result machine.new }
 {
     let answer = run_body(machine, world, levels, place, definition.body)?;
     machine.deactivate();
     Ok(answer)
 }
 
-/// What a body answers: its statements return a value, or the None of a body that ends; a lambda's expression is the answer.
+/// What a body answers: its statements return a value, or the None of a body that ends; a lambda's expression is the
+/// answer.
 #[cycle(run)]
 fn run_body(
     machine: &mut Machine,
@@ -624,7 +646,8 @@ fn run_body(
     place: &Place,
     body: Body<'_>,
 ) -> Result<Value, Stop>
-    ensures { Gives (calls.run_body (meant world.now levels) place.now (body_of body.entry) machine.old) result machine.new }
+    ensures { Gives (calls.run_body (meant world.now levels) place.now (body_of body.entry) machine.old)
+        result machine.new }
 {
     match body {
         Body::Statements(statements) => {

@@ -27,8 +27,8 @@ use star_world::parts::{place_of, split_first};
 use star_world::variables::{bind, read};
 use star_world::world::World;
 
-/// How a statement ends. `Deep` where no level is left; it pays 1 as it begins. One of the running module's own file gives a fault
-/// its line.
+/// How a statement ends. `Deep` where no level is left; it pays 1 as it begins. One of the running module's own file
+/// gives a fault its line.
 #[cycle(run)]
 #[tactic(auto, using(star_meaning::proofs::Levels::stmt_at, star_meaning::proofs::Levels::stmt_at_none))]
 pub fn execute(
@@ -48,7 +48,8 @@ pub fn execute(
     execute_form(machine, world, levels - 1, &place, statement)
 }
 
-/// How a statement ends, whose parts may open so many levels: an expression that stands alone, or an assignment, at once.
+/// How a statement ends, whose parts may open so many levels: an expression that stands alone, or an assignment, at
+/// once.
 #[inline(always)]
 #[cycle(run)]
 fn execute_form(
@@ -58,7 +59,8 @@ fn execute_form(
     place: &Place,
     statement: &Statement,
 ) -> Result<Flow, Stop>
-    ensures { Gives (spec.statement (variables world.now) world.now.setting levels (meant world.now levels) place.now (form.position_of statement.now) (form.form_of statement.now) machine.old) result machine.new }
+    ensures { Gives (spec.statement (variables world.now) world.now.setting levels (meant world.now levels) place.now
+        (form.position_of statement.now) (form.form_of statement.now) machine.old) result machine.new }
 {
     match &statement.form {
         Form::Expression(value) => execute_expression(machine, world, levels, place, value),
@@ -79,7 +81,8 @@ fn execute_any(
     place: &Place,
     statement: &Statement,
 ) -> Result<Flow, Stop>
-    ensures { Gives (spec.statement (variables world.now) world.now.setting levels (meant world.now levels) place.now (form.position_of statement.now) (form.form_of statement.now) machine.old) result machine.new }
+    ensures { Gives (spec.statement (variables world.now) world.now.setting levels (meant world.now levels) place.now
+        (form.position_of statement.now) (form.form_of statement.now) machine.old) result machine.new }
 {
     match &statement.form {
         Form::Expression(value) => execute_expression(machine, world, levels, place, value),
@@ -184,7 +187,8 @@ fn execute_augment(
     value: &Expression,
     target: &Target,
 ) -> Result<Flow, Stop>
-    ensures { Gives (augmented_by world.now levels place.now operator value.now target.now machine.old) result machine.new }
+    ensures { Gives (augmented_by world.now levels place.now operator value.now target.now machine.old)
+        result machine.new }
 {
     augment_target(machine, world, levels, place, operator, value, target)?;
     Ok(Flow::Next)
@@ -230,7 +234,8 @@ fn execute_for(
     iterable: &Expression,
     body: &[Statement],
 ) -> Result<Flow, Stop>
-    ensures { Gives (looped world.now levels place.now target.now iterable.now body.now machine.old) result machine.new }
+    ensures { Gives (looped world.now levels place.now target.now iterable.now body.now machine.old)
+        result machine.new }
 {
     let value = evaluate(machine, world, levels, place, iterable)?;
     execute_loop(machine, world, levels, place, target, body, value)
@@ -255,7 +260,7 @@ fn execute_def(
     Ok(Flow::Next)
 }
 
-/// Statements in order, up to the first behind which the next one does not follow.
+/// Statements in order, up to the first after which the next one does not follow.
 #[cycle(run)]
 pub fn execute_each(
     machine: &mut Machine,
@@ -285,7 +290,8 @@ fn execute_arms(
     arms: &[Arm],
     otherwise: &[Statement],
 ) -> Result<Flow, Stop>
-    ensures { Gives (spec.arms world.now.setting (meant world.now levels) place.now arms.now (block ((meant world.now levels).stmt place.now) otherwise.now) machine.old) result machine.new }
+    ensures { Gives (spec.arms world.now.setting (meant world.now levels) place.now arms.now
+        (block ((meant world.now levels).stmt place.now) otherwise.now) machine.old) result machine.new }
 {
     for arm in arms {
         let value = evaluate(machine, world, levels, place, &arm.condition)?;
@@ -307,7 +313,8 @@ fn execute_loop(
     body: &[Statement],
     value: Value,
 ) -> Result<Flow, Stop>
-    ensures { Gives (spec.loop (variables world.now) world.now.setting (meant world.now levels) place.now target.now body.now value machine.old) result machine.new }
+    ensures { Gives (spec.loop (variables world.now) world.now.setting (meant world.now levels) place.now target.now
+        body.now value machine.old) result machine.new }
 {
     let count = machine.iterate(world.setting(), place.line, value)?;
     let flow = execute_turns(machine, world, levels, place, target, body, value, count)?;
@@ -328,7 +335,8 @@ fn execute_turns(
     value: Value,
     count: usize,
 ) -> Result<Flow, Stop>
-    ensures { Gives (turns (spec.loop_turn (variables world.now) world.now.setting (meant world.now levels) place.now target.now body.now value) count 0 machine.old) result machine.new }
+    ensures { Gives (turns (spec.loop_turn (variables world.now) world.now.setting (meant world.now levels) place.now
+        target.now body.now value) count 0 machine.old) result machine.new }
 {
     for i in 0..count {
         match execute_turn(machine, world, levels, place, target, body, value, i)? {
@@ -352,15 +360,16 @@ fn execute_turn(
     value: Value,
     i: usize,
 ) -> Result<Flow, Stop>
-    ensures { Gives (spec.loop_turn (variables world.now) world.now.setting (meant world.now levels) place.now target.now body.now value i machine.old) result machine.new }
+    ensures { Gives (spec.loop_turn (variables world.now) world.now.setting (meant world.now levels) place.now
+        target.now body.now value i machine.old) result machine.new }
 {
     let item = machine.take_item(world.setting(), place.line, value, i)?;
     assign_to(machine, world, levels, place, target, item)?;
     execute_each(machine, world, levels, place, body)
 }
 
-/// `target operator= value`: the target's parts are evaluated once, it is read, the value is evaluated, then it is computed and
-/// written.
+/// `target operator= value`: the target's parts are evaluated once, it is read, the value is evaluated, then it is
+/// computed and written.
 #[cycle(run)]
 fn augment_target(
     machine: &mut Machine,
@@ -371,7 +380,8 @@ fn augment_target(
     value: &Expression,
     target: &Target,
 ) -> Result<(), Stop>
-    ensures { Gives (spec.augment (variables world.now) world.now.setting levels (meant world.now levels) place.now operator value.now (form.target target.now) machine.old) result machine.new }
+    ensures { Gives (spec.augment (variables world.now) world.now.setting levels (meant world.now levels) place.now
+        operator value.now (form.target target.now) machine.old) result machine.new }
 {
     match target {
         Target::Name(name) => {
@@ -409,7 +419,8 @@ pub(crate) fn assign_to(
     target: &Target,
     value: Value,
 ) -> Result<(), Stop>
-    ensures { Gives (to_target (variables world.now) (meant world.now levels) place.now target.now value machine.old) result machine.new }
+    ensures { Gives (to_target (variables world.now) (meant world.now levels) place.now target.now value machine.old)
+        result machine.new }
 {
     if let Target::Name(name) = target {
         return bind(machine, world, place, name, value);
@@ -447,7 +458,8 @@ fn assign_node(
     target: &Target,
     value: Value,
 ) -> Result<(), Stop>
-    ensures { Gives (target_node (variables world.now) world.now.setting levels (meant world.now levels) place.now (form.target target.now) value machine.old) result machine.new }
+    ensures { Gives (target_node (variables world.now) world.now.setting levels (meant world.now levels) place.now
+        (form.target target.now) value machine.old) result machine.new }
 {
     match target {
         Target::Name(name) => { bind(machine, world, place, name, value) }
@@ -470,7 +482,8 @@ fn assign_node(
     }
 }
 
-/// Unpacking: all items are taken, then there must be as many as targets, then they are assigned. `BadValue` for another number.
+/// Unpacking: all items are taken, then there must be as many as targets, then they are assigned. `BadValue` for
+/// another number.
 #[cycle(run)]
 fn unpack_to(
     machine: &mut Machine,
@@ -480,7 +493,8 @@ fn unpack_to(
     targets: &[Target],
     value: Value,
 ) -> Result<(), Stop>
-    ensures { Gives (unpack (variables world.now) world.now.setting (meant world.now levels) place.now targets.now value machine.old) result machine.new }
+    ensures { Gives (unpack (variables world.now) world.now.setting (meant world.now levels) place.now targets.now value
+        machine.old) result machine.new }
 {
     let items = machine.take_all(world.setting(), place.line, value)?;
     if items.len() != targets.len() {
@@ -499,7 +513,8 @@ fn assign_each(
     targets: &[Target],
     values: &[Value],
 ) -> Result<(), Stop>
-    ensures { Gives (to_each (variables world.now) (meant world.now levels) place.now targets.now values.now machine.old) result machine.new }
+    ensures { Gives (to_each (variables world.now) (meant world.now levels) place.now targets.now values.now
+        machine.old) result machine.new }
 {
     let mut rest = values;
     for target in targets {
@@ -526,7 +541,8 @@ fn read_target(
     base: &Expression,
     at: &Expression,
 ) -> Result<TargetParts, Stop>
-    ensures { GivesBy shown_parts ((meant world.now levels).parts place.now base.now at.now machine.old) result machine.new }
+    ensures { GivesBy shown_parts ((meant world.now levels).parts place.now base.now at.now machine.old)
+        result machine.new }
 {
     if levels == 0 {
         return Err(faulted(Code::Deep, place.line));

@@ -29,7 +29,8 @@ pub(crate) fn evaluate_tuple(
     place: &Place,
     items: &[Expression],
 ) -> Result<Value, Stop>
-    ensures { Gives (node (variables world.now) world.now.setting levels (meant world.now levels) place.now (tree.Expression-F.Expression::Tuple items.now) machine.old) result machine.new }
+    ensures { Gives (node (variables world.now) world.now.setting levels (meant world.now levels) place.now
+        (tree.Expression-F.Expression::Tuple items.now) machine.old) result machine.new }
 {
     let values = evaluate_each(machine, world, levels, place, items)?;
     machine.new_tuple(place.line, values)
@@ -44,7 +45,8 @@ pub(crate) fn evaluate_list(
     place: &Place,
     items: &[Expression],
 ) -> Result<Value, Stop>
-    ensures { Gives (node (variables world.now) world.now.setting levels (meant world.now levels) place.now (tree.Expression-F.Expression::List items.now) machine.old) result machine.new }
+    ensures { Gives (node (variables world.now) world.now.setting levels (meant world.now levels) place.now
+        (tree.Expression-F.Expression::List items.now) machine.old) result machine.new }
 {
     let values = evaluate_each(machine, world, levels, place, items)?;
     machine.new_list(place.line, values)
@@ -59,7 +61,8 @@ pub(crate) fn evaluate_dict(
     place: &Place,
     entries: &[Entry],
 ) -> Result<Value, Stop>
-    ensures { Gives (node (variables world.now) world.now.setting levels (meant world.now levels) place.now (tree.Dict entries.now) machine.old) result machine.new }
+    ensures { Gives (node (variables world.now) world.now.setting levels (meant world.now levels) place.now
+        (tree.Dict entries.now) machine.old) result machine.new }
 {
     let found = evaluate_entries(machine, world, levels, place, entries)?;
     let fresh = fresh_entries(machine, world, levels, place.line, &found)?;
@@ -76,7 +79,8 @@ pub(crate) fn evaluate_unary(
     operator: UnaryOperator,
     operand: &Expression,
 ) -> Result<Value, Stop>
-    ensures { Gives (node (variables world.now) world.now.setting levels (meant world.now levels) place.now (tree.Unary operator operand.now) machine.old) result machine.new }
+    ensures { Gives (node (variables world.now) world.now.setting levels (meant world.now levels) place.now
+        (tree.Unary operator operand.now) machine.old) result machine.new }
 {
     let value = evaluate(machine, world, levels, place, operand)?;
     prefix(machine, world.setting(), place.line, operator, value)
@@ -93,7 +97,8 @@ pub(crate) fn evaluate_binary(
     left: &Expression,
     right: &Expression,
 ) -> Result<Value, Stop>
-    ensures { Gives (node (variables world.now) world.now.setting levels (meant world.now levels) place.now (tree.Binary operator left.now right.now) machine.old) result machine.new }
+    ensures { Gives (node (variables world.now) world.now.setting levels (meant world.now levels) place.now
+        (tree.Binary operator left.now right.now) machine.old) result machine.new }
 {
     let x = evaluate(machine, world, levels, place, left)?;
     let y = evaluate(machine, world, levels, place, right)?;
@@ -112,7 +117,8 @@ pub(crate) fn evaluate_comparison(
     left: &Expression,
     right: &Expression,
 ) -> Result<Value, Stop>
-    ensures { Gives (node (variables world.now) world.now.setting levels (meant world.now levels) place.now (tree.Compare comparator left.now right.now) machine.old) result machine.new }
+    ensures { Gives (node (variables world.now) world.now.setting levels (meant world.now levels) place.now
+        (tree.Compare comparator left.now right.now) machine.old) result machine.new }
 {
     let x = evaluate(machine, world, levels, place, left)?;
     let y = evaluate(machine, world, levels, place, right)?;
@@ -130,7 +136,8 @@ pub(crate) fn evaluate_and(
     left: &Expression,
     right: &Expression,
 ) -> Result<Value, Stop>
-    ensures { Gives (node (variables world.now) world.now.setting levels (meant world.now levels) place.now (tree.And left.now right.now) machine.old) result machine.new }
+    ensures { Gives (node (variables world.now) world.now.setting levels (meant world.now levels) place.now
+        (tree.And left.now right.now) machine.old) result machine.new }
 {
     let x = evaluate(machine, world, levels, place, left)?;
     if machine.is_true(world.setting(), x) {
@@ -149,7 +156,8 @@ pub(crate) fn evaluate_or(
     left: &Expression,
     right: &Expression,
 ) -> Result<Value, Stop>
-    ensures { Gives (node (variables world.now) world.now.setting levels (meant world.now levels) place.now (tree.Or left.now right.now) machine.old) result machine.new }
+    ensures { Gives (node (variables world.now) world.now.setting levels (meant world.now levels) place.now
+        (tree.Or left.now right.now) machine.old) result machine.new }
 {
     let x = evaluate(machine, world, levels, place, left)?;
     if machine.is_true(world.setting(), x) {
@@ -169,7 +177,8 @@ pub(crate) fn evaluate_choice(
     chosen: &Expression,
     otherwise: &Expression,
 ) -> Result<Value, Stop>
-    ensures { Gives (node (variables world.now) world.now.setting levels (meant world.now levels) place.now (tree.Conditional condition.now chosen.now otherwise.now) machine.old) result machine.new }
+    ensures { Gives (node (variables world.now) world.now.setting levels (meant world.now levels) place.now
+        (tree.Conditional condition.now chosen.now otherwise.now) machine.old) result machine.new }
 {
     let x = evaluate(machine, world, levels, place, condition)?;
     if machine.is_true(world.setting(), x) {
@@ -188,7 +197,8 @@ pub(crate) fn evaluate_index(
     value: &Expression,
     at: &Expression,
 ) -> Result<Value, Stop>
-    ensures { Gives (node (variables world.now) world.now.setting levels (meant world.now levels) place.now (tree.Expression-F.Expression::Index value.now at.now) machine.old) result machine.new }
+    ensures { Gives (node (variables world.now) world.now.setting levels (meant world.now levels) place.now
+        (tree.Expression-F.Expression::Index value.now at.now) machine.old) result machine.new }
 {
     let value = evaluate(machine, world, levels, place, value)?;
     let at = evaluate(machine, world, levels, place, at)?;
@@ -207,7 +217,8 @@ pub(crate) fn evaluate_slice(
     stop: &Option<Boxed<Expression>>,
     stride: &Option<Boxed<Expression>>,
 ) -> Result<Value, Stop>
-    ensures { Gives (node (variables world.now) world.now.setting levels (meant world.now levels) place.now (tree.Slice value.now start.now stop.now stride.now) machine.old) result machine.new }
+    ensures { Gives (node (variables world.now) world.now.setting levels (meant world.now levels) place.now
+        (tree.Slice value.now start.now stop.now stride.now) machine.old) result machine.new }
 {
     let value = evaluate(machine, world, levels, place, value)?;
     let start = evaluate_maybe(machine, world, levels, place, start)?;
@@ -227,7 +238,8 @@ pub(crate) fn evaluate_attribute(
     value: &Expression,
     name: &Name,
 ) -> Result<Value, Stop>
-    ensures { Gives (node (variables world.now) world.now.setting levels (meant world.now levels) place.now (tree.Attribute value.now name.now) machine.old) result machine.new }
+    ensures { Gives (node (variables world.now) world.now.setting levels (meant world.now levels) place.now
+        (tree.Attribute value.now name.now) machine.old) result machine.new }
 {
     let value = evaluate(machine, world, levels, place, value)?;
     attribute(

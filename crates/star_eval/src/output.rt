@@ -1,4 +1,4 @@
-//! What a comprehension adds behind its clauses.
+//! What a comprehension adds after its clauses.
 
 ghost use Rattle.std.specs.Prelude.{◌≡◌};
 ghost use Rattle.star_eval.specs.Steps.{container};
@@ -6,7 +6,7 @@ ghost use Rattle.star_eval.specs.Steps.{container};
 use star_store::values::Value;
 use star_tree::tree::{Entry, Expression};
 
-/// What a comprehension adds behind its clauses, and to which list or dictionary.
+/// What a comprehension adds after its clauses, and to which list or dictionary.
 #[derive(Clone, Copy)]
 pub enum Output<'t> {
     Element {

@@ -29,7 +29,8 @@ fn put_fresh(
     entry: (Value, Value),
 ) -> Result<(), Stop>
     requires { IsGathered world.now.setting machine.old.store gathered.old }
-    ensures put { Puts (fresh_entry world.now.setting levels line gathered.old.entries entry machine.old) result gathered.new.entries machine.new }
+    ensures put { Puts (fresh_entry world.now.setting levels line gathered.old.entries entry machine.old)
+        result gathered.new.entries machine.new }
     ensures gathered { OnOk result (IsGathered world.now.setting machine.new.store gathered.new) }
 {
     let setting = world.setting();
@@ -52,15 +53,15 @@ pub(crate) fn fresh_entries(
 ) -> Result<Entries, Stop>
     ensures { Gives (fresh_entries world.now.setting levels line [] found.now machine.old) result machine.new }
 {
-    let mut gathered = Gathered::new(machine.alloc());
+    let mut gathered = Gathered::with_capacity(machine.alloc(), found.len())?;
     for entry in found.as_slice() {
         put_fresh(machine, world, levels, line, &mut gathered, *entry)?;
     }
     Ok(gathered.into_entries())
 }
 
-/// What an augmented assignment computes: `+=` on a list works as `extend`, `|=` on a dictionary as `update`; else it computes as the
-/// operator does.
+/// What an augmented assignment computes: `+=` on a list works as `extend`, `|=` on a dictionary as `update`; else it
+/// computes as the operator does.
 pub(crate) fn augmented(
     machine: &mut Machine,
     world: &World,

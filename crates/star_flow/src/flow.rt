@@ -5,8 +5,8 @@ ghost use Rattle.std.specs.Prelude.{◌<◌};
 use crate::schedule::{Next, Schedule};
 use std::sync::{Condvar, Mutex, Wait};
 
-/// Hands out files to loaders, each when all its loads have ended. It is a hint: that a file is handed out promises nothing
-/// of it, and a file that is not handed out is begun by whoever asks for it.
+/// Hands out files to loaders, each when all its loads have ended. It is a hint: that a file is handed out promises
+/// nothing of it, and a file that is not handed out is begun by whoever asks for it.
 #[derive(Drop)]
 pub struct Flow {
     // For each file those that load it.
@@ -34,8 +34,8 @@ impl Flow {
         }
     }
 
-    /// The next file for a loader, which has ended the one that it was given before. It waits while no file is ready and
-    /// some run. `None` where no file is ready, and none runs.
+    /// The next file for a loader, which has ended the one that it was given before. It waits while no file is ready
+    /// and some run. `None` where no file is ready, and none runs.
     pub fn take<R: Wait>(&self, rt: &R, ended: Option<usize>) -> Option<usize> {
         match ended {
             Some(n) => self.take_after(rt, Some(self.importers_of(n))),

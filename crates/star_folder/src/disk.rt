@@ -11,8 +11,9 @@ use std::fs::{self, File, FileType};
 use std::io::{self, ErrorKind, Read};
 use std::rt::Files;
 
-/// The folder at a path of the disk. It counts its failures, and says nothing of what it holds: no contract can say what a disk gives. A
-/// name that is not UTF-8 fails its folder's listing. A link is neither a file nor a folder, but the path itself may be one.
+/// The folder at a path of the disk. It counts its failures, and says nothing of what it holds: no contract can say
+/// what a disk gives. A name that is not UTF-8 fails its folder's listing. A link is neither a file nor a folder, but
+/// the path itself may be one.
 #[derive(Drop)]
 pub struct DiskFolder<'a, R> {
     rt: &'a R,

@@ -64,7 +64,8 @@ fn add_row(
     path: &str,
     row: &Row<'_>,
 ) -> Result<(), FolderError>
-    ensures entries { OnOk result (map entry_of entries.new.entries ≡ with_row path.now (map entry_of entries.old.entries) row.now) }
+    ensures entries { OnOk result (map entry_of entries.new.entries
+        ≡ with_row path.now (map entry_of entries.old.entries) row.now) }
     ensures only { IfErr result (λ e. e ≡ FolderError.Memory) }
 {
     if row.path != path {

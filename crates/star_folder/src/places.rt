@@ -109,7 +109,8 @@ fn push_place(
     }
 }
 
-/// Puts what the entries of the folder at a path lead to on the stack: the files on top of the folders, both in the order of their names.
+/// Puts what the entries of the folder at a path lead to on the stack: the files on top of the folders, both in the
+/// order of their names.
 pub(crate) fn push_entries(
     alloc: Global,
     path: &FolderPath,

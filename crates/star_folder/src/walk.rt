@@ -50,7 +50,8 @@ fn begun(alloc: Global) -> Result<Walk, ServeError>
     })
 }
 
-/// The entries of a folder. `BadDir` where they cannot be listed, `TooMany` where more than 100,000 entries would then be listed.
+/// The entries of a folder. `BadDir` where they cannot be listed, `TooMany` where more than 100,000 entries would then
+/// be listed.
 fn list_folder<F: Folder>(
     alloc: Global,
     folder: &mut F,
@@ -76,8 +77,8 @@ fn list_folder<F: Folder>(
     Ok(listing)
 }
 
-/// The text of a file. `BadFile` where it cannot be read, `TooLong` where it has more than 1,048,576 bytes, `NotText` where they are not
-/// UTF-8.
+/// The text of a file. `BadFile` where it cannot be read, `TooLong` where it has more than 1,048,576 bytes, `NotText`
+/// where they are not UTF-8.
 fn read_text<F: Folder>(alloc: Global, folder: &mut F, label: &Label) -> Result<String, ServeError>
     ensures tells { IfOk result (λ t. Says ((F.holds folder.old).bytes (text_of label.now)) (string_bytes t)) }
     ensures short { IfOk result (λ t. length (string_bytes t) ≤ 1048576) }
@@ -108,7 +109,8 @@ fn after_folder<F: Folder>(
     walk: Walk,
     path: &FolderPath,
 ) -> Result<Walk, ServeError>
-    ensures goes { IfOk result (λ after. (v : Visit) × Goes (F.holds folder.old) walk after (FolderAt (path_of path.now)) v) }
+    ensures goes { IfOk result (λ after. (v : Visit)
+        × Goes (F.holds folder.old) walk after (FolderAt (path_of path.now)) v) }
     ensures stops { IfErr result (FolderStops (F.holds folder.old) walk.listed (path_of path.now)) }
     ensures same { F.holds folder.new ≡ F.holds folder.old }
     ensures listings { F.failed_listings folder.new ≡ F.failed_listings folder.old + listings_failed result }
@@ -140,7 +142,8 @@ fn after_file<F: Folder>(
     walk: Walk,
     label: Label,
 ) -> Result<Walk, ServeError>
-    ensures goes { IfOk result (λ after. (v : Visit) × Goes (F.holds folder.old) walk after (FileOf (text_of label)) v) }
+    ensures goes { IfOk result (λ after. (v : Visit)
+        × Goes (F.holds folder.old) walk after (FileOf (text_of label)) v) }
     ensures stops { IfErr result (FileStops (F.holds folder.old) walk.count walk.size (text_of label)) }
     ensures same { F.holds folder.new ≡ F.holds folder.old }
     ensures listings { F.failed_listings folder.new ≡ F.failed_listings folder.old + listings_failed result }
@@ -203,13 +206,13 @@ fn numbered(alloc: Global, found: BTreeMap<Label, String>) -> Result<Files, Serv
     }
 }
 
-/// The files of a folder: those whose names end in `.star`, in it and in the folders below it. Names that are no segment are left out, a
-/// folder with all that it has, and so is what is neither a file nor a folder.
+/// The files of a folder: those whose names end in `.star`, in it and in the folders below it. Names that are no
+/// segment are left out, a folder with all that it has, and so is what is neither a file nor a folder.
 ///
-/// The walk goes through a folder's files and then through its folders, each in the byte order of their names, and stops where one of
-/// these is met first: `BadDir`, a folder cannot be listed; `TooMany`, more than 100,000 entries are listed, or a file is the 10,001st;
-/// `BadFile`, a file cannot be read; `TooLong`, it has more than 1,048,576 bytes; `NotText`, it is not UTF-8; `TooBig`, the texts together
-/// have more than 268,435,456 bytes.
+/// The walk goes through a folder's files and then through its folders, each in the byte order of their names, and
+/// stops where one of these is met first: `BadDir`, a folder cannot be listed; `TooMany`, more than 100,000 entries are
+/// listed, or a file is the 10,001st; `BadFile`, a file cannot be read; `TooLong`, it has more than 1,048,576 bytes;
+/// `NotText`, it is not UTF-8; `TooBig`, the texts together have more than 268,435,456 bytes.
 pub fn files_in<F: Folder>(alloc: Global, folder: &mut F) -> Result<Files, ServeError>
     ensures files { IfOk result (AreFilesOf (F.holds folder.old)) }
     ensures stopped { IfErr result (IsStopped (F.holds folder.old)) }

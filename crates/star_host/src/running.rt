@@ -44,7 +44,8 @@ use std::thread::Threads;
 pub enum RunError {
     /// A growth was refused.
     Memory,
-    /// A module was not published: a cell of the shelf did not take it, or its file was given up and no loader says why.
+    /// A module was not published: a cell of the shelf did not take it, or its file was given up and no loader says
+    /// why.
     Unpublished,
 }
 
@@ -141,8 +142,8 @@ fn take_ready<'s, 'r, 'p, 't, J: Naming, R: Wait, G: Gate>(
     unreachable!()
 }
 
-/// One loader takes files all of whose loads have ended, where there are other loaders; then it asks for each root, since
-/// what is left lies on a cycle of loads or leads to one.
+/// One loader takes files all of whose loads have ended, where there are other loaders; then it asks for each root,
+/// since what is left lies on a cycle of loads or leads to one.
 fn work<'s, 'r, 'p, 't, J: Naming, R: Wait, G: Gate>(
     rt: &R,
     common: &Common<'s, 'r, 'p, 't>,
@@ -460,8 +461,8 @@ pub fn run<R: Threads + Wait + Sync, G: Gate + Sync>(
     )
 }
 
-/// As `run`. The trees and what was read of the files stay with the caller, who may leave them to the end of the process:
-/// to free them takes a tenth of the time of a run of many small files.
+/// As `run`. The trees and what was read of the files stay with the caller, who may leave them to the end of the
+/// process: to free them takes a tenth of the time of a run of many small files.
 pub fn run_in<'t, R: Threads + Wait + Sync, G: Gate + Sync>(
     rt: &R,
     alloc: Global,

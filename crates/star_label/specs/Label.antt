@@ -42,12 +42,12 @@ unfoldable pub before_colon : List ℕ → List ℕ
 before_colon [] = []
 before_colon (b ∷ bs) = if b == 58 then [] else b ∷ before_colon bs
 
--- what stands behind the first `:`
+-- what stands after the first `:`
 unfoldable pub after_colon : List ℕ → List ℕ
 after_colon [] = []
 after_colon (b ∷ bs) = if b == 58 then bs else after_colon bs
 
--- of a label, what stands between `//` and `:`, and what stands behind
+-- of a label, what stands between `//` and `:`, and what stands after
 abbrev pub package_of : List ℕ → List ℕ
 package_of text = before_colon (drop 2 text)
 
@@ -66,6 +66,6 @@ joined [] = []
 joined (f ∷ []) = f
 joined (f ∷ g ∷ fs) = f ++ 47 ∷ joined (g ∷ fs)
 
--- the folder behind the others
+-- the folder after the others
 abbrev pub with_folder : List ℕ → List ℕ → List ℕ
 with_folder p f = if bytes_eq p [] then f else p ++ 47 ∷ f

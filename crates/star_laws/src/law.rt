@@ -77,8 +77,8 @@ pub fn files_begin_with_no_loop()
 {}
 
 /// Where the counters of open iterations are right for the loops that are open (each list and dictionary of the module
-/// has as many as loops go over it, and no other cell has any), they are right for the same loops after an expression or
-/// a statement that ends well, with all that it called, made and looped over. (`docs/LANGUAGE.md`, "Iterables".)
+/// has as many as loops go over it, and no other cell has any), they are right for the same loops after an expression
+/// or a statement that ends well, with all that it called, made and looped over. (`docs/LANGUAGE.md`, "Iterables".)
 pub fn runs_end_their_loops()
     ensures { RunsEndTheirLoops }
 {}

@@ -11,7 +11,7 @@ pieces_from-drop zero line at z = refl
 pieces_from-drop (suc n) line at [] = refl
 pieces_from-drop (suc n) line at (b ∷ z) = pieces_from-drop n line at z
 
--- the pieces behind one piece
+-- the pieces after one piece
 abbrev after : ℕ → ℕ → Text → First → List Cut
 after line at z f = cut_at f line at z ∷ pieces_from 0 (line + line_ends (take f.1 z)) (at + f.1) (drop f.1 z)
 

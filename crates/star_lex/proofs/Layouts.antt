@@ -18,7 +18,7 @@ pub more_closed_more : (n : ℕ) (o : Option ℕ) → more_closed n (more_closed
 more_closed_more n None = refl
 more_closed_more n (Some m) = ap Some (omega arith)
 
--- the lines behind the first
+-- the lines after the first
 abbrev pub behind : List Cut → List Line
 behind [] = []
 behind (c ∷ cs) = lines 0 cs
@@ -27,7 +27,7 @@ put_first : (c : Cut) (cs : List Cut) (p : ℕ × ℕ) (ls : List Line) → ls �
     → put c ls ≡ line_of (take (counted 1 p).0 (c ∷ cs)) (counted 1 p).1 ∷ behind (drop (counted 1 p).0 (c ∷ cs))
 put_first c cs p ls e = let s : 1 + p.0 ≡ suc p.0 = omega arith in rw (e, s) refl
 
--- the first line, and those behind it
+-- the first line, and those after it
 pub first_line : (d : ℕ) (cs : List Cut) → lines d cs ≡ line_of (take (line_size d cs).0 cs) (line_size d cs).1 ∷ behind (drop (line_size d cs).0 cs)
 first_line d [] = refl
 first_line d (c ∷ cs) =
@@ -62,7 +62,7 @@ refused whole xs new r k (BadIndent n) w p = refused_at whole xs r k (BadIndent 
 refused whole xs new r k (TooNested n) w p = refused_at whole xs r k (TooNested n) w p
 refused whole xs new r k BadSyntax w p = refused_at whole xs r k BadSyntax w p
 
--- a line that is read, and what stands behind it
+-- a line that is read, and what stands after it
 pub read : (whole : Result (List Token) SyntaxFault) (xs new : List Token) (r k : Result (List Token) SyntaxFault)
     → whole ≡ onto xs (r >>= (λ front. onto front k)) → onto xs r ≡ Ok new → whole ≡ onto new k
 read whole xs new (Ok ts) k w p = let e : xs ++ ts ≡ new = cc in w ∙ onto_onto xs ts k ∙ ap (λ t. onto t k) e

@@ -55,7 +55,7 @@ at_piece d before c cs p = elim p [
   | _ ↦ tokens d before cs
 ]
 
--- what holds of the pieces behind one
+-- what holds of the pieces after one
 Behind : ℕ → List Cut → ℕ → ℕ → Type 0
 Behind d cs at hi = (before : Option Cut) (lo : ℕ) (ts : List Token) → Ended before lo → lo ≤ at → tokens d before cs ≡ Ok ts → InOrder lo ts hi
 
@@ -167,7 +167,7 @@ order_line : (ts : List ℕ) (l : Line) (at hi : ℕ) (out : List Token) → Til
 unfolding line_with
 order_line ts l at hi out t w = order_line' ts l at hi out (leader l.cuts) t refl w
 
--- lines whose pieces stand one behind the other, with a line end between two lines
+-- lines whose pieces stand one after the other, with a line end between two lines
 record Tiled (at : ℕ) (cs : List Cut) (P : ℕ → Type 0) : Type 0 where
   mid : ℕ
   next : ℕ

@@ -25,7 +25,7 @@ sign_depth d s.RightBracket = d - 1
 sign_depth d s.RightBrace = d - 1
 sign_depth d _ = d
 
--- how many brackets are open behind a piece
+-- how many brackets are open after a piece
 abbrev pub depth_after : ℕ → Piece → ℕ
 depth_after d (Lexeme (k.Sign s)) = sign_depth d s
 depth_after d _ = d
@@ -34,7 +34,7 @@ abbrev pub ends_line : ℕ → Piece → Bool
 ends_line d LineEnd = d == 0
 ends_line d _ = false
 
--- the pieces of a logical line, and the depth behind it
+-- the pieces of a logical line, and the depth after it
 pub record Line : Type 0 where
   pub cuts : List Cut
   pub depth : ℕ
@@ -113,7 +113,7 @@ marks wrong line at = Err (BadIndent line)
 abbrev pub onto_marks : List Token → Layout → ℕ → ℕ → Result (List Token) SyntaxFault
 onto_marks xs l line at = onto xs (marks l line at)
 
--- a line that ends at depth 0 has a NEWLINE behind its last token
+-- a line that ends at depth 0 has a NEWLINE after its last token
 abbrev pub newline : ℕ → Option Cut → List Token
 newline zero (Some c) = mark k.Newline c.last c.span.end ∷ []
 newline _ _ = []
@@ -121,7 +121,7 @@ newline _ _ = []
 abbrev pub token_of : Kind → Cut → Token
 token_of kind c = record { kind = kind; line = c.line; span = c.span }
 
--- the tokens of a line behind its last token so far; a backslash and line end stand behind a token
+-- the tokens of a line after its last token so far; a backslash and line end stand after a token
 abbrev pub tokens : ℕ → Option Cut → List Cut → Result (List Token) SyntaxFault
 tokens depth before [] = Ok (newline depth before)
 tokens depth before (c ∷ cs) = elim c.piece [
@@ -149,7 +149,7 @@ abbrev pub finish : ℕ → List ℕ → ℕ → ℕ → List Token
 finish zero ts line at = replicate (length ts - 1) (mark k.Outdent line at) ++ mark k.End line at ∷ []
 finish (suc d) ts line at = mark k.End line at ∷ []
 
--- the tokens of the lines and of the end of the text; `d` is the depth behind the line before
+-- the tokens of the lines and of the end of the text; `d` is the depth after the line before
 abbrev pub lay : ℕ → ℕ → List ℕ → ℕ → List Line → Result (List Token) SyntaxFault
 lay line at ts d [] = Ok (finish d ts line at)
 lay line at ts d (l ∷ ls) = line_tokens ts l >>= (λ front. onto front (lay line at (opened_after ts l) l.depth ls))
@@ -170,7 +170,7 @@ Pushes r (Ok u) new = r ≡ Ok new
 Pushes r (Err Memory) new = Unit {0}
 Pushes r (Err e) new = r ≡ Err e
 
--- how many pieces the first of the lines has, and the depth behind it
+-- how many pieces the first of the lines has, and the depth after it
 abbrev pub counted : ℕ → ℕ × ℕ → ℕ × ℕ
 counted n p = (n + p.0, p.1)
 

@@ -96,7 +96,7 @@ abbrev pub joined : Text → List Cut → Text
 joined z [] = []
 joined z (c ∷ cs) = text_at z c.span ++ joined z cs
 
--- the pieces stand one behind the other between two places
+-- the pieces stand one after the other between two places
 abbrev pub Tiles : ℕ → List Cut → ℕ → Type 0
 Tiles at [] end = at ≡ end
 Tiles at (c ∷ cs) end = (c.span.start ≡ at) × (at ≤ c.span.end) × Tiles c.span.end cs end

@@ -5,7 +5,7 @@ use Rattle.star_lex.specs.declared.token.Sign.TheVariants as s
 use Rattle.star_lex.specs.Tokens.{Found}
 use Rattle.star_lex.specs.Values.{Text, begins}
 
--- with `=` behind it, or without
+-- with `=` after it, or without
 abbrev pub assigned : Sign → Sign → ℕ → Text → Found
 assigned short long n z = if begins (61 ∷ []) z then (long, n + 1) else (short, n)
 

@@ -46,7 +46,7 @@ Leads c z = (1 ≤ length z) × (is_in c (slice_index z 0) ≡ true)
 
 -- ---- ints
 
--- the value of digits that stand behind others of the value n
+-- the value of digits that stand after others of the value n
 abbrev pub number : ℕ → ℕ → Text → Option ℕ
 number base n [] = Some n
 number base n (b ∷ z) = if is_digit b base then number base (n * base + digit_value b) z else None
@@ -125,7 +125,7 @@ letter b =
     else (if b == 110 then Some (1, Byte 10) else (if b == 114 then Some (1, Byte 13) else (if b == 116 then Some (1, Byte 9)
     else (if b == 118 then Some (1, Byte 11) else (if b == 92 || is_quote b then Some (1, Byte b) else None)))))))
 
--- an escape, behind its backslash: a line end means nothing; one to three octal digits, `x` and two hexadecimal digits, at most 127; `u` and four, `U` and eight
+-- an escape, after its backslash: a line end means nothing; one to three octal digits, `x` and two hexadecimal digits, at most 127; `u` and four, `U` and eight
 abbrev pub escape : Text → Option Part
 escape [] = None
 escape (b ∷ z) =

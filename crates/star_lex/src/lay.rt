@@ -28,7 +28,7 @@ fn ends_line(depth: usize, piece: Piece) -> bool
     depth == 0 && matches!(piece, Piece::LineEnd)
 }
 
-/// How many pieces the first logical line has, and the depth behind it.
+/// How many pieces the first logical line has, and the depth after it.
 fn line_size(cuts: &[Cut]) -> (usize, usize)
     ensures value { result ≡ spec.line_size 0 cuts.now }
     ensures within { result.0 ≤ length cuts.now }
@@ -121,8 +121,10 @@ fn indent(
     line: usize,
     at: usize,
 ) -> Result<(), SyntaxFault>
-    ensures tokens { Pushes (spec.onto_marks out.old.items (spec.layout opened.old.items width) line at) result out.new.items }
-    ensures opened { IfOk result (λ _. opened.new.items ≡ spec.opened_by opened.old.items (spec.layout opened.old.items width) (Some width)) }
+    ensures tokens { Pushes (spec.onto_marks out.old.items (spec.layout opened.old.items width) line at)
+        result out.new.items }
+    ensures opened { IfOk result (λ _. opened.new.items
+        ≡ spec.opened_by opened.old.items (spec.layout opened.old.items width) (Some width)) }
 {
     match opened.first() {
         Some(innermost) if *innermost < width => {
@@ -139,7 +141,7 @@ fn indent(
     push_times(out, empty_token(Kind::Outdent, line, at), count)
 }
 
-/// Pushes the tokens of a line, with the NEWLINE behind the last where the line ends at depth 0.
+/// Pushes the tokens of a line, with the NEWLINE after the last where the line ends at depth 0.
 #[tactic(auto, using(crate::proofs::Layouts::onto_onto))]
 fn push_tokens(out: &mut Vec<Token>, line: &[Cut], depth: usize) -> Result<(), SyntaxFault>
     ensures { Pushes (spec.onto out.old.items (spec.tokens depth None line.now)) result out.new.items }
@@ -180,8 +182,10 @@ fn push_line(
     line: &[Cut],
     depth: usize,
 ) -> Result<(), SyntaxFault>
-    ensures tokens { Pushes (spec.onto out.old.items (spec.line_tokens opened.old.items (spec.line_of line.now depth))) result out.new.items }
-    ensures opened { IfOk result (λ _. opened.new.items ≡ spec.opened_after opened.old.items (spec.line_of line.now depth)) }
+    ensures tokens { Pushes (spec.onto out.old.items (spec.line_tokens opened.old.items (spec.line_of line.now depth)))
+        result out.new.items }
+    ensures opened { IfOk result (λ _. opened.new.items
+        ≡ spec.opened_after opened.old.items (spec.line_of line.now depth)) }
 {
     let Some(leader) = leader(line) else {
         return Ok(());

@@ -13,8 +13,8 @@ ghost use Rattle.star_lex.specs.Lines.{Answers, InOrder, lexed};
 use std::alloc::Global;
 use token::{SyntaxFault, Token};
 
-/// The tokens of a text, by the rules of `docs/LANGUAGE.md`, "Tokens" (this profile). Their spans count bytes of the text
-/// and stand in order.
+/// The tokens of a text, by the rules of `docs/LANGUAGE.md`, "Tokens" (this profile). Their spans count bytes of the
+/// text and stand in order.
 ///
 /// `BadToken` and `BadIndent` are for the text's first fault, with its line; `Memory` is for want of memory.
 #[tactic(auto, unfolding(crate::specs::Lines::lexed))]

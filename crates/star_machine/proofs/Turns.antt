@@ -3,7 +3,7 @@ use Rattle.std.proofs.Common.{◌≡◌, ℕ, zero, suc, ◌+◌, ◌-◌, ◌<�
 use Rattle.star_meaning.specs.Run.{State, Outcome, Done, Failed, Action, and_then, give, collect, until}
 use Rattle.star_machine.specs.Gives.{with_front}
 
--- so many turns more are one and those behind it
+-- so many turns more are one and those after it
 collect_more : {B : Type 0} (f : ℕ → Action B) (n m i : ℕ) (s : State) → n ≡ m + 1 → collect f n i s ≡ and_then (f i s) (λ y. λ t. and_then (collect f m (i + 1) t) (λ ys. give (y ∷ ys)))
 collect_more f zero m i s h = absurd (omega arith)
 collect_more f (suc n) m i s h = ap (λ k. and_then (f i s) (λ y. λ t. and_then (collect f k (i + 1) t) (λ ys. give (y ∷ ys)))) (let e : n ≡ m = omega arith in e)
@@ -22,6 +22,6 @@ front_more : {B : Type 0} (o : Outcome (List B)) (front : List B) (y : B) → wi
 front_more (Done ys u) front y = ap (λ xs. Done xs u) (append_assoc front (y ∷ []) ys)
 front_more (Failed f lines) front y = refl
 
--- a turn that went well leaves those behind it
+-- a turn that went well leaves those after it
 pub collected : {B : Type 0} (f : ℕ → Action B) (n i : ℕ) (s t : State) (front : List B) (y : B) → i < n → f i s ≡ Done y t → with_front (front ++ y ∷ []) (collect f (n - (i + 1)) (i + 1) t) ≡ with_front front (collect f (n - i) i s)
 collected f n i s t front y h e = front_more (collect f (n - (i + 1)) (i + 1) t) front y ∙ sym (ap (with_front front) (collect_next f n i s h ∙ ap (λ o. and_then o (λ z. λ u. and_then (collect f (n - (i + 1)) (i + 1) u) (λ ys. give (z ∷ ys)))) e))

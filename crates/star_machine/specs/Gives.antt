@@ -25,7 +25,7 @@ abbrev pub GivesBy : {A B : Type 0} → (B → A) → Outcome A → Result B Sto
 GivesBy f o (Ok x) new = o ≡ Done (f x) new
 GivesBy f o (Err e) new = Ends o e new
 
--- answers behind those that are there
+-- answers after those that are there
 abbrev pub with_front : {A : Type 0} → List A → Outcome (List A) → Outcome (List A)
 with_front front (Done xs s) = Done (front ++ xs) s
 with_front front (Failed f lines) = Failed f lines

@@ -4,12 +4,14 @@ ghost use Rattle.std.specs.Prelude.{◌≡◌, ◌<◌, ◌+◌, ◌++◌, ◌�
 ghost use Rattle.std.specs.List.{list_all};
 ghost use Rattle.star_machine.specs.Cuts.{is_neither, begins_plainly};
 
-/// What stands before the first of two ASCII bytes, which of them it is, and what stands behind it.
+/// What stands before the first of two ASCII bytes, which of them it is, and what stands after it.
 #[tactic(auto, using(crate::proofs::Parts::cut_whole, crate::proofs::Parts::all_more))]
 pub fn cut_at(text: &str, first: u8, second: u8) -> Option<(&str, u8, &str)>
     requires first { first < 128 }
     requires second { second < 128 }
-    ensures { MatchOption result (list_all (is_neither first second) text.now ≡ true) (λ x. (text.now ≡ x.0.now ++ x.1 ∷ x.2.now) × (list_all (is_neither first second) x.0.now ≡ true) × (is_neither first second x.1 ≡ false) × (length x.2.now < length text.now)) }
+    ensures { MatchOption result (list_all (is_neither first second) text.now ≡ true)
+        (λ x. (text.now ≡ x.0.now ++ x.1 ∷ x.2.now) × (list_all (is_neither first second) x.0.now ≡ true)
+        × (is_neither first second x.1 ≡ false) × (length x.2.now < length text.now)) }
 {
     for at in 0..text.len() {
         let byte = text.as_bytes()[at];
@@ -20,16 +22,17 @@ pub fn cut_at(text: &str, first: u8, second: u8) -> Option<(&str, u8, &str)>
     None
 }
 
-/// What stands before an ASCII byte, the byte, and what stands behind it.
+/// What stands before an ASCII byte, the byte, and what stands after it.
 fn cut_here(text: &str, at: usize) -> (&str, u8, &str)
     requires within { at < length text.now }
     requires ascii { get_or text.now at 0 < 128 }
-    ensures { (result.0.now ≡ take at text.now) × (result.1 ≡ get_or text.now at 0) × (result.2.now ≡ drop (at + 1) text.now) }
+    ensures { (result.0.now ≡ take at text.now) × (result.1 ≡ get_or text.now at 0)
+        × (result.2.now ≡ drop (at + 1) text.now) }
 {
     (&text[..at], text.as_bytes()[at], &text[at + 1..])
 }
 
-/// The byte with which a text begins, if it is ASCII, and what stands behind it.
+/// The byte with which a text begins, if it is ASCII, and what stands after it.
 pub fn first_ascii(text: &str) -> Option<(u8, &str)>
     ensures { MatchOption result (begins_plainly text.now ≡ false) (λ x. (text.now ≡ x.0 ∷ x.1.now) × (x.0 < 128)) }
 {

@@ -14,41 +14,41 @@ ghost use Rattle.star_machine.specs.Gathered.{IsGathered};
 use crate::machine::Machine;
 use crate::setting::Setting;
 use indexmap::IndexSet;
-use star_store::content::Atom;
+use star_store::content::KeyContent;
 use star_store::values::{Entries, Value};
 use std::alloc::{AllocError, Global};
 use std::marker::Model;
 
 /// Among fewer entries a walk is as fast as a look-up.
-const FEW: usize = 8;
+const FEW: usize = 16;
 
 /// The contents of keys, in order.
 #[derive(Drop)]
 struct Contents {
-    keys: IndexSet<Vec<Atom>>,
+    keys: IndexSet<KeyContent>,
 }
 
 impl Model for Contents {
-    ghost use Rattle.std.specs.Prelude.{List, map};
+    ghost use Rattle.std.specs.Prelude.{List};
     ghost use Rattle.star_store.specs.declared.content.Atom.{Atom as AnyAtom};
 
     ghost Value = { List (List AnyAtom) };
 
-    ghost view = { λ c. map (λ k. k.items) c.keys.keys };
+    ghost view = { λ c. c.keys.keys };
 }
 
 impl Contents {
-    /// No content yet.
-    fn new(alloc: Global) -> Contents
-        ensures { result ≡ [] }
+    /// No content yet, and room for so many.
+    fn with_capacity(alloc: Global, capacity: usize) -> Result<Contents, AllocError>
+        ensures { IfOk result (λ contents. contents ≡ []) }
     {
-        Contents {
-            keys: IndexSet::new(alloc),
-        }
+        Ok(Contents {
+            keys: IndexSet::with_capacity(alloc, capacity)?,
+        })
     }
 
     /// The place of a content.
-    fn place(&self, content: &[Atom]) -> Option<usize>
+    fn place(&self, content: &KeyContent) -> Option<usize>
         ensures { result ≡ place_by content.now self.now }
     {
         self.keys.get_index_of(content)
@@ -56,8 +56,8 @@ impl Contents {
 
     /// Adds a content after all others, and says whether it was added: else it stood there already, or memory was
     /// refused, and nothing has changed.
-    fn push(&mut self, content: Vec<Atom>) -> bool
-        ensures { self.new ≡ (if result then self.old ++ content.items ∷ [] else self.old) }
+    fn push(&mut self, content: KeyContent) -> bool
+        ensures { self.new ≡ (if result then self.old ++ content ∷ [] else self.old) }
     {
         match self.keys.insert(content) {
             Ok(added) => added,
@@ -66,8 +66,8 @@ impl Contents {
     }
 }
 
-/// Entries gathered for a new dictionary, with the contents of their keys where these are at hand: by them the place of a
-/// key is found at once, else by a walk.
+/// Entries gathered for a new dictionary, with the contents of their keys where these are at hand: by them the place of
+/// a key is found at once, else by a walk.
 #[derive(Drop)]
 pub struct Gathered {
     entries: Entries,
@@ -93,6 +93,18 @@ impl Gathered {
             entries: Entries::new(alloc),
             contents: None,
         }
+    }
+
+    /// No entry yet, and room for so many.
+    #[tactic(auto, unfolding(crate::specs::Gathered::IsGathered))]
+    pub fn with_capacity(alloc: Global, capacity: usize) -> Result<Gathered, AllocError>
+        ensures empty { IfOk result (λ g. g.entries ≡ []) }
+        ensures gathered { IfOk result (λ g. (w : GivenSetting) (s : Store) → IsGathered w s g) }
+    {
+        Ok(Gathered {
+            entries: Entries::with_capacity(alloc, capacity)?,
+            contents: None,
+        })
     }
 
     /// Entries to which so many may be added.
@@ -148,8 +160,10 @@ impl Gathered {
         entry: (Value, Value),
     ) -> Result<bool, AllocError>
         requires { IsGathered setting.now machine.now.store self.old }
-        ensures new { IfOk result (λ new. new ≡ not (is_some (place_in setting.now machine.now entry.0 self.old.entries))) }
-        ensures put { IfOk result (λ new. OnTrue new (self.new.entries ≡ with_entry setting.now machine.now self.old.entries entry)) }
+        ensures new { IfOk result (λ new. new
+            ≡ not (is_some (place_in setting.now machine.now entry.0 self.old.entries))) }
+        ensures put { IfOk result (λ new.
+            OnTrue new (self.new.entries ≡ with_entry setting.now machine.now self.old.entries entry)) }
         ensures gathered { OnOk result (IsGathered setting.now machine.now.store self.new) }
         ensures refused { OnErr result (self.new ≡ self.old) }
     {
@@ -162,8 +176,8 @@ impl Gathered {
     }
 
     /// The content of a key, where contents are at hand.
-    fn content(&self, machine: &Machine, setting: &Setting, key: Value) -> Option<Vec<Atom>>
-        ensures { IfSome result (λ c. content_of (look machine.now.store setting.now.shelf) key_levels key ≡ Some c.items) }
+    fn content(&self, machine: &Machine, setting: &Setting, key: Value) -> Option<KeyContent>
+        ensures { IfSome result (λ c. content_of (look machine.now.store setting.now.shelf) key_levels key ≡ Some c) }
     {
         if self.contents.is_none() {
             return None;
@@ -178,14 +192,15 @@ impl Gathered {
         machine: &Machine,
         setting: &Setting,
         key: Value,
-        content: &Option<Vec<Atom>>,
+        content: &Option<KeyContent>,
     ) -> Option<usize>
         requires gathered { IsGathered setting.now machine.now.store self.now }
-        requires content { IfSome content.now (λ c. content_of (look machine.now.store setting.now.shelf) key_levels key ≡ Some c.items) }
+        requires content { IfSome content.now
+            (λ c. content_of (look machine.now.store setting.now.shelf) key_levels key ≡ Some c) }
         ensures { result ≡ place_in setting.now machine.now key self.now.entries }
     {
         match (&self.contents, content) {
-            (Some(contents), Some(content)) => contents.place(content.as_slice()),
+            (Some(contents), Some(content)) => contents.place(content),
             _ => machine.place_of(setting, key, &self.entries),
         }
     }
@@ -197,10 +212,11 @@ impl Gathered {
         machine: &Machine,
         setting: &Setting,
         entry: (Value, Value),
-        content: Option<Vec<Atom>>,
+        content: Option<KeyContent>,
     ) -> Result<(), AllocError>
         requires gathered { IsGathered setting.now machine.now.store self.old }
-        requires content { IfSome content (λ c. content_of (look machine.now.store setting.now.shelf) key_levels entry.0 ≡ Some c.items) }
+        requires content { IfSome content (λ c. content_of (look machine.now.store setting.now.shelf) key_levels entry.0
+            ≡ Some c) }
         ensures pushed { OnOk result (self.new.entries ≡ self.old.entries ++ entry ∷ []) }
         ensures gathered { OnOk result (IsGathered setting.now machine.now.store self.new) }
         ensures refused { OnErr result (self.new ≡ self.old) }
@@ -222,8 +238,8 @@ impl Gathered {
 }
 
 /// Adds a content, if there is one, and says whether it was added.
-fn add(contents: &mut Contents, content: Option<Vec<Atom>>) -> bool
-    ensures added { OnTrue result (IfSome content (λ c. contents.new ≡ contents.old ++ c.items ∷ [])) }
+fn add(contents: &mut Contents, content: Option<KeyContent>) -> bool
+    ensures added { OnTrue result (IfSome content (λ c. contents.new ≡ contents.old ++ c ∷ [])) }
     ensures there { OnTrue result (is_some content ≡ true) }
 {
     match content {
@@ -234,9 +250,10 @@ fn add(contents: &mut Contents, content: Option<Vec<Atom>>) -> bool
 
 /// The contents of the keys of entries, where each has one, none stands twice, and memory suffices.
 fn contents_of(machine: &Machine, setting: &Setting, entries: &Entries) -> Option<Contents>
-    ensures { IfSome result (λ contents. contents_of (look machine.now.store setting.now.shelf) entries.now ≡ map Some contents) }
+    ensures { IfSome result (λ contents. contents_of (look machine.now.store setting.now.shelf) entries.now
+        ≡ map Some contents) }
 {
-    let mut contents = Contents::new(machine.alloc());
+    let mut contents = Contents::with_capacity(machine.alloc(), entries.len()).ok()?;
     for entry in entries.as_slice() {
         let content = machine.key_content(setting, entry.0)?;
         if !contents.push(content) {

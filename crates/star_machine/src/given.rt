@@ -106,7 +106,8 @@ impl Machine {
         }
     }
 
-    /// The name of a value as a key: one that came by `**` is the key that stands there, another one a new string, which is paid.
+    /// The name of a value as a key: one that came by `**` is the key that stands there, another one a new string,
+    /// which is paid.
     #[tactic(auto, unfolding(star_meaning::specs::Arguments::name_key))]
     pub fn key_for(&mut self, line: usize, named: &NamedValue) -> Result<Value, Stop>
         ensures { Gives (spec.key_for line named.now self.old) result self.new }

@@ -24,7 +24,7 @@ use star_meaning::fault::Code;
 use star_store::arena::Arena;
 use star_store::arena::write::Change;
 use star_store::budget::Budget;
-use star_store::content::{Atom, content};
+use star_store::content::{KeyContent, content};
 use star_store::equal::equal;
 use star_store::fault::StoreFault;
 use star_store::key::{check_key, place_of};
@@ -37,8 +37,8 @@ use std::alloc::{AllocError, Global};
 use std::cmp::Ordering;
 use std::marker::Model;
 
-/// What a run changes: the running module's store, the definitions that are active (file and number, the innermost first), the
-/// steps left, and the lines printed.
+/// What a run changes: the running module's store, the definitions that are active (file and number, the innermost
+/// first), the steps left, and the lines printed.
 #[derive(Drop)]
 pub struct Machine {
     alloc: Global,
@@ -64,7 +64,12 @@ impl Machine {
     /// A machine of a file, with no cell, where so many steps are left.
     pub fn new(alloc: Global, home: u32, steps: u32) -> Machine
         requires { steps < 2 ^ 31 }
-        ensures { result ≡ record { store = record { home = home; cells = [] }; active = []; steps = steps; lines = [] } }
+        ensures { result ≡ record {
+          store = record { home = home; cells = [] };
+          active = [];
+          steps = steps;
+          lines = [];
+        } }
     {
         Machine {
             alloc,
@@ -476,7 +481,8 @@ impl Machine {
     /// A string is wanted: else `BadType`.
     pub fn check_text(&self, setting: &Setting, line: usize, value: Value) -> Result<(), Stop>
         ensures answer { Gives (and_then (want_text setting.now line value self.now) (λ t. give tt)) result self.now }
-        ensures text { OnOk result (text_of (content setting.now self.now value) ≡ Some (bytes_of (content setting.now self.now value))) }
+        ensures text { OnOk result (text_of (content setting.now self.now value)
+            ≡ Some (bytes_of (content setting.now self.now value))) }
     {
         let _text = self.want_text(setting, line, value)?;
         Ok(())
@@ -599,7 +605,8 @@ impl Machine {
         row: Value,
         value: Value,
     ) -> Result<Option<usize>, Stop>
-        ensures answer { Gives (found_place setting.now levels line value (row_in (seen setting.now self.old row)) self.old) result self.new }
+        ensures answer { Gives (found_place setting.now levels line value (row_in (seen setting.now self.old row))
+            self.old) result self.new }
         ensures kept { self.new.store ≡ self.old.store }
     {
         let mut budget = Budget {
@@ -653,8 +660,8 @@ impl Machine {
     }
 
     /// The content of a key, where it has one and memory suffices.
-    pub(crate) fn key_content(&self, setting: &Setting, key: Value) -> Option<Vec<Atom>>
-        ensures { IfSome result (λ c. key_content (look self.now.store setting.now.shelf) key_levels key ≡ Some c.items) }
+    pub(crate) fn key_content(&self, setting: &Setting, key: Value) -> Option<KeyContent>
+        ensures { IfSome result (λ c. key_content (look self.now.store setting.now.shelf) key_levels key ≡ Some c) }
     {
         match content(self.alloc, &self.arena, setting.homes(), key) {
             Ok(content) => content,

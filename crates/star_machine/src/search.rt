@@ -21,7 +21,8 @@ fn equal_item(
     items: &[Value],
     value: Value,
 ) -> Result<Option<usize>, StoreFault>
-    ensures answer { Spends (first_place_where (λ y. same (look arena.now homes.now) budget.old.levels y value) 0 items.now budget.old.steps) result budget.new.steps }
+    ensures answer { Spends (first_place_where (λ y. same (look arena.now homes.now) budget.old.levels y value) 0
+        items.now budget.old.steps) result budget.new.steps }
     ensures less { budget.new.steps ≤ budget.old.steps }
     ensures levels { budget.new.levels ≡ budget.old.levels }
 {
@@ -43,7 +44,8 @@ pub fn equal_place(
     row: Value,
     value: Value,
 ) -> Result<Option<usize>, StoreFault>
-    ensures answer { Spends (first_place_where (λ y. same (look arena.now homes.now) budget.old.levels y value) 0 (row_in (look arena.now homes.now row)) budget.old.steps) result budget.new.steps }
+    ensures answer { Spends (first_place_where (λ y. same (look arena.now homes.now) budget.old.levels y value) 0
+        (row_in (look arena.now homes.now row)) budget.old.steps) result budget.new.steps }
     ensures less { budget.new.steps ≤ budget.old.steps }
     ensures levels { budget.new.levels ≡ budget.old.levels }
 {

@@ -12,8 +12,8 @@ use star_store::arena::{Frozen, Homes};
 use star_tree::tree::Statement;
 use std::marker::Model;
 
-/// What is given before a run: the running file, the published stores that it reaches, the statements of all files by their
-/// numbers, the loads of the running file, and the prelude's file.
+/// What is given before a run: the running file, the published stores that it reaches, the statements of all files by
+/// their numbers, the loads of the running file, and the prelude's file.
 #[derive(Drop)]
 pub struct Setting<'a> {
     home: u32,
@@ -56,8 +56,8 @@ impl<'a> Setting<'a> {
         }
     }
 
-    /// The setting of a file among files with these statements (none for a file that has no program), with the loads of its
-    /// own, and the prelude's file.
+    /// The setting of a file among files with these statements (none for a file that has no program), with the loads of
+    /// its own, and the prelude's file.
     pub fn over(
         home: u32,
         homes: &'a Homes<'a>,
@@ -65,7 +65,13 @@ impl<'a> Setting<'a> {
         loads: &'a [Load],
         prelude: Option<u32>,
     ) -> Setting<'a>
-        ensures { result ≡ record { home = home; outlines = outlines (map (option_map (λ ss. ss.now)) files.now); shelf = homes.now; loads = load_files loads.now; prelude = prelude } }
+        ensures { result ≡ record {
+          home = home;
+          outlines = outlines (map (option_map (λ ss. ss.now)) files.now);
+          shelf = homes.now;
+          loads = load_files loads.now;
+          prelude = prelude;
+        } }
     {
         Setting {
             home,

@@ -126,7 +126,7 @@ settled_grown line s (Lacks f left) h = ([], append_nil s.lines)
 pub keeps_visiting : {A : Type 0} (line : ℕ) (f : State → Spend A) → ((s : State) → Lowers (f s)) → Keeps (visiting line f)
 keeps_visiting line f k = record { holds = λ s. settled_grown line s (f s s.steps) (k s s.steps) }
 
--- a change of the store that keeps its module, and does not have fewer cells behind it
+-- a change of the store that keeps its module, and does not have fewer cells after it
 pub record Keeping (f : Store → Store) : Type 0 where
   pub home : (s : Store) → (f s).home ≡ s.home
   pub cells : (s : Store) → length s.cells ≤ length (f s).cells

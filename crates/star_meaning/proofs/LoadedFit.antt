@@ -1,4 +1,4 @@
--- Functions that fit behind the run of a module fit before the run of one that loads it: all is seen there that was seen.
+-- Functions that fit after the run of a module fit before the run of one that loads it: all is seen there that was seen.
 use Rattle.std.proofs.Common.{◌≡◌, ℕ, List, [], ◌∷◌, Option, Some, None, Bool, true, false, if◌then◌else◌, refl, ap, sym, ◌∙◌, arith, nat_eq, slice_get, length}
 use Rattle.std.specs.Option.{option_flatten}
 use Rattle.star_store.specs.declared.values.Value.{Value}

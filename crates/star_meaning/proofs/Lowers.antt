@@ -14,7 +14,7 @@ use Rattle.std.proofs.Common.{◌≤◌, ℕ, zero, suc, ◌+◌, ◌-◌, List,
 use Rattle.star_store.specs.Spend.{Spend, Spent, Enough, Lacks, answer, spend_then, visited, all_places}
 use Rattle.star_meaning.specs.Values.{bare}
 
--- behind an answer no more steps are left than before it
+-- after an answer no more steps are left than before it
 abbrev pub Falls : {A : Type 0} → ℕ → Spent A → Type 0
 Falls n (Enough x left) = left ≤ n
 Falls n (Lacks f left) = Unit {0}

@@ -24,7 +24,7 @@ use Rattle.star_meaning.specs.Laws.{KeepsFrame, KeepsKind}
 use Rattle.star_meaning.specs.Calls.{activate, deactivate, rest_of}
 use Rattle.star_meaning.proofs.Stays as stays
 
--- behind it all frames are the same frames, and no function is new
+-- after it all frames are the same frames, and no function is new
 pub record Follows (s t : State) : Type 0 where
   pub home : t.store.home ≡ s.store.home
   pub frames : (at : ℕ) (f : Frame) → cell_at s.store.cells at ≡ Some (cell.Frame f) → (g : Frame) × (cell_at t.store.cells at ≡ Some (cell.Frame g)) × KeepsFrame f g

@@ -65,7 +65,7 @@ cell_on a b c h k = record {
   held = λ i. k.held (subst (λ n. 0 < n) (same_count a b (h.held i) h.iterations) i) ∙ h.held i;
 }
 
--- what a run keeps of its state; on a cell that is new behind it no iteration is open
+-- what a run keeps of its state; on a cell that is new after it no iteration is open
 pub record Stays (s t : State) : Type 0 where
   pub home : t.store.home ≡ s.store.home
   pub cells : (at : ℕ) (a : Counted) → slice_get s.store.cells at ≡ Some a → (b : Counted) × (slice_get t.store.cells at ≡ Some b) × KeepsCell a b

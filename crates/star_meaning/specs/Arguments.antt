@@ -34,7 +34,7 @@ named_of (Named n v ∷ ps) = record { name = n; key = None; value = v } ∷ nam
 named_of (Star v ∷ ps) = named_of ps
 named_of (StarStar v ∷ ps) = named_of ps
 
--- what stands behind `*` and behind `**`
+-- what stands after `*` and after `**`
 abbrev pub star_of : List Passed → Option Value
 star_of [] = None
 star_of (Plain v ∷ ps) = star_of ps
@@ -49,7 +49,7 @@ star_star_of (Named n v ∷ ps) = star_star_of ps
 star_star_of (Star v ∷ ps) = star_star_of ps
 star_star_of (StarStar v ∷ ps) = Some v
 
--- the number of items behind `*`: `type` where it is not iterable
+-- the number of items after `*`: `type` where it is not iterable
 abbrev pub star_count : Setting → ℕ → Option Value → Action ℕ
 star_count w line None = give 0
 star_count w line (Some v) = count_of w line v
@@ -75,7 +75,7 @@ abbrev pub names_in : Setting → State → Content → Option (List NamedValue)
 names_in w s (Held (cell.Dict es)) = named_entries w s es
 names_in w s _ = None
 
--- what stands behind `**`: `type` unless it is a dictionary whose keys are all strings
+-- what stands after `**`: `type` unless it is a dictionary whose keys are all strings
 abbrev pub star_star_names : Setting → ℕ → Option Value → Action (List NamedValue)
 star_star_names w line None = give []
 star_star_names w line (Some v) = seeing (λ s. found code.BadType line (names_in w s (content w s v)))
@@ -93,7 +93,7 @@ abbrev pub comes_twice : List NamedValue → Bool
 comes_twice [] = false
 comes_twice (n ∷ ns) = is_given n.name ns || comes_twice ns
 
--- what a call gives, in order: what stands behind `*` and `**` is checked, then their items and entries are taken, then no name may come twice
+-- what a call gives, in order: what stands after `*` and `**` is checked, then their items and entries are taken, then no name may come twice
 unfoldable pub given : Setting → ℕ → List Passed → Action Given
 given w line ps = do
   n ← star_count w line (star_of ps)

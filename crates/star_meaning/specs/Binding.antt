@@ -64,7 +64,7 @@ abbrev pub rest_of_row : List Value → List Value
 rest_of_row [] = []
 rest_of_row (x ∷ xs) = xs
 
--- a share, and where binding stands behind it; nothing where the arguments do not fit
+-- a share, and where binding stands after it; nothing where the arguments do not fit
 abbrev pub Step : Type 0
 Step = Option (List (Name × Share) × Progress)
 

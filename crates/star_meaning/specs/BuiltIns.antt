@@ -225,7 +225,7 @@ is_before (Number x) (Number y) = is_lt (int_cmp x y)
 is_before (Held (cell.Text t)) (Held (cell.Text u)) = is_lt (slice_cmp nat_cmp t u)
 is_before _ _ = false
 
--- an item among sorted ones, before those that it does not come behind
+-- an item among sorted ones, before those that it does not come after
 abbrev pub placed : (Value → Value → Bool) → Value → List Value → List Value
 placed before x [] = x ∷ []
 placed before x (y ∷ ys) = if before y x then y ∷ placed before x ys else x ∷ y ∷ ys

@@ -18,14 +18,14 @@ use Rattle.star_meaning.specs.Subscript.{put_entry}
 use Rattle.star_meaning.specs.Meaning.{Meaning, repeat}
 use Rattle.star_meaning.specs.Targets.{to_target}
 
--- a turn of a `for` clause: the next item is taken and assigned, and the clauses behind it run
+-- a turn of a `for` clause: the next item is taken and assigned, and the clauses after it run
 abbrev pub clause_turn : Variables → Setting → Meaning → Place → Target → Value → Action (Unit {0}) → ℕ → Action (Unit {0})
 clause_turn vs w m p t v rest i = do
   x ← take_item w p.line v i
   _ ← to_target vs m p t x
   rest
 
--- a `for` clause over a value: it is being iterated while the clauses behind it run
+-- a `for` clause over a value: it is being iterated while the clauses after it run
 abbrev pub over : Variables → Setting → Meaning → Place → Target → Value → Action (Unit {0}) → Action (Unit {0})
 over vs w m p t v rest = do
   n ← iterate w p.line v
@@ -37,7 +37,7 @@ abbrev pub clause_node : Variables → Setting → Meaning → Place → ClauseF
 clause_node vs w m p (tree.For t e) rest = m.expr p e >>= λ v. over vs w m p t v rest
 clause_node vs w m p (tree.If e) rest = m.expr p e >>= is_true w >>= λ b. if b then rest else give tt
 
--- further clauses in order, with what stands behind the last
+-- further clauses in order, with what stands after the last
 abbrev pub clauses : Variables → Setting → Meaning → Place → List Clause → Action (Unit {0}) → Action (Unit {0})
 clauses vs w m p [] last = last
 clauses vs w m p (c ∷ cs) last = clause_node vs w m p (clause c) (clauses vs w m p cs last)

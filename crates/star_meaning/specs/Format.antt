@@ -18,7 +18,7 @@ pub data Numbering : Type 0 where
   Automatic : ℕ → Numbering
   ByNumber : Numbering
 
--- where the string is read: outside of braces, inside of a field, or behind a closing brace outside
+-- where the string is read: outside of braces, inside of a field, or after a closing brace outside
 pub data Reading : Type 0 where
   Outside : Reading
   Field : List ℕ → Reading

@@ -16,7 +16,7 @@ use Rattle.star_meaning.specs.Program.{Setting}
 use Rattle.star_meaning.specs.Variables.{by_names}
 use Rattle.star_meaning.specs.Module.{meaning, local, Local, Good, Stopped}
 
--- behind a run the module is the same, there are no fewer cells, no more steps, and no other lines but further ones
+-- after a run the module is the same, there are no fewer cells, no more steps, and no other lines but further ones
 pub record Grows (s t : State) : Type 0 where
   pub home : t.store.home ≡ s.store.home
   pub cells : length s.store.cells ≤ length t.store.cells
@@ -54,7 +54,7 @@ pub record KeepsCell (a b : Counted) : Type 0 where
   pub iterations : b.iterations ≡ a.iterations
   pub held : 0 < iterations_in (Some a) → b.cell ≡ a.cell
 
--- what a run keeps that ends well: the module, its cells, which only grow in number, the active definitions and the lines printed; steps only fall, and on a cell that is new behind the run no iteration is open
+-- what a run keeps that ends well: the module, its cells, which only grow in number, the active definitions and the lines printed; steps only fall, and on a cell that is new after the run no iteration is open
 pub record Kept (s t : State) : Type 0 where
   pub home : t.store.home ≡ s.store.home
   pub cells : (at : ℕ) (a : Counted) → slice_get s.store.cells at ≡ Some a → (b : Counted) × (slice_get t.store.cells at ≡ Some b) × KeepsCell a b

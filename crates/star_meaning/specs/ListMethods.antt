@@ -20,7 +20,7 @@ items_of _ = []
 abbrev pub with_items : {A : Type 0} → Setting → Value → (List Value → Action A) → Action A
 with_items w l f = with_content w l (λ c. f (items_of c))
 
--- adds a value behind all others
+-- adds a value after all others
 abbrev pub add_item : Setting → ℕ → Value → Value → Action (Unit {0})
 add_item w line l x = change w line l (change_to.Append x) >>= λ _. give tt
 

@@ -149,7 +149,7 @@ first_place t u (suc n) i = if stands_at t u i then Some i else first_place t u 
 abbrev pub place_between : List ℕ → List ℕ → ℕ → ℕ → Option ℕ
 place_between t u a b = first_place t u (b + 1 - (a + length u)) a
 
--- whether an int is one of a range: a whole number of steps behind the start, fewer than the range has ints
+-- whether an int is one of a range: a whole number of steps after the start, fewer than the range has ints
 abbrev pub is_below : ℤ → ℕ → Bool
 is_below (pos q) n = nat_lt q n
 is_below (negsuc q) n = false

@@ -20,12 +20,12 @@ lettered w levels line letter x =
     else (if nat_eq letter 100 then (want_int w line x >>= λ n. repr w levels line x)
     else fail code.BadValue line))
 
--- the next value's text, and the values behind it; too few are `value`
+-- the next value's text, and the values after it; too few are `value`
 abbrev pub next_text : Setting → ℕ → ℕ → ℕ → List Value → Action (List ℕ × List Value)
 next_text w levels line letter [] = fail code.BadValue line
 next_text w levels line letter (x ∷ xs) = lettered w levels line letter x >>= λ t. give (t, xs)
 
--- the bytes of the string from left to right: behind a `%` stands a letter, or another `%`; the values that are left, and what is made so far
+-- the bytes of the string from left to right: after a `%` stands a letter, or another `%`; the values that are left, and what is made so far
 abbrev pub filled : Setting → ℕ → ℕ → Bool → List ℕ → List Value → List ℕ → Action (List ℕ)
 filled w levels line false [] [] out = give out
 filled w levels line false [] (x ∷ xs) out = fail code.BadValue line

@@ -113,12 +113,12 @@ pub record FitsFunction (trees : Trees) (w : Setting) (s : State) (f : Function)
 abbrev pub AllFit : Trees → Setting → State → Type 0
 AllFit trees w s = (v : Value) (f : Function) → seen w s v ≡ Some (cell.Func f) → FitsFunction trees w s f
 
--- all functions fit behind a run that ends well
+-- all functions fit after a run that ends well
 abbrev pub FitBehind : Trees → Setting → Outcome Ended → Type 0
 FitBehind trees w (Done e t) = AllFit trees w t
 FitBehind trees w (Failed f lines) = Unit {0}
 
--- The law: where the tables are right for all files, and the functions of the published modules fit, the run of a file by places is its run by names, and behind it all functions fit.
+-- The law: where the tables are right for all files, and the functions of the published modules fit, the run of a file by places is its run by names, and after it all functions fit.
 abbrev pub PlacesMeanNames : Type 0
 PlacesMeanNames = (tables : Tables) (trees : Trees) (w : Setting) (statements : List Statement) (steps : ℕ)
     → w.outlines ≡ outlines trees
@@ -137,7 +137,7 @@ pub record Loaded (u : Setting) (t : State) (w : Setting) : Type 0 where
   pub apart : w.home ≡ u.home → ⊥
   pub unseen : published_of u w.home ≡ None
 
--- The law: where each function that a module sees before its run was seen by a module that it loaded, behind whose run all functions fit, there all functions fit before its run.
+-- The law: where each function that a module sees before its run was seen by a module that it loaded, after whose run all functions fit, there all functions fit before its run.
 abbrev pub LoadsFit : Type 0
 LoadsFit = (trees : Trees) (w : Setting) (steps : ℕ)
     → ((v : Value) (f : Function) → seen w (start w steps) v ≡ Some (cell.Func f) → (u : Setting) × (t : State) × Loaded u t w × AllFit trees u t × (seen u t v ≡ Some (cell.Func f)))

@@ -26,7 +26,7 @@ pub data Outcome (A : Type 0) : Type 0 where
 abbrev pub Action : Type 0 → Type 0
 Action A = State → Outcome A
 
--- goes on behind an answer; a fault ends all
+-- goes on after an answer; a fault ends all
 abbrev pub and_then : {A B : Type 0} → Outcome A → (A → Action B) → Outcome B
 and_then (Done x s) f = f x s
 and_then (Failed f lines) g = Failed f lines
@@ -90,7 +90,7 @@ seeing f = λ s. f s s
 abbrev pub storing : (Store → Store) → Action (Unit {0})
 storing f = λ s. Done tt (record s { store = f s.store })
 
--- a new cell, behind all others
+-- a new cell, after all others
 unfoldable pub make : Cell → Action Value
 make c = λ s. Done (next_value s.store) (record s { store = made c s.store })
 

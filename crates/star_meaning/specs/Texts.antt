@@ -21,7 +21,7 @@ abbrev pub characters : List ℕ → List (List ℕ)
 characters [] = []
 characters (b ∷ bs) = led_by b (characters bs)
 
--- what is left behind the characters at the front that are in a set
+-- what is left after the characters at the front that are in a set
 abbrev pub without_front : (List ℕ → Bool) → List (List ℕ) → List (List ℕ)
 without_front test [] = []
 without_front test (c ∷ cs) = if test c then without_front test cs else c ∷ cs

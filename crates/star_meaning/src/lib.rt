@@ -1,6 +1,7 @@
 //! What a program means: the definitions of the whole language, in `specs/`, and their laws.
 //!
-//! The definitions are read in the order of `specs/Lib.antt`; the meaning of a whole file is `local` of `specs/Module.antt`.
+//! The definitions are read in the order of `specs/Lib.antt`; the meaning of a whole file is `local` of
+//! `specs/Module.antt`.
 #![tactic(auto)]
 
 pub mod fault;

@@ -24,7 +24,7 @@ found_between t u a b = place_or_none (place_between t u (end_of (length t) (pos
 abbrev pub bytes_each : Setting → State → List Value → List (List ℕ)
 bytes_each w s xs = map (λ x. bytes_of (content w s x)) xs
 
--- strings, each behind another one
+-- strings, each after another one
 abbrev pub each_behind : List ℕ → List (List ℕ) → List ℕ
 each_behind by [] = []
 each_behind by (u ∷ us) = by ++ u ++ each_behind by us

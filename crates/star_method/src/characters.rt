@@ -32,10 +32,11 @@ fn inner_bytes(bytes: &[u8]) -> usize
     bytes.len()
 }
 
-/// The first character of a string, and what stands behind it.
+/// The first character of a string, and what stands after it.
 #[tactic(auto, using(crate::proofs::OneByOne::first_is))]
 pub fn first_character(text: &str) -> Option<(&str, &str)>
-    ensures { MatchOption result (text.now ≡ []) (λ x. (spec.characters text.now ≡ x.0.now ∷ spec.characters x.1.now) × (length x.1.now < length text.now)) }
+    ensures { MatchOption result (text.now ≡ [])
+        (λ x. (spec.characters text.now ≡ x.0.now ∷ spec.characters x.1.now) × (length x.1.now < length text.now)) }
 {
     if text.is_empty() {
         return None;
@@ -61,7 +62,9 @@ fn last_start(bytes: &[u8]) -> usize
 /// What stands before the last character of a string, and that character.
 #[tactic(auto, using(crate::proofs::OneByOne::last_is))]
 pub fn last_character(text: &str) -> Option<(&str, &str)>
-    ensures { MatchOption result (text.now ≡ []) (λ x. (spec.characters text.now ≡ spec.characters x.0.now ++ x.1.now ∷ []) × (length x.0.now < length text.now)) }
+    ensures { MatchOption result (text.now ≡ [])
+        (λ x. (spec.characters text.now ≡ spec.characters x.0.now ++ x.1.now ∷ [])
+        × (length x.0.now < length text.now)) }
 {
     if text.is_empty() {
         return None;
@@ -174,7 +177,7 @@ impl<'s> Lookup<'s> {
     }
 }
 
-/// What is left behind the characters at the front that are in a set.
+/// What is left after the characters at the front that are in a set.
 #[tactic(auto, using(crate::proofs::OneByOne::front_stays))]
 pub fn without_front<'a>(text: &'a str, set: &Lookup<'_>) -> &'a str
     ensures { spec.characters result.now ≡ spec.without_front (test_of set.now) (spec.characters text.now) }

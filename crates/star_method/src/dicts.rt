@@ -138,7 +138,8 @@ pub fn call_values(
     machine.new_list(line, Values::new(values))
 }
 
-/// Takes out the value that stands under a key; where none does, the one that is given. `Key` where none is given either.
+/// Takes out the value that stands under a key; where none does, the one that is given. `Key` where none is given
+/// either.
 fn take_out(
     machine: &mut Machine,
     setting: &Setting,
@@ -160,7 +161,8 @@ fn take_out(
     Ok(value)
 }
 
-/// `pop(k, [d])`: the write guard, the check of the key, then the value under `k` is taken out; where there is none, `d`, or `Key`.
+/// `pop(k, [d])`: the write guard, the check of the key, then the value under `k` is taken out; where there is none,
+/// `d`, or `Key`.
 pub fn call_dict_pop(
     machine: &mut Machine,
     setting: &Setting,
@@ -178,7 +180,8 @@ pub fn call_dict_pop(
     take_out(machine, setting, line, dict, key, value, default)
 }
 
-/// `popitem()`: the write guard, `Key` for an empty dictionary, then the first entry as a new tuple, and it is taken out.
+/// `popitem()`: the write guard, `Key` for an empty dictionary, then the first entry as a new tuple, and it is taken
+/// out.
 pub fn call_popitem(
     machine: &mut Machine,
     setting: &Setting,
@@ -218,8 +221,8 @@ fn put_default(
     Ok(value)
 }
 
-/// `setdefault(k, [d])`: the write guard, the check of the key, then the value under `k`; where there is none, 1 is paid, and `d`
-/// or None is put there.
+/// `setdefault(k, [d])`: the write guard, the check of the key, then the value under `k`; where there is none, 1 is
+/// paid, and `d` or None is put there.
 pub fn call_setdefault(
     machine: &mut Machine,
     setting: &Setting,
@@ -237,7 +240,8 @@ pub fn call_setdefault(
     put_default(machine, setting, line, dict, key, value, default)
 }
 
-/// `update([x], **kw)`: `BadType` for an `x` that is no iterable, the write guard, then the pairs of `x` and the named values are put.
+/// `update([x], **kw)`: `BadType` for an `x` that is no iterable, the write guard, then the pairs of `x` and the named
+/// values are put.
 pub fn call_update(
     machine: &mut Machine,
     setting: &Setting,

@@ -27,7 +27,7 @@ fn item_count(machine: &Machine, setting: &Setting, list: Value) -> usize
     }
 }
 
-/// Adds a value behind all others.
+/// Adds a value after all others.
 fn add_item(
     machine: &mut Machine,
     setting: &Setting,
@@ -41,7 +41,7 @@ fn add_item(
     Ok(())
 }
 
-/// Adds values behind all others.
+/// Adds values after all others.
 fn add_items(
     machine: &mut Machine,
     setting: &Setting,
@@ -57,7 +57,7 @@ fn add_items(
     Ok(())
 }
 
-/// `append(x)`: the write guard, then 1 is paid, then `x` stands behind all others.
+/// `append(x)`: the write guard, then 1 is paid, then `x` stands after all others.
 pub fn call_append(
     machine: &mut Machine,
     setting: &Setting,
@@ -108,7 +108,7 @@ pub fn extend(
     add_items(machine, setting, line, list, taken.as_slice())
 }
 
-/// `extend(it)`: the items of `it` stand behind all others.
+/// `extend(it)`: the items of `it` stand after all others.
 pub fn call_extend(
     machine: &mut Machine,
     setting: &Setting,
@@ -133,7 +133,8 @@ fn equal_place(
     list: Value,
     value: Value,
 ) -> Result<Option<usize>, Stop>
-    ensures { Gives (spec.with_items setting.now list (spec.equal_place setting.now levels line value 0) machine.old) result machine.new }
+    ensures { Gives (spec.with_items setting.now list (spec.equal_place setting.now levels line value 0) machine.old)
+        result machine.new }
 {
     match machine.kind(setting, list) {
         Kind::List => machine.equal_place(setting, levels, line, list, value),
@@ -181,7 +182,8 @@ fn insert_place(len: usize, place: i64) -> usize
     bound_of(len, 0, len as i128, 0, Some(place)).unsigned_abs() as usize
 }
 
-/// `insert(i, x)`: `BadType` for an `i` that is no int, the write guard, then 1 is paid, then `x` stands before the item at `i`.
+/// `insert(i, x)`: `BadType` for an `i` that is no int, the write guard, then 1 is paid, then `x` stands before the
+/// item at `i`.
 pub fn call_insert(
     machine: &mut Machine,
     setting: &Setting,

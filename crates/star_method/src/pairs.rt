@@ -109,7 +109,8 @@ fn pairs_in(
     source: Value,
     count: usize,
 ) -> Result<Pairs, Stop>
-    ensures { GivesBy as_pairs (spec.pairs_in setting.now line source count (content setting.now machine.old source) machine.old) result machine.new }
+    ensures { GivesBy as_pairs (spec.pairs_in setting.now line source count (content setting.now machine.old source)
+        machine.old) result machine.new }
 {
     match machine.kind(setting, source) {
         Kind::Dict => {
@@ -210,7 +211,8 @@ fn put_each(
     are_keys: bool,
     pairs: &[(Value, Value)],
 ) -> Result<(), Stop>
-    ensures { Gives (all_of (spec.put_pair setting.now levels line dict are_keys) pairs.now machine.old) result machine.new }
+    ensures { Gives (all_of (spec.put_pair setting.now levels line dict are_keys) pairs.now machine.old)
+        result machine.new }
 {
     for pair in pairs {
         put_pair(machine, setting, levels, line, dict, are_keys, *pair)?;
@@ -259,7 +261,8 @@ fn put_pairs(
     pairs: &Pairs,
     named: &[NamedValue],
 ) -> Result<(), Stop>
-    ensures { Gives (spec.put_pairs setting.now levels line dict (as_pairs pairs.now) named.now machine.old) result machine.new }
+    ensures { Gives (spec.put_pairs setting.now levels line dict (as_pairs pairs.now) named.now machine.old)
+        result machine.new }
 {
     let are_keys = pairs.are_keys;
     put_each(
@@ -285,7 +288,8 @@ pub fn update_with(
     source: Option<Value>,
     named: &[NamedValue],
 ) -> Result<(), Stop>
-    ensures { Gives (spec.update_with setting.now levels line dict source named.now (guard setting.now line dict) machine.old) result machine.new }
+    ensures { Gives (spec.update_with setting.now levels line dict source named.now (guard setting.now line dict)
+        machine.old) result machine.new }
 {
     let count = pairs_count(machine, setting, line, source)?;
     machine.guard(setting, line, dict)?;

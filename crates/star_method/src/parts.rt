@@ -29,7 +29,7 @@ fn may_cut(left: Option<u64>) -> bool
     }
 }
 
-/// The cuts that are left behind one.
+/// The cuts that are left after one.
 fn one_less(left: Option<u64>) -> Option<u64>
     ensures { result ≡ texts.one_less left }
 {
@@ -39,11 +39,13 @@ fn one_less(left: Option<u64>) -> Option<u64>
     }
 }
 
-/// The first cut of a string: what stands before the separator, and what stands behind it.
+/// The first cut of a string: what stands before the separator, and what stands after it.
 #[tactic(auto, using(crate::proofs::Cutting::no_more))]
 fn next_cut<'a>(text: &'a str, by: &str, left: Option<u64>) -> Option<(&'a str, &'a str)>
     requires { 0 < length by.now }
-    ensures { MatchOption result (texts.parts text.now by.now left ≡ text.now ∷ []) (λ x. (texts.parts text.now by.now left ≡ x.0.now ∷ texts.parts x.1.now by.now (texts.one_less left)) × (length x.1.now < length text.now)) }
+    ensures { MatchOption result (texts.parts text.now by.now left ≡ text.now ∷ [])
+        (λ x. (texts.parts text.now by.now left ≡ x.0.now ∷ texts.parts x.1.now by.now (texts.one_less left))
+        × (length x.1.now < length text.now)) }
 {
     if !may_cut(left) {
         return None;
@@ -107,8 +109,8 @@ fn one_and_maybe(
     }
 }
 
-/// `split(sep, [n])`: the bytes are paid; then new strings of the parts between cuts at `sep`, at most `n` of them, in a new list.
-/// `BadType` for arguments of other types, `BadValue` for an empty `sep`.
+/// `split(sep, [n])`: the bytes are paid; then new strings of the parts between cuts at `sep`, at most `n` of them, in
+/// a new list. `BadType` for arguments of other types, `BadValue` for an empty `sep`.
 pub fn call_split(
     machine: &mut Machine,
     setting: &Setting,
@@ -116,7 +118,8 @@ pub fn call_split(
     text: Value,
     given: &Given,
 ) -> Result<Value, Stop>
-    ensures { Gives (spec.call_split setting.now line (bytes_of (content setting.now machine.old text)) given.now machine.old) result machine.new }
+    ensures { Gives (spec.call_split setting.now line (bytes_of (content setting.now machine.old text)) given.now
+        machine.old) result machine.new }
 {
     let (by, cuts) = one_and_maybe(machine, line, machine.by_place(line, given)?)?;
     machine.check_text(setting, line, by)?;
@@ -162,7 +165,8 @@ fn two_or_three(
     line: usize,
     values: &[Value],
 ) -> Result<(Value, Value, Option<Value>), Stop>
-    ensures { GivesBy (λ r. record { old = r.0; new = r.1; cuts = r.2 }) (spec.two_or_three line values.now machine.now) result machine.now }
+    ensures { GivesBy (λ r. record { old = r.0; new = r.1; cuts = r.2 }) (spec.two_or_three line values.now machine.now)
+        result machine.now }
 {
     match values {
         [old, new] => Ok((*old, *new, None)),
@@ -171,8 +175,8 @@ fn two_or_three(
     }
 }
 
-/// `replace(old, new, [n])`: the bytes are paid, then a new string with `new` in the place of each `old`, of `n` at most. `BadType`
-/// for arguments of other types, `BadValue` for an empty `old`.
+/// `replace(old, new, [n])`: the bytes are paid, then a new string with `new` in the place of each `old`, of `n` at
+/// most. `BadType` for arguments of other types, `BadValue` for an empty `old`.
 pub fn call_replace(
     machine: &mut Machine,
     setting: &Setting,
@@ -180,7 +184,8 @@ pub fn call_replace(
     text: Value,
     given: &Given,
 ) -> Result<Value, Stop>
-    ensures { Gives (spec.call_replace setting.now line (bytes_of (content setting.now machine.old text)) given.now machine.old) result machine.new }
+    ensures { Gives (spec.call_replace setting.now line (bytes_of (content setting.now machine.old text)) given.now
+        machine.old) result machine.new }
 {
     let (old, new, cuts) = two_or_three(machine, line, machine.by_place(line, given)?)?;
     machine.check_text(setting, line, old)?;

@@ -34,7 +34,8 @@ pub fn pay_for_bytes(
     line: usize,
     text: Value,
 ) -> Result<(), Stop>
-    ensures answer { Gives (spec.pay_for_bytes line (bytes_of (content setting.now machine.old text)) machine.old) result machine.new }
+    ensures answer { Gives (spec.pay_for_bytes line (bytes_of (content setting.now machine.old text)) machine.old)
+        result machine.new }
     ensures kept { machine.new.store ≡ machine.old.store }
 {
     machine.pay(line, machine.text_size(setting, text) as u128)
@@ -70,7 +71,8 @@ pub fn call_lower(
     text: Value,
     given: &Given,
 ) -> Result<Value, Stop>
-    ensures { Gives (spec.call_case line lower (bytes_of (content setting.now machine.old text)) given.now machine.old) result machine.new }
+    ensures { Gives (spec.call_case line lower (bytes_of (content setting.now machine.old text)) given.now machine.old)
+        result machine.new }
 {
     machine.no_value(line, machine.by_place(line, given)?)?;
     let made = lowered(machine, setting, text)?;
@@ -86,7 +88,8 @@ pub fn call_upper(
     text: Value,
     given: &Given,
 ) -> Result<Value, Stop>
-    ensures { Gives (spec.call_case line upper (bytes_of (content setting.now machine.old text)) given.now machine.old) result machine.new }
+    ensures { Gives (spec.call_case line upper (bytes_of (content setting.now machine.old text)) given.now machine.old)
+        result machine.new }
 {
     machine.no_value(line, machine.by_place(line, given)?)?;
     let made = raised(machine, setting, text)?;
@@ -100,7 +103,8 @@ fn one_to_three(
     line: usize,
     values: &[Value],
 ) -> Result<(Value, Option<Value>, Option<Value>), Stop>
-    ensures { GivesBy (λ r. record { what = r.0; from = r.1; to = r.2 }) (spec.one_to_three line values.now machine.now) result machine.now }
+    ensures { GivesBy (λ r. record { what = r.0; from = r.1; to = r.2 }) (spec.one_to_three line values.now machine.now)
+        result machine.now }
 {
     match values {
         [what] => Ok((*what, None, None)),
@@ -140,7 +144,8 @@ fn place_in(
     from: Option<i64>,
     to: Option<i64>,
 ) -> i64
-    ensures { result ≡ found_between (bytes_of (content setting.now machine.now text)) (bytes_of (content setting.now machine.now part)) from to }
+    ensures { result ≡ found_between (bytes_of (content setting.now machine.now text))
+        (bytes_of (content setting.now machine.now part)) from to }
 {
     let text = machine.bytes(setting, text);
     let len = text.len();
@@ -148,8 +153,8 @@ fn place_in(
     place_or_none(text, part, end_of(len, 0, from), end_of(len, len, to))
 }
 
-/// `find(t, [a, [b]])`: the least place at which `t` stands between `a` and `b`, which are ends as in a slice, else -1. `BadType` for
-/// arguments of other types.
+/// `find(t, [a, [b]])`: the least place at which `t` stands between `a` and `b`, which are ends as in a slice, else -1.
+/// `BadType` for arguments of other types.
 pub fn call_find(
     machine: &mut Machine,
     setting: &Setting,
@@ -157,7 +162,8 @@ pub fn call_find(
     text: Value,
     given: &Given,
 ) -> Result<Value, Stop>
-    ensures { Gives (spec.call_find setting.now line (bytes_of (content setting.now machine.old text)) given.now machine.old) result machine.new }
+    ensures { Gives (spec.call_find setting.now line (bytes_of (content setting.now machine.old text)) given.now
+        machine.old) result machine.new }
 {
     let (part, from, to) = one_to_three(machine, line, machine.by_place(line, given)?)?;
     machine.check_text(setting, line, part)?;
@@ -186,7 +192,8 @@ fn stands_at_edge(edge: Edge, text: &[u8], part: &[u8]) -> bool
 
 /// Whether a string stands at an edge of another one.
 fn part_at_edge(machine: &Machine, setting: &Setting, edge: Edge, text: Value, part: Value) -> bool
-    ensures { result ≡ at_edge edge (bytes_of (content setting.now machine.now text)) (bytes_of (content setting.now machine.now part)) }
+    ensures { result ≡ at_edge edge (bytes_of (content setting.now machine.now text))
+        (bytes_of (content setting.now machine.now part)) }
 {
     let text = machine.bytes(setting, text);
     stands_at_edge(edge, text, machine.bytes(setting, part))
@@ -223,7 +230,8 @@ fn one_at_edge(
     text: Value,
     parts: &[Value],
 ) -> bool
-    ensures { result ≡ list_any (at_edge edge (bytes_of (content setting.now machine.now text))) (bytes_each setting.now machine.now parts.now) }
+    ensures { result ≡ list_any (at_edge edge (bytes_of (content setting.now machine.now text)))
+        (bytes_each setting.now machine.now parts.now) }
 {
     for part in parts {
         if part_at_edge(machine, setting, edge, text, *part) {
@@ -243,7 +251,9 @@ fn some_at_edge(
     text: Value,
     parts: &[Value],
 ) -> Result<bool, Stop>
-    ensures { Gives (and_then (found BadType line (spec.texts_of setting.now machine.now parts.now) machine.now) (λ us. give (list_any (at_edge edge (bytes_of (content setting.now machine.now text))) us))) result machine.now }
+    ensures { Gives (and_then (found BadType line (spec.texts_of setting.now machine.now parts.now) machine.now)
+        (λ us. give (list_any (at_edge edge (bytes_of (content setting.now machine.now text))) us)))
+        result machine.now }
 {
     if !are_texts(machine, setting, parts) {
         return Err(faulted(Code::BadType, line));
@@ -260,7 +270,10 @@ fn choice_at_edge(
     text: Value,
     choices: Value,
 ) -> Result<bool, Stop>
-    ensures { Gives (and_then (found BadType line (spec.choices_in setting.now machine.now (content setting.now machine.now choices)) machine.now) (λ us. give (list_any (at_edge edge (bytes_of (content setting.now machine.now text))) us))) result machine.now }
+    ensures { Gives (and_then (found BadType line
+        (spec.choices_in setting.now machine.now (content setting.now machine.now choices)) machine.now)
+        (λ us. give (list_any (at_edge edge (bytes_of (content setting.now machine.now text))) us)))
+        result machine.now }
 {
     match machine.content(setting, choices) {
         Content::Held(Cell::Text(part)) => {
@@ -283,7 +296,8 @@ fn call_edge(
     text: Value,
     given: &Given,
 ) -> Result<Value, Stop>
-    ensures { Gives (spec.call_edge setting.now line (at_edge edge) (bytes_of (content setting.now machine.old text)) given.now machine.old) result machine.new }
+    ensures { Gives (spec.call_edge setting.now line (at_edge edge) (bytes_of (content setting.now machine.old text))
+        given.now machine.old) result machine.new }
 {
     let choices = machine.only_one(line, machine.by_place(line, given)?)?;
     let stands = choice_at_edge(machine, setting, line, edge, text, choices)?;
@@ -299,7 +313,8 @@ pub fn call_startswith(
     text: Value,
     given: &Given,
 ) -> Result<Value, Stop>
-    ensures { Gives (spec.call_edge setting.now line (starts_with nat_eq) (bytes_of (content setting.now machine.old text)) given.now machine.old) result machine.new }
+    ensures { Gives (spec.call_edge setting.now line (starts_with nat_eq)
+        (bytes_of (content setting.now machine.old text)) given.now machine.old) result machine.new }
 {
     call_edge(machine, setting, line, Edge::Front, text, given)
 }
@@ -312,7 +327,8 @@ pub fn call_endswith(
     text: Value,
     given: &Given,
 ) -> Result<Value, Stop>
-    ensures { Gives (spec.call_edge setting.now line (ends_with nat_eq) (bytes_of (content setting.now machine.old text)) given.now machine.old) result machine.new }
+    ensures { Gives (spec.call_edge setting.now line (ends_with nat_eq)
+        (bytes_of (content setting.now machine.old text)) given.now machine.old) result machine.new }
 {
     call_edge(machine, setting, line, Edge::End, text, given)
 }
@@ -336,7 +352,8 @@ fn want_set(
 
 /// What `lstrip` and `strip` leave at the front.
 fn front_stripped<'a>(text: &'a str, front: bool, set: &Lookup<'_>) -> &'a str
-    ensures { characters result.now ≡ (if front then without_front (test_of set.now) else (λ cs. cs)) (characters text.now) }
+    ensures { characters result.now
+        ≡ (if front then without_front (test_of set.now) else (λ cs. cs)) (characters text.now) }
 {
     if front {
         return without_front(text, set);
@@ -346,7 +363,8 @@ fn front_stripped<'a>(text: &'a str, front: bool, set: &Lookup<'_>) -> &'a str
 
 /// What `rstrip` and `strip` leave at the end.
 fn end_stripped<'a>(text: &'a str, end: bool, set: &Lookup<'_>) -> &'a str
-    ensures { characters result.now ≡ (if end then without_end (test_of set.now) else (λ cs. cs)) (characters text.now) }
+    ensures { characters result.now
+        ≡ (if end then without_end (test_of set.now) else (λ cs. cs)) (characters text.now) }
 {
     if end {
         return without_end(text, set);
@@ -364,7 +382,8 @@ fn stripped(
     end: bool,
     set: &Set,
 ) -> Result<Text, AllocError>
-    ensures { IfOk result (λ t. t ≡ spec.stripped front end (test_of set.now) (bytes_of (content setting.now machine.now text))) }
+    ensures { IfOk result (λ t. t ≡ spec.stripped front end (test_of set.now)
+        (bytes_of (content setting.now machine.now text))) }
 {
     let text = machine.copied_text(setting, text)?;
     let set = Lookup::of(machine.alloc(), set, text.as_str().len())?;
@@ -373,8 +392,8 @@ fn stripped(
     Text::new(machine.alloc(), kept)
 }
 
-/// `strip([c])`, `lstrip([c])` and `rstrip([c])`: takes the characters of `c`, or blanks, off the front, the end or both. `BadType`
-/// for a `c` that is no string.
+/// `strip([c])`, `lstrip([c])` and `rstrip([c])`: takes the characters of `c`, or blanks, off the front, the end or
+/// both. `BadType` for a `c` that is no string.
 pub fn call_strip(
     machine: &mut Machine,
     setting: &Setting,
@@ -384,7 +403,8 @@ pub fn call_strip(
     text: Value,
     given: &Given,
 ) -> Result<Value, Stop>
-    ensures { Gives (spec.call_strip setting.now line front end (bytes_of (content setting.now machine.old text)) given.now machine.old) result machine.new }
+    ensures { Gives (spec.call_strip setting.now line front end (bytes_of (content setting.now machine.old text))
+        given.now machine.old) result machine.new }
 {
     let set = machine.none_or_one(line, machine.by_place(line, given)?)?;
     let set = want_set(machine, setting, line, set)?;
@@ -393,7 +413,7 @@ pub fn call_strip(
     machine.new_text(line, made)
 }
 
-/// Puts strings behind a text, each behind another string.
+/// Puts strings after a text, each after another string.
 fn push_each(
     machine: &Machine,
     setting: &Setting,
@@ -401,7 +421,8 @@ fn push_each(
     by: &str,
     texts: &[Value],
 ) -> Result<(), AllocError>
-    ensures { OnOk result (string_bytes made.new ≡ string_bytes made.old ++ each_behind by.now (bytes_each setting.now machine.now texts.now)) }
+    ensures { OnOk result (string_bytes made.new ≡ string_bytes made.old
+        ++ each_behind by.now (bytes_each setting.now machine.now texts.now)) }
 {
     for text in texts {
         let text = machine.copied_text(setting, *text)?;
@@ -449,7 +470,8 @@ fn join_all(
     by: &str,
     texts: &[Value],
 ) -> Result<Text, Stop>
-    ensures { Gives (and_then (found BadType line (spec.texts_of setting.now machine.now texts.now) machine.now) (λ us. give (joined by.now us))) result machine.now }
+    ensures { Gives (and_then (found BadType line (spec.texts_of setting.now machine.now texts.now) machine.now)
+        (λ us. give (joined by.now us))) result machine.now }
 {
     if !are_texts(machine, setting, texts) {
         return Err(faulted(Code::BadType, line));
@@ -457,8 +479,8 @@ fn join_all(
     Ok(joined_texts(machine, setting, by, texts)?)
 }
 
-/// `join(it)`: the bytes are paid, then all items are taken, then a new string of them, with this one between them. `BadType` for what
-/// is no iterable, and where an item is no string.
+/// `join(it)`: the bytes are paid, then all items are taken, then a new string of them, with this one between them.
+/// `BadType` for what is no iterable, and where an item is no string.
 pub fn call_join(
     machine: &mut Machine,
     setting: &Setting,
@@ -466,7 +488,8 @@ pub fn call_join(
     text: Value,
     given: &Given,
 ) -> Result<Value, Stop>
-    ensures { Gives (spec.call_join setting.now line (bytes_of (content setting.now machine.old text)) given.now machine.old) result machine.new }
+    ensures { Gives (spec.call_join setting.now line (bytes_of (content setting.now machine.old text)) given.now
+        machine.old) result machine.new }
 {
     let items = machine.only_one(line, machine.by_place(line, given)?)?;
     let count = machine.count_of(setting, line, items)?;

@@ -13,8 +13,8 @@ use star_store::values::{Cell, Value};
 use star_world::world::World;
 use std::alloc::{AllocError, Global};
 
-/// What a slot of the running file's own frame gives the globals under its name: nothing where its variable is unbound, and where
-/// the file loads the name.
+/// What a slot of the running file's own frame gives the globals under its name: nothing where its variable is unbound,
+/// and where the file loads the name.
 fn own_value(world: &World, slots: &Slots, slot: usize, name: &str) -> Option<Value>
     ensures { result ≡ own_value (own_loads world.now.setting) name.now (slice_get slots.now slot) }
 {
@@ -70,7 +70,8 @@ fn globals_in(
     world: &World,
     slots: &Slots,
 ) -> Result<Vec<(String, Value)>, AllocError>
-    ensures { let w = world.now.setting in IfOk result (λ gs. owned gs.items ≡ by_name (in_slots w (names_of w w.home 0) slots.now)) }
+    ensures { let w = world.now.setting in IfOk
+        result (λ gs. owned gs.items ≡ by_name (in_slots w (names_of w w.home 0) slots.now)) }
 {
     let Some(names) = world.names(world.setting().home(), 0) else {
         return Ok(Vec::new(alloc));

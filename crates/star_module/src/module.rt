@@ -74,7 +74,9 @@ fn text_of(
     line: usize,
     global: &(String, Value),
 ) -> Result<(String, Text), Stop>
-    ensures { GivesBy (λ g. (string_bytes g.0, g.1)) (spec.global_text world.now.setting levels line (string_bytes global.now.0, global.now.1) machine.old) result machine.new }
+    ensures { GivesBy (λ g. (string_bytes g.0, g.1))
+        (spec.global_text world.now.setting levels line (string_bytes global.now.0, global.now.1) machine.old)
+        result machine.new }
 {
     let text = machine.repr(world.setting(), levels, line, global.1)?;
     machine.pay(line, 1 + text.as_str().len() as u128)?;
@@ -90,7 +92,8 @@ fn texts_of(
     line: usize,
     globals: &[(String, Value)],
 ) -> Result<Vec<(String, Text)>, Stop>
-    ensures { GivesBy (λ ts. owned ts.items) (run.each (spec.global_text world.now.setting levels line) (owned globals.now) machine.old) result machine.new }
+    ensures { GivesBy (λ ts. owned ts.items)
+        (run.each (spec.global_text world.now.setting levels line) (owned globals.now) machine.old) result machine.new }
 {
     let mut texts = Vec::new(machine.alloc());
     for global in globals {
@@ -122,7 +125,8 @@ fn run_file(
     levels: u32,
 ) -> Result<Ended, Stop>
     requires { length machine.old.store.cells + machine.old.steps + 1 < 2 ^ 32 }
-    ensures { GivesBy shown (spec.run_file (variables world.now) world.now.setting levels statements.now machine.old) result machine.new }
+    ensures { GivesBy shown (spec.run_file (variables world.now) world.now.setting levels statements.now machine.old)
+        result machine.new }
 {
     let file = world.setting().home();
     let frame = new_frame(machine, world, file, 0, None)?;
@@ -151,9 +155,10 @@ fn outcome_of(machine: Machine, ended: Result<Ended, Stop>) -> Result<Outcome, A
     }
 }
 
-/// Runs the body of a file with so many steps: its own frame, its statements, and the texts of its globals, which is the local
-/// meaning of the file by the names of variables, wherever the file is ready to run; then all functions fit after a good run too.
-/// The program is that of the running file. The only error is want of memory. (`docs/LANGUAGE.md`, "The end of a file".)
+/// Runs the body of a file with so many steps: its own frame, its statements, and the texts of its globals, which is
+/// the local meaning of the file by the names of variables, wherever the file is ready to run; then all functions fit
+/// after a good run too. The program is that of the running file. The only error is want of memory.
+/// (`docs/LANGUAGE.md`, "The end of a file".)
 pub fn run_body(
     alloc: Global,
     world: &World,
@@ -163,9 +168,12 @@ pub fn run_body(
     requires running { Stands (trees_of world.now.files) world.now.setting.home program.now.statements.now }
     requires steps { steps ≤ MOST_STEPS }
     ensures run { IfOk result (λ o. IsOutcome (run_by_places world.now steps program.now.statements.now) o) }
-    ensures places { let w = world.now in IfOk result (λ o. meant w.setting o ≡ spec.local_of w.setting (run_by_places w steps program.now.statements.now)) }
-    ensures names { let w = world.now in AreReady w steps → IfOk result (λ o. meant w.setting o ≡ spec.local w.setting steps program.now.statements.now) }
-    ensures fit { let w = world.now in AreReady w steps → FitBehind (trees_of w.files) w.setting (run_by_names w.setting steps program.now.statements.now) }
+    ensures places { let w = world.now in IfOk
+        result (λ o. meant w.setting o ≡ spec.local_of w.setting (run_by_places w steps program.now.statements.now)) }
+    ensures names { let w = world.now in AreReady w steps
+        → IfOk result (λ o. meant w.setting o ≡ spec.local w.setting steps program.now.statements.now) }
+    ensures fit { let w = world.now in AreReady w steps
+        → FitBehind (trees_of w.files) w.setting (run_by_names w.setting steps program.now.statements.now) }
 {
     world.are_outlined();
     let mut machine = Machine::new(alloc, world.setting().home(), steps);

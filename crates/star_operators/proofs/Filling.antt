@@ -46,7 +46,7 @@ filled_cut w levels line t before after b xs out e h k = rw e (filled_before w l
 pub filled_last : (w : Setting) (levels line : ℕ) (t : List ℕ) (xs : List Value) (out : List ℕ) → list_all (is_neither 37 37) t ≡ true → filled w levels line false t xs out ≡ filled w levels line false [] xs (out ++ t)
 filled_last w levels line t xs out h = ap (λ u. filled w levels line false u xs out) (sym (append-nil t)) ∙ filled_before w levels line t [] xs out h
 
--- the letter behind a `%`
+-- the letter after a `%`
 letter_done : (w : Setting) (levels line : ℕ) (bs : List ℕ) (out : List ℕ) (o : Outcome (List ℕ × List Value)) → and_then o (λ r. filled w levels line false bs r.1 (out ++ r.0)) ≡ and_then {A = List Value × List ℕ} (and_then o (λ r. give (r.1, out ++ r.0))) (λ r. filled w levels line false bs r.0 r.1)
 letter_done w levels line bs out (Done r s) = refl
 letter_done w levels line bs out (Failed f lines) = refl
@@ -73,7 +73,7 @@ filled_badly w levels line (b ∷ bs) xs out h =
     let p : nat_eq b 37 ≡ false = grind (arith, nat_tests) in
     rw (p, no_letter w levels line b xs h) refl
 
--- one turn, from a `%` to behind its letter
+-- one turn, from a `%` to after its letter
 pub filled_turn : (w : Setting) (levels line : ℕ) (t before after more : List ℕ) (b l : ℕ) (xs : List Value) (out made : List ℕ) (s : State) → t ≡ before ++ b ∷ after → list_all (is_neither 37 37) before ≡ true → is_neither 37 37 b ≡ false → after ≡ l ∷ more → made ≡ out ++ before → filled w levels line false t xs out s ≡ and_then (letter_put w levels line l xs made s) (λ r. filled w levels line false more r.0 r.1)
 filled_turn w levels line t before after more b l xs out made s e h k j m = ap (λ f. f s) (filled_cut w levels line t before after b xs out e h k) ∙ filled_letter w levels line after l more xs (out ++ before) s j ∙ ap (λ u. and_then (letter_put w levels line l xs u s) (λ r. filled w levels line false more r.0 r.1)) (sym m)
 

@@ -25,7 +25,7 @@ item_list (Some x) = x ∷ []
 abbrev pub slices_checked : Setting → ℕ → Value → Action (Unit {0})
 slices_checked w line x = with_content w x (λ d. check code.BadType line (has_slices d))
 
--- both ends are places of so many items, or the end behind them
+-- both ends are places of so many items, or the end after them
 abbrev pub lies_within : ℕ → Span → Type 0
 lies_within n s = (pos 0 ≤ℤ s.start) × (s.start ≤ℤ pos n) × (pos 0 ≤ℤ s.stop) × (s.stop ≤ℤ pos n)
 
@@ -42,7 +42,7 @@ run a b = record { start = pos a; stop = pos b; step = pos 1 }
 abbrev pub all_ascii : List ℕ → Bool
 all_ascii bs = list_all (λ b. nat_lt b 128) bs
 
--- a byte, if there is one, was put behind a text, unless it is not ASCII
+-- a byte, if there is one, was put after a text, unless it is not ASCII
 abbrev pub Pushes : Bool → Option ℕ → List ℕ → List ℕ → Type 0
 Pushes true b old new = (new ≡ old ++ item_list b) × (all_ascii (item_list b) ≡ true)
 Pushes false b old new = all_ascii (item_list b) ≡ false

@@ -30,7 +30,8 @@ fn has_item(
     value: Value,
     row: Value,
 ) -> Result<bool, Stop>
-    ensures { Gives (spec.has_item setting.now levels line (row_in (seen setting.now machine.old row)) value machine.old) result machine.new }
+    ensures { Gives (spec.has_item setting.now levels line (row_in (seen setting.now machine.old row)) value
+        machine.old) result machine.new }
 {
     let place = machine.equal_place(setting, levels, line, row, value)?;
     Ok(place.is_some())
@@ -45,7 +46,9 @@ fn has_entry(
     value: Value,
     dict: Value,
 ) -> Result<bool, Stop>
-    ensures { Gives (spec.has setting.now levels line (Held (cell.Dict (entries_in (content setting.now machine.old dict)))) value machine.old) result machine.new }
+    ensures { Gives (spec.has setting.now levels line
+        (Held (cell.Dict (entries_in (content setting.now machine.old dict)))) value machine.old)
+        result machine.new }
 {
     machine.check_key(setting, levels, line, value)?;
     Ok(machine.place_in(setting, dict, value).is_some())
@@ -60,7 +63,8 @@ fn has_text(
     value: Value,
     text: Value,
 ) -> Result<bool, Stop>
-    ensures { Gives (spec.has setting.now levels line (Held (cell.Text (bytes_of (content setting.now machine.old text)))) value machine.old) result machine.new }
+    ensures { Gives (spec.has setting.now levels line
+        (Held (cell.Text (bytes_of (content setting.now machine.old text)))) value machine.old) result machine.new }
 {
     machine.check_text(setting, line, value)?;
     machine.pay(line, machine.text_size(setting, text) as u128)?;
@@ -69,13 +73,16 @@ fn has_text(
 
 /// Whether a string stands in another one.
 fn stands_within(machine: &Machine, setting: &Setting, part: Value, text: Value) -> bool
-    ensures { result ≡ is_some (spec.place_between (bytes_of (content setting.now machine.now text)) (bytes_of (content setting.now machine.now part)) 0 (length (bytes_of (content setting.now machine.now text)))) }
+    ensures { result ≡ is_some (spec.place_between (bytes_of (content setting.now machine.now text))
+        (bytes_of (content setting.now machine.now part)) 0
+        (length (bytes_of (content setting.now machine.now text)))) }
 {
     let text = machine.bytes(setting, text);
     place_between(text, machine.bytes(setting, part), 0, text.len()).is_some()
 }
 
-/// Whether a value is in what another one holds: an equal item, a key, an int of a range, a substring. `BadType` for other values.
+/// Whether a value is in what another one holds: an equal item, a key, an int of a range, a substring. `BadType` for
+/// other values.
 #[tactic(auto, using(crate::proofs::KindCases::has_list, crate::proofs::KindCases::has_tuple, crate::proofs::KindCases::has_dict, crate::proofs::KindCases::has_text, crate::proofs::KindCases::has_range, crate::proofs::KindCases::has_other))]
 fn has(
     machine: &mut Machine,
@@ -148,7 +155,7 @@ pub fn compared(
     Ok(Value::Bool(answer))
 }
 
-/// Whether an int is one of a range: a whole number of steps behind the start, fewer than the range has ints.
+/// Whether an int is one of a range: a whole number of steps after the start, fewer than the range has ints.
 #[tactic(auto, using(crate::proofs::Ranges::has_none))]
 fn range_has(range: Range, int: i64) -> bool
     ensures { result ≡ spec.range_has range int }

@@ -1,4 +1,5 @@
-//! The operations on values that only expressions and statements need: operators, comparisons, `%`, subscripts and slices.
+//! The operations on values that only expressions and statements need: operators, comparisons, `%`, subscripts and
+//! slices.
 #![tactic(auto)]
 
 pub mod comparisons;

@@ -154,7 +154,8 @@ fn add_values(
     x: Value,
     y: Value,
 ) -> Result<Value, Stop>
-    ensures { Gives (spec.add line (content setting.now machine.old x) (content setting.now machine.old y) machine.old) result machine.new }
+    ensures { Gives (spec.add line (content setting.now machine.old x) (content setting.now machine.old y) machine.old)
+        result machine.new }
 {
     let alloc = machine.alloc();
     match (machine.content(setting, x), machine.content(setting, y)) {
@@ -262,7 +263,8 @@ fn multiply(
     x: Value,
     y: Value,
 ) -> Result<Value, Stop>
-    ensures { Gives (spec.multiply line (content setting.now machine.old x) (content setting.now machine.old y) machine.old) result machine.new }
+    ensures { Gives (spec.multiply line (content setting.now machine.old x) (content setting.now machine.old y)
+        machine.old) result machine.new }
 {
     match (machine.int_of(setting, x), machine.int_of(setting, y)) {
         (Some(a), Some(b)) => machine.new_int(line, mul(a, b)),
@@ -276,7 +278,7 @@ fn multiply(
 fn copied(alloc: Global, entries: &Entries) -> Result<Entries, AllocError>
     ensures { IfOk result (λ r. r ≡ entries.now) }
 {
-    let mut made = Entries::new(alloc);
+    let mut made = Entries::with_capacity(alloc, entries.len())?;
     for (key, value) in entries.as_slice() {
         made.push(*key, *value)?;
     }
@@ -309,7 +311,8 @@ fn unite(
     x: Value,
     y: Value,
 ) -> Result<Value, Stop>
-    ensures { Gives (spec.on_others setting.now levels line BinaryOperator.BitOr (content setting.now machine.old x) (content setting.now machine.old y) y machine.old) result machine.new }
+    ensures { Gives (spec.on_others setting.now levels line BinaryOperator.BitOr (content setting.now machine.old x)
+        (content setting.now machine.old y) y machine.old) result machine.new }
 {
     match (machine.content(setting, x), machine.content(setting, y)) {
         (Content::Held(Cell::Dict(left)), Content::Held(Cell::Dict(right))) => {
@@ -330,7 +333,8 @@ fn on_others(
     x: Value,
     y: Value,
 ) -> Result<Value, Stop>
-    ensures { Gives (spec.on_others setting.now levels line operator (content setting.now machine.old x) (content setting.now machine.old y) y machine.old) result machine.new }
+    ensures { Gives (spec.on_others setting.now levels line operator (content setting.now machine.old x)
+        (content setting.now machine.old y) y machine.old) result machine.new }
 {
     match operator {
         BinaryOperator::Add => add_values(machine, setting, line, x, y),
@@ -370,7 +374,8 @@ fn modulo(
     x: Value,
     y: Value,
 ) -> Result<Value, Stop>
-    ensures { Gives (spec.on_others setting.now levels line BinaryOperator.Modulo (content setting.now machine.old x) (content setting.now machine.old y) y machine.old) result machine.new }
+    ensures { Gives (spec.on_others setting.now levels line BinaryOperator.Modulo (content setting.now machine.old x)
+        (content setting.now machine.old y) y machine.old) result machine.new }
 {
     match machine.kind(setting, x) {
         Kind::Text => percent(machine, setting, levels, line, x, y),

@@ -17,8 +17,8 @@ use star_store::values::{Cell, Value};
 use star_text::Text;
 use std::alloc::AllocError;
 
-/// The text of one value for a letter: `s` and `r` make its two texts, `d` that of an int. `BadValue` for another letter, `BadType`
-/// for `d` with what is no int.
+/// The text of one value for a letter: `s` and `r` make its two texts, `d` that of an int. `BadValue` for another
+/// letter, `BadType` for `d` with what is no int.
 fn lettered(
     machine: &mut Machine,
     setting: &Setting,
@@ -40,7 +40,7 @@ fn lettered(
     }
 }
 
-/// Puts what a letter behind a `%` makes of the next value, or a `%` for another `%`; and how many values are used then.
+/// Puts what a letter after a `%` makes of the next value, or a `%` for another `%`; and how many values are used then.
 /// `BadValue` where no value is left.
 #[tactic(auto, using(crate::proofs::Filling::drop_some, crate::proofs::Filling::drop_none))]
 fn put_letter(
@@ -54,7 +54,8 @@ fn put_letter(
     used: usize,
 ) -> Result<usize, Stop>
     requires { used ≤ length values.now }
-    ensures put { Fills (letter_put setting.now levels line letter (drop used values.now) (string_bytes out.old) machine.old) values.now result (string_bytes out.new) machine.new }
+    ensures put { Fills (letter_put setting.now levels line letter (drop used values.now) (string_bytes out.old)
+        machine.old) values.now result (string_bytes out.new) machine.new }
     ensures within { IfOk result (λ n. n ≤ length values.now) }
 {
     if letter == b'%' {
@@ -69,8 +70,8 @@ fn put_letter(
     Ok(used + 1)
 }
 
-/// The format from left to right, with what is made of the values in the places of its letters. `BadValue` for another letter, and
-/// for too few or too many values.
+/// The format from left to right, with what is made of the values in the places of its letters. `BadValue` for another
+/// letter, and for too few or too many values.
 #[tactic(auto, using(crate::proofs::Filling::filled_turn))]
 fn filled(
     machine: &mut Machine,
@@ -80,7 +81,8 @@ fn filled(
     format: &str,
     values: &[Value],
 ) -> Result<Text, Stop>
-    ensures { Gives (spec.filled setting.now levels line false format.now values.now [] machine.old) result machine.new }
+    ensures { Gives (spec.filled setting.now levels line false format.now values.now [] machine.old)
+        result machine.new }
 {
     let mut out = String::new(machine.alloc());
     let mut rest = format;
@@ -121,7 +123,8 @@ pub fn percent(
     text: Value,
     value: Value,
 ) -> Result<Value, Stop>
-    ensures { Gives (spec.percent setting.now levels line (bytes_of (content setting.now machine.old text)) (content setting.now machine.old value) value machine.old) result machine.new }
+    ensures { Gives (spec.percent setting.now levels line (bytes_of (content setting.now machine.old text))
+        (content setting.now machine.old value) value machine.old) result machine.new }
 {
     let format = machine.copied_text(setting, text)?;
     let values = put_in(machine, setting, value)?;

@@ -120,7 +120,8 @@ fn picked(
     stop: Option<i64>,
     step: i64,
 ) -> Result<Values, AllocError>
-    ensures { IfOk result (λ r. r ≡ spec.picked items.now (spec.places_of (spec.slice_range (length items.now) start stop step))) }
+    ensures { IfOk result (λ r. r ≡ spec.picked items.now
+        (spec.places_of (spec.slice_range (length items.now) start stop step))) }
 {
     picked_from(alloc, items, span_of(items.len(), start, stop, step))
 }
@@ -182,7 +183,7 @@ fn spread(alloc: Global, text: &str, span: Span) -> Result<Option<Text>, AllocEr
     Ok(Some(Text::of(made)?))
 }
 
-/// Puts a byte, if there is one, behind a text; false where it is not ASCII.
+/// Puts a byte, if there is one, after a text; false where it is not ASCII.
 fn push_ascii(made: &mut String, byte: Option<u8>) -> Result<bool, AllocError>
     ensures { IfOk result (λ pushed. Pushes pushed byte (string_bytes made.old) (string_bytes made.new)) }
 {
@@ -220,7 +221,8 @@ fn picked_text(alloc: Global, text: &str, span: Span) -> Result<Option<Text>, Al
     spread(alloc, text, span)
 }
 
-/// The part of a list, tuple or string at the places of a slice. `Cut` where it would cut a character, `BadType` for another value.
+/// The part of a list, tuple or string at the places of a slice. `Cut` where it would cut a character, `BadType` for
+/// another value.
 fn sliced(
     machine: &mut Machine,
     setting: &Setting,
@@ -230,7 +232,8 @@ fn sliced(
     stop: Option<i64>,
     step: i64,
 ) -> Result<Value, Stop>
-    ensures { Gives (spec.sliced line (content setting.now machine.old value) (λ n. spec.slice_range n start stop step) machine.old) result machine.new }
+    ensures { Gives (spec.sliced line (content setting.now machine.old value) (λ n. spec.slice_range n start stop step)
+        machine.old) result machine.new }
 {
     let alloc = machine.alloc();
     match machine.content(setting, value) {
@@ -274,8 +277,8 @@ fn stride_of(stride: Option<i64>) -> i64
     }
 }
 
-/// `x[a:b:c]`. `BadType` for what has no slices, then for the parts in order; `BadValue` for a stride of 0; `Cut` where a character
-/// would be cut.
+/// `x[a:b:c]`. `BadType` for what has no slices, then for the parts in order; `BadValue` for a stride of 0; `Cut` where
+/// a character would be cut.
 #[tactic(auto, unfolding(star_meaning::specs::Subscript::slice))]
 pub fn slice(
     machine: &mut Machine,

@@ -43,7 +43,8 @@ fn row_item(
     row: Value,
     index: Value,
 ) -> Result<Value, Stop>
-    ensures { Gives (spec.row_item setting.now line (content setting.now machine.now row) (size_of (content setting.now machine.now row)) index machine.now) result machine.now }
+    ensures { Gives (spec.row_item setting.now line (content setting.now machine.now row)
+        (size_of (content setting.now machine.now row)) index machine.now) result machine.now }
 {
     let at = want_place(machine, setting, line, machine.size(setting, row), index)?;
     match machine.content(setting, row).item(at) {
@@ -62,8 +63,8 @@ fn one_byte(alloc: Global, byte: u8) -> Result<Text, AllocError>
     Text::of(text)
 }
 
-/// The byte of a string at an int, as a new string. `BadType` for another index, `Index` outside, `Cut` for a byte that is not
-/// ASCII.
+/// The byte of a string at an int, as a new string. `BadType` for another index, `Index` outside, `Cut` for a byte that
+/// is not ASCII.
 fn byte_at(
     machine: &mut Machine,
     setting: &Setting,
@@ -71,7 +72,8 @@ fn byte_at(
     text: Value,
     index: Value,
 ) -> Result<Value, Stop>
-    ensures { Gives (spec.byte_at setting.now line (bytes_of (content setting.now machine.old text)) index machine.old) result machine.new }
+    ensures { Gives (spec.byte_at setting.now line (bytes_of (content setting.now machine.old text)) index machine.old)
+        result machine.new }
 {
     let int = machine.want_int(setting, line, index)?;
     let Some(at) = place_from(machine.text_size(setting, text), int) else {
@@ -87,8 +89,8 @@ fn byte_at(
     machine.new_text(line, text)
 }
 
-/// The value under a key. `BadType` for what is no key, `Key` where it is absent. It is a call of its own, in which the checks of the key
-/// stand inline.
+/// The value under a key. `BadType` for what is no key, `Key` where it is absent. It is a call of its own, in which the
+/// checks of the key stand inline.
 #[inline(never)]
 fn entry_value(
     machine: &mut Machine,
@@ -98,7 +100,8 @@ fn entry_value(
     dict: Value,
     key: Value,
 ) -> Result<Value, Stop>
-    ensures { Gives (spec.entry_value setting.now levels line (spec.entries_in (content setting.now machine.old dict)) key machine.old) result machine.new }
+    ensures { Gives (spec.entry_value setting.now levels line (spec.entries_in (content setting.now machine.old dict))
+        key machine.old) result machine.new }
 {
     machine.check_key(setting, levels, line, key)?;
     let Some(value) = machine.value_in(setting, dict, key) else {
@@ -138,7 +141,8 @@ fn set_item(
     index: Value,
     value: Value,
 ) -> Result<(), Stop>
-    ensures { Gives (spec.set_item setting.now line list (size_of (content setting.now machine.old list)) index value machine.old) result machine.new }
+    ensures { Gives (spec.set_item setting.now line list (size_of (content setting.now machine.old list)) index value
+        machine.old) result machine.new }
 {
     machine.guard(setting, line, list)?;
     let at = want_place(machine, setting, line, machine.size(setting, list), index)?;

@@ -1,4 +1,5 @@
-//! What a body is given of other files: the stores of all files that it needs. With its own they are what others are given.
+//! What a body is given of other files: the stores of all files that it needs. With its own they are what others are
+//! given.
 
 ghost use Rattle.std.specs.Prelude.{◌≡◌, ◌<◌, ℕ, Some, All, Contains, IfOk, IfSome, OnOk, length, map, slice_get};
 ghost use Rattle.star_cache.specs.State.{Loads};

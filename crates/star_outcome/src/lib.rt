@@ -1,4 +1,5 @@
-//! What becomes of files: their modules with the stores that they reach, what loaders are told of them, and what a run answers.
+//! What becomes of files: their modules with the stores that they reach, what loaders are told of them, and what a run
+//! answers.
 #![tactic(auto)]
 
 pub mod frame;

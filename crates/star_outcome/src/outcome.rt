@@ -65,7 +65,8 @@ fn kept_again(alloc: Global, kept: &mut [Kept]) -> Result<Vec<Kept>, AllocError>
     Ok(all)
 }
 
-/// The modules of all reached files in order of their numbers, how many files were begun, and by each loader; and the refused loads.
+/// The modules of all reached files in order of their numbers, how many files were begun, and by each loader; and the
+/// refused loads.
 #[derive(Drop)]
 pub struct Run {
     shelf: Shelf<Module>,
@@ -157,7 +158,8 @@ impl Run {
     pub fn note(&mut self, i: usize) -> Note<Module>
         requires { i < length self.old.kept }
         ensures same { self.new ≡ self.old }
-        ensures note { (d : KeptView) → (result.cell ≡ (slice_index_or self.old.kept i d).cell) × (result.known ≡ (slice_index_or self.old.kept i d).known) }
+        ensures note { (d : KeptView) → (result.cell ≡ (slice_index_or self.old.kept i d).cell)
+            × (result.known ≡ (slice_index_or self.old.kept i d).known) }
     {
         self.kept[i].note()
     }
@@ -173,7 +175,8 @@ impl Run {
     /// The i-th module, by its note.
     pub fn module(&self, i: usize, note: Note<Module>) -> &Module
         requires i { i < length self.now.kept }
-        requires note { (d : KeptView) → (note.cell ≡ (slice_index_or self.now.kept i d).cell) × (note.known ≡ (slice_index_or self.now.kept i d).known) }
+        requires note { (d : KeptView) → (note.cell ≡ (slice_index_or self.now.kept i d).cell)
+            × (note.known ≡ (slice_index_or self.now.kept i d).known) }
         ensures known { note.known ≡ Some result.now }
         ensures sound { IsSound (length self.now.cells) result.now.number result.now }
         ensures file { result.now.number < length self.now.cells }

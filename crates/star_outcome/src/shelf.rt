@@ -46,7 +46,8 @@ impl<T: Drop> Shelf<T> {
         }
     }
 
-    /// Sets a cell, and gives a note that knows it. Where the cell has something already, what was to be set comes back.
+    /// Sets a cell, and gives a note that knows it. Where the cell has something already, what was to be set comes
+    /// back.
     pub fn publish(&self, n: usize, there: Box<T>) -> Result<Note<T>, Box<T>>
         requires { n < length self.now }
         ensures { IfOk result (λ note. (note.cell ≡ slice_index self.now n) × (note.known ≡ Some there.value)) }

@@ -113,7 +113,7 @@ after_token e.Outdent n = record { weight = n.indents - 1; remembered = n.rememb
 abbrev pub limit : ℕ
 limit = 100
 
--- the line of the first token behind which the weight is above the limit
+-- the line of the first token after which the weight is above the limit
 abbrev pub passes : State → List Token → Option ℕ
 passes n [] = None
 passes n (t ∷ ts) = let m = after_token (of_kind t.kind) n in if nat_lt limit m.weight then Some t.line else passes m ts

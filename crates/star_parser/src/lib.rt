@@ -18,9 +18,9 @@ use std::alloc::Global;
 
 /// The tree of a text, by the grammar of `docs/LANGUAGE.md`, "Grammar" (this profile).
 ///
-/// `BadToken` and `BadIndent` are for the first fault of the text's tokens, with its line; `TooNested` is for the line on
-/// which the nesting weight passes 100; `BadSyntax` is for a text that the grammar does not give; `Memory` is for want of
-/// memory.
+/// `BadToken` and `BadIndent` are for the first fault of the text's tokens, with its line; `TooNested` is for the line
+/// on which the nesting weight passes 100; `BadSyntax` is for a text that the grammar does not give; `Memory` is for
+/// want of memory.
 pub fn parse(alloc: Global, text: &str) -> Result<Tree, SyntaxFault>
     ensures { Parses text.now result }
 {

@@ -25,7 +25,7 @@ pub enum Effect {
 /// The greatest weight.
 const LIMIT: usize = 100;
 
-/// The weight behind some tokens.
+/// The weight after some tokens.
 #[derive(Drop)]
 struct Nesting {
     weight: usize,
@@ -78,7 +78,7 @@ fn of_kind(kind: Kind) -> Effect
 }
 
 impl Nesting {
-    /// A comma inside brackets gives back what has been added behind the innermost open one.
+    /// A comma inside brackets gives back what has been added after the innermost open one.
     fn comma(&mut self)
         ensures { spec.state self.new ≡ spec.after_token Effect.Comma (spec.state self.old) }
     {
@@ -149,7 +149,7 @@ impl Nesting {
     }
 }
 
-/// The line of the first token behind which the nesting weight is above 100; `None` where there is none. It reads no
+/// The line of the first token after which the nesting weight is above 100; `None` where there is none. It reads no
 /// further than that token.
 pub fn too_nested(alloc: Global, tokens: &[Token]) -> Result<Option<usize>, AllocError>
     ensures { IfOk result (λ line. line ≡ spec.too_nested tokens.now) }

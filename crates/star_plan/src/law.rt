@@ -72,7 +72,8 @@ pub fn one_report()
     ensures { OneReport }
 {}
 
-/// Readings of all roots and of all loads of files that were read, and of reached files alone, make a plan of the files.
+/// Readings of all roots and of all loads of files that were read, and of reached files alone, make a plan of the
+/// files.
 pub fn readings_make_plans()
     ensures { ReadingsMakePlans }
 {}
@@ -92,7 +93,8 @@ pub fn each_has_report()
     ensures { EachHasReport }
 {}
 
-/// Files have at most one text that is the report of a plan of them, for their roots, their prelude and the steps of each file.
+/// Files have at most one text that is the report of a plan of them, for their roots, their prelude and the steps of
+/// each file.
 pub fn one_text()
     ensures { OneText }
 {}
@@ -117,8 +119,8 @@ pub fn good_loads_have_prelude()
     ensures { GoodLoadsHavePrelude }
 {}
 
-/// Where the prelude has no static fault, the spots of a plan's programs and the numbers of the names of their blocks are
-/// right for each of its files, in every run.
+/// Where the prelude has no static fault, the spots of a plan's programs and the numbers of the names of their blocks
+/// are right for each of its files, in every run.
 pub fn plans_place_names()
     ensures { PlansPlaceNames }
 {}
@@ -135,8 +137,8 @@ pub fn plans_run_by_places()
     ensures { PlansRunByPlaces }
 {}
 
-/// A file without a static fault whose loads are good is ready to run: its statements stand among those of the plan's programs,
-/// these are right for its run, the functions that it sees fit, and its local meaning is its outcome.
+/// A file without a static fault whose loads are good is ready to run: its statements stand among those of the plan's
+/// programs, these are right for its run, the functions that it sees fit, and its local meaning is its outcome.
 pub fn plans_are_ready()
     ensures { PlansAreReady }
 {}
@@ -151,8 +153,8 @@ pub fn needs_of_loads()
     ensures { NeedsOfLoads }
 {}
 
-/// The shelf that a run is given over good outcomes has the own modules of all files to which its file's loads lead, each at
-/// its file's place, and nothing else; the module of the running file is not among them.
+/// The shelf that a run is given over good outcomes has the own modules of all files to which its file's loads lead,
+/// each at its file's place, and nothing else; the module of the running file is not among them.
 pub fn given_holds_needs()
     ensures { GivenHoldsNeeds }
 {}
@@ -172,8 +174,8 @@ pub fn runs_leave_own()
     ensures { RunsLeaveOwn }
 {}
 
-/// A file without a static fault whose loads are good may run over each shelf that has the own modules of all files that it needs
-/// and nothing else: its local meaning over this shelf is its outcome.
+/// A file without a static fault whose loads are good may run over each shelf that has the own modules of all files
+/// that it needs and nothing else: its local meaning over this shelf is its outcome.
 pub fn files_may_run()
     ensures { FilesMayRun }
 {}

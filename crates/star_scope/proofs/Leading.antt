@@ -57,7 +57,7 @@ outside V blocks prelude name up (Some spot.Prelude) e = (refl, e)
 outside V blocks prelude name up (Some spot.Outermost) e = (refl, e)
 outside V blocks prelude name up None e = (refl, e)
 
--- behind a row that has not the name
+-- after a row that has not the name
 further : {V : Type 0} (blocks : List Block) (prelude : Option Names) (name : List ℕ) (up : ℕ) (r : Row V) (rs : List (Row V)) (o : Option Spot)
     → value_beside name (names_in blocks r.block) r.values ≡ None → Found blocks prelude name (up + 1) rs o → Found blocks prelude name up (r ∷ rs) o
 further blocks prelude name up r rs (Some (spot.Frame u slot)) none h = (suc h.0, h.1, (omega (arith, h.2)), h.3, ap (λ o. first_there o (nearest blocks name rs)) none ∙ h.4)

@@ -21,7 +21,7 @@ abbrev pub Knows : Bound → List Binding → Type 0
 Knows b earlier = ((x : List ℕ) → is_in (names_of b.all) x ≡ list_any (λ e. bytes_eq x e.text) earlier)
     × ((x : List ℕ) → is_in (names_of b.alone) x ≡ list_any (λ e. bytes_eq x e.text && e.alone) earlier)
 
--- bindings behind earlier ones, the latest first
+-- bindings after earlier ones, the latest first
 abbrev pub behind : List Binding → List Binding → List Binding
 behind earlier [] = earlier
 behind earlier (b ∷ bs) = behind (b ∷ earlier) bs

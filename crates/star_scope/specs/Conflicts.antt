@@ -39,7 +39,7 @@ conflict_at clashes p = if clashes then at p (λ line. fault.Conflict line) ∷ 
 abbrev pub conflict : List Binding → Binding → List Refusal
 conflict earlier b = conflict_at (clashes earlier b) b.position
 
--- the conflicts of bindings in their order, behind earlier ones
+-- the conflicts of bindings in their order, after earlier ones
 abbrev pub conflicts : List Binding → List Binding → List Refusal
 conflicts earlier [] = []
 conflicts earlier (b ∷ bs) = conflict earlier b ++ conflicts (b ∷ earlier) bs

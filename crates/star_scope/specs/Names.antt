@@ -20,7 +20,7 @@ abbrev pub once : Names → Names
 once [] = []
 once (n ∷ ns) = n ∷ filter (λ m. not (same_name m n)) (once ns)
 
--- names with one more, behind them where it is not among them
+-- names with one more, after them where it is not among them
 abbrev pub with_name : Names → List ℕ → Names
 with_name names n = if has_name names n then names else names ++ n ∷ []
 

@@ -14,7 +14,7 @@ use Rattle.star_scope.specs.Outlines.{Block, names_in}
 use Rattle.star_scope.specs.Uses.{Use, Named, Defined}
 
 -- the most blocks that stand in one another: the file's own; one for each of the 100 that the nesting weight lets stand in one
--- another; and one for a `def` on one line, which the `;` behind it forgets
+-- another; and one for a `def` on one line, which the `;` after it forgets
 abbrev pub chain_length : ℕ
 chain_length = 102
 

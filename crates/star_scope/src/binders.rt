@@ -39,7 +39,8 @@ impl<'t> Binders<'t> {
 
     /// The block with this number binds these names.
     fn add_all(&mut self, alloc: Global, names: &[&'t str], number: usize) -> Result<(), AllocError>
-        ensures all { OnOk result ((n : List ℕ) → has_name (map (λ m. m.now) names.now) n ≡ true → binds self.new n number ≡ true) }
+        ensures all { OnOk result ((n : List ℕ) → has_name (map (λ m. m.now) names.now) n ≡ true
+            → binds self.new n number ≡ true) }
         ensures kept { OnOk result ((n : List ℕ) (k : ℕ) → binds self.old n k ≡ true → binds self.new n k ≡ true) }
     {
         for name in names {
@@ -73,8 +74,8 @@ impl<'t> Binders<'t> {
     }
 }
 
-/// The blocks of a file, with those that bind a name: for a name that is looked for in one block after another, most of which
-/// do not bind it.
+/// The blocks of a file, with those that bind a name: for a name that is looked for in one block after another, most of
+/// which do not bind it.
 #[derive(Drop)]
 pub(crate) struct Bound<'s, 't> {
     blocks: &'s Blocks<'t>,

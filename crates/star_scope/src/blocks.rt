@@ -85,8 +85,8 @@ impl<'t> BlockNames<'t> {
     }
 }
 
-/// A block: the file's own has number 0, that of a definition or a comprehension one more than the number of the token at
-/// which it begins.
+/// A block: the file's own has number 0, that of a definition or a comprehension one more than the number of the token
+/// at which it begins.
 #[derive(Drop)]
 pub struct Block<'t> {
     pub number: usize,
@@ -139,8 +139,8 @@ impl<'t> Blocks<'t> {
         }
     }
 
-    /// The slot of a name in the block that begins at this token: none where no block begins there, or it does not bind the
-    /// name.
+    /// The slot of a name in the block that begins at this token: none where no block begins there, or it does not bind
+    /// the name.
     pub(crate) fn slot_at(&self, token: usize, name: &str) -> Option<usize>
         ensures { result ≡ slot_of name.now (names_in self.now (1 + token)) }
     {

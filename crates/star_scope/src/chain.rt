@@ -127,8 +127,8 @@ impl<'c> Chain<'c> {
         }
     }
 
-    /// The chain inside a block that begins at a token. Too long a chain is refused like a growth: it comes of no text, since
-    /// the nesting of a text is bounded, but of a tree that was made by hand.
+    /// The chain inside a block that begins at a token. Too long a chain is refused like a growth: it comes of no text,
+    /// since the nesting of a text is bounded, but of a tree that was made by hand.
     pub(crate) fn inside(&'c self, token: usize) -> Result<Chain<'c>, AllocError>
         ensures { IfOk result (λ c. c ≡ (1 + token) ∷ self.now) }
     {

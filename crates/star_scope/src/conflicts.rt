@@ -34,7 +34,8 @@ fn insert<'a>(names: &mut Names<'a>, name: &'a str) -> Result<(), AllocError>
 }
 
 fn insert_where<'a>(wanted: bool, names: &mut Names<'a>, name: &'a str) -> Result<(), AllocError>
-    ensures { OnOk result (names_of names.new ≡ (if wanted then insert_key (slice_cmp nat_cmp) (names_of names.old) name.now else names_of names.old)) }
+    ensures { OnOk result (names_of names.new
+        ≡ (if wanted then insert_key (slice_cmp nat_cmp) (names_of names.old) name.now else names_of names.old)) }
 {
     if wanted {
         insert(names, name)?;

@@ -13,8 +13,8 @@ pub enum ScopeFault {
     /// A name is read that no block around it and no built-in binds.
     #[error("undefined name in line {line}")]
     Undefined { line: usize },
-    /// `return` outside of a function, `break` or `continue` outside of a loop of the same function, or `load` elsewhere
-    /// than as a statement of the file itself.
+    /// `return` outside of a function, `break` or `continue` outside of a loop of the same function, or `load`
+    /// elsewhere than as a statement of the file itself.
     #[error("misplaced statement in line {line}")]
     BadPlace { line: usize },
     /// A parameter is named twice, or a loaded name is loaded twice or also bound in the file's block.

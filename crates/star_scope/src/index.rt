@@ -45,7 +45,8 @@ impl Index {
     /// The thing with this number has this place, where none has the number yet: the first one keeps it.
     pub(crate) fn put(&mut self, number: usize, place: usize) -> Result<(), AllocError>
         ensures same { OnErr result ((n : ℕ) → place_at self.new n ≡ place_at self.old n) }
-        ensures put { OnOk result ((n : ℕ) → place_at self.new n ≡ option_or (place_at self.old n) (if nat_eq number n then Some place else None)) }
+        ensures put { OnOk result ((n : ℕ) → place_at self.new n
+            ≡ option_or (place_at self.old n) (if nat_eq number n then Some place else None)) }
     {
         if self.get(number).is_some() {
             return Ok(());

@@ -124,7 +124,7 @@ fn private_faults(mut found: Option<Refusal>, names: &[LoadedName]) -> Option<Re
     found
 }
 
-/// Puts the load of a statement behind the others, where its module string leads to a file.
+/// Puts the load of a statement after the others, where its module string leads to a file.
 fn push_load(loads: &mut Vec<Load>, position: Position, lead: Lead) -> Result<(), AllocError>
     ensures { OnOk result (loads.new.items ≡ loads.old.items ++ load_at position lead) }
 {
@@ -147,7 +147,8 @@ fn add_statement(
     statement: &Statement,
 ) -> Result<(), ScopeFault>
     requires { is_package «package».now ≡ true }
-    ensures adds { OnOk result (Adds files.now «package».now (written_in statement.now) loads.old.loads.items loads.new.loads.items loads.old.first loads.new.first) }
+    ensures adds { OnOk result (Adds files.now «package».now (written_in statement.now) loads.old.loads.items
+        loads.new.loads.items loads.old.first loads.new.first) }
     ensures memory { IfErr result (λ e. e ≡ Memory) }
 {
     match &statement.form {
@@ -181,8 +182,8 @@ fn prelude_loads(alloc: Global, prelude: Option<usize>) -> Result<Vec<Load>, All
 }
 
 /// The loads of the file `n`, whose statements are these: that of the prelude first, where there is one. And the first
-/// fault of its load statements: `BadLabel` and `NoFile` at the module string, `Private` at a loaded name that begins with
-/// `_` (`docs/LANGUAGE.md`, "Scopes and static faults"). `Memory` where a growth is refused, and no other error.
+/// fault of its load statements: `BadLabel` and `NoFile` at the module string, `Private` at a loaded name that begins
+/// with `_` (`docs/LANGUAGE.md`, "Scopes and static faults"). `Memory` where a growth is refused, and no other error.
 pub fn find_loads(
     alloc: Global,
     files: &Files,

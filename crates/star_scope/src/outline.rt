@@ -88,15 +88,16 @@ impl<'t> Definitions<'t> {
         }
     }
 
-    /// A definition more. A number that another definition has is refused like a growth: it comes of no text, since each
-    /// definition of a text begins at a token of its own, but of a tree that was made by hand.
+    /// A definition more. A number that another definition has is refused like a growth: it comes of no text, since
+    /// each definition of a text begins at a token of its own, but of a tree that was made by hand.
     fn push(
         &mut self,
         number: usize,
         parameters: &'t [Parameter],
         body: Body<'t>,
     ) -> Result<(), AllocError>
-        ensures { OnOk result (self.new ≡ self.old ++ record { number = number; parameters = parameters.now; body = body_of body.entry } ∷ []) }
+        ensures { OnOk result (self.new ≡ self.old
+            ++ record { number = number; parameters = parameters.now; body = body_of body.entry } ∷ []) }
     {
         if self.index.get(number).is_some() {
             return Err(AllocError);
@@ -482,7 +483,8 @@ fn add_own<'t>(
     found: &mut Found<'t>,
     statement: &'t Statement,
 ) -> Result<(), AllocError>
-    ensures { OnOk result (found.new ≡ and found.old (own_definition (position_of statement.now) (form_of statement.now))) }
+    ensures { OnOk result (found.new
+        ≡ and found.old (own_definition (position_of statement.now) (form_of statement.now))) }
 {
     if let Form::Def {
         parameters,

@@ -49,8 +49,8 @@ fn names_of_file<'t>(
 }
 
 impl<'t> Prelude<'t> {
-    /// The file `n` as the prelude: its block has the names that the tree binds, and none where its text does not parse.
-    /// `Memory` where a growth is refused, and no other error.
+    /// The file `n` as the prelude: its block has the names that the tree binds, and none where its text does not
+    /// parse. `Memory` where a growth is refused, and no other error.
     pub fn new(alloc: Global, n: usize, tree: Option<&'t Tree>) -> Result<Prelude<'t>, ScopeFault>
         ensures file { IfOk result (λ p. p.file ≡ n) }
         ensures names { IfOk result (λ p. p.names ≡ prelude_names (option_map (λ t. t.now.statements) tree.entry)) }
@@ -173,7 +173,9 @@ fn first_fault(
     definitions: &Definitions<'_>,
     undefined: Option<Refusal>,
 ) -> Result<Option<Refusal>, ScopeFault>
-    ensures first { IfOk result (λ found. found ≡ first_of (first_of (first_of (first_of (first (in_place statements.now here)) load) (first (block_conflicts statements.now))) (first (repeated definitions.now))) undefined) }
+    ensures first { IfOk result (λ found. found
+        ≡ first_of (first_of (first_of (first_of (first (in_place statements.now here)) load)
+        (first (block_conflicts statements.now))) (first (repeated definitions.now))) undefined) }
     ensures differ { IfOk result (λ _. AllDiffer (map (λ d. d.number) definitions.now)) }
     ensures memory { IfErr result (λ e. e ≡ Memory) }
 {
@@ -183,8 +185,8 @@ fn first_fault(
     Ok(first_of(found, undefined))
 }
 
-/// What a file means to those that run it. Its statements, and the parameters and bodies of its definitions, are those of
-/// the tree, which it borrows.
+/// What a file means to those that run it. Its statements, and the parameters and bodies of its definitions, are those
+/// of the tree, which it borrows.
 #[derive(Drop)]
 pub struct Program<'t> {
     loads: Vec<Load>,
@@ -256,10 +258,11 @@ impl<'t> Program<'t> {
     }
 }
 
-/// The program of the file `n` with this tree, or its first static fault: the one whose token stands first; at one token,
-/// the one whose kind has the lower number (`docs/LANGUAGE.md`, "Scopes and static faults"). The prelude is seen by every
-/// file but its own, in which every load is misplaced. `Memory` where a growth is refused, and for a tree that no text has:
-/// where two definitions, or two names with different spots, have one token, or more than 102 blocks stand in one another.
+/// The program of the file `n` with this tree, or its first static fault: the one whose token stands first; at one
+/// token, the one whose kind has the lower number (`docs/LANGUAGE.md`, "Scopes and static faults"). The prelude is seen
+/// by every file but its own, in which every load is misplaced. `Memory` where a growth is refused, and for a tree that
+/// no text has: where two definitions, or two names with different spots, have one token, or more than 102 blocks stand
+/// in one another.
 pub fn resolve<'t>(
     alloc: Global,
     files: &Files,

@@ -55,8 +55,8 @@ impl Spots {
         }
     }
 
-    /// The name at a token has this spot. Another spot at the same token is refused like a growth: it comes of no text, since
-    /// each name of a text has a token of its own, but of a tree that was made by hand.
+    /// The name at a token has this spot. Another spot at the same token is refused like a growth: it comes of no text,
+    /// since each name of a text has a token of its own, but of a tree that was made by hand.
     pub(crate) fn put(&mut self, token: usize, spot: Spot) -> Result<(), AllocError>
         ensures keeps { OnOk result (Keeps self.old self.new) }
         ensures put { OnOk result (spot_at self.new token ≡ Some spot) }

@@ -87,7 +87,8 @@ fn place_parameter_names(
     chain: &Chain<'_>,
     parameters: &[Parameter],
 ) -> Result<(), AllocError>
-    ensures { OnOk result (Places scope.now (all_uses parameter_name_uses parameters.now chain.now) placed.old placed.new) }
+    ensures { OnOk result (Places scope.now (all_uses parameter_name_uses parameters.now chain.now)
+        placed.old placed.new) }
 {
     for parameter in parameters {
         place_parameter_name(placed, scope, chain, parameter)?;
@@ -209,7 +210,8 @@ fn place_maybe(
     chain: &Chain<'_>,
     expression: &Option<Boxed<Expression>>,
 ) -> Result<(), AllocError>
-    ensures { OnOk result (Places scope.now (maybe_use (option_map in_expression expression.now) chain.now) placed.old placed.new) }
+    ensures { OnOk result (Places scope.now (maybe_use (option_map in_expression expression.now) chain.now)
+        placed.old placed.new) }
 {
     match expression {
         Some(expression) => place_expression(placed, scope, chain, expression.get())?,
@@ -290,7 +292,8 @@ fn place_clauses(
     inner: &Chain<'_>,
     clauses: &Clauses,
 ) -> Result<(), AllocError>
-    ensures { OnOk result (Places scope.now ((in_clauses clauses.now).first chain.now ++ (in_clauses clauses.now).rest inner.now) placed.old placed.new) }
+    ensures { OnOk result (Places scope.now ((in_clauses clauses.now).first chain.now
+        ++ (in_clauses clauses.now).rest inner.now) placed.old placed.new) }
 {
     place_expression(placed, scope, chain, clauses.iterable.get())?;
     place_target(placed, scope, inner, &clauses.target)?;
@@ -540,8 +543,11 @@ fn place_all(
     scope: &Scope<'_, '_>,
     statements: &[Statement],
 ) -> Result<Placed, AllocError>
-    ensures first { IfOk result (λ placed. placed.first ≡ first (undefined scope.now.blocks.now (names_outside scope.now.prelude) (uses statements.now))) }
-    ensures spots { IfOk result (λ placed. placed.first ≡ None → AllPlaced (spot_at placed.spots) scope.now.blocks.now (names_outside scope.now.prelude) (uses statements.now)) }
+    ensures first { IfOk result (λ placed. placed.first
+        ≡ first (undefined scope.now.blocks.now (names_outside scope.now.prelude) (uses statements.now))) }
+    ensures spots { IfOk result (λ placed. placed.first ≡ None
+        → AllPlaced (spot_at placed.spots) scope.now.blocks.now (names_outside scope.now.prelude)
+        (uses statements.now)) }
 {
     let mut placed = Placed {
         spots: Spots::new(alloc),
@@ -552,18 +558,20 @@ fn place_all(
 }
 
 /// The spots of all names of a file whose statements these are and whose blocks these are, beside the names of the
-/// prelude's block where there is a prelude; and the first name that no block around it, no prelude and no built-in binds:
-/// an `Undefined` at its token (`docs/LANGUAGE.md`, "Scopes and static faults"). `Memory` where a growth is refused, and for
-/// a tree that no text has: where two names with different spots have one token, or more than 102 blocks stand in one
-/// another. No other error.
+/// prelude's block where there is a prelude; and the first name that no block around it, no prelude and no built-in
+/// binds: an `Undefined` at its token (`docs/LANGUAGE.md`, "Scopes and static faults"). `Memory` where a growth is
+/// refused, and for a tree that no text has: where two names with different spots have one token, or more than 102
+/// blocks stand in one another. No other error.
 pub fn place_names<'s, 't>(
     alloc: Global,
     blocks: &'s Blocks<'t>,
     prelude: Option<&'s BlockNames<'t>>,
     statements: &[Statement],
 ) -> Result<Placed, ScopeFault>
-    ensures first { IfOk result (λ placed. placed.first ≡ first (undefined blocks.now (names_outside prelude.entry) (uses statements.now))) }
-    ensures spots { IfOk result (λ placed. placed.first ≡ None → AllPlaced (spot_at placed.spots) blocks.now (names_outside prelude.entry) (uses statements.now)) }
+    ensures first { IfOk result (λ placed. placed.first
+        ≡ first (undefined blocks.now (names_outside prelude.entry) (uses statements.now))) }
+    ensures spots { IfOk result (λ placed. placed.first ≡ None
+        → AllPlaced (spot_at placed.spots) blocks.now (names_outside prelude.entry) (uses statements.now)) }
     ensures memory { IfErr result (λ e. e ≡ Memory) }
 {
     let bound = Bound::of(alloc, blocks)?;

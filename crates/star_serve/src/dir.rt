@@ -18,10 +18,11 @@ use std::alloc::Global;
 use std::sync::Wait;
 use std::thread::Threads;
 
-/// Loads the roots from the files of a folder and writes the report, and the trace to `errors` where that is wanted. It answers whether
-/// every module of the report is ok.
+/// Loads the roots from the files of a folder and writes the report, and the trace to `errors` where that is wanted. It
+/// answers whether every module of the report is ok.
 ///
-/// The rules are those of `docs/FOLDERS.md` and `docs/REPORT.md`: which files a folder has, the refusals in their order, and the report.
+/// The rules are those of `docs/FOLDERS.md` and `docs/REPORT.md`: which files a folder has, the refusals in their
+/// order, and the report.
 pub fn serve_dir<H: Threads + Wait + Sync, F: Folder, W: Sink, E: Sink>(
     rt: &H,
     alloc: Global,
@@ -33,16 +34,19 @@ pub fn serve_dir<H: Threads + Wait + Sync, F: Folder, W: Sink, E: Sink>(
     requires loaders { (1 ≤ options.now.loaders) × (options.now.loaders ≤ 64) }
     requires steps { (1 ≤ options.now.steps) × (options.now.steps ≤ 100000000) }
 
-    // The walk came to its end, its files have each root and the prelude, and their report was written, and nothing else.
+    // The walk came to its end, its files have each root and the prelude, and their report was written, and nothing
+    // else.
     ensures ok { IfOk result (λ all_ok. (files : List File) × AreFilesOf (F.holds folder.old) files
         × (asked : bundle.Asked)
-        × (bundle.asked_among (map string_bytes options.now.roots.items) (option_map string_bytes options.now.prelude) files ≡ Ok asked)
+        × (bundle.asked_among (map string_bytes options.now.roots.items) (option_map string_bytes options.now.prelude) files
+        ≡ Ok asked)
         × Reports asked options.now.steps (W.taken writer.old) (W.taken writer.new) all_ok) }
 
     // The walk stopped so, or what is asked for of its files is refused so, and nothing was written.
     ensures refused { IfErr result (IsRefusedDir (IsStopped (F.holds folder.old))
         (λ given. (files : List File) × AreFilesOf (F.holds folder.old) files
-        × (bundle.asked_among (map string_bytes options.now.roots.items) (option_map string_bytes options.now.prelude) files ≡ given))
+        × (bundle.asked_among (map string_bytes options.now.roots.items) (option_map string_bytes options.now.prelude) files
+        ≡ given))
         (writer.new ≡ writer.old)) }
 
     // A listing, a read or a write failed just where the answer says so.

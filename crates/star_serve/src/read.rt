@@ -17,7 +17,8 @@ const CHUNK: usize = 65_536;
 
 /// All that the reader gives until it has no more.
 ///
-/// `Read` where a read fails, which ends the reading; `TooBig` as soon as more than 268,435,456 bytes were given; `Memory`.
+/// `Read` where a read fails, which ends the reading; `TooBig` as soon as more than 268,435,456 bytes were given;
+/// `Memory`.
 pub fn read_all<R: Source>(alloc: Global, reader: &mut R) -> Result<Vec<u8>, ServeError>
     ensures ok { IfOk result (λ bytes. GivesAll (R.said reader.old) (R.said reader.new) bytes.items) }
     ensures within { IfOk result (λ bytes. length bytes.items ≤ input_limit) }

@@ -158,8 +158,8 @@ fn write_trace<W: Sink>(alloc: Global, writer: &mut W, files: &Files, run: &mut 
     }
 }
 
-/// Runs what is asked for and writes the report, and the trace to `errors` where that is wanted. It answers whether every module of the
-/// report is ok.
+/// Runs what is asked for and writes the report, and the trace to `errors` where that is wanted. It answers whether
+/// every module of the report is ok.
 pub(crate) fn reported<H: Threads + Wait + Sync, W: Sink, E: Sink>(
     rt: &H,
     alloc: Global,
@@ -172,7 +172,8 @@ pub(crate) fn reported<H: Threads + Wait + Sync, W: Sink, E: Sink>(
     requires prelude { IfSome asked.now.prelude (λ n. n < length asked.now.files) }
     requires loaders { (1 ≤ options.now.loaders) × (options.now.loaders ≤ 64) }
     requires steps { (1 ≤ options.now.steps) × (options.now.steps ≤ 100000000) }
-    ensures ok { IfOk result (Reports (asked_view asked.now) options.now.steps (W.taken writer.old) (W.taken writer.new)) }
+    ensures ok { IfOk result (Reports (asked_view asked.now) options.now.steps (W.taken writer.old)
+        (W.taken writer.new)) }
     ensures refused { IfErr result (IsRefusedRun (writer.new ≡ writer.old)) }
     ensures writes { W.failed writer.new ≡ W.failed writer.old + writes_failed result }
 {
@@ -200,8 +201,8 @@ pub(crate) fn reported<H: Threads + Wait + Sync, W: Sink, E: Sink>(
     Ok(all_ok)
 }
 
-/// Reads a bundle, loads the roots and writes the report, and the trace to `errors` where that is wanted. It answers whether every
-/// module of the report is ok.
+/// Reads a bundle, loads the roots and writes the report, and the trace to `errors` where that is wanted. It answers
+/// whether every module of the report is ok.
 ///
 /// The rules are those of `docs/REPORT.md`: what a bundle is, the refusals in their order, and the report.
 pub fn serve<H: Threads + Wait + Sync, R: Source, W: Sink, E: Sink>(
@@ -219,14 +220,16 @@ pub fn serve<H: Threads + Wait + Sync, R: Source, W: Sink, E: Sink>(
     ensures ok { IfOk result (λ all_ok. (input : List ℕ)
         × ReadsAll (R.said reader.old) (R.said reader.new) input
         × (asked : bundle.Asked)
-        × (bundle.asked_of (map string_bytes options.now.roots.items) (option_map string_bytes options.now.prelude) input ≡ Ok asked)
+        × (bundle.asked_of (map string_bytes options.now.roots.items) (option_map string_bytes options.now.prelude) input
+        ≡ Ok asked)
         × Reports asked options.now.steps (W.taken writer.old) (W.taken writer.new) all_ok) }
 
     // What was read is refused so, and nothing was written.
     ensures refused { IfErr result (IsRefused
         (λ given. (input : List ℕ)
         × ReadsAll (R.said reader.old) (R.said reader.new) input
-        × (bundle.asked_of (map string_bytes options.now.roots.items) (option_map string_bytes options.now.prelude) input ≡ given))
+        × (bundle.asked_of (map string_bytes options.now.roots.items) (option_map string_bytes options.now.prelude) input
+        ≡ given))
         ((input : List ℕ) × GaveFirst (R.said reader.old) (R.said reader.new) input
         × (length input ≤ input_limit))
         ((input : List ℕ) × Gives (R.said reader.old) (R.said reader.new) input

@@ -82,7 +82,7 @@ and_false : (b : Bool) → (b && false) ≡ false
 and_false true = refl
 and_false false = refl
 
-and_true : (b : Bool) → (b && true) ≡ b
+pub and_true : (b : Bool) → (b && true) ≡ b
 and_true true = refl
 and_true false = refl
 
@@ -94,7 +94,7 @@ if_and : (b c : Bool) → (if b then c else false) ≡ (b && c)
 if_and true c = refl
 if_and false c = refl
 
--- when two contents are the same, with something behind each
+-- when two contents are the same, with something after each
 
 none_right : (o : Option (List Atom)) → same_content o None ≡ false
 none_right (Some xs) = refl
@@ -123,7 +123,7 @@ row_right a n e o p = ap (same_content (join (Some (a ∷ [])) o)) (join_assoc (
 row_left : (a : Atom) (n : ℕ) (e o p : Option (List Atom)) → same_content (join (join (Some (atom.Row n ∷ [])) e) p) (join (Some (a ∷ [])) o) ≡ (same_atom (atom.Row n) a && same_content (join e p) o)
 row_left a n e o p = ap (λ q. same_content q (join (Some (a ∷ [])) o)) (join_assoc (Some (atom.Row n ∷ [])) e p) ∙ one (atom.Row n) a (join e p) o
 
-false_and : (b c : Bool) → b ≡ false → (b && c) ≡ false
+pub false_and : (b c : Bool) → b ≡ false → (b && c) ≡ false
 false_and b c h = ap (λ d. d && c) h
 
 -- an atom that is no string and no row is not the content of a cell
@@ -159,7 +159,7 @@ items_pass s (x ∷ xs) (y ∷ ys) h =
     ap (λ (b : Bool). if s x y then b else false) (item_shift s x y xs ys (length xs) 0 ∙ items_pass s xs ys (omega arith))
     ∙ if_and (s x y) (pointwise s xs ys)
 
--- a test of keys, and contents that it decides with something behind them
+-- a test of keys, and contents that it decides with something after them
 Decides : (Value → Option (List Atom)) → (Value → Value → Bool) → Type 0
 Decides f s = (x y : Value) (o p : Option (List Atom)) → same_content (join (f x) o) (join (f y) p) ≡ (s x y && same_content o p)
 

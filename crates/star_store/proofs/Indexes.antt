@@ -41,16 +41,8 @@ unfolding first_of
 position_by p xs = ap (λ (n : ℕ). cond (nat_lt n (length xs)) (Some n) None) (prefix_by p xs) ∙ ap (λ (m : ℕ). cond (nat_lt (prefix_len not (map p xs)) m) (Some (prefix_len not (map p xs))) None) (sym (length-map xs p))
 
 -- tests that answer the same in turn find the same place
-alike : {X Y : Type 0} (p : X → Bool) (q : Y → Bool) (xs : List X) (ys : List Y) → map p xs ≡ map q ys → position p xs ≡ position q ys
+pub alike : {X Y : Type 0} (p : X → Bool) (q : Y → Bool) (xs : List X) (ys : List Y) → map p xs ≡ map q ys → position p xs ≡ position q ys
 alike p q xs ys h = position_by p xs ∙ ap (λ (bs : List Bool). first_of (prefix_len not bs) (length bs)) h ∙ sym (position_by q ys)
-
-map_tests : {C : Type 0} (f : C → List Atom) (atoms : List Atom) (ks : List C) → map (λ k. pointwise same_atom atoms (f k)) ks ≡ map (pointwise same_atom atoms) (map f ks)
-map_tests f atoms [] = refl
-map_tests f atoms (k ∷ ks) = ap (λ (bs : List Bool). pointwise same_atom atoms (f k) ∷ bs) (map_tests f atoms ks)
-
--- a place among what holds contents is the place among the contents
-pub placed : {C : Type 0} (f : C → List Atom) (atoms : List Atom) (ks : List C) → position (λ k. pointwise same_atom atoms (f k)) ks ≡ place_by atoms (map f ks)
-placed f atoms ks = alike (λ k. pointwise same_atom atoms (f k)) (pointwise same_atom atoms) ks (map f ks) (map_tests f atoms ks)
 
 pub map_removed : {X Y : Type 0} (f : X → Y) (xs : List X) (i : ℕ) → map f (remove xs i) ≡ remove (map f xs) i
 map_removed f xs i =
@@ -502,17 +494,17 @@ written_indexed home cells rows new at c place atoms x later h k r w = by (chang
         let shape : changed_at (λ d. record d { cell = y.1 }) cells at ≡ later = second y.0 x (changed_at (λ d. record d { cell = y.1 }) cells at) later (cc) in
         subst (λ (cs : List Counted). AreIndexed (record { home = home; cells = cs }) new) shape (put_indexed home cells rows new at c place atoms y.0 y.1 h k r e)
 
-content_told : {V : Type 0} (items : V → List Atom) (s t : Store) (key : Option Value) (r : Option V) → s ≡ t → IfSome r (λ v. option_and_then (content (alone t) key_levels) key ≡ Some (items v)) → IfSome (option_map items r) (λ a. option_and_then (content (alone s) key_levels) key ≡ Some a)
-content_told items s t key None e h = tt
-content_told items s t key (Some v) e h = ap (λ (u : Store). option_and_then (content (alone u) key_levels) key) e ∙ h
+content_told : (s t : Store) (key : Option Value) (r : Option (List Atom)) → s ≡ t → IfSome r (λ a. option_and_then (content (alone t) key_levels) key ≡ Some a) → IfSome r (λ a. option_and_then (content (alone s) key_levels) key ≡ Some a)
+content_told s t key None e h = tt
+content_told s t key (Some a) e h = ap (λ (u : Store). option_and_then (content (alone u) key_levels) key) e ∙ h
 
 -- the same, where the store and its indexes are given by their parts
-pub write_indexed : {V : Type 0} (items : V → List Atom) (own : ℕ) (cells mid later : List Counted) (rows middle new : Indexes) (s : Store) (at : ℕ) (c : Change) (place : Option ℕ) (r : Option V) (x : Option Value) → record { home = own; cells = cells } ≡ s → AreIndexed (record { home = own; cells = cells }) rows → mid ≡ cells → middle ≡ rows → AreChanged at c place (option_map items r) middle new → IfSome r (λ v. option_and_then (content (alone s) key_levels) (key_of c) ≡ Some (items v)) → in_cells mid at (change_cell c place (cell_at mid at)) ≡ Ok (x, later) → AreIndexed (record { home = own; cells = later }) new
+pub write_indexed : (own : ℕ) (cells mid later : List Counted) (rows middle new : Indexes) (s : Store) (at : ℕ) (c : Change) (place : Option ℕ) (r : Option (List Atom)) (x : Option Value) → record { home = own; cells = cells } ≡ s → AreIndexed (record { home = own; cells = cells }) rows → mid ≡ cells → middle ≡ rows → AreChanged at c place r middle new → IfSome r (λ a. option_and_then (content (alone s) key_levels) (key_of c) ≡ Some a) → in_cells mid at (change_cell c place (cell_at mid at)) ≡ Ok (x, later) → AreIndexed (record { home = own; cells = later }) new
 unfolding store
-write_indexed items own cells mid later rows middle new s at c place r x es h em er k t w =
-    written_indexed own cells rows new at c place (option_map items r) x later h
-    (subst (λ (q : Indexes). AreChanged at c place (option_map items r) q new) er k)
-    (content_told items (store own cells) s (key_of c) r es t)
+write_indexed own cells mid later rows middle new s at c place r x es h em er k t w =
+    written_indexed own cells rows new at c place r x later h
+    (subst (λ (q : Indexes). AreChanged at c place r q new) er k)
+    (content_told (store own cells) s (key_of c) r es t)
     (subst (λ (q : List Counted). in_cells q at (change_cell c place (cell_at q at)) ≡ Ok (x, later)) em w)
 
 -- look-ups

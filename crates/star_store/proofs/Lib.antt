@@ -9,4 +9,5 @@ pub mod Orders
 pub mod Rows
 pub mod Store
 pub mod Texts
+pub mod Walks
 pub mod Writing

@@ -1,4 +1,5 @@
 pub mod Arithmetic
+pub mod Atoms
 pub mod Content
 pub mod Defaults
 pub mod Equal

@@ -1,5 +1,6 @@
--- Keys that are no tuples, by which entries are looked up with no content made.
-use Rattle.std.specs.Prelude.{◌≡◌, [], ◌∷◌, ◌++◌, List, Bool, true}
+-- Contents that are compared and hashed, and keys that are no tuples, by which entries are looked up with no content made.
+use Rattle.std.specs.Prelude.{◌≡◌, [], ◌∷◌, ◌++◌, List, Bool, true, false, Option, Some, None}
+use Rattle.std.specs.Cmp.{IsEquivalence}
 use Rattle.std.specs.Cmp.Lexicographic.{pointwise, lists_equiv}
 use Rattle.std.specs.Hash as fed
 use Rattle.std.specs.Hash.{HashWrites, items_Alike}
@@ -14,6 +15,18 @@ use Rattle.star_store.specs.contracts.content.AtomHash.TheImpl.Laws as atom_hash
 use Rattle.star_store.specs.contracts.content.ScalarHash.TheImpl as scalar_hash
 use Rattle.star_store.specs.Content.{same_atom}
 
+-- The law: contents are equal where their atoms are, in order, and that is an equality.
+pub contents_alike : IsEquivalence (pointwise same_atom)
+contents_alike = lists_equiv atom_equal.laws-law
+
+-- what a content feeds a hasher: how many atoms it has, and each of them
+abbrev pub content_hashed : List Atom → HashWrites
+content_hashed atoms = fed.slice (atom_hash.ghosts).hash_input atoms
+
+-- The law: contents that are equal are hashed alike.
+pub hashed_as_equal : (xs ys : List Atom) → pointwise same_atom xs ys ≡ true → content_hashed xs ≡ content_hashed ys
+hashed_as_equal xs ys h = (items_Alike (record { fed = atom_hashed.respects_eq-law })).fed xs ys h
+
 -- the one atom of a scalar's content
 abbrev pub scalar_atom : Scalar → Atom
 scalar_atom scalar.Nothing = atom.Nothing
@@ -25,20 +38,25 @@ scalar_atom (scalar.Text t) = atom.Text t.now
 abbrev pub is_of : Scalar → List Atom → Bool
 is_of x atoms = pointwise same_atom (scalar_atom x ∷ []) atoms
 
+-- whether the one atom of a key, if it has one, is a scalar's
+abbrev pub is_only : Scalar → Option Atom → Bool
+is_only x (Some a) = same_atom (scalar_atom x) a
+is_only x None = false
+
 -- what a scalar feeds a hasher: that it is one atom, and the atom
 abbrev pub hashed : Scalar → HashWrites
 hashed x = fed.usize 1 ++ (scalar_hash.ghosts).hash_input x
 
-hashed_alone : (x : Scalar) → hashed x ≡ fed.slice (atom_hash.ghosts).hash_input (scalar_atom x ∷ [])
+hashed_alone : (x : Scalar) → hashed x ≡ content_hashed (scalar_atom x ∷ [])
 hashed_alone scalar.Nothing = refl
 hashed_alone (scalar.Bool b) = refl
 hashed_alone (scalar.Int n) = refl
 hashed_alone (scalar.Text t) = refl
 
 -- The law: a scalar is hashed as each content that is its own.
-pub hashed_alike : (x : Scalar) (atoms : List Atom) → is_of x atoms ≡ true → hashed x ≡ fed.slice (atom_hash.ghosts).hash_input atoms
-hashed_alike x atoms h = hashed_alone x ∙ (items_Alike (record { fed = atom_hashed.respects_eq-law })).fed (scalar_atom x ∷ []) atoms h
+pub hashed_alike : (x : Scalar) (atoms : List Atom) → is_of x atoms ≡ true → hashed x ≡ content_hashed atoms
+hashed_alike x atoms h = hashed_alone x ∙ hashed_as_equal (scalar_atom x ∷ []) atoms h
 
 -- The law: where a content is a scalar's, another one is so just where the two are equal.
 pub of_alike : (x : Scalar) (xs ys : List Atom) → is_of x xs ≡ true → is_of x ys ≡ pointwise same_atom xs ys
-of_alike x xs ys = (lists_equiv atom_equal.laws-law).congr (scalar_atom x ∷ []) xs ys
+of_alike x xs ys = contents_alike.congr (scalar_atom x ∷ []) xs ys

@@ -38,7 +38,7 @@ shown t = flat_map shown_char (chars t)
 abbrev pub quoted : List ℕ → List ℕ
 quoted t = codes "\"" ++ shown t ++ codes "\""
 
--- pieces put behind what stands there already, in order
+-- pieces put after what stands there already, in order
 abbrev pub behind : List ℕ → List (List ℕ) → List ℕ
 behind out [] = out
 behind out (t ∷ ts) = behind (out ++ t) ts
@@ -67,7 +67,7 @@ method_parts m = codes "<built-in method " ∷ method_name m ∷ codes " of " �
 abbrev pub bool_text : Bool → List ℕ
 bool_text b = if b then codes "True" else codes "False"
 
--- a text that is put behind what stands there already
+-- a text that is put after what stands there already
 abbrev pub Say : Type 0
 Say = List ℕ → Spend (List ℕ)
 
@@ -117,7 +117,7 @@ say_entry f es i = then_say (say (separator i)) (say_pair f (slice_get es i))
 abbrev pub say_entries : (Value → Say) → List (Value × Value) → Say
 say_entries f es = all_said (say_entry f es) (length es) 0
 
--- a tuple of one item has a comma behind it
+-- a tuple of one item has a comma after it
 abbrev pub tuple_end : List Value → List ℕ
 tuple_end xs = if nat_eq (length xs) 1 then codes ",)" else codes ")"
 

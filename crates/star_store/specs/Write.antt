@@ -83,12 +83,12 @@ abbrev pub put_at : ℕ → Value → Option (Value × Value) → List (Value ×
 put_at i v None es = Err Key
 put_at i v (Some e) es = Ok (Some e.1, slice_set es i (e.0, v))
 
--- puts an entry in: at the place where its key stands, else behind all others
+-- puts an entry in: at the place where its key stands, else after all others
 abbrev pub put : Value → Value → Option ℕ → List (Value × Value) → Result (Option Value × List (Value × Value)) StoreFault
 put k v None es = Ok (None, es ++ (k, v) ∷ [])
 put k v (Some i) es = put_at i v (slice_get es i) es
 
--- takes the entry at a place out; those behind it close up
+-- takes the entry at a place out; those after it close up
 abbrev pub delete : Option ℕ → List (Value × Value) → Result (Option Value × List (Value × Value)) StoreFault
 delete None es = Err Key
 delete (Some i) es = taken Key (option_map (λ e. e.1) (slice_get es i)) (remove es i)

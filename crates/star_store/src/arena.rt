@@ -139,7 +139,7 @@ impl Arena {
         self.cells.len()
     }
 
-    /// A new cell, behind all others. `Memory` where a growth is refused: then nothing has changed.
+    /// A new cell, after all others. `Memory` where a growth is refused: then nothing has changed.
     pub fn make(&mut self, cell: Cell) -> Result<Value, StoreFault>
         requires { length self.old.cells + 1 < 2 ^ 32 }
         ensures made { IfOk result (λ v. (v ≡ next_value self.old) × (self.new ≡ made cell self.old)) }
@@ -147,12 +147,15 @@ impl Arena {
     {
         let home = self.home;
         let at = self.cells.len() as u32;
-        let is_dict = matches!(cell, Cell::Dict(_));
+        let entry_count = match &cell {
+            Cell::Dict(entries) => entries.len(),
+            _ => 0,
+        };
         self.cells.push(Counted {
             iterations: 0,
             cell,
         })?;
-        self.index_new(at, is_dict);
+        self.index_new(at, entry_count);
         Ok(Value::Ref { home, at })
     }
 
@@ -224,7 +227,8 @@ fn add_store<'a>(
     home: u32,
     store: &'a Frozen,
 ) -> Result<(), AllocError>
-    ensures added { OnOk result (map option_copied stores.new.items ≡ put_up home store.now (map option_copied stores.old.items)) }
+    ensures added { OnOk result (map option_copied stores.new.items
+        ≡ put_up home store.now (map option_copied stores.old.items)) }
     ensures refused { OnErr result (stores.new.items ≡ stores.old.items) }
 {
     let at = home as usize;
@@ -248,7 +252,8 @@ fn is_taken<'a>(stores: &[Option<&'a Frozen>], at: usize) -> bool
 
 /// Adds places with nothing, up to so many.
 fn widen<'a>(stores: &mut Vec<Option<&'a Frozen>>, count: usize) -> Result<(), AllocError>
-    ensures widened { OnOk result (stores.new.items ≡ stores.old.items ++ replicate (count - length stores.old.items) None) }
+    ensures widened { OnOk result (stores.new.items ≡ stores.old.items
+        ++ replicate (count - length stores.old.items) None) }
     ensures refused { OnErr result (stores.new.items ≡ stores.old.items) }
 {
     if stores.len() < count {
@@ -291,7 +296,8 @@ impl Frozen {
 
 #[tactic(auto, using(crate::proofs::Store::changed_in, crate::proofs::Store::changed_out))]
 fn bind_at(cells: &mut [Counted], at: u32, slot: usize, value: Value) -> Result<(), AllocError>
-    ensures bound { OnOk result (cells.new ≡ changed_at (λ e. record e { cell = bound_cell slot value e.cell }) cells.old at) }
+    ensures bound { OnOk result (cells.new
+        ≡ changed_at (λ e. record e { cell = bound_cell slot value e.cell }) cells.old at) }
     ensures refused { OnErr result (cells.new ≡ cells.old) }
 {
     if (at as usize) >= cells.len() {

@@ -62,7 +62,8 @@ fn narrow(x: i128) -> Result<i64, StoreFault>
     Ok(x as i64)
 }
 
-/// What the quotient, rounded down, leaves over: it has the sign of the divisor. `Overflow` where it is outside 64 bits.
+/// What the quotient, rounded down, leaves over: it has the sign of the divisor. `Overflow` where it is outside 64
+/// bits.
 pub fn floor_mod(x: i64, y: i64) -> Result<i64, StoreFault>
     requires { y ≢ pos 0 }
     ensures { result ≡ checked (left_over x y) }

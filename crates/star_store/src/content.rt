@@ -1,13 +1,17 @@
 // What keys hold: their contents, which may be hashed and compared with no store beside them.
 
 ghost use Rattle.std.specs.Prelude.{◌≡◌, ◌∷◌, [], Some, None, if◌then◌else◌, IfOk};
+ghost use Rattle.std.specs.Cmp.{partial_equiv_from_equiv};
+ghost use Rattle.std.specs.Cmp.Lexicographic.{lists_equiv, pointwise};
 ghost use Rattle.std.specs.Cmp.Rules.{hashing};
+ghost use Rattle.std.specs.Hash as fed;
 ghost use Rattle.std.specs.Option.{option_map};
 ghost use Rattle.std.proofs.Common.{rules};
-ghost use Rattle.star_store.specs.Content.{ContentsStay, KeysHaveContents, SameKeysHaveOneContent, after, content, content_row, only_atom};
+ghost use Rattle.star_store.specs.Content.{ContentsStay, KeysHaveContents, SameKeysHaveOneContent, after, content, content_row, only_atom, same_atom};
 ghost use Rattle.star_store.specs.Key.{key_levels};
-ghost use Rattle.star_store.specs.Scalars.{hashed, hashed_alike, is_of, of_alike, scalar_atom};
+ghost use Rattle.star_store.specs.Scalars.{content_hashed, contents_alike, hashed, hashed_alike, hashed_as_equal, is_of, is_only, of_alike, scalar_atom};
 ghost use Rattle.star_store.specs.Store.{look};
+ghost use Rattle.star_store.specs.declared.content.Atom.TheVariants as atom;
 
 use crate::arena::{Arena, Homes};
 use crate::key::KEY_LEVELS;
@@ -16,6 +20,8 @@ use indexmap::Equivalent;
 use star_text::Text;
 use std::alloc::{AllocError, Global};
 use std::hash::{Hash, Hasher};
+use std::marker::Model;
+use std::slice;
 
 /// A part of a key's content: None, a bool, an int, a string, or how many items a tuple has, whose contents follow.
 #[derive(PartialEq, Eq, Hash, Drop)]
@@ -25,6 +31,74 @@ pub enum Atom {
     Int(i64),
     Text(Text),
     Row(usize),
+}
+
+/// The content of a key, which may be hashed and compared with no store beside it.
+#[derive(Drop)]
+pub struct KeyContent {
+    atoms: Atoms,
+}
+
+/// The atoms of a content. The one atom of a key that is no tuple takes no memory of its own.
+#[derive(Drop)]
+enum Atoms {
+    One(Atom),
+    Row(Vec<Atom>),
+}
+
+impl Model for KeyContent {
+    ghost use Rattle.std.specs.Prelude.{List};
+    ghost use Rattle.star_store.specs.Atoms.{atoms_in};
+    ghost use Rattle.star_store.specs.declared.content.Atom.{Atom as AnyAtom};
+
+    ghost Value = { List AnyAtom };
+
+    ghost view = { λ k. atoms_in k.atoms };
+}
+
+impl KeyContent {
+    /// What no key has as its content: a row whose items do not follow.
+    pub(crate) fn of_no_key(count: usize) -> KeyContent
+        ensures { result ≡ atom.Row count ∷ [] }
+    {
+        KeyContent {
+            atoms: Atoms::One(Atom::Row(count)),
+        }
+    }
+
+    /// Its atoms, in order.
+    pub fn as_slice(&self) -> &[Atom]
+        ensures { result.now ≡ self.now }
+    {
+        match &self.atoms {
+            Atoms::One(atom) => slice::from_ref(atom),
+            Atoms::Row(atoms) => atoms.as_slice(),
+        }
+    }
+}
+
+impl PartialEq for KeyContent {
+    ghost eq = { λ x y. pointwise same_atom x y };
+
+    ghost laws = { partial_equiv_from_equiv contents_alike };
+
+    fn eq(&self, other: &KeyContent) -> bool {
+        self.as_slice() == other.as_slice()
+    }
+}
+
+impl Eq for KeyContent {
+    ghost laws = { contents_alike };
+}
+
+impl Hash for KeyContent {
+    ghost hash_input = { λ k. content_hashed k };
+
+    ghost respects_eq = { λ x y. hashed_as_equal x y };
+
+    fn hash<H: Hasher>(&self, state: &mut H) {
+        self.as_slice().hash(state);
+    }
 }
 
 /// A key that is no tuple, with its string where it stands.
@@ -67,14 +141,14 @@ impl<'a> Hash for ScalarKey<'a> {
     }
 }
 
-impl<'a> Equivalent<Vec<Atom>> for ScalarKey<'a> {
-    ghost equivalent = { λ k atoms. is_of k.scalar atoms.items };
+impl<'a> Equivalent<KeyContent> for ScalarKey<'a> {
+    ghost equivalent = { λ k atoms. is_of k.scalar atoms };
 
-    ghost respects_hash = { λ k atoms. hashed_alike k.scalar atoms.items };
+    ghost respects_hash = { λ k atoms. hashed_alike k.scalar atoms };
 
-    ghost respects_eq = { λ k x y. of_alike k.scalar x.items y.items };
+    ghost respects_eq = { λ k x y. of_alike k.scalar x y };
 
-    fn equivalent(&self, key: &Vec<Atom>) -> bool {
+    fn equivalent(&self, key: &KeyContent) -> bool {
         match (self.scalar, key.as_slice()) {
             (Scalar::Text(text), [Atom::Text(other)]) => text.as_str() == other.as_str(),
             (Scalar::Int(n), [Atom::Int(other)]) => n == *other,
@@ -106,20 +180,48 @@ pub(crate) fn scalar_key<'a>(
     Some(ScalarKey { scalar })
 }
 
+/// Whether a value is the key that a scalar is.
+#[inline(always)]
+pub(crate) fn is_scalar<'a>(
+    arena: &'a Arena,
+    homes: &'a Homes<'a>,
+    key: Scalar<'_>,
+    value: Value,
+) -> bool
+    ensures { result ≡ is_only key.entry (only_atom (look arena.now homes.now) value) }
+{
+    match (key, value) {
+        (Scalar::Text(text), Value::Ref { .. }) => match arena.read(homes, value) {
+            Some(Cell::Text(other)) => text.as_str() == other.as_str(),
+            _ => false,
+        },
+        (Scalar::Int(n), Value::Int(other)) => n == other,
+        (Scalar::Bool(b), Value::Bool(other)) => b == other,
+        (Scalar::Nothing, Value::NoneValue) => true,
+        _ => false,
+    }
+}
+
 /// The content of a key, and none where the value is no key.
+#[tactic(auto, using(crate::proofs::Contents::only_atom_is))]
 pub fn content(
     alloc: Global,
     arena: &Arena,
     homes: &Homes,
     value: Value,
-) -> Result<Option<Vec<Atom>>, AllocError>
-    ensures { IfOk result (λ o. option_map (λ a. a.items) o ≡ content (look arena.now homes.now) key_levels value) }
+) -> Result<Option<KeyContent>, AllocError>
+    ensures { IfOk result (λ o. o ≡ content (look arena.now homes.now) key_levels value) }
 {
-    let mut atoms = Vec::new(alloc);
-    if !put_content(arena, homes, KEY_LEVELS, value, &mut atoms)? {
+    if let Some(key) = scalar_key(arena, homes, value) {
+        let atoms = Atoms::One(key.scalar.atom()?);
+        return Ok(Some(KeyContent { atoms }));
+    }
+    let mut row = Vec::new(alloc);
+    if !put_content(arena, homes, KEY_LEVELS, value, &mut row)? {
         return Ok(None);
     }
-    Ok(Some(atoms))
+    let atoms = Atoms::Row(row);
+    Ok(Some(KeyContent { atoms }))
 }
 
 /// Adds the content of a key, and says whether there is one.
@@ -154,7 +256,8 @@ fn put_atom(
     value: Value,
     atoms: &mut Vec<Atom>,
 ) -> Result<bool, AllocError>
-    ensures { IfOk result (λ whole. after atoms.old.items (option_map (λ a. a ∷ []) (only_atom (look arena.now homes.now) value))
+    ensures { IfOk result (λ whole.
+        after atoms.old.items (option_map (λ a. a ∷ []) (only_atom (look arena.now homes.now) value))
         ≡ (if whole then Some atoms.new.items else None)) }
 {
     let Some(key) = scalar_key(arena, homes, value) else {
@@ -174,7 +277,8 @@ fn put_row<'a>(
     items: &'a Values,
     atoms: &mut Vec<Atom>,
 ) -> Result<bool, AllocError>
-    ensures { IfOk result (λ whole. after atoms.old.items (content_row (content (look arena.now homes.now) levels) items.now)
+    ensures { IfOk result (λ whole.
+        after atoms.old.items (content_row (content (look arena.now homes.now) levels) items.now)
         ≡ (if whole then Some atoms.new.items else None)) }
 {
     atoms.push(Atom::Row(items.len()))?;
@@ -197,8 +301,8 @@ pub fn keys_have_contents()
     ensures { KeysHaveContents }
 {}
 
-/// Where strings and tuples stay what they are, contents stay: new cells change none, and no write of a list, a dictionary
-/// or a frame does.
+/// Where strings and tuples stay what they are, contents stay: new cells change none, and no write of a list, a
+/// dictionary or a frame does.
 pub fn contents_stay()
     ensures { ContentsStay }
 {}

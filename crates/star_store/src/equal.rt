@@ -22,7 +22,8 @@ pub fn equal(
     x: Value,
     y: Value,
 ) -> Result<bool, StoreFault>
-    ensures answer { Spends (same (look arena.now homes.now) budget.old.levels x y budget.old.steps) result budget.new.steps }
+    ensures answer { Spends (same (look arena.now homes.now) budget.old.levels x y budget.old.steps)
+        result budget.new.steps }
     ensures less { budget.new.steps ≤ budget.old.steps }
     ensures levels { budget.new.levels ≡ budget.old.levels }
 {
@@ -61,7 +62,8 @@ fn same_values<'a>(
     x: Value,
     y: Value,
 ) -> Result<bool, StoreFault>
-    ensures answer { Spends (same_values (look arena.now homes.now) (same (look arena.now homes.now) levels) x y steps.old) result steps.new }
+    ensures answer { Spends (same_values (look arena.now homes.now) (same (look arena.now homes.now) levels) x y
+        steps.old) result steps.new }
     ensures less { steps.new ≤ steps.old }
 {
     match (x, y) {
@@ -86,7 +88,8 @@ fn same_cells<'a>(
     x: Value,
     y: Value,
 ) -> Result<bool, StoreFault>
-    ensures answer { Spends (same_cells (look arena.now homes.now) (same (look arena.now homes.now) levels) one (look arena.now homes.now x) (look arena.now homes.now y) steps.old) result steps.new }
+    ensures answer { Spends (same_cells (look arena.now homes.now) (same (look arena.now homes.now) levels) one
+        (look arena.now homes.now x) (look arena.now homes.now y) steps.old) result steps.new }
     ensures less { steps.new ≤ steps.old }
 {
     match (arena.read(homes, x), arena.read(homes, y)) {
@@ -127,7 +130,8 @@ fn same_items<'a>(
     xs: &'a Values,
     ys: &'a Values,
 ) -> Result<bool, StoreFault>
-    ensures answer { Spends (same_items (same (look arena.now homes.now) levels) xs.now ys.now steps.old) result steps.new }
+    ensures answer { Spends (same_items (same (look arena.now homes.now) levels) xs.now ys.now steps.old)
+        result steps.new }
     ensures less { steps.new ≤ steps.old }
 {
     let count = xs.len();
@@ -153,7 +157,8 @@ pub fn same_place<'a>(
     ys: &'a Values,
     i: usize,
 ) -> Result<bool, StoreFault>
-    ensures answer { Spends (same_place (same (look arena.now homes.now) levels) xs.now ys.now i steps.old) result steps.new }
+    ensures answer { Spends (same_place (same (look arena.now homes.now) levels) xs.now ys.now i steps.old)
+        result steps.new }
     ensures less { steps.new ≤ steps.old }
 {
     match (xs.get(i), ys.get(i)) {
@@ -172,7 +177,9 @@ fn same_entries<'a>(
     x: Value,
     y: Value,
 ) -> Result<bool, StoreFault>
-    ensures answer { Spends (same_entries (look arena.now homes.now) (same (look arena.now homes.now) levels) (entries_of (look arena.now homes.now x)) (entries_of (look arena.now homes.now y)) steps.old) result steps.new }
+    ensures answer { Spends (same_entries (look arena.now homes.now) (same (look arena.now homes.now) levels)
+        (entries_of (look arena.now homes.now x)) (entries_of (look arena.now homes.now y)) steps.old)
+        result steps.new }
     ensures less { steps.new ≤ steps.old }
 {
     let count = arena.dict_len(homes, x);
@@ -198,7 +205,9 @@ fn same_entry<'a>(
     y: Value,
     i: usize,
 ) -> Result<bool, StoreFault>
-    ensures answer { Spends (same_entry (look arena.now homes.now) (same (look arena.now homes.now) levels) (entries_of (look arena.now homes.now x)) (entries_of (look arena.now homes.now y)) i steps.old) result steps.new }
+    ensures answer { Spends (same_entry (look arena.now homes.now) (same (look arena.now homes.now) levels)
+        (entries_of (look arena.now homes.now x)) (entries_of (look arena.now homes.now y)) i steps.old)
+        result steps.new }
     ensures less { steps.new ≤ steps.old }
 {
     match arena.beside(homes, x, i, y) {

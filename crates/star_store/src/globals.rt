@@ -7,7 +7,8 @@ use crate::values::Value;
 
 /// Whether a name is below the first of others, if there is one.
 fn is_before(name: &str, others: &[(String, Value)]) -> bool
-    ensures { result ≡ true → ascend (map (λ g. string_bytes g.0) others.now) → ascend (name.now ∷ map (λ g. string_bytes g.0) others.now) }
+    ensures { result ≡ true → ascend (map (λ g. string_bytes g.0) others.now)
+        → ascend (name.now ∷ map (λ g. string_bytes g.0) others.now) }
 {
     match others {
         [next, ..] => name < next.0.as_str(),

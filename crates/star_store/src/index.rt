@@ -1,59 +1,55 @@
 // The contents of a dictionary's keys, by which the place of a key is found at once.
 
-ghost use Rattle.std.specs.Prelude.{◌≡◌, ◌≤◌, ◌++◌, ◌∷◌, [], if◌then◌else◌, drop, length, slice_get};
+ghost use Rattle.std.specs.Prelude.{◌≡◌, ◌≤◌, ◌++◌, ◌∷◌, [], if◌then◌else◌, drop, length, slice_get, IfOk};
 ghost use Rattle.std.specs.Option.{option_copied};
 ghost use Rattle.std.specs.List.{remove};
 ghost use Rattle.star_store.specs.Scalars.{scalar_atom};
 ghost use Rattle.star_store.specs.Index.{place_by};
 
-use crate::content::{Atom, ScalarKey};
+use crate::content::{KeyContent, ScalarKey};
 use indexmap::IndexSet;
-use std::alloc::Global;
+use std::alloc::{AllocError, Global};
 use std::marker::Model;
 
 /// An index of a dictionary: the contents of its keys, in order. Before them stand so many that have gone, since the
 /// first is taken out at once where no place changes.
 #[derive(Drop)]
 pub struct Index {
-    contents: IndexSet<Vec<Atom>>,
+    contents: IndexSet<KeyContent>,
     gone: usize,
 }
 
 impl Model for Index {
-    ghost use Rattle.std.specs.Prelude.{◌≤◌, List, map, drop, length};
+    ghost use Rattle.std.specs.Prelude.{◌≤◌, List, drop, length};
     ghost use Rattle.star_store.specs.declared.content.Atom.{Atom as AnyAtom};
 
     ghost Value = { List (List AnyAtom) };
 
-    ghost view = { λ i. map (λ c. c.items) (drop i.gone i.contents.keys) };
+    ghost view = { λ i. drop i.gone i.contents.keys };
 
     ghost invariant = { λ i. i.gone ≤ length i.contents.keys };
 }
 
 impl Index {
-    /// An index of a dictionary with no entry.
-    pub fn new(alloc: Global) -> Index
-        ensures { result ≡ [] }
+    /// An index of a dictionary with no entry, with room for so many contents.
+    pub fn with_capacity(alloc: Global, capacity: usize) -> Result<Index, AllocError>
+        ensures { IfOk result (λ index. index ≡ []) }
     {
-        Index {
-            contents: IndexSet::new(alloc),
+        Ok(Index {
+            contents: IndexSet::with_capacity(alloc, capacity)?,
             gone: 0,
-        }
+        })
     }
 
     /// The content at a place.
-    pub fn get(&self, at: usize) -> Option<&[Atom]>
+    pub fn get(&self, at: usize) -> Option<&KeyContent>
         ensures { option_copied result ≡ slice_get self.now at }
     {
-        let contents = &self.contents.as_slice()[self.gone..];
-        match contents.get(at) {
-            Some(content) => Some(content.as_slice()),
-            None => None,
-        }
+        self.contents.as_slice()[self.gone..].get(at)
     }
 
     /// The place of a content.
-    pub fn place(&self, content: &[Atom]) -> Option<usize>
+    pub fn place(&self, content: &KeyContent) -> Option<usize>
         ensures { result ≡ place_by content.now self.now }
     {
         // The set says here that no content stands twice.
@@ -85,8 +81,8 @@ impl Index {
 
     /// Adds a content after all others, and says whether it was added: else it stood there already, or memory was
     /// refused, and nothing has changed.
-    pub fn push(&mut self, content: Vec<Atom>) -> bool
-        ensures { self.new ≡ (if result then self.old ++ content.items ∷ [] else self.old) }
+    pub fn push(&mut self, content: KeyContent) -> bool
+        ensures { self.new ≡ (if result then self.old ++ content ∷ [] else self.old) }
     {
         if self.gone > 0 {
             bury(&mut self.contents, self.gone, &content);
@@ -118,7 +114,7 @@ impl Index {
 
 /// Makes sure that a content does not stand among the first ones, which have gone, where memory suffices: what is no
 /// key's content is put in its place.
-fn bury(contents: &mut IndexSet<Vec<Atom>>, gone: usize, content: &[Atom])
+fn bury(contents: &mut IndexSet<KeyContent>, gone: usize, content: &KeyContent)
     requires { gone ≤ length contents.old.keys }
     ensures same { drop gone contents.new.keys ≡ drop gone contents.old.keys }
     ensures within { gone ≤ length contents.new.keys }
@@ -129,17 +125,13 @@ fn bury(contents: &mut IndexSet<Vec<Atom>>, gone: usize, content: &[Atom])
     if at >= gone {
         return;
     }
-    let mut other = Vec::new(*contents.allocator());
-    if other.push(Atom::Row(at + 1)).is_err() {
-        return;
-    }
-    if let Ok(true) = contents.insert(other) {
+    if let Ok(true) = contents.insert(KeyContent::of_no_key(at + 1)) {
         let _content = contents.swap_remove_index(at);
     }
 }
 
 /// Takes the first contents out, which have gone, and says how many of them are left: all where memory is refused.
-fn close_up(contents: &mut IndexSet<Vec<Atom>>, gone: usize) -> usize
+fn close_up(contents: &mut IndexSet<KeyContent>, gone: usize) -> usize
     requires { gone ≤ length contents.old.keys }
     ensures same { drop result contents.new.keys ≡ drop gone contents.old.keys }
     ensures within { result ≤ length contents.new.keys }

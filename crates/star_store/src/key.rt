@@ -1,13 +1,16 @@
 // Keys: which values may be one, and which two are the same one.
 
-ghost use Rattle.std.specs.Prelude.{◌≡◌, ◌≤◌};
+ghost use Rattle.std.specs.Prelude.{◌≡◌, ◌≤◌, position};
 ghost use Rattle.std.specs.List.{list_all};
+ghost use Rattle.star_store.specs.Content.{only_atom};
+ghost use Rattle.star_store.specs.Scalars.{is_only};
 ghost use Rattle.star_store.specs.Spend.{Spends};
 ghost use Rattle.star_store.specs.Store.{look};
 ghost use Rattle.star_store.specs.Key.{check, check_each, is_key, key_levels, place_of, same_key, same_key_items, same_key_place, value_of};
 
 use crate::arena::{Arena, Homes};
 use crate::budget::Budget;
+use crate::content::{Scalar, is_scalar, scalar_key};
 use crate::fault::StoreFault;
 use crate::values::{Cell, Entries, Value, Values};
 
@@ -126,7 +129,8 @@ pub fn check_key(
     budget: &mut Budget,
     value: Value,
 ) -> Result<(), StoreFault>
-    ensures answer { Spends (check (look arena.now homes.now) budget.old.levels value budget.old.steps) result budget.new.steps }
+    ensures answer { Spends (check (look arena.now homes.now) budget.old.levels value budget.old.steps)
+        result budget.new.steps }
     ensures less { budget.new.steps ≤ budget.old.steps }
     ensures levels { budget.new.levels ≡ budget.old.levels }
 {
@@ -171,7 +175,8 @@ fn check_each<'a>(
     steps: &mut u64,
     items: &'a Values,
 ) -> Result<(), StoreFault>
-    ensures answer { Spends (check_each (check (look arena.now homes.now) levels) items.now steps.old) result steps.new }
+    ensures answer { Spends (check_each (check (look arena.now homes.now) levels) items.now steps.old)
+        result steps.new }
     ensures less { steps.new ≤ steps.old }
 {
     for item in items.as_slice() {
@@ -182,6 +187,29 @@ fn check_each<'a>(
 
 /// The place of the entry with this key.
 pub fn place_of(arena: &Arena, homes: &Homes, key: Value, entries: &Entries) -> Option<usize>
+    ensures { result ≡ place_of (look arena.now homes.now) key entries.now }
+{
+    match scalar_key(arena, homes, key) {
+        Some(scalar) => place_of_scalar(arena, homes, scalar.scalar, entries),
+        None => place_of_any(arena, homes, key, entries),
+    }
+}
+
+/// The place of the entry whose key is a scalar.
+fn place_of_scalar<'a>(
+    arena: &'a Arena,
+    homes: &'a Homes<'a>,
+    key: Scalar<'_>,
+    entries: &Entries,
+) -> Option<usize>
+    ensures { result ≡ position (λ e. is_only key.entry (only_atom (look arena.now homes.now) e.0)) entries.now }
+{
+    let same = |entry: &(Value, Value)| is_scalar(arena, homes, key, entry.0);
+    entries.as_slice().iter().position(same)
+}
+
+/// The place of the entry with this key, be it a tuple.
+fn place_of_any(arena: &Arena, homes: &Homes, key: Value, entries: &Entries) -> Option<usize>
     ensures { result ≡ place_of (look arena.now homes.now) key entries.now }
 {
     let same = |entry: &(Value, Value)| same_key(arena, homes, KEY_LEVELS, key, entry.0);

@@ -101,7 +101,7 @@ impl BuiltIn {
 }
 
 impl Method {
-    /// The name behind the dot.
+    /// The name after the dot.
     pub fn name(self) -> &'static str
         ensures { result.now ≡ method_name self }
     {

@@ -24,7 +24,8 @@ pub fn order(
     x: Value,
     y: Value,
 ) -> Result<Ordering, StoreFault>
-    ensures answer { Spends (order (look arena.now homes.now) budget.old.levels x y budget.old.steps) result budget.new.steps }
+    ensures answer { Spends (order (look arena.now homes.now) budget.old.levels x y budget.old.steps)
+        result budget.new.steps }
     ensures less { budget.new.steps ≤ budget.old.steps }
     ensures levels { budget.new.levels ≡ budget.old.levels }
 {
@@ -63,7 +64,8 @@ fn order_values<'a>(
     x: Value,
     y: Value,
 ) -> Result<Ordering, StoreFault>
-    ensures answer { Spends (order_values (look arena.now homes.now) (same (look arena.now homes.now) levels) (order (look arena.now homes.now) levels) x y steps.old) result steps.new }
+    ensures answer { Spends (order_values (look arena.now homes.now) (same (look arena.now homes.now) levels)
+        (order (look arena.now homes.now) levels) x y steps.old) result steps.new }
     ensures less { steps.new ≤ steps.old }
 {
     match (x, y) {
@@ -98,7 +100,9 @@ fn order_cells<'a>(
     left: Option<&'a Cell>,
     right: Option<&'a Cell>,
 ) -> Result<Ordering, StoreFault>
-    ensures answer { Spends (order_cells (same (look arena.now homes.now) levels) (order (look arena.now homes.now) levels) (option_copied left.entry) (option_copied right.entry) steps.old) result steps.new }
+    ensures answer { Spends (order_cells (same (look arena.now homes.now) levels)
+        (order (look arena.now homes.now) levels) (option_copied left.entry) (option_copied right.entry) steps.old)
+        result steps.new }
     ensures less { steps.new ≤ steps.old }
 {
     match (left, right) {
@@ -125,7 +129,8 @@ fn order_items<'a>(
     xs: &'a Values,
     ys: &'a Values,
 ) -> Result<Ordering, StoreFault>
-    ensures answer { Spends (order_items (same (look arena.now homes.now) levels) (order (look arena.now homes.now) levels) xs.now ys.now steps.old) result steps.new }
+    ensures answer { Spends (order_items (same (look arena.now homes.now) levels)
+        (order (look arena.now homes.now) levels) xs.now ys.now steps.old) result steps.new }
     ensures less { steps.new ≤ steps.old }
 {
     let count = xs.len().min(ys.len());
@@ -147,7 +152,8 @@ fn order_place<'a>(
     ys: &'a Values,
     i: usize,
 ) -> Result<Ordering, StoreFault>
-    ensures answer { Spends (order_place (order (look arena.now homes.now) levels) xs.now ys.now i steps.old) result steps.new }
+    ensures answer { Spends (order_place (order (look arena.now homes.now) levels) xs.now ys.now i steps.old)
+        result steps.new }
     ensures less { steps.new ≤ steps.old }
 {
     match (xs.get(i), ys.get(i)) {

@@ -14,9 +14,9 @@ use std::sync::ArcSlice;
 /// A slot makes room for all slots before it where it stands at most so far after those that have room.
 const REACH: usize = 12;
 
-/// The variables of a frame by their slots, each with a value or unbound. First slots have room in a row, and the others
-/// stand in a map once they are bound: so the memory is in proportion to the number of slots that were bound. What is in
-/// neither is as it is under the slots, where they stand on defaults.
+/// The variables of a frame by their slots, each with a value or unbound. First slots have room in a row, and the
+/// others stand in a map once they are bound: so the memory is in proportion to the number of slots that were bound.
+/// What is in neither is as it is under the slots, where they stand on defaults.
 #[derive(Drop)]
 pub struct Slots {
     alloc: Global,
@@ -49,8 +49,9 @@ impl Slots {
     pub fn unbound(alloc: Global, count: usize) -> Result<Slots, AllocError>
         ensures { IfOk result (λ slots. slots ≡ replicate count None) }
     {
-        let mut near = Vec::new(alloc);
-        near.resize(count.min(REACH), None)?;
+        let room = count.min(REACH);
+        let mut near = Vec::with_capacity(alloc, room)?;
+        near.resize(room, None)?;
         Ok(Slots {
             alloc,
             count,
@@ -60,8 +61,8 @@ impl Slots {
         })
     }
 
-    /// So many slots that stand on defaults: `ranks` has for each slot the number of its default, if it has one. All other
-    /// slots are unbound. No slot has room at first.
+    /// So many slots that stand on defaults: `ranks` has for each slot the number of its default, if it has one. All
+    /// other slots are unbound. No slot has room at first.
     #[tactic(auto, using(crate::proofs::Rows::row_over))]
     pub fn over(
         alloc: Global,

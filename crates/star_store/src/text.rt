@@ -34,7 +34,8 @@ pub fn repr(
     budget: &mut Budget,
     value: Value,
 ) -> Result<Text, StoreFault>
-    ensures answer { Tells (text (look arena.now homes.now) budget.old.levels [] value [] budget.old.steps) result budget.new.steps }
+    ensures answer { Tells (text (look arena.now homes.now) budget.old.levels [] value [] budget.old.steps)
+        result budget.new.steps }
     ensures less { budget.new.steps ≤ budget.old.steps }
     ensures levels { budget.new.levels ≡ budget.old.levels }
 {
@@ -59,7 +60,8 @@ fn put_text<'a>(
     page: &mut Page,
     value: Value,
 ) -> Result<(), StoreFault>
-    ensures answer { Says (text (look arena.now homes.now) levels page.old.path.items value (string_bytes page.old.out) page.old.steps) result (string_bytes page.new.out) page.new.steps }
+    ensures answer { Says (text (look arena.now homes.now) levels page.old.path.items value (string_bytes page.old.out)
+        page.old.steps) result (string_bytes page.new.out) page.new.steps }
     ensures less { page.new.steps ≤ page.old.steps }
     ensures path { OnOk result (page.new.path.items ≡ page.old.path.items) }
 {
@@ -81,7 +83,9 @@ fn put_value<'a>(
     page: &mut Page,
     value: Value,
 ) -> Result<(), StoreFault>
-    ensures answer { Says (say_value (look arena.now homes.now) (text (look arena.now homes.now) levels) page.old.path.items value (string_bytes page.old.out) page.old.steps) result (string_bytes page.new.out) page.new.steps }
+    ensures answer { Says (say_value (look arena.now homes.now) (text (look arena.now homes.now) levels)
+        page.old.path.items value (string_bytes page.old.out) page.old.steps)
+        result (string_bytes page.new.out) page.new.steps }
     ensures less { page.new.steps ≤ page.old.steps }
     ensures path { OnOk result (page.new.path.items ≡ page.old.path.items) }
 {
@@ -106,7 +110,9 @@ fn put_cell<'a>(
     value: Value,
     cell: Option<&'a Cell>,
 ) -> Result<(), StoreFault>
-    ensures answer { Says (say_cell (text (look arena.now homes.now) levels) page.old.path.items value (option_copied cell.entry) (string_bytes page.old.out) page.old.steps) result (string_bytes page.new.out) page.new.steps }
+    ensures answer { Says (say_cell (text (look arena.now homes.now) levels) page.old.path.items value
+        (option_copied cell.entry) (string_bytes page.old.out) page.old.steps)
+        result (string_bytes page.new.out) page.new.steps }
     ensures less { page.new.steps ≤ page.old.steps }
     ensures path { OnOk result (page.new.path.items ≡ page.old.path.items) }
 {
@@ -131,7 +137,8 @@ fn put_tuple<'a>(
     page: &mut Page,
     items: &'a Values,
 ) -> Result<(), StoreFault>
-    ensures answer { Says (say_tuple (text (look arena.now homes.now) levels page.old.path.items) items.now (string_bytes page.old.out) page.old.steps) result (string_bytes page.new.out) page.new.steps }
+    ensures answer { Says (say_tuple (text (look arena.now homes.now) levels page.old.path.items) items.now
+        (string_bytes page.old.out) page.old.steps) result (string_bytes page.new.out) page.new.steps }
     ensures less { page.new.steps ≤ page.old.steps }
     ensures path { OnOk result (page.new.path.items ≡ page.old.path.items) }
 {
@@ -150,7 +157,8 @@ fn put_list<'a>(
     value: Value,
     items: &'a Values,
 ) -> Result<(), StoreFault>
-    ensures answer { Says (say_list (text (look arena.now homes.now) levels) page.old.path.items value items.now (string_bytes page.old.out) page.old.steps) result (string_bytes page.new.out) page.new.steps }
+    ensures answer { Says (say_list (text (look arena.now homes.now) levels) page.old.path.items value items.now
+        (string_bytes page.old.out) page.old.steps) result (string_bytes page.new.out) page.new.steps }
     ensures less { page.new.steps ≤ page.old.steps }
     ensures path { OnOk result (page.new.path.items ≡ page.old.path.items) }
 {
@@ -170,7 +178,8 @@ fn put_new_list<'a>(
     value: Value,
     items: &'a Values,
 ) -> Result<(), StoreFault>
-    ensures answer { Says (say_new_list (text (look arena.now homes.now) levels (page.old.path.items ++ value ∷ [])) items.now (string_bytes page.old.out) page.old.steps) result (string_bytes page.new.out) page.new.steps }
+    ensures answer { Says (say_new_list (text (look arena.now homes.now) levels (page.old.path.items ++ value ∷ []))
+        items.now (string_bytes page.old.out) page.old.steps) result (string_bytes page.new.out) page.new.steps }
     ensures less { page.new.steps ≤ page.old.steps }
     ensures path { OnOk result (page.new.path.items ≡ page.old.path.items) }
 {
@@ -189,7 +198,8 @@ fn put_dict<'a>(
     value: Value,
     entries: &'a Entries,
 ) -> Result<(), StoreFault>
-    ensures answer { Says (say_dict (text (look arena.now homes.now) levels) page.old.path.items value entries.now (string_bytes page.old.out) page.old.steps) result (string_bytes page.new.out) page.new.steps }
+    ensures answer { Says (say_dict (text (look arena.now homes.now) levels) page.old.path.items value entries.now
+        (string_bytes page.old.out) page.old.steps) result (string_bytes page.new.out) page.new.steps }
     ensures less { page.new.steps ≤ page.old.steps }
     ensures path { OnOk result (page.new.path.items ≡ page.old.path.items) }
 {
@@ -209,7 +219,8 @@ fn put_new_dict<'a>(
     value: Value,
     entries: &'a Entries,
 ) -> Result<(), StoreFault>
-    ensures answer { Says (say_new_dict (text (look arena.now homes.now) levels (page.old.path.items ++ value ∷ [])) entries.now (string_bytes page.old.out) page.old.steps) result (string_bytes page.new.out) page.new.steps }
+    ensures answer { Says (say_new_dict (text (look arena.now homes.now) levels (page.old.path.items ++ value ∷ []))
+        entries.now (string_bytes page.old.out) page.old.steps) result (string_bytes page.new.out) page.new.steps }
     ensures less { page.new.steps ≤ page.old.steps }
     ensures path { OnOk result (page.new.path.items ≡ page.old.path.items) }
 {
@@ -228,7 +239,8 @@ fn put_inner_items<'a>(
     value: Value,
     items: &'a Values,
 ) -> Result<(), StoreFault>
-    ensures answer { Says (say_items (text (look arena.now homes.now) levels (page.old.path.items ++ value ∷ [])) items.now (string_bytes page.old.out) page.old.steps) result (string_bytes page.new.out) page.new.steps }
+    ensures answer { Says (say_items (text (look arena.now homes.now) levels (page.old.path.items ++ value ∷ []))
+        items.now (string_bytes page.old.out) page.old.steps) result (string_bytes page.new.out) page.new.steps }
     ensures less { page.new.steps ≤ page.old.steps }
     ensures path { OnOk result (page.new.path.items ≡ page.old.path.items) }
 {
@@ -247,7 +259,8 @@ fn put_items<'a>(
     page: &mut Page,
     items: &'a Values,
 ) -> Result<(), StoreFault>
-    ensures answer { Says (say_items (text (look arena.now homes.now) levels page.old.path.items) items.now (string_bytes page.old.out) page.old.steps) result (string_bytes page.new.out) page.new.steps }
+    ensures answer { Says (say_items (text (look arena.now homes.now) levels page.old.path.items) items.now
+        (string_bytes page.old.out) page.old.steps) result (string_bytes page.new.out) page.new.steps }
     ensures less { page.new.steps ≤ page.old.steps }
     ensures path { OnOk result (page.new.path.items ≡ page.old.path.items) }
 {
@@ -267,7 +280,8 @@ fn put_place<'a>(
     items: &'a Values,
     i: usize,
 ) -> Result<(), StoreFault>
-    ensures answer { Says (say_place (text (look arena.now homes.now) levels page.old.path.items) items.now i (string_bytes page.old.out) page.old.steps) result (string_bytes page.new.out) page.new.steps }
+    ensures answer { Says (say_place (text (look arena.now homes.now) levels page.old.path.items) items.now i
+        (string_bytes page.old.out) page.old.steps) result (string_bytes page.new.out) page.new.steps }
     ensures less { page.new.steps ≤ page.old.steps }
     ensures path { OnOk result (page.new.path.items ≡ page.old.path.items) }
 {
@@ -288,7 +302,8 @@ fn put_inner_entries<'a>(
     value: Value,
     entries: &'a Entries,
 ) -> Result<(), StoreFault>
-    ensures answer { Says (say_entries (text (look arena.now homes.now) levels (page.old.path.items ++ value ∷ [])) entries.now (string_bytes page.old.out) page.old.steps) result (string_bytes page.new.out) page.new.steps }
+    ensures answer { Says (say_entries (text (look arena.now homes.now) levels (page.old.path.items ++ value ∷ []))
+        entries.now (string_bytes page.old.out) page.old.steps) result (string_bytes page.new.out) page.new.steps }
     ensures less { page.new.steps ≤ page.old.steps }
     ensures path { OnOk result (page.new.path.items ≡ page.old.path.items) }
 {
@@ -307,7 +322,8 @@ fn put_entries<'a>(
     page: &mut Page,
     entries: &'a Entries,
 ) -> Result<(), StoreFault>
-    ensures answer { Says (say_entries (text (look arena.now homes.now) levels page.old.path.items) entries.now (string_bytes page.old.out) page.old.steps) result (string_bytes page.new.out) page.new.steps }
+    ensures answer { Says (say_entries (text (look arena.now homes.now) levels page.old.path.items) entries.now
+        (string_bytes page.old.out) page.old.steps) result (string_bytes page.new.out) page.new.steps }
     ensures less { page.new.steps ≤ page.old.steps }
     ensures path { OnOk result (page.new.path.items ≡ page.old.path.items) }
 {
@@ -327,7 +343,8 @@ fn put_entry<'a>(
     entries: &'a Entries,
     i: usize,
 ) -> Result<(), StoreFault>
-    ensures answer { Says (say_entry (text (look arena.now homes.now) levels page.old.path.items) entries.now i (string_bytes page.old.out) page.old.steps) result (string_bytes page.new.out) page.new.steps }
+    ensures answer { Says (say_entry (text (look arena.now homes.now) levels page.old.path.items) entries.now i
+        (string_bytes page.old.out) page.old.steps) result (string_bytes page.new.out) page.new.steps }
     ensures less { page.new.steps ≤ page.old.steps }
     ensures path { OnOk result (page.new.path.items ≡ page.old.path.items) }
 {
@@ -354,7 +371,7 @@ fn same_address(x: Value, y: Value) -> bool
 }
 
 impl Page {
-    /// Puts more behind the text.
+    /// Puts more after the text.
     fn say(&mut self, more: &str) -> Result<(), AllocError>
         ensures said { OnOk result ((string_bytes self.new.out) ≡ (string_bytes self.old.out) ++ more.now) }
         ensures path { self.new.path.items ≡ self.old.path.items }
@@ -385,7 +402,8 @@ impl Page {
     }
 
     fn say_built_in(&mut self, name: &str) -> Result<(), AllocError>
-        ensures said { OnOk result ((string_bytes self.new.out) ≡ behind (string_bytes self.old.out) (built_in_parts name.now)) }
+        ensures said { OnOk result ((string_bytes self.new.out)
+            ≡ behind (string_bytes self.old.out) (built_in_parts name.now)) }
         ensures path { self.new.path.items ≡ self.old.path.items }
         ensures steps { self.new.steps ≡ self.old.steps }
     {
@@ -395,7 +413,8 @@ impl Page {
     }
 
     fn say_function(&mut self, name: &Text) -> Result<(), AllocError>
-        ensures said { OnOk result ((string_bytes self.new.out) ≡ behind (string_bytes self.old.out) (function_parts name.now)) }
+        ensures said { OnOk result ((string_bytes self.new.out)
+            ≡ behind (string_bytes self.old.out) (function_parts name.now)) }
         ensures path { self.new.path.items ≡ self.old.path.items }
         ensures steps { self.new.steps ≡ self.old.steps }
     {
@@ -405,7 +424,8 @@ impl Page {
     }
 
     fn say_method(&mut self, method: Method) -> Result<(), AllocError>
-        ensures said { OnOk result ((string_bytes self.new.out) ≡ behind (string_bytes self.old.out) (method_parts method)) }
+        ensures said { OnOk result ((string_bytes self.new.out)
+            ≡ behind (string_bytes self.old.out) (method_parts method)) }
         ensures path { self.new.path.items ≡ self.old.path.items }
         ensures steps { self.new.steps ≡ self.old.steps }
     {
@@ -427,7 +447,8 @@ impl Page {
     }
 
     fn say_bounds(&mut self, range: Range) -> Result<(), AllocError>
-        ensures said { OnOk result ((string_bytes self.new.out) ≡ behind (string_bytes self.old.out) (bounds_parts range)) }
+        ensures said { OnOk result ((string_bytes self.new.out)
+            ≡ behind (string_bytes self.old.out) (bounds_parts range)) }
         ensures path { self.new.path.items ≡ self.old.path.items }
         ensures steps { self.new.steps ≡ self.old.steps }
     {
@@ -443,7 +464,9 @@ impl Page {
     }
 
     fn say_three(&mut self, range: Range) -> Result<(), AllocError>
-        ensures said { OnOk result ((string_bytes self.new.out) ≡ (string_bytes self.old.out) ++ signed_decimal range.start ++ codes ", " ++ signed_decimal range.stop ++ codes ", " ++ signed_decimal range.step) }
+        ensures said { OnOk result ((string_bytes self.new.out) ≡ (string_bytes self.old.out)
+            ++ signed_decimal range.start ++ codes ", " ++ signed_decimal range.stop ++ codes ", "
+            ++ signed_decimal range.step) }
         ensures path { self.new.path.items ≡ self.old.path.items }
         ensures steps { self.new.steps ≡ self.old.steps }
     {
@@ -509,7 +532,7 @@ impl Page {
     }
 }
 
-/// Puts a string in quotes behind a text.
+/// Puts a string in quotes after a text.
 fn put_quoted(out: &mut String, text: &str) -> Result<(), AllocError>
     ensures { OnOk result (string_bytes out.new ≡ string_bytes out.old ++ quoted text.now) }
 {
@@ -518,7 +541,7 @@ fn put_quoted(out: &mut String, text: &str) -> Result<(), AllocError>
     out.push('"')
 }
 
-/// Puts the characters of a string, as its text shows them, behind a text.
+/// Puts the characters of a string, as its text shows them, after a text.
 fn put_chars(out: &mut String, text: &str) -> Result<(), AllocError>
     ensures { OnOk result (string_bytes out.new ≡ string_bytes out.old ++ shown text.now) }
 {
@@ -528,7 +551,7 @@ fn put_chars(out: &mut String, text: &str) -> Result<(), AllocError>
     Ok(())
 }
 
-/// Puts a character of a string, as its text shows it, behind a text.
+/// Puts a character of a string, as its text shows it, after a text.
 #[tactic(auto, unfolding(crate::specs::Text::shown_char))]
 fn put_char(out: &mut String, c: char) -> Result<(), AllocError>
     ensures { OnOk result (string_bytes out.new ≡ string_bytes out.old ++ shown_char c) }
@@ -543,7 +566,7 @@ fn put_char(out: &mut String, c: char) -> Result<(), AllocError>
     }
 }
 
-/// Puts a character that has no letter behind a backslash.
+/// Puts a character that has no letter after a backslash.
 fn put_plain(out: &mut String, c: char) -> Result<(), AllocError>
     ensures { OnOk result (string_bytes out.new ≡ string_bytes out.old ++ plain_char c) }
 {

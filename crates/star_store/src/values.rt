@@ -216,6 +216,15 @@ impl Entries {
         }
     }
 
+    /// A dictionary with no entry, and room for so many.
+    pub fn with_capacity(alloc: Global, capacity: usize) -> Result<Entries, AllocError>
+        ensures { IfOk result (λ entries. entries ≡ []) }
+    {
+        Ok(Entries {
+            pairs: Roomy::new(Vec::with_capacity(alloc, capacity)?),
+        })
+    }
+
     /// How many entries there are.
     pub fn len(&self) -> usize
         ensures { result ≡ length self.now }

@@ -1,4 +1,4 @@
--- Expressions come back to themselves only behind a leaf or at a lower rank, and their rounds take leaves.
+-- Expressions come back to themselves only after a leaf or at a lower rank, and their rounds take leaves.
 use Rattle.std.proofs.Common.{◌≡◌, ℕ, zero, suc, ◌≤◌, true, refl, arith}
 use Rattle.star_syntax.specs.declared.level.Level.{Level}
 use Rattle.star_syntax.specs.declared.level.Level.TheVariants as levels

@@ -1,4 +1,4 @@
--- The grammar is sound: its rounds take leaves, and it comes back to itself only behind a leaf or at a lower rank.
+-- The grammar is sound: its rounds take leaves, and it comes back to itself only after a leaf or at a lower rank.
 use Rattle.std.proofs.Common.{◌≡◌, ℕ, ◌+◌, ◌*◌, ◌<◌, ◌≤◌, true, List, length, [], ◌∷◌, Some, None, refl, ap, sym, ◌∙◌, subst, append-nil, arith}
 use Rattle.star_syntax.specs.declared.leaf.Leaf.{Leaf}
 use Rattle.star_tree.specs.declared.tree.Statement.{Statement}

@@ -11,7 +11,7 @@ use Rattle.star_syntax.specs.Expressions.{same_sign, same_keyword, is_sign, is_k
 use Rattle.star_syntax.specs.Language.{rule}
 use Rattle.star_syntax.specs.Written.{EndsBefore, right-paren, right-bracket, right-brace, comma, colon, semicolon, assign, plus-assign, minus-assign, star-assign, slashes-assign, percent-assign, ampersand-assign, bar-assign, caret-assign, left-assign, right-assign, new-line, for', else', Stops, nothing-more, before}
 
--- ---- what stands behind an operand, or between operands
+-- ---- what stands after an operand, or between operands
 
 -- no suffix begins with the word
 pub record NoSuffix (w : Word) : Type 0 where

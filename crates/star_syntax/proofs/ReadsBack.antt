@@ -38,7 +38,7 @@ before-bracket p ts = quiet (mark p s.RightBracket ∷ ts) (before right-bracket
 front-of : {x : Expression} {ts us : List Leaf} → Enclosed x ts us → Front ts
 front-of (enclosed {p = p} {ts = ts} w) = in_front p ts
 
--- what stands behind an element is quiet, where what stands behind all of them is
+-- what stands after an element is quiet, where what stands after all of them is
 quiet-further : {xs : List Expression} {ts us : List Leaf} → Further xs ts us → Quiet us → Quiet ts
 quiet-further no-further q = q
 quiet-further (one-further {p = p} {ts = ts} e f) q = before-comma p ts

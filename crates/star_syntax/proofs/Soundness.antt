@@ -1,4 +1,4 @@
--- A test of a grammar: each round takes a leaf, and a part comes back to itself only behind a leaf or at a lower rank.
+-- A test of a grammar: each round takes a leaf, and a part comes back to itself only after a leaf or at a lower rank.
 use Rattle.std.proofs.Common.{◌≡◌, ℕ, zero, suc, ◌+◌, ◌<◌, ◌≤◌, min, Bool, true, ◌&&◌}
 use Rattle.std.specs.Prelude.{nat_le, nat_lt}
 use Rattle.star_syntax.specs.Sorts.{Sort}
@@ -16,7 +16,7 @@ cost (when f g) = cost g
 cost (placed g) = cost g
 cost (the r) = 1
 
--- the rank that a part must stay below behind a part of a cost
+-- the rank that a part must stay below after a part of a cost
 abbrev pub rank_after : ℕ → ℕ → ℕ → ℕ
 rank_after ranks zero m = m
 rank_after ranks (suc c) m = ranks

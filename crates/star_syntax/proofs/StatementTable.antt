@@ -1,4 +1,4 @@
--- Statements come back to themselves only behind a leaf or at a lower rank, and their rounds take leaves.
+-- Statements come back to themselves only after a leaf or at a lower rank, and their rounds take leaves.
 use Rattle.std.proofs.Common.{◌≡◌, ℕ, ◌≤◌, true, refl, arith}
 use Rattle.star_syntax.proofs.Soundness.{cost, safe}
 use Rattle.star_syntax.specs.Expressions.{tests, list_of_tests, next_test, targets, list_of_primaries, primaries, next_primary, parameters_in_parentheses, taken, ordered_parameters, list_of_parameters, next_parameter, parameter, named_parameter, star, star_star, default}
@@ -9,7 +9,7 @@ small-cost : cost small ≡ 1
 unfolding small small_form returned keyword_form load loads all_loaded next_loaded loaded local told right_side assigning tests list_of_tests
 small-cost = refl
 
--- at the front of a statement, and behind a leaf
+-- at the front of a statement, and after a leaf
 first-safe : safe rank 2 1 small ≡ true
 unfolding small small_form returned keyword_form load loads all_loaded next_loaded loaded local told right_side assigning tests list_of_tests next_test
 first-safe = refl

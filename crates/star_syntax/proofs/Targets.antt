@@ -22,7 +22,7 @@ all f xs = all_of (map (λ x. (x, f x)) xs)
 abbrev pub onto : {B : Type 0} → Option B → Option (List B) → Option (List B)
 onto o r = elim o [ None ↦ None | Some y ↦ elim r [ None ↦ None | Some ys ↦ Some (y ∷ ys) ] ]
 
--- the values of the front, and behind them those that were found, the last first
+-- the values of the front, and after them those that were found, the last first
 abbrev pub joined : {B : Type 0} → Option (List B) → List B → Option (List B)
 joined None found = None
 joined (Some ys) found = Some (ys ++ reverse found)

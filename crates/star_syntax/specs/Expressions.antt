@@ -230,7 +230,7 @@ parentheses_of None = e.Tuple []
 parentheses_of (Some (xs, None)) = tuple_unless_one xs
 parentheses_of (Some (xs, Some comma)) = e.Tuple xs
 
--- what stands behind the first element or entry of a display: clauses, or further ones
+-- what stands after the first element or entry of a display: clauses, or further ones
 abbrev pub as_clauses : {A : Type 0} → Clauses → Option Clauses × List A
 as_clauses c = (Some c, [])
 
@@ -480,7 +480,7 @@ lambda_parameters = alt ordered_parameters (act nil_of empty)
 unfoldable pub lambda : G sorts.expression
 lambda = act lambda_of (seq (keyword_at k.Lambda) (seq lambda_parameters (after (sign_ s.Colon) a_test)))
 
--- ---- what stands behind an operand
+-- ---- what stands after an operand
 
 -- '.' name
 unfoldable pub attribute : G sorts.suffix
@@ -543,7 +543,7 @@ unfoldable pub climb : ℕ → G sorts.expression
 climb zero = unary
 climb (suc n) = fold binary_of (climb n) (seq (binary_operator n) (climb n))
 
--- a sign of a level, and the operand behind it
+-- a sign of a level, and the operand after it
 abbrev pub round_at : ℕ → G (both sorts.binary sorts.expression)
 round_at n = seq (binary_operator n) (climb n)
 

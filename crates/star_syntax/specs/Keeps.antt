@@ -19,7 +19,7 @@ is_last (x ∷ more) = false
 
 -- ---- arguments
 
--- behind the positional arguments: named ones, at most one with a star among them, and at the end at most one with two stars
+-- after the positional arguments: named ones, at most one with a star among them, and at the end at most one with two stars
 abbrev pub named_in_order : Bool → List Argument → Bool
 named_in_order star_may_come [] = true
 named_in_order star_may_come (argument.Positional x ∷ more) = false
@@ -36,7 +36,7 @@ arguments_in_order (argument.StarStar x ∷ more) = is_last more
 
 -- ---- parameters
 
--- behind a star: names with or without a default, and at the end at most one with two stars
+-- after a star: names with or without a default, and at the end at most one with two stars
 abbrev pub starred_in_order : List Parameter → Bool
 starred_in_order [] = true
 starred_in_order (parameter.Plain name ∷ more) = starred_in_order more
@@ -51,7 +51,7 @@ name_follows (parameter.Plain name ∷ more) = true
 name_follows (parameter.Default name x ∷ more) = true
 name_follows _ = false
 
--- behind a name with a default: names with a default; then a star
+-- after a name with a default: names with a default; then a star
 abbrev pub defaults_in_order : List Parameter → Bool
 defaults_in_order [] = true
 defaults_in_order (parameter.Plain name ∷ more) = false
@@ -61,7 +61,7 @@ defaults_in_order (parameter.BareStar ∷ more) = name_follows more && starred_i
 defaults_in_order (parameter.StarStar name ∷ more) = is_last more
 
 -- names; then names with a default; then a star, with a name or alone; then names with or without a default; then two stars.
--- A star alone has a name behind it.
+-- A star alone has a name after it.
 abbrev pub parameters_in_order : List Parameter → Bool
 parameters_in_order [] = true
 parameters_in_order (parameter.Plain name ∷ more) = parameters_in_order more

@@ -71,7 +71,7 @@ pub data IsComparator : Word → Comparator → Type 0 where
   at-least : IsComparator (word.Sign s.GreaterEqual) comparators.GreaterEqual
   contained : IsComparator (word.Keyword k.In) comparators.In
 
--- the words that may stand behind a whole expression
+-- the words that may stand after a whole expression
 pub data EndsBefore : Word → Type 0 where
   right-paren : EndsBefore (word.Sign s.RightParen)
   right-bracket : EndsBefore (word.Sign s.RightBracket)
@@ -94,7 +94,7 @@ pub data EndsBefore : Word → Type 0 where
   for' : EndsBefore (word.Keyword k.For)
   else' : EndsBefore (word.Keyword k.Else)
 
--- what may stand behind a whole expression
+-- what may stand after a whole expression
 pub data Stops : List Leaf → Type 0 where
   nothing-more : Stops []
   before : {p : Position} {w : Word} {ts : List Leaf} → EndsBefore w → Stops (record { word = w; position = p } ∷ ts)

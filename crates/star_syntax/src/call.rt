@@ -13,7 +13,7 @@ use star_lex::token::{Keyword, Sign};
 use star_tree::tree::{Argument, Expression, Parameter};
 use std::alloc::Global;
 
-/// Whether what stands behind the positional arguments is in order.
+/// Whether what stands after the positional arguments is in order.
 fn named_in_order(mut star_may_come: bool, arguments: &[Argument]) -> bool
     ensures { result ≡ keeps.named_in_order star_may_come arguments.now }
 {
@@ -58,7 +58,7 @@ fn name_follows(parameters: &[Parameter]) -> bool
     }
 }
 
-/// Whether what stands behind a star is in order.
+/// Whether what stands after a star is in order.
 fn starred_in_order(parameters: &[Parameter]) -> bool
     ensures { result ≡ keeps.starred_in_order parameters.now }
 {
@@ -75,7 +75,7 @@ fn starred_in_order(parameters: &[Parameter]) -> bool
     true
 }
 
-/// Whether what stands behind a name with a default is in order.
+/// Whether what stands after a name with a default is in order.
 fn defaults_in_order(parameters: &[Parameter]) -> bool
     ensures { result ≡ keeps.defaults_in_order parameters.now }
 {
@@ -128,7 +128,7 @@ impl<F: Fn(Global, u128, Level, &[Leaf]) -> Read<'_, Boxed<Expression>>> Grammar
         Ok(Some((Argument::Named { name, value }, rest)))
     }
 
-    /// An expression behind a sign.
+    /// An expression after a sign.
     fn after_sign<'a>(&self, before: Sign, leaves: &'a [Leaf]) -> Read<'a, Boxed<Expression>>
         requires { Nests self.now.depth (F.pre self.now.expression) (F.post self.now.expression) }
         ensures { Gives (reads self.now.depth (spec.after (spec.sign_ before) spec.a_test) leaves.now) result }

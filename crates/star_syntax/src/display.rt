@@ -13,7 +13,7 @@ use star_lex::token::{Keyword, Sign};
 use star_tree::tree::{Clause, Clauses, Entry, Expression, Position, Target};
 use std::alloc::{AllocError, Global};
 
-/// What stands behind the first element or entry of a display: clauses, or further ones.
+/// What stands after the first element or entry of a display: clauses, or further ones.
 type Behind<T> = (Option<Boxed<Clauses>>, Items<T>);
 
 /// What stands between parentheses, and whether a comma ends it.

@@ -9,22 +9,22 @@ pub fn one_reading()
     ensures { OneReading }
 {}
 
-/// The leaves of an expression, written with a parenthesis round each part, read back as that expression, whatever may stand
-/// behind a whole expression comes next. It covers each form of expression: names, ints, strings, the operators, comparisons,
-/// `and`, `or`, the conditional, `lambda`, attributes, calls, indices, slices, tuples, displays and comprehensions.
-/// (`docs/LANGUAGE.md`, "Grammar".)
+/// The leaves of an expression, written with a parenthesis round each part, read back as that expression, whatever may
+/// stand after a whole expression comes next. It covers each form of expression: names, ints, strings, the operators,
+/// comparisons, `and`, `or`, the conditional, `lambda`, attributes, calls, indices, slices, tuples, displays and
+/// comprehensions. (`docs/LANGUAGE.md`, "Grammar".)
 pub fn reads_back()
     ensures { ReadsBack }
 {}
 
-/// Each expression whose arguments and parameters stand in the order of the rules, at any depth, has such a writing, before
-/// any leaves. (`docs/LANGUAGE.md`, "Grammar".)
+/// Each expression whose arguments and parameters stand in the order of the rules, at any depth, has such a writing,
+/// before any leaves. (`docs/LANGUAGE.md`, "Grammar".)
 pub fn all_writable()
     ensures { AllWritable }
 {}
 
-/// An expression that is read, at any level of the grammar, has its arguments and parameters in the order of the rules, at any
-/// depth. (`docs/LANGUAGE.md`, "Grammar".)
+/// An expression that is read, at any level of the grammar, has its arguments and parameters in the order of the rules,
+/// at any depth. (`docs/LANGUAGE.md`, "Grammar".)
 pub fn read_in_order()
     ensures { ReadInOrder }
 {}
@@ -34,8 +34,8 @@ pub fn tree_in_order()
     ensures { TreeInOrder }
 {}
 
-/// Each expression that is read has a writing with a parenthesis round each part, before whatever may stand behind a whole
-/// expression, and the writing reads back as that expression. (`docs/LANGUAGE.md`, "Grammar".)
+/// Each expression that is read has a writing with a parenthesis round each part, before whatever may stand after a
+/// whole expression, and the writing reads back as that expression. (`docs/LANGUAGE.md`, "Grammar".)
 pub fn read_is_written()
     ensures { ReadIsWritten }
 {}

@@ -1,4 +1,4 @@
-//! Readers of operands and of what stands behind them.
+//! Readers of operands and of what stands after them.
 
 ghost use Rattle.std.specs.Prelude.{◌≡◌};
 ghost use Rattle.star_syntax.specs.Expressions as spec;

@@ -1,4 +1,5 @@
-//! What every reader uses: the answers, the leaves that stand for themselves, and the grammar of expressions to a depth.
+//! What every reader uses: the answers, the leaves that stand for themselves, and the grammar of expressions to a
+//! depth.
 
 ghost use Rattle.std.specs.Prelude.{◌≡◌, ◌∷◌, IfOk};
 ghost use Rattle.star_syntax.specs.Grammar.{first, level as at_level, run};
@@ -13,7 +14,8 @@ use star_text::Text;
 use star_tree::tree::{Expression, Name, Position};
 use std::alloc::{AllocError, Global};
 
-/// What a reader answers: the value at the front of the leaves and the leaves behind it, or nothing where it reads none.
+/// What a reader answers: the value at the front of the leaves and the leaves after it, or nothing where it reads
+/// none.
 pub type Read<'a, T> = Result<Option<(T, &'a [Leaf])>, AllocError>;
 
 /// The grammar of expressions, with others nested in them no deeper than a depth.
@@ -138,7 +140,7 @@ pub fn atom(alloc: Global, leaves: &[Leaf]) -> Read<'_, Boxed<Expression>>
     }
 }
 
-/// The first, and behind it the others.
+/// The first, and after it the others.
 pub fn onto<T: Drop>(alloc: Global, first: T, more: Items<T>) -> Result<Items<T>, AllocError>
     ensures { IfOk result (λ all. all ≡ first ∷ more) }
 {

@@ -13,7 +13,8 @@ use std::hash::{Hash, Hasher};
 use std::marker::Model;
 use std::sync::ArcStr;
 
-/// A text that its copies share. Contracts see its bytes, so that a copy equals what it copies. It is UTF-8 by its type.
+/// A text that its copies share. Contracts see its bytes, so that a copy equals what it copies. It is UTF-8 by its
+/// type.
 #[derive(Debug, Drop)]
 pub struct Text {
     inner: ArcStr,

@@ -160,7 +160,7 @@ pub enum Argument {
     StarStar(Expression),
 }
 
-/// What stands between the parentheses of a definition, or behind `lambda`.
+/// What stands between the parentheses of a definition, or after `lambda`.
 #[cycle(tree)]
 #[derive(Drop)]
 pub enum Parameter {
@@ -241,7 +241,7 @@ pub enum Form {
         module: Literal,
         names: Items<LoadedName>,
     },
-    /// `if` and its `elif`s, at least one arm, then the statements behind `else`, none without it.
+    /// `if` and its `elif`s, at least one arm, then the statements after `else`, none without it.
     If {
         arms: Items<Arm>,
         otherwise: Items<Statement>,
@@ -266,7 +266,8 @@ pub struct Arm {
     pub body: Items<Statement>,
 }
 
-/// `local = "loaded"` in a load statement. Where no local name is written it is the loaded one, at the string's position.
+/// `local = "loaded"` in a load statement. Where no local name is written it is the loaded one, at the string's
+/// position.
 #[derive(Drop)]
 pub struct LoadedName {
     pub local: Name,

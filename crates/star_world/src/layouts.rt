@@ -63,8 +63,8 @@ impl Cursor {
 }
 
 /// How many slots the parameters of a definition have, how many of the first take values by place, and how many
-/// defaults there are; for each slot the number of its default, if it has one; the slots that need a value; and the slots
-/// of `*name` and `**name`.
+/// defaults there are; for each slot the number of its default, if it has one; the slots that need a value; and the
+/// slots of `*name` and `**name`.
 #[derive(Drop)]
 pub struct Layout {
     count: usize,
@@ -86,8 +86,8 @@ impl Model for Layout {
 }
 
 impl Layout {
-    /// That of parameters whose slots are numbered in their order. A bare `*` has no slot. Whether the slots are so numbered
-    /// is not looked at.
+    /// That of parameters whose slots are numbered in their order. A bare `*` has no slot. Whether the slots are so
+    /// numbered is not looked at.
     pub(crate) fn of(alloc: Global, parameters: &[Parameter]) -> Result<Layout, AllocError> {
         let mut sketch = Sketch::new(alloc);
         for parameter in parameters {

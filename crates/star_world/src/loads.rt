@@ -46,7 +46,8 @@ fn load_name(
     published: Option<&Frozen>,
     name: &LoadedName,
 ) -> Result<(), Stop>
-    ensures { Gives (spec.load_name (variables world.now) place.now (option_copied published.entry) name.now machine.old) result machine.new }
+    ensures { Gives (spec.load_name (variables world.now) place.now (option_copied published.entry) name.now
+        machine.old) result machine.new }
 {
     let Some(value) = global(published, name) else {
         return Err(faulted(Code::NoName, place.line));
@@ -62,7 +63,8 @@ fn load_each(
     published: Option<&Frozen>,
     names: &[LoadedName],
 ) -> Result<(), Stop>
-    ensures { Gives (all_of (spec.load_name (variables world.now) place.now (option_copied published.entry)) names.now machine.old) result machine.new }
+    ensures { Gives (all_of (spec.load_name (variables world.now) place.now (option_copied published.entry)) names.now
+        machine.old) result machine.new }
 {
     for name in names {
         load_name(machine, world, place, published, name)?;
@@ -70,7 +72,8 @@ fn load_each(
     Ok(())
 }
 
-/// Binds the names of a load statement to the globals of the module that it loads. `NoName` where one is missing or unbound.
+/// Binds the names of a load statement to the globals of the module that it loads. `NoName` where one is missing or
+/// unbound.
 pub fn load_names(
     machine: &mut Machine,
     world: &World,
@@ -78,7 +81,8 @@ pub fn load_names(
     position: Position,
     names: &[LoadedName],
 ) -> Result<(), Stop>
-    ensures { Gives (all_of (spec.load_name (variables world.now) place.now (spec.module_of world.now.setting position)) names.now machine.old) result machine.new }
+    ensures { Gives (all_of (spec.load_name (variables world.now) place.now (spec.module_of world.now.setting position))
+        names.now machine.old) result machine.new }
 {
     let published = published(world, position);
     load_each(machine, world, place, published, names)

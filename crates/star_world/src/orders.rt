@@ -112,7 +112,8 @@ fn stands_at(
     cursor: Cursor,
     parameter: &Parameter,
 ) -> bool
-    ensures { IsTrue result → StandsAt (spot_at program.now.spots) names.now layout.now cursor (form.parameter parameter.now) }
+    ensures { IsTrue result → StandsAt (spot_at program.now.spots) names.now layout.now cursor
+        (form.parameter parameter.now) }
 {
     let slot = cursor.slot;
     match parameter {
@@ -179,7 +180,9 @@ fn layout_of(
     number: usize,
     parameters: &[Parameter],
 ) -> Result<Option<Layout>, AllocError>
-    ensures { IfOk result (λ o. IfSome o (λ layout. AreLaidOut (spot_at program.now.spots) (names_in program.now.blocks (1 + number)) layout parameters.now)) }
+    ensures { IfOk result (λ o. IfSome
+        o (λ layout. AreLaidOut (spot_at program.now.spots) (names_in program.now.blocks (1 + number))
+        layout parameters.now)) }
 {
     let Some(names) = slot_names(program, number) else {
         return Ok(None);

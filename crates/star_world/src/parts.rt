@@ -35,7 +35,7 @@ pub fn place_of(world: &World, place: &Place, statement: &Statement) -> Place
     }
 }
 
-/// The first value, and those behind it.
+/// The first value, and those after it.
 pub fn split_first(values: &[Value]) -> Option<(Value, &[Value])>
     ensures { MatchOption result (values.now ≡ []) (λ x. values.now ≡ x.0 ∷ x.1.now) }
 {
@@ -72,7 +72,14 @@ pub fn new_closure(
     name: &str,
     defaults: Defaults,
 ) -> Result<Value, Stop>
-    ensures { Gives (build place.now.line 1 (cell.Func (record { file = place.now.file; definition = token; name = name.now; defaults = defaults; frame = place.now.frame })) machine.old) result machine.new }
+    ensures { Gives (build place.now.line 1
+        (cell.Func (record {
+          file = place.now.file;
+          definition = token;
+          name = name.now;
+          defaults = defaults;
+          frame = place.now.frame;
+        })) machine.old) result machine.new }
 {
     let Ok(definition) = u32::try_from(token) else {
         return Err(Stop::Memory);

@@ -61,7 +61,9 @@ impl<'a, 't> Placed<'a, 't> {
 
     /// How the many parameters of the definition with a number stand, where they stand in order.
     pub(crate) fn order(&self, number: u32) -> Option<Order<'_, 't>>
-        ensures in_order { IfSome result (λ o. (d : Definition) → definition_in (outline self.now.statements).definitions number ≡ Some d → AreLaidOut (spot_at self.now.spots) o.names.now o.layout.now d.parameters) }
+        ensures in_order { IfSome result
+            (λ o. (d : Definition) → definition_in (outline self.now.statements).definitions number ≡ Some d
+            → AreLaidOut (spot_at self.now.spots) o.names.now o.layout.now d.parameters) }
         ensures names { IfSome result (λ o. o.names.now ≡ names_in (outline self.now.statements).blocks (1 + number)) }
     {
         let layout = self.orders.layout(number as usize)?;

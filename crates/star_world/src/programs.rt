@@ -19,7 +19,8 @@ use star_scope::spot::Spot;
 use std::alloc::{AllocError, Global};
 use std::marker::Model;
 
-/// The programs of files, each at the place of its file's number; and whether some definition has many parameters in order.
+/// The programs of files, each at the place of its file's number; and whether some definition has many parameters in
+/// order.
 #[derive(Drop)]
 pub struct Programs<'a, 't> {
     alloc: Global,
@@ -100,7 +101,8 @@ impl<'a, 't> Programs<'a, 't> {
     /// The definition with a number in a file, in constant time.
     #[tactic(auto, using(crate::proofs::ProgramRows::definitions_are))]
     pub fn definition(&self, file: usize, number: usize) -> Option<Definition<'t>>
-        ensures { option_map definition_of result ≡ option_and_then (λ o. definition_in o.definitions number) (outline_at self.now file) }
+        ensures { option_map definition_of result
+            ≡ option_and_then (λ o. definition_in o.definitions number) (outline_at self.now file) }
     {
         match self.program(file) {
             Some(program) => program.definition(number),
@@ -108,11 +110,14 @@ impl<'a, 't> Programs<'a, 't> {
         }
     }
 
-    /// How the many parameters of the definition with a number in a file stand, where they stand in order, in logarithmic time;
-    /// in constant time where no definition of the files has such.
+    /// How the many parameters of the definition with a number in a file stand, where they stand in order, in
+    /// logarithmic time; in constant time where no definition of the files has such.
     #[tactic(auto, using(crate::proofs::ProgramRows::slots_there))]
     pub fn order(&self, file: usize, number: u32) -> Option<Order<'_, 't>>
-        ensures in_order { IfSome result (λ o. (d : OneDefinition) → option_and_then (λ o. definition_in o.definitions number) (outline_at self.now file) ≡ Some d → AreLaidOut ((tables_of self.now).spots file) o.names.now o.layout.now d.parameters) }
+        ensures in_order { IfSome result
+            (λ o. (d : OneDefinition) → option_and_then (λ o. definition_in o.definitions number)
+            (outline_at self.now file) ≡ Some d
+            → AreLaidOut ((tables_of self.now).spots file) o.names.now o.layout.now d.parameters) }
         ensures names { IfSome result (λ o. length o.names.now ≡ (tables_of self.now).slots file (1 + number)) }
     {
         if !self.has_orders {

@@ -36,7 +36,8 @@ fn frame_at<'a>(machine: &'a Machine, setting: &'a Setting<'a>, value: Value) ->
 
 /// The frame around a frame.
 fn parent_of(machine: &Machine, setting: &Setting, frame: Option<Value>) -> Option<Value>
-    ensures { result ≡ option_and_then (λ f. f.parent) (option_and_then (λ v. frame_of (seen setting.now machine.now v)) frame) }
+    ensures { result ≡ option_and_then (λ f. f.parent)
+        (option_and_then (λ v. frame_of (seen setting.now machine.now v)) frame) }
 {
     match frame {
         Some(value) => {
@@ -94,7 +95,8 @@ fn value_in(
 /// The value of a name among the globals of the prelude.
 #[inline(never)]
 fn prelude_value(setting: &Setting, name: &str) -> Option<Value>
-    ensures { result ≡ option_and_then (λ q. global_of name.now q.globals) (option_and_then (published_of setting.now) setting.now.prelude) }
+    ensures { result ≡ option_and_then (λ q. global_of name.now q.globals)
+        (option_and_then (published_of setting.now) setting.now.prelude) }
 {
     match setting.prelude() {
         Some(file) => {
@@ -191,7 +193,8 @@ fn at_spot(
 #[inline(always)]
 #[tactic(auto, unfolding(star_meaning::specs::Places::read_spot))]
 pub fn read(machine: &Machine, world: &World, place: &Place, name: &Name) -> Result<Value, Stop>
-    ensures { Gives (read_spot (tables_of world.now.files) world.now.setting place.now name.now machine.now) result machine.now }
+    ensures { Gives (read_spot (tables_of world.now.files) world.now.setting place.now name.now machine.now)
+        result machine.now }
 {
     let spot = world.spot(place.file, name.position.token);
     match at_spot(machine, world.setting(), place, name.text.as_str(), spot) {
@@ -235,7 +238,8 @@ fn frame_cell(
     parent: Option<Value>,
     slots: Slots,
 ) -> Result<Cell, AllocError>
-    ensures { IfOk result (λ c. c ≡ Cell.Frame (record { file = file; block = block; parent = parent; slots = slots })) }
+    ensures { IfOk result (λ c. c ≡ Cell.Frame
+        (record { file = file; block = block; parent = parent; slots = slots })) }
 {
     let frame = Frame {
         file,
@@ -272,7 +276,8 @@ pub fn frame_with(
     parent: Option<Value>,
     slots: Slots,
 ) -> Result<Value, Stop>
-    ensures { Gives (build line 1 (Cell.Frame (record { file = file; block = block; parent = parent; slots = slots })) machine.old) result machine.new }
+    ensures { Gives (build line 1 (Cell.Frame (record { file = file; block = block; parent = parent; slots = slots }))
+        machine.old) result machine.new }
 {
     let Ok(block) = u32::try_from(block) else {
         return Err(Stop::Memory);
@@ -281,7 +286,8 @@ pub fn frame_with(
     machine.build(line, 1, cell)
 }
 
-/// A new frame of a block, for which 1 is paid, as that of a call or of a comprehension. All names of the block are unbound in it.
+/// A new frame of a block, for which 1 is paid, as that of a call or of a comprehension. All names of the block are
+/// unbound in it.
 #[tactic(auto, unfolding(star_meaning::specs::Places::new_slots, star_meaning::specs::Run::build))]
 pub fn paid_frame(
     machine: &mut Machine,
@@ -291,7 +297,8 @@ pub fn paid_frame(
     block: usize,
     parent: Option<Value>,
 ) -> Result<Value, Stop>
-    ensures { Gives (and_then (pay line 1 machine.old) (λ _. new_slots (tables_of world.now.files) file block parent)) result machine.new }
+    ensures { Gives (and_then (pay line 1 machine.old) (λ _. new_slots (tables_of world.now.files) file block parent))
+        result machine.new }
 {
     let slots = Slots::unbound(machine.alloc(), world.slots(file, block))?;
     frame_with(machine, line, file, block, parent, slots)

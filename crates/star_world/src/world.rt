@@ -45,8 +45,8 @@ impl<'a, 't> Model for World<'a, 't> {
 }
 
 impl<'a, 't> World<'a, 't> {
-    /// What the run of a file is given: the stores that it reaches, the programs of all files, its own loads, and the prelude's
-    /// file.
+    /// What the run of a file is given: the stores that it reaches, the programs of all files, its own loads, and the
+    /// prelude's file.
     pub fn new(
         home: u32,
         homes: &'a Homes<'a>,
@@ -54,7 +54,16 @@ impl<'a, 't> World<'a, 't> {
         loads: &'a [Load],
         prelude: Option<u32>,
     ) -> World<'a, 't>
-        ensures { result ≡ record { setting = record { home = home; outlines = outlines (trees_of files.now); shelf = homes.now; loads = load_files loads.now; prelude = prelude }; files = files.now } }
+        ensures { result ≡ record {
+          setting = record {
+            home = home;
+            outlines = outlines (trees_of files.now);
+            shelf = homes.now;
+            loads = load_files loads.now;
+            prelude = prelude;
+          };
+          files = files.now;
+        } }
     {
         let statements = files.statements();
         let setting = Setting::over(home, homes, statements, loads, prelude);
@@ -98,10 +107,11 @@ impl<'a, 't> World<'a, 't> {
             .definition(file as usize, number as usize)
     }
 
-    /// How the many parameters of the definition with a number in a file stand, where they stand in order, in logarithmic time;
-    /// in constant time where no definition of the files has such.
+    /// How the many parameters of the definition with a number in a file stand, where they stand in order, in
+    /// logarithmic time; in constant time where no definition of the files has such.
     pub fn order(&self, file: u32, number: u32) -> Option<Order<'a, 't>>
-        ensures in_order { IfSome result (λ o. (d : OneDefinition) → program.definition_of self.now.setting file number ≡ Some d → AreLaidOut ((tables_of self.now.files).spots file) o.names.now o.layout.now d.parameters) }
+        ensures in_order { IfSome result (λ o. (d : OneDefinition) → program.definition_of self.now.setting file number
+            ≡ Some d → AreLaidOut ((tables_of self.now.files).spots file) o.names.now o.layout.now d.parameters) }
         ensures slots { IfSome result (λ o. length o.names.now ≡ (tables_of self.now.files).slots file (1 + number)) }
     {
         self.files.programs().order(file as usize, number)

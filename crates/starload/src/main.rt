@@ -1,7 +1,8 @@
 //! Loads the Starlark files of a bundle or of a folder and writes the report.
 //!
-//! The bundle is read on standard input, by `serve`, or the files of a folder are, by `serve_dir`; the report is written on standard
-//! output. `docs/REPORT.md` has the rules. The statuses are those of `status`; what goes wrong before is said on standard error, with status 2.
+//! The bundle is read on standard input, by `serve`, or the files of a folder are, by `serve_dir`; the report is
+//! written on standard output. `docs/REPORT.md` has the rules. The statuses are those of `status`; what goes wrong
+//! before is said on standard error, with status 2.
 #![tactic(auto)]
 
 ghost use Rattle.std.specs.Prelude.{◌≤◌};

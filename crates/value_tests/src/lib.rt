@@ -1,5 +1,5 @@
-//! Tests of values and of what is done with them: stores, operators, built-in functions, methods, arguments. What the text of a
-//! file can say of them stands in `tests/cases`.
+//! Tests of values and of what is done with them: stores, operators, built-in functions, methods, arguments. What the
+//! text of a file can say of them stands in `tests/cases`.
 #![tactic(auto)]
 
 #[cfg(test)]

@@ -617,7 +617,14 @@ fn a_key_has_its_content(
         Atom::Nothing,
         Atom::Int(-7),
     ]?;
-    assert!(rt; content(alloc, arena, homes, key)? == Some(wanted));
+    let found = content(alloc, arena, homes, key)?;
+    let atoms = match &found {
+        Some(found) => found.as_slice(),
+        None => &[],
+    };
+    assert!(rt; atoms == wanted.as_slice());
+    let twin = text(alloc, rt, arena, "a")?;
+    assert!(rt; content(alloc, arena, homes, word)? == content(alloc, arena, homes, twin)?);
     let items = list(alloc, rt, arena, &[word])?;
     let other = tuple(alloc, rt, arena, &[word, items])?;
     assert!(rt; content(alloc, arena, homes, other)?.is_none());

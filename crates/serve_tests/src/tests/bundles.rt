@@ -104,7 +104,7 @@ pub(super) const BUNDLES: [Case; 30] = [
         report: "{\"begun\":1,\"modules\":[{\"fault\":\"conflict\",\"label\":\"//:a.star\",\"line\":2,\"lines\":[],\"status\":\"static\"}]}\n",
     },
     Case {
-        // loads behind a bad one are asked
+        // loads after a bad one are asked
         bundle: "{\"//:a.star\":\"load(\\\":c.star\\\", \\\"q\\\")\\nload(\\\":b.star\\\", \\\"p\\\")\",\"//:b.star\":\"p = 1\",\"//:c.star\":\"print(\\\"c\\\")\\nq = 1 // 0\"}",
         roots: &["//:a.star"],
         prelude: None,
@@ -114,7 +114,7 @@ pub(super) const BUNDLES: [Case; 30] = [
         report: "{\"begun\":3,\"modules\":[{\"cause\":\"//:c.star\",\"label\":\"//:a.star\",\"line\":1,\"lines\":[],\"status\":\"load\"},{\"globals\":{\"p\":\"1\"},\"label\":\"//:b.star\",\"lines\":[],\"status\":\"ok\"},{\"fault\":\"zero\",\"label\":\"//:c.star\",\"line\":2,\"lines\":[\"c\"],\"status\":\"fault\"}]}\n",
     },
     Case {
-        // loads behind a cycle are asked
+        // loads after a cycle are asked
         bundle: "{\"//:a.star\":\"load(\\\":a.star\\\", \\\"x\\\")\\nload(\\\":b.star\\\", \\\"p\\\")\",\"//:b.star\":\"p = 1\"}",
         roots: &["//:a.star"],
         prelude: None,

@@ -39,8 +39,8 @@ impl Arena {
         Some(value)
     }
 
-    /// The place of the entry with this key among the entries of a dictionary: by its index where that can tell it, else by
-    /// a walk.
+    /// The place of the entry with this key among the entries of a dictionary: by its index where that can tell it,
+    /// else by a walk.
     fn place_among(
         &self,
         homes: &Homes,
@@ -96,7 +96,8 @@ impl Arena {
         at: usize,
         other: Value,
     ) -> Option<(Value, Option<Value>)>
-        ensures { result ≡ option_map (beside (look self.now homes.now) (look self.now homes.now other)) (slice_get (entries_of (look self.now homes.now dict)) at) }
+        ensures { result ≡ option_map (beside (look self.now homes.now) (look self.now homes.now other))
+            (slice_get (entries_of (look self.now homes.now dict)) at) }
     {
         let (key, value) = self.dict_entry(homes, dict, at)?;
         if let Some(place) = self.indexed_beside(homes, dict, at, other) {
@@ -137,7 +138,8 @@ impl Arena {
         at: usize,
         other: Value,
     ) -> Option<Option<usize>>
-        ensures { IfSome result (PlacesAt (look self.now homes.now) (look self.now homes.now dict) at (look self.now homes.now other)) }
+        ensures { IfSome result (PlacesAt (look self.now homes.now) (look self.now homes.now dict) at
+            (look self.now homes.now other)) }
     {
         let content = self.index(homes, dict)?.get(at)?;
         let index = self.index(homes, other)?;
@@ -146,7 +148,8 @@ impl Arena {
 
     /// The index of a dictionary.
     fn index<'a>(&'a self, homes: &'a Homes, dict: Value) -> Option<&'a Index>
-        ensures { IfSome result (λ index. IsIndexed (look self.now homes.now) (look self.now homes.now dict) index.now) }
+        ensures { IfSome result (λ index. IsIndexed (look self.now homes.now)
+            (look self.now homes.now dict) index.now) }
     {
         let Value::Ref { home, at } = dict else {
             return None;
@@ -165,10 +168,11 @@ fn place_of_content(
     index: &Index,
     key: Value,
 ) -> Option<Option<usize>>
-    ensures { IfSome result (λ place. place ≡ option_and_then (λ atoms. place_by atoms index.now) (content (look arena.now homes.now) key_levels key)) }
+    ensures { IfSome result (λ place. place
+        ≡ option_and_then (λ atoms. place_by atoms index.now) (content (look arena.now homes.now) key_levels key)) }
 {
     match content(arena.alloc, arena, homes, key) {
-        Ok(Some(atoms)) => Some(index.place(&atoms)),
+        Ok(Some(content)) => Some(index.place(&content)),
         Ok(None) => Some(None),
         Err(_) => None,
     }
@@ -177,7 +181,8 @@ fn place_of_content(
 impl Frozen {
     /// The index of the dictionary at an address, where values of this number lead to this module's cells.
     fn index(&self, home: u32, at: u32) -> Option<&Index>
-        ensures { IfSome result (λ index. IsIndexed (alone (record { home = home; cells = self.now.cells })) (cell_at self.now.cells at) index.now) }
+        ensures { IfSome result (λ index. IsIndexed (alone (record { home = home; cells = self.now.cells }))
+            (cell_at self.now.cells at) index.now) }
     {
         if self.home != home {
             return None;

@@ -2,7 +2,6 @@
 
 ghost use Rattle.std.specs.Prelude.{◌≡◌, ◌≤◌, ◌+◌, ℕ, List, Some, None, map, max, length, IfSome, OnOk, ◌⊎◌, option_and_then};
 ghost use Rattle.std.specs.Bool.{OnTrue};
-ghost use Rattle.std.specs.Option.{option_map};
 ghost use Rattle.star_store.specs.Content.{content};
 ghost use Rattle.star_store.specs.Index.{AreChanged, IsIndexed, alone, contents_of, index_after, index_at};
 ghost use Rattle.star_store.specs.Key.{key_levels};
@@ -11,13 +10,16 @@ ghost use Rattle.star_store.specs.declared.content.Atom.{Atom as AnyAtom};
 
 use crate::arena::write::Change;
 use crate::arena::{Arena, Homes};
-use crate::content::{Atom, content};
+use crate::content::{KeyContent, content};
 use crate::index::Index;
 use crate::values::{Cell, Entries};
 use std::alloc::AllocError;
 
-/// A dictionary of so many entries has an index; among fewer a walk is as fast.
+/// A dictionary that grows to so many entries gets an index: among fewer a walk is as fast.
 const FEW: usize = 8;
+
+/// A new dictionary gets one where it has so many entries: it may be read a few times only.
+const MANY: usize = 16;
 
 impl Arena {
     /// How many entries the dictionary at an address has: none where no dictionary stands there.
@@ -40,23 +42,24 @@ impl Arena {
     pub(crate) fn index_if_due(&mut self, at: u32)
         ensures { self.new ≡ self.old }
     {
-        if !self.has_index(at) && self.entry_count(at).is_power_of_two() {
+        let count = self.entry_count(at);
+        if count >= FEW && count.is_power_of_two() && !self.has_index(at) {
             self.add_index(at);
         }
     }
 
-    /// Makes an index of a new cell, where it is a dictionary.
+    /// Makes an index of a new cell of so many entries, where these are many.
     #[inline(always)]
-    pub(crate) fn index_new(&mut self, at: u32, is_dict: bool)
+    pub(crate) fn index_new(&mut self, at: u32, count: usize)
         ensures { self.new ≡ self.old }
     {
-        if is_dict {
+        if count >= MANY {
             self.add_index(at);
         }
     }
 
-    /// Makes an index of the dictionary at an address, where it has enough entries, all keys have their content in this
-    /// store, and memory suffices. No value changes.
+    /// Makes an index of the dictionary at an address, where all keys have their content in this store, and memory
+    /// suffices. No value changes.
     #[inline(never)]
     pub(crate) fn add_index(&mut self, at: u32)
         ensures { self.new ≡ self.old }
@@ -73,9 +76,6 @@ impl Arena {
         let Cell::Dict(entries) = &self.cells.get(at as usize)?.cell else {
             return None;
         };
-        if entries.len() < FEW {
-            return None;
-        }
         let index = index_of(self, entries)?;
         Box::new(self.alloc, index).ok()
     }
@@ -86,15 +86,15 @@ impl Arena {
         at: u32,
         change: Change,
         place: Option<usize>,
-    ) -> Option<Vec<Atom>>
-        ensures { IfSome result (λ atoms. option_and_then (content (alone self.now) key_levels) (key_of change) ≡ Some atoms.items) }
+    ) -> Option<KeyContent>
+        ensures { IfSome result (λ c. option_and_then (content (alone self.now) key_levels) (key_of change) ≡ Some c) }
     {
         if place.is_some() || !self.has_index(at) {
             return None;
         }
         let homes = Homes::new(self.alloc);
         match content(self.alloc, self, &homes, change.key()?) {
-            Ok(atoms) => atoms,
+            Ok(content) => content,
             Err(_) => None,
         }
     }
@@ -105,12 +105,12 @@ fn index_of(arena: &Arena, entries: &Entries) -> Option<Index>
     ensures { IfSome result (λ index. contents_of (alone arena.now) entries.now ≡ map Some index) }
 {
     let homes = Homes::new(arena.alloc);
-    let mut index = Index::new(arena.alloc);
+    let mut index = Index::with_capacity(arena.alloc, entries.len()).ok()?;
     for entry in entries.as_slice() {
-        let Ok(Some(atoms)) = content(arena.alloc, arena, &homes, entry.0) else {
+        let Ok(Some(content)) = content(arena.alloc, arena, &homes, entry.0) else {
             return None;
         };
-        if !index.push(atoms) {
+        if !index.push(content) {
             return None;
         }
     }
@@ -119,7 +119,8 @@ fn index_of(arena: &Arena, entries: &Entries) -> Option<Index>
 
 /// Puts an index at an address.
 fn put_row(rows: &mut Vec<Option<Box<Index>>>, at: u32, index: Box<Index>) -> Result<(), AllocError>
-    ensures each { (i : ℕ) (found : List (List AnyAtom)) → index_at rows.new.items i ≡ Some found → (index_at rows.old.items i ≡ Some found) ⊎ ((i ≡ at) × (found ≡ index.value)) }
+    ensures each { (i : ℕ) (found : List (List AnyAtom)) → index_at rows.new.items i ≡ Some found
+        → (index_at rows.old.items i ≡ Some found) ⊎ ((i ≡ at) × (found ≡ index.value)) }
     ensures within { length rows.new.items ≤ max (length rows.old.items) (at + 1) }
 {
     widen(rows, at)?;
@@ -146,9 +147,9 @@ pub(crate) fn change_row(
     at: u32,
     change: Change,
     place: Option<usize>,
-    content: Option<Vec<Atom>>,
+    content: Option<KeyContent>,
 )
-    ensures { AreChanged at change place (option_map (λ c. c.items) content) rows.old rows.new }
+    ensures { AreChanged at change place content rows.old rows.new }
 {
     if (at as usize) < rows.len() {
         change_index(&mut rows[at as usize], change, place, content);
@@ -159,9 +160,10 @@ fn change_index(
     row: &mut Option<Box<Index>>,
     change: Change,
     place: Option<usize>,
-    content: Option<Vec<Atom>>,
+    content: Option<KeyContent>,
 )
-    ensures { IfSome row.new (λ index. option_and_then (λ b. index_after change place (option_map (λ c. c.items) content) b.value) row.old ≡ Some index.value) }
+    ensures { IfSome row.new (λ index. option_and_then (λ b. index_after change place content b.value) row.old
+        ≡ Some index.value) }
 {
     let keeps = match row {
         Some(index) => follow(index, change, place, content),
@@ -177,13 +179,13 @@ fn follow(
     index: &mut Index,
     change: Change,
     place: Option<usize>,
-    content: Option<Vec<Atom>>,
+    content: Option<KeyContent>,
 ) -> bool
-    ensures { OnTrue result (index_after change place (option_map (λ c. c.items) content) index.old ≡ Some index.new) }
+    ensures { OnTrue result (index_after change place content index.old ≡ Some index.new) }
 {
     match (change, place) {
         (Change::Put(_, _), None) => match content {
-            Some(atoms) => index.push(atoms),
+            Some(content) => index.push(content),
             None => false,
         },
         (Change::Put(_, _), Some(_)) => true,

@@ -16,11 +16,11 @@ use crate::values::{Cell, Counted, Entries, Value, Values};
 /// A change of a list or of a dictionary. Positions are counted from the front, from 0 on.
 #[derive(Clone, Copy, Debug, PartialEq, Eq)]
 pub enum Change {
-    /// A list gets a value behind all others.
+    /// A list gets a value after all others.
     Append(Value),
     /// A list gets another value at a place that it has.
     Set(usize, Value),
-    /// A list gets a value before the one at a place, or behind all others.
+    /// A list gets a value before the one at a place, or after all others.
     Insert(usize, Value),
     /// A list loses the value at a place.
     RemoveAt(usize),
@@ -181,7 +181,8 @@ fn change_at(
     change: Change,
     place: Option<usize>,
 ) -> Result<Option<Value>, StoreFault>
-    ensures { Writes (in_cells cells.old at (change_cell change place (cell_at cells.old at))) result cells.old cells.new }
+    ensures { Writes (in_cells cells.old at (change_cell change place (cell_at cells.old at)))
+        result cells.old cells.new }
 {
     if (at as usize) < cells.len() {
         return change_in(&mut cells[at as usize], change, place);
@@ -194,7 +195,8 @@ fn change_in(
     change: Change,
     place: Option<usize>,
 ) -> Result<Option<Value>, StoreFault>
-    ensures answer { Writes (change_cell change place (Some counted.old.cell)) result counted.old.cell counted.new.cell }
+    ensures answer { Writes (change_cell change place (Some counted.old.cell))
+        result counted.old.cell counted.new.cell }
     ensures iterations { counted.new.iterations ≡ counted.old.iterations }
 {
     match &mut counted.cell {

@@ -1,0 +1,63 @@
+-- A walk for a key that is no tuple finds what the walk by keys finds.
+use Rattle.std.proofs.Common.{◌≡◌, ℕ, ◌-◌, ◌<◌, Bool, false, List, [], ◌∷◌, length, map, Option, Some, None, position, refl, ap, sym, ◌∙◌, arith}
+use Rattle.std.specs.Cmp.Lexicographic.{pointwise}
+use Rattle.star_store.specs.declared.values.Value.{Value}
+use Rattle.star_store.specs.declared.values.Value.TheVariants as value
+use Rattle.star_store.specs.declared.values.Cell.{Cell}
+use Rattle.star_store.specs.declared.values.Cell.TheVariants as cell
+use Rattle.star_store.specs.declared.content.Atom.{Atom}
+use Rattle.star_store.specs.declared.content.Atom.TheVariants as atom
+use Rattle.star_store.specs.declared.content.Scalar.{Scalar}
+use Rattle.star_store.specs.declared.content.Scalar.TheVariants as scalar
+use Rattle.star_store.specs.Content.{atom_in, content, content_cell, content_each, content_value, join, only_atom, same_atom, same_content}
+use Rattle.star_store.specs.Key.{key_levels, place_of, same_key}
+use Rattle.star_store.specs.Scalars.{is_only, scalar_atom}
+use Rattle.star_store.proofs.Contents.{and_true, content_at, false_and, only_atom_is, same_keys}
+use Rattle.star_store.proofs.Indexes.{alike}
+
+-- a scalar is no row
+no_row : (x : Scalar) (n : ℕ) → same_atom (scalar_atom x) (atom.Row n) ≡ false
+no_row scalar.Nothing n = refl
+no_row (scalar.Bool b) n = refl
+no_row (scalar.Int m) n = refl
+no_row (scalar.Text t) n = refl
+
+row_apart : (x : Scalar) (n : ℕ) (o : Option (List Atom)) → same_content (Some (scalar_atom x ∷ [])) (join (Some (atom.Row n ∷ [])) o) ≡ false
+row_apart x n (Some ys) = false_and (same_atom (scalar_atom x) (atom.Row n)) (pointwise same_atom [] ys) (no_row x n)
+row_apart x n None = refl
+
+-- a scalar's content and that of a cell
+in_cell : (f : Value → Option (List Atom)) (x : Scalar) (c : Option Cell) → same_content (Some (scalar_atom x ∷ [])) (content_cell f c) ≡ is_only x (atom_in c)
+in_cell f x (Some (cell.Text t)) = and_true (same_atom (scalar_atom x) (atom.Text t))
+in_cell f x (Some (cell.Tuple xs)) = row_apart x (length xs) (content_each f xs)
+in_cell f x (Some (cell.Range r)) = refl
+in_cell f x (Some (cell.List xs)) = refl
+in_cell f x (Some (cell.Dict es)) = refl
+in_cell f x (Some (cell.Func d)) = refl
+in_cell f x (Some (cell.Frame d)) = refl
+in_cell f x (Some (cell.Bound m v)) = refl
+in_cell f x None = refl
+
+in_value : (look : Value → Option Cell) (f : Value → Option (List Atom)) (x : Scalar) (v : Value) → same_content (Some (scalar_atom x ∷ [])) (content_value look f v) ≡ is_only x (only_atom look v)
+in_value look f x value.NoneValue = and_true (same_atom (scalar_atom x) atom.Nothing)
+in_value look f x (value.Bool b) = and_true (same_atom (scalar_atom x) (atom.Bool b))
+in_value look f x (value.Int n) = and_true (same_atom (scalar_atom x) (atom.Int n))
+in_value look f x (value.Builtin b) = refl
+in_value look f x (value.Ref h a) = in_cell f x (look (value.Ref h a))
+
+scalar_same : (look : Value → Option Cell) (n : ℕ) (x : Scalar) (key v : Value) → 0 < n → only_atom look key ≡ Some (scalar_atom x) → same_key look n key v ≡ is_only x (only_atom look v)
+scalar_same look n x key v p h =
+    same_keys look n key v
+    ∙ ap (λ (o : Option (List Atom)). same_content o (content look n v)) (only_atom_is look n key (scalar_atom x) p h)
+    ∙ ap (same_content (Some (scalar_atom x ∷ []))) (content_at look n v p)
+    ∙ in_value look (content look (n - 1)) x v
+
+tests : (look : Value → Option Cell) (n : ℕ) (x : Scalar) (key : Value) (es : List (Value × Value)) → 0 < n → only_atom look key ≡ Some (scalar_atom x) → map (λ e. is_only x (only_atom look e.0)) es ≡ map (λ e. same_key look n key e.0) es
+tests look n x key [] p h = refl
+tests look n x key (e ∷ es) p h =
+    ap (λ (b : Bool). b ∷ map (λ d. is_only x (only_atom look d.0)) es) (sym (scalar_same look n x key e.0 p h))
+    ∙ ap (λ (bs : List Bool). same_key look n key e.0 ∷ bs) (tests look n x key es p h)
+
+-- a scalar stands where its key does
+pub scalar_found : (look : Value → Option Cell) (x : Scalar) (key : Value) (es : List (Value × Value)) → only_atom look key ≡ Some (scalar_atom x) → position (λ e. is_only x (only_atom look e.0)) es ≡ place_of look key es
+scalar_found look x key es h = alike (λ e. is_only x (only_atom look e.0)) (λ e. same_key look key_levels key e.0) es es (tests look key_levels x key es (omega arith) h)
