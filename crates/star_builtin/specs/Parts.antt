@@ -13,7 +13,8 @@ length_of w line v = with_content w v (λ c. found code.BadType line (length_in 
 
 -- the range of some values
 abbrev pub range_from : Setting → ℕ → List Value → Action Value
-range_from w line xs = check code.Args line (is_range_count (length xs)) >>= λ _. each (want_int w line) xs >>= range_of line
+range_from w line xs =
+    check code.Args line (is_range_count (length xs)) >>= λ _. each (want_int w line) xs >>= range_of line
 
 -- the tuple of a number and an item
 abbrev pub numbered_item : ℕ → ℤ → Value → Action Value

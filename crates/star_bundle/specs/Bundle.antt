@@ -74,7 +74,8 @@ files_of input = do
 
 -- the number of the file that a word names
 unfoldable pub number_of : ServeError → ServeError → List File → List ℕ → Result ℕ ServeError
-number_of bad none files word = if is_label word then there_or none (position (λ f. bytes_eq f.0 word) files) else Err bad
+number_of bad none files word =
+    if is_label word then there_or none (position (λ f. bytes_eq f.0 word) files) else Err bad
 
 -- the numbers of the roots, in order
 unfoldable pub roots_of : List File → List (List ℕ) → Result (List ℕ) ServeError

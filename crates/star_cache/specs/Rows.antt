@@ -31,15 +31,19 @@ module _ {P : Type 0} where
   book_state entries parents loaders = record { entries = entries; loaders = map (loader_state parents) loaders }
 
 -- the rows fit each other, and stand for a lawful book
-pub record IsKept {P : Type 0} (loads : ℕ → List ℕ) (Reached : ℕ → Type 0) (Right : ℕ → P → Type 0) (files : ℕ) (entries : List (Entry P)) (parents : List (Option ℕ)) (owners : List ℕ) (loaders : List Loader) : Type 0 where
+pub record IsKept {P : Type 0} (loads : ℕ → List ℕ) (Reached : ℕ → Type 0) (Right : ℕ → P → Type 0) (files : ℕ)
+    (entries : List (Entry P)) (parents : List (Option ℕ)) (owners : List ℕ) (loaders : List Loader) : Type 0 where
   pub size : length entries ≡ files
   pub few : files ≤ 10000
   pub parents_fit : length parents ≡ length entries
   pub owners_fit : length owners ≡ length entries
   pub seats_few : length loaders ≤ 64
   -- no chain of parents is cut by the number of entries
-  pub whole : (s : ℕ) → s < length loaders → IsChain parents (slice_index_or loaders s (record { top = None; awaited = None; count = 0 })).top (stack_of (book_state entries parents loaders) s)
-  pub short : (s : ℕ) → length (stack_of (book_state entries parents loaders) s) ≤ begun_count (book_state entries parents loaders)
+  pub whole : (s : ℕ) → s < length loaders → IsChain parents
+      (slice_index_or loaders s (record { top = None; awaited = None; count = 0 })).top
+      (stack_of (book_state entries parents loaders) s)
+  pub short : (s : ℕ) → length (stack_of (book_state entries parents loaders) s)
+      ≤ begun_count (book_state entries parents loaders)
   -- the owner of what stands in a stack is its seat
   pub owned : (s e : ℕ) → IsIn e (stack_of (book_state entries parents loaders) s) → slice_index owners e ≡ s
   pub lawful : IsLawful loads Reached Right (book_state entries parents loaders)

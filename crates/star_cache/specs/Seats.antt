@@ -10,7 +10,9 @@ pub record SeatState : Type 0 where
 
 -- n seats, numbered in order, that have begun nothing
 abbrev pub AreNew : ℕ → List SeatState → Type 0
-AreNew n xs = (length xs ≡ n) × ((i : ℕ) (d : SeatState) → i < n → ((slice_index_or xs i d).number ≡ i) × ((slice_index_or xs i d).begun ≡ 0))
+AreNew n xs =
+    (length xs ≡ n) × ((i : ℕ) (d : SeatState) → i < n → ((slice_index_or xs i d).number ≡ i)
+    × ((slice_index_or xs i d).begun ≡ 0))
 
 -- n seats, and each number below n is one's
 abbrev pub AreAll : ℕ → List SeatState → Type 0
@@ -21,7 +23,8 @@ module _ {P : Type 0} where
   abbrev pub counts_of : BookState P → List ℕ
   counts_of b = map (λ (l : LoaderState). l.count) b.loaders ++ replicate (64 - length b.loaders) 0
 
--- what a closed cache gives: a loader for each seat, and the counts, which sum to the entries begun, as do the seats' shares
+-- what a closed cache gives: a loader for each seat, and the counts, which sum to the entries begun, as do the seats'
+-- shares
 pub record IsClosing {P : Type 0} (seats : List SeatState) (b : BookState P) (counts : List ℕ) : Type 0 where
   pub loaders_are : length b.loaders ≡ length seats
   pub counts_are : counts ≡ counts_of b

@@ -82,7 +82,8 @@ module _ {P : Type 0} where
   Links b s t = (e : ℕ) × (awaited_by b s ≡ Some e) × (entry_at b e ≡ Running) × IsIn e (stack_of b t)
 
 -- the lawful book, over the loads of each file, which files are reached and which products are right for a file
-pub record IsLawful {P : Type 0} (loads : ℕ → List ℕ) (Reached : ℕ → Type 0) (Right : ℕ → P → Type 0) (b : BookState P) : Type 0 where
+pub record IsLawful {P : Type 0} (loads : ℕ → List ℕ) (Reached : ℕ → Type 0) (Right : ℕ → P → Type 0)
+    (b : BookState P) : Type 0 where
   -- no loader waits, over any number of others, for itself
   pub acyclic : IsAcyclic (Links b)
   -- what runs stands in a stack, what stands in a stack runs, and it stands there once, in one stack

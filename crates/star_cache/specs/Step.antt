@@ -12,7 +12,8 @@ use Rattle.star_cache.specs.Walk.{LeadsTo}
 use Rattle.star_cache.specs.State.{BookState, LoaderState, IsLawful, Links, IsIn, top_of, idle, entry_at, loader_at, stack_of, awaited_by}
 
 -- what holds of every book: its size and limits, and that it is lawful
-pub record IsBook {P : Type 0} (loads : ℕ → List ℕ) (Reached : ℕ → Type 0) (Right : ℕ → P → Type 0) (files : ℕ) (b : BookState P) : Type 0 where
+pub record IsBook {P : Type 0} (loads : ℕ → List ℕ) (Reached : ℕ → Type 0) (Right : ℕ → P → Type 0) (files : ℕ)
+    (b : BookState P) : Type 0 where
   pub size : length b.entries ≡ files
   pub seats : length b.loaders ≤ 64
   pub lawful : IsLawful loads Reached Right b
@@ -31,7 +32,9 @@ module _ {P : Type 0} where
   abbrev pub after_begin : BookState P → ℕ → ℕ → BookState P
   after_begin b s n = record {
     entries = slice_set b.entries n Running;
-    loaders = slice_set b.loaders s (record { stack = n ∷ (stack_of b s); awaited = awaited_by b s; count = (loader_at b s).count + 1 });
+    loaders =
+        slice_set b.loaders s (record { stack = n ∷ (stack_of b s); awaited = awaited_by b s;
+        count = (loader_at b s).count + 1 });
   }
 
   -- the seat awaits this, or nothing
@@ -50,7 +53,9 @@ module _ {P : Type 0} where
   abbrev pub after_end : BookState P → ℕ → ℕ → Entry P → BookState P
   after_end b s n entry = record {
     entries = slice_set b.entries n entry;
-    loaders = slice_set b.loaders s (record { stack = below_top (stack_of b s); awaited = awaited_by b s; count = (loader_at b s).count });
+    loaders =
+        slice_set b.loaders s (record { stack = below_top (stack_of b s); awaited = awaited_by b s;
+        count = (loader_at b s).count });
   }
 
   -- the entries with each of these spoiled
@@ -122,9 +127,12 @@ module _ {P : Type 0} where
   -- what `wake` answers and leaves, where it isn't refused
   abbrev pub IsWoken : (P → Bool) → BookState P → ℕ → Reply P → BookState P → Type 0
   IsWoken good b s Wait after = (e : ℕ) × (awaited_by b s ≡ Some e) × (entry_at b e ≡ Running) × (after ≡ b)
-  IsWoken good b s (Ready p) after = (e : ℕ) × (awaited_by b s ≡ Some e) × IsEndReply good (entry_at b e) (Ready p) × (after ≡ after_wake b s)
-  IsWoken good b s (Failed p) after = (e : ℕ) × (awaited_by b s ≡ Some e) × IsEndReply good (entry_at b e) (Failed p) × (after ≡ after_wake b s)
-  IsWoken good b s Spoiled after = (e : ℕ) × (awaited_by b s ≡ Some e) × IsEndReply good (entry_at b e) Spoiled × (after ≡ after_wake b s)
+  IsWoken good b s (Ready p) after =
+      (e : ℕ) × (awaited_by b s ≡ Some e) × IsEndReply good (entry_at b e) (Ready p) × (after ≡ after_wake b s)
+  IsWoken good b s (Failed p) after =
+      (e : ℕ) × (awaited_by b s ≡ Some e) × IsEndReply good (entry_at b e) (Failed p) × (after ≡ after_wake b s)
+  IsWoken good b s Spoiled after =
+      (e : ℕ) × (awaited_by b s ≡ Some e) × IsEndReply good (entry_at b e) Spoiled × (after ≡ after_wake b s)
   IsWoken good b s Begun after = ⊥
   IsWoken good b s Cycle after = ⊥
 
@@ -132,6 +140,7 @@ module _ {P : Type 0} where
   abbrev pub IsWakeRefused : Bool → BookState P → ℕ → BookError → Type 0
   IsWakeRefused always b s NoSuch = length b.loaders ≤ s
   IsWakeRefused always b s NotWaiting = (s < length b.loaders) × (awaited_by b s ≡ None)
-  IsWakeRefused always b s Memory = ((e : ℕ) × (awaited_by b s ≡ Some e) × ((p : P) × (entry_at b e ≡ Done p))) × (always ≢ true)
+  IsWakeRefused always b s Memory =
+      ((e : ℕ) × (awaited_by b s ≡ Some e) × ((p : P) × (entry_at b e ≡ Done p))) × (always ≢ true)
   IsWakeRefused always b s Waiting = ⊥
   IsWakeRefused always b s NotTop = ⊥

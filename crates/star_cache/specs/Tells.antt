@@ -10,8 +10,10 @@ abbrev pub IsCyclic : (ℕ → List ℕ) → Option ℕ → ℕ → Type 0
 IsCyclic loads None n = ⊥
 IsCyclic loads (Some parent) n = IsOnCycle (Loads loads) parent n
 
--- a product is right for the file and answered as what the file is; the replies Cycle and Wait tell what is given for them
-abbrev pub Tells : {P : Type 0} (IsRight : ℕ → P → Type 0) (IsGood : ℕ → Type 0) (IsRefused : Type 0) (MayWait : Type 0) → ℕ → Reply P → Type 0
+-- a product is right for the file and answered as what the file is; the replies Cycle and Wait tell what is given for
+-- them
+abbrev pub Tells : {P : Type 0} (IsRight : ℕ → P → Type 0) (IsGood : ℕ → Type 0) (IsRefused : Type 0) (MayWait : Type 0)
+    → ℕ → Reply P → Type 0
 Tells IsRight IsGood IsRefused MayWait n Begun = Unit {0}
 Tells IsRight IsGood IsRefused MayWait n (Ready p) = IsRight n p × IsGood n
 Tells IsRight IsGood IsRefused MayWait n (Failed p) = IsRight n p × (IsGood n → ⊥)

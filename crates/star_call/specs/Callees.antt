@@ -27,7 +27,8 @@ defaults_in _ = []
 
 -- a function that is called: its name and its defaults are what the value leads to
 abbrev pub function_of : Content → Called → Function
-function_of c f = record { file = f.file; definition = f.number; name = name_in c; defaults = defaults_in c; frame = f.frame }
+function_of c f =
+    record { file = f.file; definition = f.number; name = name_in c; defaults = defaults_in c; frame = f.frame }
 
 -- a callee, from what the value of a function leads to
 abbrev pub shown : (Value → Content) → HeldCallee → Callee
@@ -44,7 +45,8 @@ with_definition line f d = do
 
 -- What a function gave shows this wherever its value leads to it.
 abbrev pub GivesCallee : Value → Function → Outcome Callee → Result HeldCallee Stop → State → Type 0
-GivesCallee v f o result new = (read : Value → Content) → read v ≡ Held (cell.Func f) → GivesBy (shown read) o result new
+GivesCallee v f o result new =
+    (read : Value → Content) → read v ≡ Held (cell.Func f) → GivesBy (shown read) o result new
 
 -- the file and the number of the definition of a function
 abbrev pub number_in : Content → Option (ℕ × ℕ)
@@ -57,7 +59,8 @@ definition_for w c = option_and_then (λ n. in_setting w n.0 n.1) (number_in c)
 
 -- a function that is called has the definition that its file has at its number
 abbrev pub HasDefinition : Function → Option Definition → HeldCallee → Type 0
-HasDefinition f d (held.AFunction c) = (c.file ≡ f.file) × (c.number ≡ f.definition) × (d ≡ Some (definition_of c.definition))
+HasDefinition f d (held.AFunction c) =
+    (c.file ≡ f.file) × (c.number ≡ f.definition) × (d ≡ Some (definition_of c.definition))
 HasDefinition f d (held.ABuiltIn b) = Unit {0}
 HasDefinition f d (held.AMethod m v) = Unit {0}
 

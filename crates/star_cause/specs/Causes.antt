@@ -25,4 +25,6 @@ AreNextsOf plan nexts = (n m : ℕ) → Goes nexts n m ↔ FailsBy plan n m
 
 -- this is the cause of a file, which is reached and not good, in each plan of which these are the next files
 abbrev pub IsCauseBy : Nexts → ℕ → PlanCause → Type 0
-IsCauseBy nexts n cause = (files : List File) (plan : Plan) → IsPlanOf files plan → AreNextsOf plan nexts → IsReached plan n → (IsGood plan n → ⊥) → IsCause plan n cause
+IsCauseBy nexts n cause =
+    (files : List File) (plan : Plan) → IsPlanOf files plan → AreNextsOf plan nexts → IsReached plan n
+    → (IsGood plan n → ⊥) → IsCause plan n cause

@@ -14,7 +14,8 @@ AreWithin nexts = (n m : ℕ) → Goes nexts n m → m < length nexts
 -- the way from a file ends so
 abbrev pub HasEnd : Nexts → ℕ → End → Type 0
 HasEnd nexts n (Last m) = EndsIn nexts n (Culprit m)
-HasEnd nexts n (Around first count) = (ms : List ℕ) × (length (first ∷ ms) ≡ count) × EndsIn nexts n (Cycle (first ∷ ms))
+HasEnd nexts n (Around first count) =
+    (ms : List ℕ) × (length (first ∷ ms) ≡ count) × EndsIn nexts n (Cycle (first ∷ ms))
 
 -- for each file the end of its way, where it is known
 abbrev pub Ends : Type 0
@@ -42,9 +43,12 @@ pub record AreAllEnds (nexts : Nexts) (ends : Ends) : Type 0 where
 abbrev pub AreNoted : List ℕ → List ℕ → Type 0
 AreNoted files places = (k : ℕ) → k < length files → slice_index places (slice_index files k) ≡ k
 
--- the end of the file at a place of a way that is back at the place p: the cycle from p on, listed from the first of its files that is met
+-- the end of the file at a place of a way that is back at the place p: the cycle from p on, listed from the first of
+-- its files that is met
 abbrev pub ring_end : List ℕ → ℕ → ℕ → End
-ring_end files p i = if nat_lt i p then Around (slice_index files p) (length files - p) else Around (slice_index files i) (length files - p)
+ring_end files p i =
+    if nat_lt i p then Around (slice_index files p) (length files - p)
+    else Around (slice_index files i) (length files - p)
 
 -- .. and of a way that stops so
 abbrev pub end_on : List ℕ → Stop → ℕ → End
@@ -69,4 +73,5 @@ pub record AreSettled (before : Ends) (files : List ℕ) (stop : Stop) (count : 
   pub kept : (x : ℕ) → IsKnown before x → IsKnown after x
   pub known : (i : ℕ) → i < count → IsKnown after (slice_index files i)
   pub added : (x : ℕ) (e : End) → slice_get after x ≡ Some (Some e)
-      → (slice_get before x ≡ Some (Some e)) ⊎ ((i : ℕ) × (i < count) × (slice_index files i ≡ x) × (end_on files stop i ≡ e))
+      → (slice_get before x ≡ Some (Some e)) ⊎ ((i : ℕ) × (i < count) × (slice_index files i ≡ x)
+          × (end_on files stop i ≡ e))

@@ -15,11 +15,13 @@ abbrev pub Way : Nexts → ℕ → List ℕ → ℕ → Type 0
 Way nexts n [] m = n ≡ m
 Way nexts n (x ∷ xs) m = (n ≡ x) × ((k : ℕ) × Goes nexts n k × Way nexts k xs m)
 
--- the way from a file ends at one that has no next file, or in a cycle, listed from its first file that is met, and no file stands twice on it
+-- the way from a file ends at one that has no next file, or in a cycle, listed from its first file that is met, and no
+-- file stands twice on it
 abbrev pub EndsIn : Nexts → ℕ → Cause → Type 0
 EndsIn nexts n (Culprit m) = (way : List ℕ) × Way nexts n way m × ((k : ℕ) → Goes nexts m k → ⊥)
 EndsIn nexts n (Cycle []) = ⊥
-EndsIn nexts n (Cycle (m ∷ ms)) = (way : List ℕ) × Way nexts n way m × Way nexts m (m ∷ ms) m × AllDiffer (way ++ m ∷ ms)
+EndsIn nexts n (Cycle (m ∷ ms)) =
+    (way : List ℕ) × Way nexts n way m × Way nexts m (m ∷ ms) m × AllDiffer (way ++ m ∷ ms)
 
 -- the first files of the way from a file, of which there are so many
 abbrev pub IsTrail : Nexts → ℕ → ℕ → List ℕ → Type 0

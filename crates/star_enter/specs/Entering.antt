@@ -20,7 +20,8 @@ bind_all w p xs = all_of (λ x. bind_spot (tables_of w.files) p x.0 x.1) xs
 unfoldable pub begin : ℕ → ℕ → Action (Unit {0})
 begin file number = λ s. Done tt (record s { active = (file, number) ∷ s.active })
 
--- a call of a function with these values of its parameters, up to its body, which k runs: its frame, the parameters in it; then its definition is active
+-- a call of a function with these values of its parameters, up to its body, which k runs: its frame, the parameters in
+-- it; then its definition is active
 abbrev pub within : {A : Type 0} → World → Place → ℕ → List (Name × Value) → (Place → Action A) → Action A
 within w q number values k = do
   _ ← bind_all w q values
@@ -34,7 +35,8 @@ framed w line file number parent values k = do
   within w (record { file = file; frame = frame; line = line }) number values k
 
 abbrev pub entering : {A : Type 0} → World → ℕ → ℕ → ℕ → Value → List (Name × Share) → (Place → Action A) → Action A
-entering w line file number parent shares k = make_shares line shares >>= λ values. framed w line file number parent values k
+entering w line file number parent shares k =
+    make_shares line shares >>= λ values. framed w line file number parent values k
 
 -- what is left of a call: the body runs, and its definition ceases to be active
 abbrev pub left : Meaning → Definition → Place → Action Value

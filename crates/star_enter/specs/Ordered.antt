@@ -46,7 +46,8 @@ unplaced l g = drop l.by_place g.plain
 
 -- what the slot of a parameter gets: the value at its place, else the one by name, else its default
 abbrev pub bound_at : Layout → Names → List Value → Given → ℕ → Option Value
-bound_at l names ds g i = option_or (slice_get (placed l g) i) (option_or (named_at l names g.named i) (default_at l.ranks ds i))
+bound_at l names ds g i =
+    option_or (slice_get (placed l g) i) (option_or (named_at l names g.named i) (default_at l.ranks ds i))
 
 -- all slots of a frame, but for those of `*name` and `**name`
 abbrev pub bound_row : Layout → Names → List Value → Given → List (Option Value)
@@ -98,11 +99,14 @@ entering_bound line file number parent b k = do
 
 -- so a call is entered whose parameters get these shares
 abbrev pub HasBound : World → ℕ → ℕ → Value → List (Name × Share) → Bound → Type 0
-HasBound w file number parent shares b = (line : ℕ) (s : State) → entering w line file number parent shares give s ≡ entering_bound line file number parent b give s
+HasBound w file number parent shares b =
+    (line : ℕ) (s : State) → entering w line file number parent shares give s
+    ≡ entering_bound line file number parent b give s
 
 -- and these shares are what the parameters get
 abbrev pub AreBound : World → ℕ → ℕ → Value → List Parameter → List Value → Given → Bound → Type 0
-AreBound w file number parent ps ds g b = (shares : List (Name × Share)) × (bound_to ps ds g ≡ Some shares) × HasBound w file number parent shares b
+AreBound w file number parent ps ds g b =
+    (shares : List (Name × Share)) × (bound_to ps ds g ≡ Some shares) × HasBound w file number parent shares b
 
 -- slots with values by name: the first of each name
 abbrev pub with_slot : Option ℕ → Value → List (Option Value) → List (Option Value)

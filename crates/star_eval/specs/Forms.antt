@@ -29,7 +29,8 @@ assigned w levels p t e = do
   give flow.Next
 
 abbrev pub augmented_by : World → ℕ → Place → BinaryOperator → Expression → Target → Action Flow
-augmented_by w levels p op e t = augment (variables w) w.setting levels (meant w levels) p op e (target t) >>= λ _. give flow.Next
+augmented_by w levels p op e t =
+    augment (variables w) w.setting levels (meant w levels) p op e (target t) >>= λ _. give flow.Next
 
 -- a load statement at this position
 abbrev pub loaded : World → Place → Position → List LoadedName → Action Flow

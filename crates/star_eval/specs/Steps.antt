@@ -31,7 +31,8 @@ behind c levels p cs o = clauses (variables c) c.setting (meant c levels) p cs (
 
 -- a turn of an open `for` clause
 abbrev pub turn_of : World → ℕ → Place → Output → OpenClause → ℕ → Action (Unit {0})
-turn_of c levels p o f i = clause_turn (variables c) c.setting (meant c levels) p f.target.now f.value (behind c levels p f.more.now o) i
+turn_of c levels p o f i =
+    clause_turn (variables c) c.setting (meant c levels) p f.target.now f.value (behind c levels p f.more.now o) i
 
 -- what is left of an open clause: its turns from the next item on, and then its value is left
 abbrev pub turns_left : World → ℕ → Place → Output → OpenClause → Action (Unit {0})

@@ -12,7 +12,8 @@ Entry = List ℕ × Kind
 abbrev pub entry_of : String Global × Kind → Entry
 entry_of e = (string_bytes e.0, e.1)
 
--- the entries of the folder at a path, in the byte order of their names, and the bytes of the file of a label; none where nothing is said of them
+-- the entries of the folder at a path, in the byte order of their names, and the bytes of the file of a label; none
+-- where nothing is said of them
 pub record Contents : Type 0 where
   pub entries : List ℕ → Option (List Entry)
   pub bytes : List ℕ → Option (List ℕ)

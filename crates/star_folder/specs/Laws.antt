@@ -19,4 +19,6 @@ IsLedTo (v ∷ vs) place = IsIn place (opened v) ⊎ IsLedTo vs place
 
 -- a whole walk visits just the top, and what the folders that it visits lead to
 abbrev pub VisitsAll : Type 0
-VisitsAll = (held : Contents) (visits : List Visit) (place : Place) → IsWalk held visits [] → IsVisited visits place ↔ ((FolderAt [] ≡ place) ⊎ IsLedTo visits place)
+VisitsAll =
+    (held : Contents) (visits : List Visit) (place : Place) → IsWalk held visits [] → IsVisited visits place
+    ↔ ((FolderAt [] ≡ place) ⊎ IsLedTo visits place)

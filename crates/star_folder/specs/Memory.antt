@@ -14,7 +14,8 @@ rows_of folder = folder.rows.now
 
 -- entries with that of a row, where it is one of the folder at the path
 abbrev pub with_row : List ℕ → List Entry → Row → List Entry
-with_row path made r = if bytes_eq r.path.now path then insert_entry (slice_cmp nat_cmp) made r.name.now r.kind else made
+with_row path made r =
+    if bytes_eq r.path.now path then insert_entry (slice_cmp nat_cmp) made r.name.now r.kind else made
 
 abbrev pub with_rows : List ℕ → List Entry → List Row → List Entry
 with_rows path made [] = made
@@ -23,7 +24,9 @@ with_rows path made (r ∷ rs) = with_rows path (with_row path made r) rs
 -- the bytes of the first row with this label
 abbrev pub bytes_among : List ℕ → List Row → List ℕ
 bytes_among label [] = []
-bytes_among label (r ∷ rs) = if bytes_eq (label_text r.path.now r.name.now) label then r.bytes.now else bytes_among label rs
+bytes_among label (r ∷ rs) =
+    if bytes_eq (label_text r.path.now r.name.now) label then r.bytes.now else bytes_among label rs
 
 abbrev pub contents_of : List Row → Contents
-contents_of rows = record { entries = λ path. Some (with_rows path [] rows); bytes = λ label. Some (bytes_among label rows) }
+contents_of rows =
+    record { entries = λ path. Some (with_rows path [] rows); bytes = λ label. Some (bytes_among label rows) }

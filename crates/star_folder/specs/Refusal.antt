@@ -9,7 +9,8 @@ use Rattle.star_folder.specs.Walk.{FileOf, FolderAt, IsWalk, Listed, Place, Tell
 -- at a folder, after so many entries: its listing failed, or it has too many entries
 abbrev pub FolderStops : Contents → ℕ → List ℕ → ServeError → Type 0
 FolderStops held listed path BadDir = ⊤
-FolderStops held listed path TooMany = (entries : List Entry) × Tells held (Listed path entries) × (100000 < listed + length entries)
+FolderStops held listed path TooMany =
+    (entries : List Entry) × Tells held (Listed path entries) × (100000 < listed + length entries)
 FolderStops held listed path Memory = ⊤
 FolderStops held listed path e = ⊥
 
@@ -17,14 +18,16 @@ FolderStops held listed path e = ⊥
 abbrev pub IsUnread : Contents → List ℕ → ServeError → Type 0
 IsUnread held label BadFile = ⊤
 IsUnread held label TooLong = (bytes : List ℕ) × Says (held.bytes label) bytes × (1048576 < length bytes)
-IsUnread held label NotText = (bytes : List ℕ) × Says (held.bytes label) bytes × (length bytes ≤ 1048576) × ¬ (IsUtf8 bytes)
+IsUnread held label NotText =
+    (bytes : List ℕ) × Says (held.bytes label) bytes × (length bytes ≤ 1048576) × ¬ (IsUtf8 bytes)
 IsUnread held label Memory = ⊤
 IsUnread held label e = ⊥
 
 -- at a file, after so many files and bytes: it is one too many, or it is unread, or the texts together are too long
 abbrev pub FileStops : Contents → ℕ → ℕ → List ℕ → ServeError → Type 0
 FileStops held count size label TooMany = count ≡ 10000
-FileStops held count size label TooBig = (count < 10000) × (bytes : List ℕ) × Says (held.bytes label) bytes × (length bytes ≤ 1048576)
+FileStops held count size label TooBig =
+    (count < 10000) × (bytes : List ℕ) × Says (held.bytes label) bytes × (length bytes ≤ 1048576)
     × IsUtf8 bytes × (268435456 < size + length bytes)
 FileStops held count size label e = (count < 10000) × IsUnread held label e
 
@@ -35,7 +38,8 @@ StopsAt held listed count size (FileOf label) e = FileStops held count size labe
 -- at the next of the places that are left
 abbrev pub Stops : Contents → List Visit → List Place → ServeError → Type 0
 Stops held visits [] e = e ≡ Memory
-Stops held visits (place ∷ left) e = StopsAt held (entries_in visits) (length (files_in visits)) (bytes_in visits) place e
+Stops held visits (place ∷ left) e =
+    StopsAt held (entries_in visits) (length (files_in visits)) (bytes_in visits) place e
 
 -- a walk stops so
 abbrev pub IsStopped : Contents → ServeError → Type 0

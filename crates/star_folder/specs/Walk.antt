@@ -29,7 +29,8 @@ is_folder p = not (is_file p)
 abbrev pub is_star : List ℕ → Bool
 is_star name = ends_with nat_eq name (codes ".star")
 
--- where an entry of the folder at a path leads: a file whose name ends in `.star`, and a folder; nowhere where its name is no segment
+-- where an entry of the folder at a path leads: a file whose name ends in `.star`, and a folder; nowhere where its name
+-- is no segment
 abbrev pub leads_to : Kind → List ℕ → List ℕ → Option Place
 leads_to kind.File path name = if is_star name && is_segment name then Some (FileOf (label_text path name)) else None
 leads_to kind.Folder path name = if is_segment name then Some (FolderAt (with_folder path name)) else None
@@ -84,16 +85,18 @@ bytes_in (v ∷ vs) = bytes_in vs + bytes_at v
 
 -- the contents say so: the entries in the byte order of their names, or the bytes of the file
 abbrev pub Tells : Contents → Visit → Type 0
-Tells held (Listed path entries) = Says (held.entries path) entries × IsStrictlySortedBy (slice_cmp nat_cmp) (map (λ e. e.0) entries)
+Tells held (Listed path entries) =
+    Says (held.entries path) entries × IsStrictlySortedBy (slice_cmp nat_cmp) (map (λ e. e.0) entries)
 Tells held (Read label bytes) = Says (held.bytes label) bytes
 
 -- the limits let a visit pass after so many entries, files and bytes
 abbrev pub Passes : ℕ → ℕ → ℕ → Visit → Type 0
 Passes listed count size (Listed path entries) = listed + length entries ≤ 100000
-Passes listed count size (Read label bytes) = (count < 10000) × (length bytes ≤ 1048576) × IsUtf8 bytes × (size + length bytes ≤ 268435456)
+Passes listed count size (Read label bytes) =
+    (count < 10000) × (length bytes ≤ 1048576) × IsUtf8 bytes × (size + length bytes ≤ 268435456)
 
--- A walk has made these visits, the last of which stands first, and has these places left, the next of which stands first. It begins at the
--- top; after a folder was listed its files come next, and then its folders.
+-- A walk has made these visits, the last of which stands first, and has these places left, the next of which stands
+-- first. It begins at the top; after a folder was listed its files come next, and then its folders.
 abbrev pub IsWalk : Contents → List Visit → List Place → Type 0
 IsWalk held [] left = left ≡ FolderAt [] ∷ []
 IsWalk held (v ∷ vs) left = (rest : List Place) × IsWalk held vs (place_of v ∷ rest) × Tells held v

@@ -14,7 +14,8 @@ use Rattle.star_host.specs.declared.work.Common.{Common}
 use Rattle.star_host.specs.declared.loading.Turn.{Turn}
 use Rattle.star_host.specs.declared.loading.Turn.TheVariants.{Again, Enter, Ended}
 
--- what loaders share is that of the cache: its files, what was read of them, their programs, its shelf, the prelude's file and the steps; and what was read is the plan of the files
+-- what loaders share is that of the cache: its files, what was read of them, their programs, its shelf, the prelude's
+-- file and the steps; and what was read is the plan of the files
 pub record IsWorld (files : List File) (plan : Plan) (shelf : List ℕ) (c : Common) : Type 0 where
   pub files_are : c.files.now ≡ files
   pub row_is : readings c.reads.now ≡ plan.reads

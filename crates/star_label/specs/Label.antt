@@ -6,7 +6,8 @@ use Rattle.std.specs.Str.{bytes_eq}
 -- a letter, a digit, `_`, `-` or `.`
 abbrev pub is_segment_byte : ℕ → Bool
 is_segment_byte b =
-    (nat_lt 64 b && nat_lt b 91) || (nat_lt 96 b && nat_lt b 123) || (nat_lt 47 b && nat_lt b 58) || b == 95 || b == 45 || b == 46
+    (nat_lt 64 b && nat_lt b 91) || (nat_lt 96 b && nat_lt b 123) || (nat_lt 47 b && nat_lt b 58) || b == 95 || b == 45
+        || b == 46
 
 -- empty, `.` or `..`
 abbrev pub is_reserved : List ℕ → Bool

@@ -36,7 +36,8 @@ pub record AreCounted (s : Store) (loops : List Value) : Type 0 where
 abbrev pub FilesBeginWithNoLoop : Type 0
 FilesBeginWithNoLoop = (w : Setting) (steps : ℕ) → AreCounted (start w steps).store []
 
--- The law: after an expression or a statement that ends well the same loops are open as before it, and the counters are right for them.
+-- The law: after an expression or a statement that ends well the same loops are open as before it, and the counters are
+-- right for them.
 abbrev pub RunsEndTheirLoops : Type 0
 RunsEndTheirLoops = (w : Setting) (levels : ℕ) (p : Place) (s t : State) (loops : List Value) → AreCounted s.store loops
     → ((e : Expression) (v : Value) → (meaning (by_names w) w levels).expr p e s ≡ Done v t → AreCounted t.store loops)
@@ -48,7 +49,9 @@ LoopsAreCounted = (w : Setting) (line n : ℕ) (v : Value) (s t : State) (loops 
     → (AreCounted s.store loops → iterate w line v s ≡ Done n t → AreCounted t.store (v ∷ loops))
     × (AreCounted s.store (v ∷ loops) → leave v s ≡ Done tt t → AreCounted t.store loops)
 
--- The law: the open iterations of a list or a dictionary, for which the rules of writing ask, are the open loops over it.
+-- The law: the open iterations of a list or a dictionary, for which the rules of writing ask, are the open loops over
+-- it.
 abbrev pub OpenIterationsAreOpenLoops : Type 0
 OpenIterationsAreOpenLoops = (s : Store) (loops : List Value) (at : ℕ) (a : Counted) → AreCounted s loops
-    → slice_get s.cells at ≡ Some a → is_container a.cell ≡ true → iterations_of s (value.Ref s.home at) ≡ loops_over s.home at loops
+    → slice_get s.cells at ≡ Some a → is_container a.cell ≡ true → iterations_of s (value.Ref s.home at)
+        ≡ loops_over s.home at loops

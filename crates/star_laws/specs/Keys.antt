@@ -18,9 +18,11 @@ EqualKeysAreTheSame = (look : Value → Option Cell) (n levels steps left : ℕ)
 
 -- an answer at a price: it leaves what is not needed, and for want of a step there is no answer
 abbrev pub Costs : Spend Bool → ℕ → Bool → Type 0
-Costs f price b = ((more : ℕ) → f (price + more) ≡ Enough b more) × ((steps : ℕ) → steps < price → f steps ≡ Lacks Steps 0)
+Costs f price b =
+    ((more : ℕ) → f (price + more) ≡ Enough b more) × ((steps : ℕ) → steps < price → f steps ≡ Lacks Steps 0)
 
--- The law: where equality may open as many levels as the key has, it does answer, at a price; it is never refused but for want of steps.
+-- The law: where equality may open as many levels as the key has, it does answer, at a price; it is never refused but
+-- for want of steps.
 abbrev pub KeysHaveEquality : Type 0
 KeysHaveEquality = (look : Value → Option Cell) (n levels : ℕ) (x y : Value)
     → OneIsKey look n x y → n ≤ levels → (price : ℕ) × Costs (same look levels x y) price (same_key look n x y)

@@ -11,11 +11,13 @@ use Rattle.star_meaning.specs.Operators.{range_has}
 abbrev pub stepped : Range → ℕ → ℤ
 stepped r i = r.start +ℤ pos i *ℤ r.step
 
--- before the stop: below it where the step is above 0, above it where the step is below 0, and never where the step is 0
+-- before the stop: below it where the step is above 0, above it where the step is below 0, and never where the step is
+-- 0
 abbrev pub IsBefore : (step z stop : ℤ) → Type 0
 IsBefore step z stop = ((pos 0 <ℤ step) × (z <ℤ stop)) ⊎ ((step <ℤ pos 0) × (stop <ℤ z))
 
--- The law: a range has an item at a place just where so many steps from its start lie before its stop, and that int is the item.
+-- The law: a range has an item at a place just where so many steps from its start lie before its stop, and that int is
+-- the item.
 abbrev pub RangesStepToTheirStop : Type 0
 RangesStepToTheirStop = (r : Range) (i : ℕ) (v : Value)
     → range_item r i ≡ Some v ↔ (v ≡ value.Int (stepped r i)) × IsBefore r.step (stepped r i) r.stop

@@ -30,16 +30,22 @@ GetsOne ps g i n d x =
     (IsByPlace ps g.plain i → x ≡ single n (slice_get g.plain (length (own_names (take i ps)))))
     × ((IsByPlace ps g.plain i → ⊥) → x ≡ single n (else_default (value_named n.text g.named) d))
 
--- what a parameter gets: `*name` the values by place after those of the names before it, `**name` the values by name that are no parameter's
+-- what a parameter gets: `*name` the values by place after those of the names before it, `**name` the values by name
+-- that are no parameter's
 abbrev pub Gets : List Parameter → List Value → Given → ℕ → ParameterForm → Option (Name × Share) → Type 0
 Gets ps ds g i (tree.Plain n) x = GetsOne ps g i n None x
-Gets ps ds g i (tree.Default n e) x = GetsOne ps g i n (slice_get ds (length (filter (λ p. has_default (parameter p)) (take i ps)))) x
-Gets ps ds g i (tree.Parameter-F.Parameter::Star n) x = i ≡ length (before_star ps) → x ≡ Some (n, Rest (drop (length (own_names (take i ps))) g.plain))
+Gets ps ds g i (tree.Default n e) x =
+    GetsOne ps g i n (slice_get ds (length (filter (λ p. has_default (parameter p)) (take i ps)))) x
+Gets ps ds g i (tree.Parameter-F.Parameter::Star n) x =
+    i ≡ length (before_star ps) → x ≡ Some (n, Rest (drop (length (own_names (take i ps))) g.plain))
 Gets ps ds g i tree.BareStar x = Unit {0}
 Gets ps ds g i (tree.Parameter-F.Parameter::StarStar n) x = x ≡ Some (n, Names (unclaimed ps g.named))
 
--- The law: where values are bound, there is a share for each parameter but a bare `*`, in order, and each gets what is its own.
+-- The law: where values are bound, there is a share for each parameter but a bare `*`, in order, and each gets what is
+-- its own.
 abbrev pub BoundAsGiven : Type 0
-BoundAsGiven = (ps : List Parameter) (defaults : List Value) (g : Given) (xs : List (Name × Share)) → bound_to ps defaults g ≡ Some xs
+BoundAsGiven =
+    (ps : List Parameter) (defaults : List Value) (g : Given) (xs : List (Name × Share)) → bound_to ps defaults g
+    ≡ Some xs
     → (length xs ≡ length (filter (λ p. gets_some (parameter p)) ps))
     × ((i : ℕ) (f : ParameterForm) → parameter_at ps i ≡ Some f → Gets ps defaults g i f (slice_get xs (place_at ps i)))

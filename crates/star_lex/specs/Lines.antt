@@ -47,7 +47,8 @@ put c (l ∷ ls) = record { cuts = c ∷ l.cuts; depth = l.depth } ∷ ls
 abbrev pub lines : ℕ → List Cut → List Line
 lines d [] = record { cuts = []; depth = d } ∷ []
 lines d (c ∷ cs) =
-    if ends_line d c.piece then record { cuts = []; depth = 0 } ∷ lines 0 cs else put c (lines (depth_after d c.piece) cs)
+    if ends_line d c.piece then record { cuts = []; depth = 0 } ∷ lines 0 cs
+        else put c (lines (depth_after d c.piece) cs)
 
 -- ---- indentation; the open ones, the innermost first
 
@@ -103,7 +104,8 @@ onto xs r = r >>= (λ ts. Ok (xs ++ ts))
 -- the first piece that says something: no blank, comment or line end
 abbrev pub leader : List Cut → Option Cut
 leader [] = None
-leader (c ∷ cs) = elim c.piece [ Blank ↦ leader cs | Tabbed ↦ leader cs | Comment ↦ leader cs | LineEnd ↦ leader cs | _ ↦ Some c ]
+leader (c ∷ cs) =
+    elim c.piece [ Blank ↦ leader cs | Tabbed ↦ leader cs | Comment ↦ leader cs | LineEnd ↦ leader cs | _ ↦ Some c ]
 
 abbrev pub marks : Layout → ℕ → ℕ → Result (List Token) SyntaxFault
 marks opens line at = Ok (mark k.Indent line at ∷ [])
@@ -164,7 +166,8 @@ Answers r (Ok ts) = r ≡ Ok ts.items
 Answers r (Err Memory) = Unit {0}
 Answers r (Err e) = r ≡ Err e
 
--- what a function that pushes tokens answers: the list is what it was to become, or it answers the first fault, or want of memory
+-- what a function that pushes tokens answers: the list is what it was to become, or it answers the first fault, or want
+-- of memory
 abbrev pub Pushes : Result (List Token) SyntaxFault → Result (Unit {0}) SyntaxFault → List Token → Type 0
 Pushes r (Ok u) new = r ≡ Ok new
 Pushes r (Err Memory) new = Unit {0}

@@ -78,9 +78,12 @@ line_ends [] = 0
 line_ends (b ∷ z) = if b == 10 || (b == 13 && not (begins (10 ∷ []) z)) then 1 + line_ends z else line_ends z
 
 abbrev pub cut_at : First → ℕ → ℕ → Text → Cut
-cut_at f line at z = record { piece = f.0; line = line; last = line + line_ends (take f.1 z); span = record { start = at; end = at + f.1 } }
+cut_at f line at z =
+    record { piece = f.0; line = line; last = line + line_ends (take f.1 z);
+    span = record { start = at; end = at + f.1 } }
 
--- the pieces of a text whose first byte is at a place, on a line; the first number counts the bytes that are left of a piece
+-- the pieces of a text whose first byte is at a place, on a line; the first number counts the bytes that are left of a
+-- piece
 abbrev pub pieces_from : ℕ → ℕ → ℕ → Text → List Cut
 pieces_from left line at [] = []
 pieces_from (suc left) line at (b ∷ z) = pieces_from left line at z

@@ -22,10 +22,13 @@ abbrev pub star : Text → Found
 star z = if begins (42 ∷ []) z then (s.StarStar, 2) else assigned s.Star s.StarAssign 1 z
 
 abbrev pub less : Text → Found
-less z = if begins (60 ∷ []) z then assigned s.ShiftLeft s.ShiftLeftAssign 2 (drop 1 z) else assigned s.Less s.LessEqual 1 z
+less z = if begins (60 ∷ []) z then assigned s.ShiftLeft s.ShiftLeftAssign 2 (drop 1 z)
+    else assigned s.Less s.LessEqual 1 z
 
 abbrev pub greater : Text → Found
-greater z = if begins (62 ∷ []) z then assigned s.ShiftRight s.ShiftRightAssign 2 (drop 1 z) else assigned s.Greater s.GreaterEqual 1 z
+greater z =
+    if begins (62 ∷ []) z then assigned s.ShiftRight s.ShiftRightAssign 2 (drop 1 z)
+    else assigned s.Greater s.GreaterEqual 1 z
 
 abbrev pub slash : Text → Option Found
 slash z = if begins (47 ∷ []) z then Some (assigned s.SlashSlash s.SlashSlashAssign 2 (drop 1 z)) else None
@@ -36,15 +39,19 @@ bang z = if begins (61 ∷ []) z then Some (s.NotEqual, 2) else None
 -- the signs of a byte that the byte itself or `=` may follow
 abbrev pub doubled : ℕ → Text → Option Found
 doubled b z =
-    if b == 42 then Some (star z) else (if b == 47 then slash z else (if b == 60 then Some (less z) else (if b == 62 then Some (greater z)
+    if b == 42 then Some (star z) else (if b == 47 then slash z
+        else (if b == 60 then Some (less z) else (if b == 62 then Some (greater z)
     else (if b == 33 then bang z else None))))
 
 -- the signs of a byte that only `=` may follow
 abbrev pub single : ℕ → Text → Option Found
 single b z =
-    if b == 43 then Some (assigned s.Plus s.PlusAssign 1 z) else (if b == 45 then Some (assigned s.Minus s.MinusAssign 1 z)
-    else (if b == 37 then Some (assigned s.Percent s.PercentAssign 1 z) else (if b == 38 then Some (assigned s.Ampersand s.AmpersandAssign 1 z)
-    else (if b == 124 then Some (assigned s.Bar s.BarAssign 1 z) else (if b == 94 then Some (assigned s.Caret s.CaretAssign 1 z)
+    if b == 43 then Some (assigned s.Plus s.PlusAssign 1 z)
+        else (if b == 45 then Some (assigned s.Minus s.MinusAssign 1 z)
+    else (if b == 37 then Some (assigned s.Percent s.PercentAssign 1 z)
+        else (if b == 38 then Some (assigned s.Ampersand s.AmpersandAssign 1 z)
+    else (if b == 124 then Some (assigned s.Bar s.BarAssign 1 z)
+        else (if b == 94 then Some (assigned s.Caret s.CaretAssign 1 z)
     else (if b == 61 then Some (assigned s.Assign s.EqualEqual 1 z) else None))))))
 
 abbrev pub either : Option Found → Option Found → Option Found

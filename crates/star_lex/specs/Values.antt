@@ -83,7 +83,8 @@ quotes q = if q.triple then q.quote ∷ q.quote ∷ q.quote ∷ [] else q.quote 
 -- how the string at the front is quoted; three equal quotes always quote it three times
 abbrev pub quoting_from : Bool → Text → Option Quoting
 quoting_from raw [] = None
-quoting_from raw (b ∷ z) = if is_quote b then Some (record { raw = raw; quote = b; triple = begins (b ∷ b ∷ []) z }) else None
+quoting_from raw (b ∷ z) =
+    if is_quote b then Some (record { raw = raw; quote = b; triple = begins (b ∷ b ∷ []) z }) else None
 
 abbrev pub quoting : Text → Option Quoting
 quoting z = if begins (codes "r") z then quoting_from true (drop 1 z) else quoting_from false z
@@ -116,16 +117,19 @@ scalar_of size (Some n) = if is_scalar n then Some (size, Scalar n) else None
 
 -- the character whose number stands at the front, in so many digits
 abbrev pub numbered : ℕ → ℕ → ℕ → Text → Option Part
-numbered base size most z = if nat_lt (length z) size then None else scalar_of size (at_most most (number base 0 (take size z)))
+numbered base size most z =
+    if nat_lt (length z) size then None else scalar_of size (at_most most (number base 0 (take size z)))
 
 -- the escapes of one letter
 abbrev pub letter : ℕ → Option Part
 letter b =
     if b == 97 then Some (1, Byte 7) else (if b == 98 then Some (1, Byte 8) else (if b == 102 then Some (1, Byte 12)
-    else (if b == 110 then Some (1, Byte 10) else (if b == 114 then Some (1, Byte 13) else (if b == 116 then Some (1, Byte 9)
+    else (if b == 110 then Some (1, Byte 10) else (if b == 114 then Some (1, Byte 13)
+        else (if b == 116 then Some (1, Byte 9)
     else (if b == 118 then Some (1, Byte 11) else (if b == 92 || is_quote b then Some (1, Byte b) else None)))))))
 
--- an escape, after its backslash: a line end means nothing; one to three octal digits, `x` and two hexadecimal digits, at most 127; `u` and four, `U` and eight
+-- an escape, after its backslash: a line end means nothing; one to three octal digits, `x` and two hexadecimal digits,
+-- at most 127; `u` and four, `U` and eight
 abbrev pub escape : Text → Option Part
 escape [] = None
 escape (b ∷ z) =
@@ -139,7 +143,8 @@ escape (b ∷ z) =
 -- a byte that means itself, or a line end, which means LF and stands only in a string quoted three times
 abbrev pub plain : Bool → Text → Option (ℕ × ℕ)
 plain triple [] = None
-plain triple (b ∷ z) = if is_line_end b then (if triple then Some (line_end_size (b ∷ z), 10) else None) else Some (1, b)
+plain triple (b ∷ z) =
+    if is_line_end b then (if triple then Some (line_end_size (b ∷ z), 10) else None) else Some (1, b)
 
 abbrev pub as_byte : Option (ℕ × ℕ) → Option Part
 as_byte None = None
@@ -152,13 +157,15 @@ as_kept (Some p) = Some (1 + p.0, Kept p.1)
 unfoldable pub part : Quoting → Text → Option Part
 part q [] = None
 part q (b ∷ z) =
-    if b == 92 then (if q.raw then as_kept (plain q.triple z) else behind 1 (escape z)) else as_byte (plain q.triple (b ∷ z))
+    if b == 92 then (if q.raw then as_kept (plain q.triple z) else behind 1 (escape z))
+        else as_byte (plain q.triple (b ∷ z))
 
 abbrev pub more : ℕ → Option ℕ → Option ℕ
 more n None = None
 more n (Some m) = Some (n + m)
 
--- how many bytes there are up to the closing quotes and with them: the first that stand between parts; the number counts the bytes that are left of a part
+-- how many bytes there are up to the closing quotes and with them: the first that stand between parts; the number
+-- counts the bytes that are left of a part
 abbrev pub closed_from : ℕ → Quoting → Text → Option ℕ
 closed_from left q [] = None
 closed_from (suc left) q (b ∷ z) = closed_from left q z

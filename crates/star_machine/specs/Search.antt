@@ -11,7 +11,8 @@ use Rattle.star_meaning.specs.Program.{Setting, seen}
 -- the place of the first one, counted from a number on, that passes a test which costs steps
 abbrev pub first_place_where : (Value → Spend Bool) → ℕ → List Value → Spend (Option ℕ)
 first_place_where f i [] = answer None
-first_place_where f i (y ∷ ys) = λ n. spend_then (f y n) (λ b. if b then answer (Some i) else first_place_where f (i + 1) ys)
+first_place_where f i (y ∷ ys) =
+    λ n. spend_then (f y n) (λ b. if b then answer (Some i) else first_place_where f (i + 1) ys)
 
 -- the place of the first value that is equal to another one, with the visits of both up to it
 unfoldable pub found_place : Setting → ℕ → ℕ → Value → List Value → Action (Option ℕ)

@@ -93,7 +93,8 @@ abbrev pub comes_twice : List NamedValue → Bool
 comes_twice [] = false
 comes_twice (n ∷ ns) = is_given n.name ns || comes_twice ns
 
--- what a call gives, in order: what stands after `*` and `**` is checked, then their items and entries are taken, then no name may come twice
+-- what a call gives, in order: what stands after `*` and `**` is checked, then their items and entries are taken, then
+-- no name may come twice
 unfoldable pub given : Setting → ℕ → List Passed → Action Given
 given w line ps = do
   n ← star_count w line (star_of ps)
@@ -117,7 +118,9 @@ by_place line g = check code.Args line (nat_eq (length g.named) 0) >>= λ _. giv
 
 -- values by place, and no name but this one
 abbrev pub with_name : ℕ → List ℕ → Given → Action (List Value × Option Value)
-with_name line name g = check code.Args line (list_all (λ n. same_name n.name name) g.named) >>= λ _. give (g.plain, option_map (λ n. n.value) (slice_get g.named 0))
+with_name line name g =
+    check code.Args line (list_all (λ n. same_name n.name name) g.named)
+    >>= λ _. give (g.plain, option_map (λ n. n.value) (slice_get g.named 0))
 
 -- exactly so many values by place
 abbrev pub only_one : ℕ → List Value → Action Value

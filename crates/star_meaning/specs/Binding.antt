@@ -72,7 +72,8 @@ abbrev pub shared : Name → Progress → Option Value → Step
 shared n q None = None
 shared n q (Some v) = Some ((n, One v) ∷ [], q)
 
--- a parameter with a name: the next value by place, which must not be given by name too; else the one by name; else the default
+-- a parameter with a name: the next value by place, which must not be given by name too; else the one by name; else the
+-- default
 abbrev pub share_of : Name → List NamedValue → Option Value → Progress → List Value → Step
 share_of n ns d q (x ∷ xs) = if is_given n.text ns then None else Some ((n, One x) ∷ [], record q { plain = xs })
 share_of n ns d q [] = shared n q (else_default (value_named n.text ns) d)
@@ -83,8 +84,10 @@ share_by n ns d q = if q.by_name then shared n q (else_default (value_named n.te
 -- a parameter's share
 abbrev pub step : List NamedValue → List NamedValue → Progress → ParameterForm → Step
 step ns left q (tree.Plain n) = share_by n ns None q
-step ns left q (tree.Default n e) = share_by n ns (first_of_row q.defaults) (record q { defaults = rest_of_row q.defaults })
-step ns left q (tree.Parameter-F.Parameter::Star n) = Some ((n, Rest q.plain) ∷ [], record q { by_name = true; plain = [] })
+step ns left q (tree.Default n e) =
+    share_by n ns (first_of_row q.defaults) (record q { defaults = rest_of_row q.defaults })
+step ns left q (tree.Parameter-F.Parameter::Star n) =
+    Some ((n, Rest q.plain) ∷ [], record q { by_name = true; plain = [] })
 step ns left q tree.BareStar = Some ([], record q { by_name = true })
 step ns left q (tree.Parameter-F.Parameter::StarStar n) = Some ((n, Names left) ∷ [], q)
 

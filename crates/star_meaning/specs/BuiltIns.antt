@@ -1,4 +1,5 @@
--- The built-in functions: first the number and the names of the arguments, then their types, then the work, which pays as it goes.
+-- The built-in functions: first the number and the names of the arguments, then their types, then the work, which pays
+-- as it goes.
 use Rattle.std.specs.Prelude.{ℕ, ◌+◌, ◌-◌, ◌*◌, ◌^◌, nat_eq, nat_lt, min, Bool, true, false, not, ◌&&◌, ◌||◌, List, [], ◌∷◌, ◌++◌, length, map, reverse, Option, Some, None, ℤ, pos, ◌+ℤ◌, neg_ℤ, unsigned_abs, if◌then◌else◌, codes}
 use Rattle.std.specs.List.{list_all}
 use Rattle.std.specs.Ordering.{int_eq, int_cmp, nat_cmp, is_lt, is_gt}
@@ -140,7 +141,9 @@ length_in (Held (cell.Text t)) = Some (length t)
 length_in c = count_in c
 
 abbrev pub call_len : Setting → ℕ → Given → Action Value
-call_len w line g = by_place line g >>= only_one line >>= λ v. with_content w v (λ c. found code.BadType line (length_in c)) >>= λ n. new_int line (pos n)
+call_len w line g =
+    by_place line g >>= only_one line >>= λ v. with_content w v (λ c. found code.BadType line (length_in c))
+    >>= λ n. new_int line (pos n)
 
 -- list([it]), tuple([it]), reversed(it)
 abbrev pub taken_from : Setting → ℕ → Option Value → Action (List Value)
@@ -159,7 +162,8 @@ call_reversed w line g = by_place line g >>= only_one line >>= take_all w line >
 -- max and min: each item is compared with the best so far, and the first of equals is kept
 abbrev pub best_of : Setting → ℕ → ℕ → (Ordering → Bool) → Value → List Value → Action Value
 best_of w levels line better best [] = give best
-best_of w levels line better best (x ∷ xs) = compare w levels line x best >>= λ o. best_of w levels line better (if better o then x else best) xs
+best_of w levels line better best (x ∷ xs) =
+    compare w levels line x best >>= λ o. best_of w levels line better (if better o then x else best) xs
 
 abbrev pub best_in : Setting → ℕ → ℕ → (Ordering → Bool) → List Value → Action Value
 best_in w levels line better [] = fail code.BadValue line
@@ -191,7 +195,9 @@ abbrev pub is_range_count : ℕ → Bool
 is_range_count n = not (nat_eq n 0) && nat_lt n 4
 
 abbrev pub call_range : Setting → ℕ → Given → Action Value
-call_range w line g = by_place line g >>= λ xs. check code.Args line (is_range_count (length xs)) >>= λ _. each (want_int w line) xs >>= range_of line
+call_range w line g =
+    by_place line g >>= λ xs. check code.Args line (is_range_count (length xs)) >>= λ _. each (want_int w line) xs
+    >>= range_of line
 
 -- repr(x), str(x), type(x): a new string
 abbrev pub call_repr : Setting → ℕ → ℕ → Given → Action Value
@@ -239,7 +245,9 @@ turned true xs = reverse xs
 turned false xs = xs
 
 abbrev pub sort : Setting → ℕ → Bool → List Value → Action Value
-sort w line backwards xs = seeing (λ s. check code.BadType line (can_sort (map (content w s) xs)) >>= λ _. new_list line (turned backwards (in_order (λ x y. is_before (content w s x) (content w s y)) xs)))
+sort w line backwards xs =
+    seeing (λ s. check code.BadType line (can_sort (map (content w s) xs))
+    >>= λ _. new_list line (turned backwards (in_order (λ x y. is_before (content w s x) (content w s y)) xs)))
 
 abbrev pub call_sorted : Setting → ℕ → Given → Action Value
 call_sorted w line g = do

@@ -100,7 +100,8 @@ abbrev pub run_body : Meaning → Place → Body → Action Value
 run_body m p (Statements body) = block (m.stmt p) body >>= λ f. give (answer_of f)
 run_body m p (Answer e) = m.expr p e
 
--- the run of a function: the tuple of `*name`, the strings and the dictionary of `**name`, the frame, the parameters in it, the body
+-- the run of a function: the tuple of `*name`, the strings and the dictionary of `**name`, the frame, the parameters in
+-- it, the body
 abbrev pub run : Variables → Meaning → Place → Function → Definition → List (Name × Share) → Action Value
 run vs m p f d shares = do
   values ← make_shares p.line shares

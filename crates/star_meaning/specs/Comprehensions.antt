@@ -19,7 +19,8 @@ use Rattle.star_meaning.specs.Meaning.{Meaning, repeat}
 use Rattle.star_meaning.specs.Targets.{to_target}
 
 -- a turn of a `for` clause: the next item is taken and assigned, and the clauses after it run
-abbrev pub clause_turn : Variables → Setting → Meaning → Place → Target → Value → Action (Unit {0}) → ℕ → Action (Unit {0})
+abbrev pub clause_turn : Variables → Setting → Meaning → Place → Target → Value → Action (Unit {0}) → ℕ
+    → Action (Unit {0})
 clause_turn vs w m p t v rest i = do
   x ← take_item w p.line v i
   _ ← to_target vs m p t x

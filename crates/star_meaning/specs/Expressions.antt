@@ -33,7 +33,8 @@ defaults m p (q ∷ qs) = defaults_behind (defaults m p qs) m p (parameter q)
 abbrev pub new_function : Meaning → Place → ℕ → List ℕ → List Parameter → Action Value
 new_function m p number name ps = do
   vs ← defaults m p ps
-  build p.line 1 (cell.Func (record { file = p.file; definition = number; name = name; defaults = vs; frame = p.frame }))
+  build p.line 1 (cell.Func (record { file = p.file; definition = number; name = name; defaults = vs;
+      frame = p.frame }))
 
 -- a key and a value of a display
 abbrev pub entry_of : Meaning → Place → Entry → Action (Value × Value)

@@ -48,7 +48,8 @@ abbrev pub placed_value : ℕ → List Value → ℕ × Numbering → Action (Va
 placed_value line xs p = found code.Index line (slice_get xs p.0) >>= λ v. give (v, p.1)
 
 abbrev pub named_value : ℕ → List NamedValue → List ℕ → Numbering → Action (Value × Numbering)
-named_value line ns name k = found code.Key line (option_map (λ n. n.value) (find (λ n. same_name n.name name) ns)) >>= λ v. give (v, k)
+named_value line ns name k =
+    found code.Key line (option_map (λ n. n.value) (find (λ n. same_name n.name name) ns)) >>= λ v. give (v, k)
 
 -- the value of a field: `{}`, `{0}` or `{name}`; another field is `value`
 abbrev pub field_value : ℕ → Given → List ℕ → Numbering → Action (Value × Numbering)
@@ -67,8 +68,11 @@ formatted w levels line g (b ∷ bs) Outside k out =
     if nat_eq b 123 then formatted w levels line g bs (Field []) k out
     else (if nat_eq b 125 then formatted w levels line g bs Closing k out
     else formatted w levels line g bs Outside k (out ++ b ∷ []))
-formatted w levels line g (b ∷ bs) Closing k out = if nat_eq b 125 then formatted w levels line g bs Outside k (out ++ b ∷ []) else fail code.BadValue line
+formatted w levels line g (b ∷ bs) Closing k out =
+    if nat_eq b 125 then formatted w levels line g bs Outside k (out ++ b ∷ []) else fail code.BadValue line
 formatted w levels line g (b ∷ bs) (Field f) k out =
-    if nat_eq b 123 then (if nat_eq (length f) 0 then formatted w levels line g bs Outside k (out ++ b ∷ []) else fail code.BadValue line)
-    else (if nat_eq b 125 then (field_value line g f k >>= λ r. str w levels line r.0 >>= λ t. formatted w levels line g bs Outside r.1 (out ++ t))
+    if nat_eq b 123 then (if nat_eq (length f) 0 then formatted w levels line g bs Outside k (out ++ b ∷ [])
+        else fail code.BadValue line)
+    else (if nat_eq b 125 then (field_value line g f k >>= λ r. str w levels line r.0
+        >>= λ t. formatted w levels line g bs Outside r.1 (out ++ t))
     else formatted w levels line g bs (Field (f ++ b ∷ [])) k out)

@@ -41,7 +41,8 @@ pub record KeepsFrame (f g : Frame) : Type 0 where
   pub parent : g.parent ≡ f.parent
   pub slots : length g.slots ≡ length f.slots
 
--- what may become of a cell: a list stays a list, a dictionary a dictionary, a frame the same frame; all others stay as they are
+-- what may become of a cell: a list stays a list, a dictionary a dictionary, a frame the same frame; all others stay as
+-- they are
 abbrev pub KeepsKind : Cell → Cell → Type 0
 KeepsKind (cell.List xs) d = (ys : List Value) × (d ≡ cell.List ys)
 KeepsKind (cell.Dict es) d = (fs : List (Value × Value)) × (d ≡ cell.Dict fs)
@@ -54,11 +55,14 @@ pub record KeepsCell (a b : Counted) : Type 0 where
   pub iterations : b.iterations ≡ a.iterations
   pub held : 0 < iterations_in (Some a) → b.cell ≡ a.cell
 
--- what a run keeps that ends well: the module, its cells, which only grow in number, the active definitions and the lines printed; steps only fall, and on a cell that is new after the run no iteration is open
+-- what a run keeps that ends well: the module, its cells, which only grow in number, the active definitions and the
+-- lines printed; steps only fall, and on a cell that is new after the run no iteration is open
 pub record Kept (s t : State) : Type 0 where
   pub home : t.store.home ≡ s.store.home
-  pub cells : (at : ℕ) (a : Counted) → slice_get s.store.cells at ≡ Some a → (b : Counted) × (slice_get t.store.cells at ≡ Some b) × KeepsCell a b
-  pub fresh : (at : ℕ) (b : Counted) → slice_get s.store.cells at ≡ None → slice_get t.store.cells at ≡ Some b → b.iterations ≡ 0
+  pub cells : (at : ℕ) (a : Counted) → slice_get s.store.cells at ≡ Some a → (b : Counted)
+      × (slice_get t.store.cells at ≡ Some b) × KeepsCell a b
+  pub fresh : (at : ℕ) (b : Counted) → slice_get s.store.cells at ≡ None → slice_get t.store.cells at ≡ Some b
+      → b.iterations ≡ 0
   pub active : t.active ≡ s.active
   pub steps : t.steps ≤ s.steps
   pub lines : (more : List (List ℕ)) × (t.lines ≡ s.lines ++ more)
@@ -76,4 +80,6 @@ IsNotForSteps (Stopped f lines) = f.code ≢ code.Steps
 
 -- The law: what a file means does not change where it gets more steps than it needs.
 abbrev pub MoreStepsMeanTheSame : Type 0
-MoreStepsMeanTheSame = (w : Setting) (steps more : ℕ) (statements : List Statement) → IsNotForSteps (local w steps statements) → local w (steps + more) statements ≡ local w steps statements
+MoreStepsMeanTheSame =
+    (w : Setting) (steps more : ℕ) (statements : List Statement) → IsNotForSteps (local w steps statements)
+    → local w (steps + more) statements ≡ local w steps statements

@@ -59,7 +59,8 @@ call_extend w line l g = do
 -- the place of the first item, from the i-th on, that is equal to x
 abbrev pub equal_place : Setting → ℕ → ℕ → Value → ℕ → List Value → Action (Option ℕ)
 equal_place w levels line x i [] = give None
-equal_place w levels line x i (y ∷ ys) = equal w levels line y x >>= λ b. if b then give (Some i) else equal_place w levels line x (i + 1) ys
+equal_place w levels line x i (y ∷ ys) =
+    equal w levels line y x >>= λ b. if b then give (Some i) else equal_place w levels line x (i + 1) ys
 
 abbrev pub place_with : Setting → ℕ → ℕ → Value → Value → Action ℕ
 place_with w levels line l x = with_items w l (equal_place w levels line x 0) >>= found code.BadValue line

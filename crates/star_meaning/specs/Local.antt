@@ -28,10 +28,15 @@ abbrev pub reached : Local → Shelf
 reached (Good shelf globals texts lines) = shelf
 reached (Stopped f lines) = []
 
--- what is given to the run of a file: the trees of all files, the file of each of its load statements, the prelude's file, and the outcomes of its loads
+-- what is given to the run of a file: the trees of all files, the file of each of its load statements, the prelude's
+-- file, and the outcomes of its loads
 abbrev pub setting : ℕ → Trees → List (ℕ × ℕ) → Option ℕ → List Local → Setting
-setting file trees loads prelude outcomes = record { home = file; outlines = outlines trees; shelf = union (map reached outcomes); loads = loads; prelude = prelude }
+setting file trees loads prelude outcomes =
+    record { home = file; outlines = outlines trees; shelf = union (map reached outcomes); loads = loads;
+    prelude = prelude }
 
--- the local meaning of a file with so many steps: the run of its statements over all that its loads reach, and the texts of its globals
+-- the local meaning of a file with so many steps: the run of its statements over all that its loads reach, and the
+-- texts of its globals
 abbrev pub local_meaning : ℕ → Trees → List (ℕ × ℕ) → Option ℕ → List Local → ℕ → Local
-local_meaning file trees loads prelude outcomes steps = local (setting file trees loads prelude outcomes) steps (statements_of trees file)
+local_meaning file trees loads prelude outcomes steps =
+    local (setting file trees loads prelude outcomes) steps (statements_of trees file)

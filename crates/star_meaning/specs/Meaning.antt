@@ -19,7 +19,8 @@ pub record Read : Type 0 where
   pub index : Value
   pub old : Value
 
--- an expression's value; what a statement does; what a target that is no plain name does with a value; the parts of an index target with what they read; and a call of a function with the shares of its parameters
+-- an expression's value; what a statement does; what a target that is no plain name does with a value; the parts of an
+-- index target with what they read; and a call of a function with the shares of its parameters
 pub record Meaning : Type 0 where
   pub expr : Place → Expression → Action Value
   pub stmt : Place → Statement → Action Flow

@@ -19,7 +19,13 @@ use Rattle.star_meaning.specs.Texts.{lower, upper}
 
 -- all methods
 abbrev pub methods : List Method
-methods = method.ListAppend ∷ method.ListClear ∷ method.ListExtend ∷ method.ListIndex ∷ method.ListInsert ∷ method.ListPop ∷ method.ListRemove ∷ method.DictClear ∷ method.DictGet ∷ method.DictItems ∷ method.DictKeys ∷ method.DictPop ∷ method.DictPopitem ∷ method.DictSetdefault ∷ method.DictUpdate ∷ method.DictValues ∷ method.StringEndswith ∷ method.StringFind ∷ method.StringFormat ∷ method.StringJoin ∷ method.StringLower ∷ method.StringLstrip ∷ method.StringReplace ∷ method.StringRstrip ∷ method.StringSplit ∷ method.StringStartswith ∷ method.StringStrip ∷ method.StringUpper ∷ []
+methods =
+    method.ListAppend ∷ method.ListClear ∷ method.ListExtend ∷ method.ListIndex ∷ method.ListInsert ∷ method.ListPop
+    ∷ method.ListRemove ∷ method.DictClear ∷ method.DictGet ∷ method.DictItems ∷ method.DictKeys ∷ method.DictPop
+    ∷ method.DictPopitem ∷ method.DictSetdefault ∷ method.DictUpdate ∷ method.DictValues ∷ method.StringEndswith
+    ∷ method.StringFind ∷ method.StringFormat ∷ method.StringJoin ∷ method.StringLower ∷ method.StringLstrip
+    ∷ method.StringReplace ∷ method.StringRstrip ∷ method.StringSplit ∷ method.StringStartswith ∷ method.StringStrip
+    ∷ method.StringUpper ∷ []
 
 -- the method of this name that a value of this type has
 abbrev pub method_of : List ℕ → List ℕ → Option Method
@@ -27,7 +33,9 @@ method_of type name = find (λ m. same_name (receiver_type m) type && same_name 
 
 -- x.m: a new bound method; one that the value does not have is `type`
 unfoldable pub attribute : Setting → ℕ → Value → List ℕ → Action Value
-attribute w line x name = with_content w x (λ c. found code.BadType line (method_of (type_name c) name)) >>= λ m. build line 1 (cell.Bound m x)
+attribute w line x name =
+    with_content w x (λ c. found code.BadType line (method_of (type_name c) name))
+    >>= λ m. build line 1 (cell.Bound m x)
 
 -- a call of a method of a string with these bytes, on the values given
 abbrev pub on_text : Setting → ℕ → ℕ → Method → List ℕ → Given → Action Value

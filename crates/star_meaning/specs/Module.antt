@@ -37,7 +37,8 @@ nothing_opens w = record {
   call = λ p f d shares. fail code.Deep p.line;
 }
 
--- where one more level than n may be opened, and m says what may be done within it: a statement, an expression and a target that is no plain name pay 1 as they begin
+-- where one more level than n may be opened, and m says what may be done within it: a statement, an expression and a
+-- target that is no plain name pay 1 as they begin
 abbrev pub one_more : Variables → Setting → ℕ → Meaning → Meaning
 one_more vs w n m = record {
   expr = λ p e. pay p.line 1 >>= λ _. node vs w n m p (expression e);
@@ -83,7 +84,8 @@ bound_names (n ∷ ns) (v ∷ vs) = if_bound n v (bound_names ns vs)
 -- without the names that the file loads
 abbrev pub without_loaded : List (List ℕ) → List (List ℕ × Value) → List (List ℕ × Value)
 without_loaded loaded [] = []
-without_loaded loaded (g ∷ gs) = if list_any (same_name g.0) loaded then without_loaded loaded gs else g ∷ without_loaded loaded gs
+without_loaded loaded (g ∷ gs) =
+    if list_any (same_name g.0) loaded then without_loaded loaded gs else g ∷ without_loaded loaded gs
 
 abbrev pub loaded_names : Option Outline → List (List ℕ)
 loaded_names None = []
@@ -95,7 +97,9 @@ slots_of (Some f) = f.slots
 
 -- the globals of a file: the bound names of its own frame, without those that it loads, in byte order
 abbrev pub globals_of : Setting → State → Value → List (List ℕ × Value)
-globals_of w s frame = by_name (without_loaded (loaded_names (outline_of w w.home)) (bound_names (names_of w w.home 0) (slots_of (frame_of (seen w s frame)))))
+globals_of w s frame =
+    by_name (without_loaded (loaded_names (outline_of w w.home))
+    (bound_names (names_of w w.home 0) (slots_of (frame_of (seen w s frame)))))
 
 -- the text of a global is visited and paid as a new string is
 abbrev pub global_text : Setting → ℕ → ℕ → List ℕ × Value → Action (List ℕ × List ℕ)
@@ -110,7 +114,9 @@ pub record Ended : Type 0 where
   pub texts : List (List ℕ × List ℕ)
 
 abbrev pub end : Setting → ℕ → ℕ → Value → Action Ended
-end w levels line frame = seeing (λ s. each (global_text w levels line) (globals_of w s frame) >>= λ ts. give (record { globals = globals_of w s frame; texts = ts }))
+end w levels line frame =
+    seeing (λ s. each (global_text w levels line) (globals_of w s frame)
+    >>= λ ts. give (record { globals = globals_of w s frame; texts = ts }))
 
 -- the run of a file: its own frame, which is the first cell, its statements, and the texts of its globals
 abbrev pub run_file : Variables → Setting → ℕ → List Statement → Action Ended
@@ -123,13 +129,15 @@ run_file vs w levels statements = do
 abbrev pub start : Setting → ℕ → State
 start w steps = record { store = record { home = w.home; cells = [] }; active = []; steps = steps; lines = [] }
 
--- the local meaning of a file: good, with the modules that it reaches and itself, its globals, their texts, and the lines printed; or a fault, with the lines printed before it
+-- the local meaning of a file: good, with the modules that it reaches and itself, its globals, their texts, and the
+-- lines printed; or a fault, with the lines printed before it
 pub data Local : Type 0 where
   Good : Shelf → List (List ℕ × Value) → List (List ℕ × List ℕ) → List (List ℕ) → Local
   Stopped : Fault → List (List ℕ) → Local
 
 abbrev pub local_of : Setting → Outcome Ended → Local
-local_of w (Done e s) = Good (put_up w.home (record { cells = s.store.cells; globals = e.globals }) w.shelf) e.globals e.texts s.lines
+local_of w (Done e s) =
+    Good (put_up w.home (record { cells = s.store.cells; globals = e.globals }) w.shelf) e.globals e.texts s.lines
 local_of w (Failed f lines) = Stopped f lines
 
 abbrev pub local : Setting → ℕ → List Statement → Local

@@ -35,7 +35,8 @@ count_from (pos n) = n
 count_from (negsuc n) = 0
 
 -- the entries with one more put in: a key that is there keeps its place
-abbrev pub entries_after : List (Value × Value) → Result (Option Value × List (Value × Value)) StoreFault → List (Value × Value)
+abbrev pub entries_after : List (Value × Value) → Result (Option Value × List (Value × Value)) StoreFault
+    → List (Value × Value)
 entries_after es (Ok r) = r.1
 entries_after es (Err f) = es
 
@@ -155,7 +156,9 @@ is_below (pos q) n = nat_lt q n
 is_below (negsuc q) n = false
 
 abbrev pub range_has : Range → ℤ → Bool
-range_has r z = not (nat_eq (range_length r) 0) && int_eq (left_over (z -ℤ r.start) r.step) (pos 0) && is_below (floored (z -ℤ r.start) r.step) (range_length r)
+range_has r z =
+    not (nat_eq (range_length r) 0) && int_eq (left_over (z -ℤ r.start) r.step) (pos 0)
+    && is_below (floored (z -ℤ r.start) r.step) (range_length r)
 
 abbrev pub range_has_value : Range → Option ℤ → Bool
 range_has_value r (Some z) = range_has r z
@@ -164,15 +167,18 @@ range_has_value r None = false
 -- whether one of the items is equal to x: the items are visited in order, up to the first equal one
 abbrev pub has_item : Setting → ℕ → ℕ → List Value → Value → Action Bool
 has_item w levels line [] x = give false
-has_item w levels line (y ∷ ys) x = equal w levels line y x >>= λ b. if b then give true else has_item w levels line ys x
+has_item w levels line (y ∷ ys) x =
+    equal w levels line y x >>= λ b. if b then give true else has_item w levels line ys x
 
 -- whether x is in what y holds: an equal item, a key, an int of a range, a substring
 abbrev pub has : Setting → ℕ → ℕ → Content → Value → Action Bool
 has w levels line (Held (cell.List ys)) x = has_item w levels line ys x
 has w levels line (Held (cell.Tuple ys)) x = has_item w levels line ys x
-has w levels line (Held (cell.Dict es)) x = check_key w levels line x >>= λ _. seeing (λ s. give (is_some (place_in w s x es)))
+has w levels line (Held (cell.Dict es)) x =
+    check_key w levels line x >>= λ _. seeing (λ s. give (is_some (place_in w s x es)))
 has w levels line (Held (cell.Range r)) x = with_content w x (λ c. give (range_has_value r (int_of c)))
-has w levels line (Held (cell.Text t)) x = want_text w line x >>= λ u. pay line (length t) >>= λ _. give (is_some (place_between t u 0 (length t)))
+has w levels line (Held (cell.Text t)) x =
+    want_text w line x >>= λ u. pay line (length t) >>= λ _. give (is_some (place_between t u 0 (length t)))
 has w levels line _ x = fail code.BadType line
 
 abbrev pub contains : Setting → ℕ → ℕ → Value → Value → Action Bool

@@ -30,8 +30,10 @@ taken_entries line es = each (λ e. pay line 1 >>= λ _. give e) es
 
 -- the pairs of a dictionary are its entries; those of another iterable are its items, which are iterables of two items
 abbrev pub pairs_in : Setting → ℕ → Value → ℕ → Content → Action Pairs
-pairs_in w line x n (Held (cell.Dict es)) = taken_entries line es >>= λ ps. give (record { are_keys = true; pairs = ps })
-pairs_in w line x n _ = take_items w line x n >>= λ xs. each (pair_of w line) xs >>= λ ps. give (record { are_keys = false; pairs = ps })
+pairs_in w line x n (Held (cell.Dict es)) =
+    taken_entries line es >>= λ ps. give (record { are_keys = true; pairs = ps })
+pairs_in w line x n _ =
+    take_items w line x n >>= λ xs. each (pair_of w line) xs >>= λ ps. give (record { are_keys = false; pairs = ps })
 
 -- without an argument there is no pair
 unfoldable pub pairs_of : Setting → ℕ → Option Value → ℕ → Action Pairs
@@ -56,26 +58,33 @@ put_named w line d n = key_for line n >>= λ k. put_entry w line d k n.value
 
 -- puts all pairs, then all named values, into a dictionary that stands
 unfoldable pub put_pairs : Setting → ℕ → ℕ → Value → Pairs → List NamedValue → Action (Unit {0})
-put_pairs w levels line d ps ns = all_of (put_pair w levels line d ps.are_keys) ps.pairs >>= λ _. all_of (put_named w line d) ns
+put_pairs w levels line d ps ns =
+    all_of (put_pair w levels line d ps.are_keys) ps.pairs >>= λ _. all_of (put_named w line d) ns
 
 -- the entries of a new dictionary with a pair, or a named value, put in
 abbrev pub with_pair : Setting → ℕ → ℕ → Bool → List (Value × Value) → Value × Value → Action (List (Value × Value))
-with_pair w levels line are_keys es e = check_pair w levels line are_keys e.0 >>= λ _. seeing (λ s. give (with_entry w s es e))
+with_pair w levels line are_keys es e =
+    check_pair w levels line are_keys e.0 >>= λ _. seeing (λ s. give (with_entry w s es e))
 
-abbrev pub with_pairs : Setting → ℕ → ℕ → Bool → List (Value × Value) → List (Value × Value) → Action (List (Value × Value))
+abbrev pub with_pairs : Setting → ℕ → ℕ → Bool → List (Value × Value) → List (Value × Value)
+    → Action (List (Value × Value))
 with_pairs w levels line are_keys es [] = give es
-with_pairs w levels line are_keys es (e ∷ ps) = with_pair w levels line are_keys es e >>= λ fs. with_pairs w levels line are_keys fs ps
+with_pairs w levels line are_keys es (e ∷ ps) =
+    with_pair w levels line are_keys es e >>= λ fs. with_pairs w levels line are_keys fs ps
 
 abbrev pub with_named : Setting → ℕ → List (Value × Value) → List NamedValue → Action (List (Value × Value))
 with_named w line es [] = give es
-with_named w line es (n ∷ ns) = key_for line n >>= λ k. seeing (λ s. with_named w line (with_entry w s es (k, n.value)) ns)
+with_named w line es (n ∷ ns) =
+    key_for line n >>= λ k. seeing (λ s. with_named w line (with_entry w s es (k, n.value)) ns)
 
 -- a new dictionary of pairs and named values
 unfoldable pub dict_of : Setting → ℕ → ℕ → Pairs → List NamedValue → Action Value
-dict_of w levels line ps ns = with_pairs w levels line ps.are_keys [] ps.pairs >>= λ es. with_named w line es ns >>= new_dict line
+dict_of w levels line ps ns =
+    with_pairs w levels line ps.are_keys [] ps.pairs >>= λ es. with_named w line es ns >>= new_dict line
 
 -- `update`: the argument is iterable, the write guard, all pairs, then the puts
-unfoldable pub update_with : Setting → ℕ → ℕ → Value → Option Value → List NamedValue → Action (Unit {0}) → Action (Unit {0})
+unfoldable pub update_with : Setting → ℕ → ℕ → Value → Option Value → List NamedValue → Action (Unit {0})
+    → Action (Unit {0})
 update_with w levels line d x ns guarded = do
   n ← pairs_count w line x
   _ ← guarded

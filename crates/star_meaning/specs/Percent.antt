@@ -25,14 +25,19 @@ abbrev pub next_text : Setting → ℕ → ℕ → ℕ → List Value → Action
 next_text w levels line letter [] = fail code.BadValue line
 next_text w levels line letter (x ∷ xs) = lettered w levels line letter x >>= λ t. give (t, xs)
 
--- the bytes of the string from left to right: after a `%` stands a letter, or another `%`; the values that are left, and what is made so far
+-- the bytes of the string from left to right: after a `%` stands a letter, or another `%`; the values that are left,
+-- and what is made so far
 abbrev pub filled : Setting → ℕ → ℕ → Bool → List ℕ → List Value → List ℕ → Action (List ℕ)
 filled w levels line false [] [] out = give out
 filled w levels line false [] (x ∷ xs) out = fail code.BadValue line
 filled w levels line true [] xs out = fail code.BadValue line
-filled w levels line false (b ∷ bs) xs out = if nat_eq b 37 then filled w levels line true bs xs out else filled w levels line false bs xs (out ++ b ∷ [])
-filled w levels line true (b ∷ bs) xs out = if nat_eq b 37 then filled w levels line false bs xs (out ++ b ∷ []) else (next_text w levels line b xs >>= λ r. filled w levels line false bs r.1 (out ++ r.0))
+filled w levels line false (b ∷ bs) xs out =
+    if nat_eq b 37 then filled w levels line true bs xs out else filled w levels line false bs xs (out ++ b ∷ [])
+filled w levels line true (b ∷ bs) xs out =
+    if nat_eq b 37 then filled w levels line false bs xs (out ++ b ∷ [])
+    else (next_text w levels line b xs >>= λ r. filled w levels line false bs r.1 (out ++ r.0))
 
 -- t % y: the bytes of t are paid, then the texts are made, then the new string is paid
 abbrev pub percent : Setting → ℕ → ℕ → List ℕ → Content → Value → Action Value
-percent w levels line t c y = pay line (length t) >>= λ _. filled w levels line false t (put_in c y) [] >>= new_text line
+percent w levels line t c y =
+    pay line (length t) >>= λ _. filled w levels line false t (put_in c y) [] >>= new_text line

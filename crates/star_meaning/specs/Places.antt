@@ -24,7 +24,8 @@ use Rattle.star_scope.specs.Outlines.{outline}
 use Rattle.star_scope.specs.Uses.{Named, Defined, uses}
 use Rattle.star_meaning.specs.Local.{Trees, outlines}
 
--- what is known of a program before it runs: the spot of the name at a token of a file, and the number of slots of a block of a file
+-- what is known of a program before it runs: the spot of the name at a token of a file, and the number of slots of a
+-- block of a file
 pub record Tables : Type 0 where
   pub spots : ℕ → Spots
   pub slots : ℕ → ℕ → ℕ
@@ -32,11 +33,13 @@ pub record Tables : Type 0 where
 -- the frame that is so many frames above a frame
 abbrev pub frame_above : Setting → State → ℕ → Option Value → Option Value
 frame_above w s zero frame = frame
-frame_above w s (suc up) frame = frame_above w s up (option_and_then (λ f. f.parent) (option_and_then (λ v. frame_of (seen w s v)) frame))
+frame_above w s (suc up) frame =
+    frame_above w s up (option_and_then (λ f. f.parent) (option_and_then (λ v. frame_of (seen w s v)) frame))
 
 -- what a slot of a frame has
 abbrev pub slot_in : Setting → State → ℕ → Option Value → Option (Option Value)
-slot_in w s slot frame = option_and_then (λ f. slice_get f.slots slot) (option_and_then (λ v. frame_of (seen w s v)) frame)
+slot_in w s slot frame =
+    option_and_then (λ f. slice_get f.slots slot) (option_and_then (λ v. frame_of (seen w s v)) frame)
 
 abbrev pub joined : Option (Option Value) → Option Value
 joined None = None
@@ -45,12 +48,14 @@ joined (Some v) = v
 -- the value at a spot, or `unbound`
 abbrev pub at_spot : Setting → State → Place → List ℕ → Option Spot → Option Value
 at_spot w s p name (Some (spot.Frame up slot)) = joined (slot_in w s slot (frame_above w s up (Some p.frame)))
-at_spot w s p name (Some spot.Prelude) = option_and_then (λ q. global_of name q.globals) (option_and_then (published_of w) w.prelude)
+at_spot w s p name (Some spot.Prelude) =
+    option_and_then (λ q. global_of name q.globals) (option_and_then (published_of w) w.prelude)
 at_spot w s p name (Some spot.Outermost) = global_of name outermost
 at_spot w s p name None = None
 
 unfoldable pub read_spot : Tables → Setting → Place → Name → Action Value
-read_spot tables w p n = seeing (λ s. found code.Unbound p.line (at_spot w s p n.text (tables.spots p.file n.position.token)))
+read_spot tables w p n =
+    seeing (λ s. found code.Unbound p.line (at_spot w s p n.text (tables.spots p.file n.position.token)))
 
 -- a name is bound in the innermost frame, at its slot
 abbrev pub own_spot : Option Spot → Option ℕ
@@ -62,7 +67,9 @@ bind_spot tables p n v = bind_at p.frame v (own_spot (tables.spots p.file n.posi
 
 -- a new frame has the slots of its block, all of them unbound
 unfoldable pub new_slots : Tables → ℕ → ℕ → Option Value → Action Value
-new_slots tables file number parent = make (cell.Frame (record { file = file; block = number; parent = parent; slots = replicate (tables.slots file number) None }))
+new_slots tables file number parent =
+    make (cell.Frame (record { file = file; block = number; parent = parent;
+    slots = replicate (tables.slots file number) None }))
 
 -- variables by their places
 abbrev pub by_places : Tables → Setting → Variables
@@ -73,7 +80,8 @@ abbrev pub outer_names : Setting → ℕ → Option ℕ → Option Names
 outer_names w file None = None
 outer_names w file (Some prelude) = if nat_eq prelude file then None else Some (names_of w prelude 0)
 
--- the tables are right for a file: no two of its definitions have one number, each name that its statements use has the right spot, and each block as many slots as names
+-- the tables are right for a file: no two of its definitions have one number, each name that its statements use has the
+-- right spot, and each block as many slots as names
 pub record IsResolved (tables : Tables) (w : Setting) (file : ℕ) (statements : List Statement) : Type 0 where
   pub numbers : AllDiffer (map (λ d. d.number) (outline statements).definitions)
   pub names : AllPlaced (tables.spots file) (blocks_of w file) (outer_names w file w.prelude) (uses statements)
@@ -85,12 +93,16 @@ pub record FitsBlock (w : Setting) (file number : ℕ) (f : Frame) : Type 0 wher
   pub block_is : f.block ≡ number
   pub slots_are : length f.slots ≡ length (names_of w file number)
 
--- a chain of frames fits a chain of blocks of a file, the innermost first: each frame fits its block, and the file's own has no frame around it
+-- a chain of frames fits a chain of blocks of a file, the innermost first: each frame fits its block, and the file's
+-- own has no frame around it
 abbrev pub FitsChain : Setting → State → ℕ → List ℕ → Option Value → Type 0
 FitsChain w s file [] frame = frame ≡ None
-FitsChain w s file (b ∷ bs) frame = (v : Value) × (f : Frame) × (frame ≡ Some v) × (seen w s v ≡ Some (cell.Frame f)) × FitsBlock w file b f × FitsChain w s file bs f.parent
+FitsChain w s file (b ∷ bs) frame =
+    (v : Value) × (f : Frame) × (frame ≡ Some v) × (seen w s v ≡ Some (cell.Frame f)) × FitsBlock w file b f
+    × FitsChain w s file bs f.parent
 
--- The law: in every chain of frames that fits the blocks around a name, the name is read and bound by its place as it is by its name.
+-- The law: in every chain of frames that fits the blocks around a name, the name is read and bound by its place as it
+-- is by its name.
 abbrev pub SpotsMeanNames : Type 0
 SpotsMeanNames = (tables : Tables) (w : Setting) (p : Place) (n : Name) (chain : List ℕ) (s : State)
     → IsPlaced (tables.spots p.file) (blocks_of w p.file) (outer_names w p.file w.prelude) (Named n chain)
@@ -101,7 +113,8 @@ SpotsMeanNames = (tables : Tables) (w : Setting) (p : Place) (n : Name) (chain :
 abbrev pub Stands : Trees → ℕ → List Statement → Type 0
 Stands trees file ss = slice_get trees file ≡ Some (Some ss)
 
--- a function is one of its file's definitions, and the frame in which it was defined begins a chain that fits the blocks around it
+-- a function is one of its file's definitions, and the frame in which it was defined begins a chain that fits the
+-- blocks around it
 pub record FitsFunction (trees : Trees) (w : Setting) (s : State) (f : Function) : Type 0 where
   pub statements : List Statement
   pub chain : List ℕ
@@ -118,17 +131,20 @@ abbrev pub FitBehind : Trees → Setting → Outcome Ended → Type 0
 FitBehind trees w (Done e t) = AllFit trees w t
 FitBehind trees w (Failed f lines) = Unit {0}
 
--- The law: where the tables are right for all files, and the functions of the published modules fit, the run of a file by places is its run by names, and after it all functions fit.
+-- The law: where the tables are right for all files, and the functions of the published modules fit, the run of a file
+-- by places is its run by names, and after it all functions fit.
 abbrev pub PlacesMeanNames : Type 0
 PlacesMeanNames = (tables : Tables) (trees : Trees) (w : Setting) (statements : List Statement) (steps : ℕ)
     → w.outlines ≡ outlines trees
     → Stands trees w.home statements
     → ((file : ℕ) (ss : List Statement) → Stands trees file ss → IsResolved tables w file ss)
     → AllFit trees w (start w steps)
-    → (run_file (by_places tables w) w most_levels statements (start w steps) ≡ run_file (by_names w) w most_levels statements (start w steps))
+    → (run_file (by_places tables w) w most_levels statements (start w steps)
+        ≡ run_file (by_names w) w most_levels statements (start w steps))
     × FitBehind trees w (run_file (by_names w) w most_levels statements (start w steps))
 
--- a module whose run ended so, seen by another one before its run: its cells stand on the shelf under its file, and so do all modules that it saw; it is another module, and did not see that one
+-- a module whose run ended so, seen by another one before its run: its cells stand on the shelf under its file, and so
+-- do all modules that it saw; it is another module, and did not see that one
 pub record Loaded (u : Setting) (t : State) (w : Setting) : Type 0 where
   pub outlines : u.outlines ≡ w.outlines
   pub home : t.store.home ≡ u.home
@@ -137,8 +153,10 @@ pub record Loaded (u : Setting) (t : State) (w : Setting) : Type 0 where
   pub apart : w.home ≡ u.home → ⊥
   pub unseen : published_of u w.home ≡ None
 
--- The law: where each function that a module sees before its run was seen by a module that it loaded, after whose run all functions fit, there all functions fit before its run.
+-- The law: where each function that a module sees before its run was seen by a module that it loaded, after whose run
+-- all functions fit, there all functions fit before its run.
 abbrev pub LoadsFit : Type 0
 LoadsFit = (trees : Trees) (w : Setting) (steps : ℕ)
-    → ((v : Value) (f : Function) → seen w (start w steps) v ≡ Some (cell.Func f) → (u : Setting) × (t : State) × Loaded u t w × AllFit trees u t × (seen u t v ≡ Some (cell.Func f)))
+    → ((v : Value) (f : Function) → seen w (start w steps) v ≡ Some (cell.Func f) → (u : Setting) × (t : State)
+        × Loaded u t w × AllFit trees u t × (seen u t v ≡ Some (cell.Func f)))
     → AllFit trees w (start w steps)

@@ -13,7 +13,8 @@ use Rattle.star_scope.specs.Outlines.{Outline, names_in}
 use Rattle.star_meaning.specs.declared.place.Place.{Place}
 use Rattle.star_meaning.specs.Run.{State, Action}
 
--- what a run is given: the running file, the outlines of all files by their numbers, the published modules, the file of each load statement by the statement's token, and the prelude's file
+-- what a run is given: the running file, the outlines of all files by their numbers, the published modules, the file of
+-- each load statement by the statement's token, and the prelude's file
 pub record Setting : Type 0 where
   pub home : ℕ
   pub outlines : List (Option Outline)
@@ -53,7 +54,8 @@ published_of w file = option_flatten (slice_get w.shelf file)
 abbrev pub seen : Setting → State → Value → Option Cell
 seen w s v = look s.store w.shelf v
 
--- the three actions that touch variables: reading a name, binding one in the innermost frame, and making the frame of a block (its file, its number, and the frame around it)
+-- the three actions that touch variables: reading a name, binding one in the innermost frame, and making the frame of a
+-- block (its file, its number, and the frame around it)
 pub record Variables : Type 0 where
   pub read : Place → Name → Action Value
   pub bind : Place → Name → Value → Action (Unit {0})

@@ -23,7 +23,9 @@ pub record PlacedFile : Type 0 where
 
 -- a program is that of some file: what `resolve` answers for it
 abbrev pub IsOfFile : Program → Type 0
-IsOfFile p = (file : ℕ) × (prelude : Option Prelude) × (ss : List Statement) × (reads : List Read) × IsProgram file prelude ss reads p
+IsOfFile p =
+    (file : ℕ) × (prelude : Option Prelude) × (ss : List Statement) × (reads : List Read)
+    × IsProgram file prelude ss reads p
 
 -- files by their numbers: nothing for one that has no program, since its text does not parse or has a static fault
 abbrev pub Files : Type 0
@@ -77,16 +79,20 @@ slots_in (Some f) number = length (names_in (outline f.statements).blocks number
 
 -- the tables that programs give
 abbrev pub tables_of : Files → Tables
-tables_of files = record { spots = λ file. spots_in (file_in files file); slots = λ file. slots_in (file_in files file) }
+tables_of files =
+    record { spots = λ file. spots_in (file_in files file); slots = λ file. slots_in (file_in files file) }
 
 -- the prelude, with the names that the block of its file binds
 abbrev pub prelude_in : Files → Option ℕ → Option Prelude
-prelude_in files prelude = option_map (λ n. record { file = n; names = prelude_names (option_flatten (slice_get (trees_of files) n)) }) prelude
+prelude_in files prelude =
+    option_map (λ n. record { file = n; names = prelude_names (option_flatten (slice_get (trees_of files) n)) }) prelude
 
--- each file is placed as its program: what `resolve` answers for the file with this number, which sees this prelude or is it
+-- each file is placed as its program: what `resolve` answers for the file with this number, which sees this prelude or
+-- is it
 abbrev pub ArePrograms : Files → Option ℕ → Type 0
 ArePrograms files prelude = (file : ℕ) (f : PlacedFile) → file_in files file ≡ Some f
-    → (reads : List Read) × (p : Program) × (placed_file p ≡ f) × IsProgram file (prelude_in files prelude) f.statements reads p
+    → (reads : List Read) × (p : Program) × (placed_file p ≡ f)
+        × IsProgram file (prelude_in files prelude) f.statements reads p
 
 -- The law: the tables that the programs of files give are right for each of these files.
 abbrev pub ProgramsPlaceNames : Type 0

@@ -10,7 +10,8 @@ use Rattle.star_meaning.specs.declared.fault.Code.{Code}
 use Rattle.star_meaning.specs.declared.fault.Code.TheVariants as code
 use Rattle.star_meaning.specs.declared.fault.Fault.{Fault}
 
--- what a run changes: the running module's store, the definitions that are active (file and number, the innermost first), the steps left, and the lines printed
+-- what a run changes: the running module's store, the definitions that are active (file and number, the innermost
+-- first), the steps left, and the lines printed
 pub record State : Type 0 where
   pub store : Store
   pub active : List (ℕ × ℕ)

@@ -34,14 +34,17 @@ use Rattle.star_meaning.specs.Expressions.{new_function}
 -- `+=` on a list works as `extend`, `|=` on a dictionary as `update`; else it computes as the operator does
 abbrev pub augment_content : Setting → ℕ → ℕ → BinaryOperator → Value → Value → Content → Action Value
 augment_content w levels line binary.Add x y (Held (cell.List xs)) = extend w line x y >>= λ _. give x
-augment_content w levels line binary.BitOr x y (Held (cell.Dict es)) = update_with w levels line x (Some y) [] (guard w line x) >>= λ _. give x
+augment_content w levels line binary.BitOr x y (Held (cell.Dict es)) =
+    update_with w levels line x (Some y) [] (guard w line x) >>= λ _. give x
 augment_content w levels line op x y c = operate w levels line op x y
 
 abbrev pub augmented : Setting → ℕ → ℕ → BinaryOperator → Value → Value → Action Value
 augmented w levels line op x y = with_content w x (augment_content w levels line op x y)
 
--- t op= e: the target's parts are evaluated once, it is read, e is evaluated, then it is computed and written; the name is no node
-abbrev pub augment : Variables → Setting → ℕ → Meaning → Place → BinaryOperator → Expression → TargetForm → Action (Unit {0})
+-- t op= e: the target's parts are evaluated once, it is read, e is evaluated, then it is computed and written; the name
+-- is no node
+abbrev pub augment : Variables → Setting → ℕ → Meaning → Place → BinaryOperator → Expression → TargetForm
+    → Action (Unit {0})
 augment vs w levels m p op e (tree.Target-F.Target::Name n) = do
   x ← vs.read p n
   y ← m.expr p e
@@ -57,7 +60,9 @@ augment vs w levels m p op e _ = fail code.BadType p.line
 -- the arms in order, up to the first whose condition is true
 abbrev pub arms : Setting → Meaning → Place → List Arm → Action Flow → Action Flow
 arms w m p [] otherwise = otherwise
-arms w m p (a ∷ more) otherwise = m.expr p (out-Arm a).condition >>= is_true w >>= λ b. if b then block (m.stmt p) (out-Arm a).body else arms w m p more otherwise
+arms w m p (a ∷ more) otherwise =
+    m.expr p (out-Arm a).condition >>= is_true w >>= λ b. if b then block (m.stmt p) (out-Arm a).body
+    else arms w m p more otherwise
 
 -- a turn of a loop: the next item is taken and assigned, and the body runs
 abbrev pub loop_turn : Variables → Setting → Meaning → Place → Target → List Statement → Value → ℕ → Action Flow
@@ -100,7 +105,8 @@ statement vs w levels m p at form.Pass = give flow.Next
 statement vs w levels m p at form.Break = give flow.Break
 statement vs w levels m p at form.Continue = give flow.Continue
 statement vs w levels m p at (form.Return e) = returned m p e
-statement vs w levels m p at (form.Load l names) = all_of (load_name vs p (module_of w at)) names >>= λ _. give flow.Next
+statement vs w levels m p at (form.Load l names) =
+    all_of (load_name vs p (module_of w at)) names >>= λ _. give flow.Next
 statement vs w levels m p at (form.If cases otherwise) = arms w m p cases (block (m.stmt p) otherwise)
 statement vs w levels m p at (form.For t e body) = m.expr p e >>= loop vs w m p t body
 statement vs w levels m p at (form.Def n ps body) = do

@@ -36,7 +36,8 @@ byte_at w line t i = do
 
 -- the value under a key: the key is checked, and `key` where it is absent
 abbrev pub entry_value : Setting → ℕ → ℕ → List (Value × Value) → Value → Action Value
-entry_value w levels line es k = check_key w levels line k >>= λ _. seeing (λ s. found code.Key line (value_in w s k es))
+entry_value w levels line es k =
+    check_key w levels line k >>= λ _. seeing (λ s. found code.Key line (value_in w s k es))
 
 abbrev pub item_of : Setting → ℕ → ℕ → Content → Value → Action Value
 item_of w levels line (Held (cell.List xs)) i = row_item w line (Held (cell.List xs)) (length xs) i
@@ -109,11 +110,13 @@ abbrev pub bound_of : ℕ → ℤ → ℤ → ℤ → Option ℤ → ℤ
 bound_of n low high absent None = absent
 bound_of n low high absent (Some z) = int_min high (int_max low (from_end n z))
 
--- the places of a slice, as the ints of a range: upwards within 0 and the length, downwards within -1 and the last place
+-- the places of a slice, as the ints of a range: upwards within 0 and the length, downwards within -1 and the last
+-- place
 abbrev pub slice_range : ℕ → Option ℤ → Option ℤ → ℤ → Range
 slice_range n a b c =
     if int_lt c (pos 0)
-    then record { start = bound_of n (negsuc 0) (pos n -ℤ pos 1) (pos n -ℤ pos 1) a; stop = bound_of n (negsuc 0) (pos n -ℤ pos 1) (negsuc 0) b; step = c }
+    then record { start = bound_of n (negsuc 0) (pos n -ℤ pos 1) (pos n -ℤ pos 1) a;
+        stop = bound_of n (negsuc 0) (pos n -ℤ pos 1) (negsuc 0) b; step = c }
     else record { start = bound_of n (pos 0) (pos n) (pos 0) a; stop = bound_of n (pos 0) (pos n) (pos n) b; step = c }
 
 -- so many ints of a range, from the i-th on, as places

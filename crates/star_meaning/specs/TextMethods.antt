@@ -68,7 +68,8 @@ call_find w line t g = do
   a ← want_part w line q.from
   b ← want_part w line q.to
   _ ← pay_for_bytes line t
-  give (value.Int (place_or_none (place_between t u (end_of (length t) (pos 0) a) (end_of (length t) (pos (length t)) b))))
+  give (value.Int (place_or_none (place_between t u (end_of (length t) (pos 0) a)
+      (end_of (length t) (pos (length t)) b))))
 
 -- join(it): the items are strings, else `type`
 abbrev pub call_join : Setting → ℕ → List ℕ → Given → Action Value
@@ -111,7 +112,9 @@ want_set w line None = give is_blank
 want_set w line (Some v) = want_text w line v >>= λ c. give (is_in c)
 
 abbrev pub stripped : Bool → Bool → (List ℕ → Bool) → List ℕ → List ℕ
-stripped front back test t = concat ((if front then without_front test else (λ cs. cs)) ((if back then without_end test else (λ cs. cs)) (characters t)))
+stripped front back test t =
+    concat ((if front then without_front test else (λ cs. cs))
+    ((if back then without_end test else (λ cs. cs)) (characters t)))
 
 abbrev pub call_strip : Setting → ℕ → Bool → Bool → List ℕ → Given → Action Value
 call_strip w line front back t g = do

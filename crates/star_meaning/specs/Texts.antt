@@ -53,11 +53,14 @@ abbrev pub one_less : Option ℕ → Option ℕ
 one_less None = None
 one_less (Some n) = Some (n - 1)
 
--- the parts of a string between the places, from the left, at which a separator stands; so many of its bytes are still to be passed over, and the part begun so far
+-- the parts of a string between the places, from the left, at which a separator stands; so many of its bytes are still
+-- to be passed over, and the part begun so far
 abbrev pub parts_from : List ℕ → Option ℕ → ℕ → List ℕ → List ℕ → List (List ℕ)
 parts_from by left skip part [] = part ∷ []
 parts_from by left (suc skip) part (b ∷ bs) = parts_from by left skip part bs
-parts_from by left zero part (b ∷ bs) = if may_cut left && starts_with nat_eq (b ∷ bs) by then part ∷ parts_from by (one_less left) (length by - 1) [] bs else parts_from by left zero (part ++ b ∷ []) bs
+parts_from by left zero part (b ∷ bs) =
+    if may_cut left && starts_with nat_eq (b ∷ bs) by then part ∷ parts_from by (one_less left) (length by - 1) [] bs
+    else parts_from by left zero (part ++ b ∷ []) bs
 
 -- the parts of t between cuts at the separator
 abbrev pub parts : List ℕ → List ℕ → Option ℕ → List (List ℕ)

@@ -1,4 +1,5 @@
--- Variables by their names: a frame is a finite map from the names of its block to a value, or to nothing where the name is unbound.
+-- Variables by their names: a frame is a finite map from the names of its block to a value, or to nothing where the
+-- name is unbound.
 use Rattle.std.specs.Prelude.{ℕ, zero, suc, nat_eq, Bool, true, false, not, ◌&&◌, List, [], ◌∷◌, length, replicate, map, Option, Some, None, slice_get, if◌then◌else◌, codes}
 use Rattle.std.specs.List.{list_any}
 use Rattle.std.specs.Option.{option_and_then}
@@ -20,7 +21,8 @@ use Rattle.star_scope.specs.Names.{same_name, slot_of}
 use Rattle.star_scope.specs.Places.{chain_length}
 use Rattle.star_meaning.specs.Program.{Setting, Variables, names_of, published_of, seen}
 
--- what a frame has under a name: nothing where its block does not bind the name, nothing inside where the name is unbound
+-- what a frame has under a name: nothing where its block does not bind the name, nothing inside where the name is
+-- unbound
 abbrev pub in_frame : Setting → List ℕ → Frame → Option (Option Value)
 in_frame w name f = option_and_then (λ i. slice_get f.slots i) (slot_of name (names_of w f.file f.block))
 
@@ -36,27 +38,39 @@ else_in None rest = rest
 -- what the nearest frame of the chain that has the name has under it
 abbrev pub nearest : Setting → State → List ℕ → ℕ → Option Value → Option (Option Value)
 nearest w s name zero frame = None
-nearest w s name (suc n) frame = else_in (option_and_then (in_frame w name) (option_and_then (λ v. frame_of (seen w s v)) frame)) (nearest w s name n (option_and_then (λ f. f.parent) (option_and_then (λ v. frame_of (seen w s v)) frame)))
+nearest w s name (suc n) frame =
+    else_in (option_and_then (in_frame w name) (option_and_then (λ v. frame_of (seen w s v)) frame))
+    (nearest w s name n (option_and_then (λ f. f.parent) (option_and_then (λ v. frame_of (seen w s v)) frame)))
 
 -- the built-in functions
 abbrev pub built_ins : List BuiltIn
-built_ins = built_in.Abs ∷ built_in.All ∷ built_in.Any ∷ built_in.Bool ∷ built_in.Dict ∷ built_in.Enumerate ∷ built_in.Fail ∷ built_in.Int ∷ built_in.Len ∷ built_in.List ∷ built_in.Max ∷ built_in.Min ∷ built_in.Print ∷ built_in.Range ∷ built_in.Repr ∷ built_in.Reversed ∷ built_in.Sorted ∷ built_in.Str ∷ built_in.Tuple ∷ built_in.Type ∷ built_in.Zip ∷ []
+built_ins =
+    built_in.Abs ∷ built_in.All ∷ built_in.Any ∷ built_in.Bool ∷ built_in.Dict ∷ built_in.Enumerate ∷ built_in.Fail
+    ∷ built_in.Int ∷ built_in.Len ∷ built_in.List ∷ built_in.Max ∷ built_in.Min ∷ built_in.Print ∷ built_in.Range
+    ∷ built_in.Repr ∷ built_in.Reversed ∷ built_in.Sorted ∷ built_in.Str ∷ built_in.Tuple ∷ built_in.Type ∷ built_in.Zip
+    ∷ []
 
 -- the names of the outermost block, with their values
 abbrev pub outermost : List (List ℕ × Value)
-outermost = (codes "None", value.NoneValue) ∷ (codes "True", value.Bool true) ∷ (codes "False", value.Bool false) ∷ map (λ b. (built_in_name b, value.Builtin b)) built_ins
+outermost =
+    (codes "None", value.NoneValue) ∷ (codes "True", value.Bool true) ∷ (codes "False", value.Bool false)
+    ∷ map (λ b. (built_in_name b, value.Builtin b)) built_ins
 
 -- whether the prelude's block has a name: its file's own block binds it, and it is not private
 abbrev pub prelude_has : Setting → List ℕ → ℕ → Bool
 prelude_has w name file = not (is_private name) && list_any (same_name name) (names_of w file 0)
 
--- the value of a name outside of the file: a name of the prelude, which may be unbound there, else one of the outermost block
+-- the value of a name outside of the file: a name of the prelude, which may be unbound there, else one of the outermost
+-- block
 abbrev pub outside_prelude : ℕ → List ℕ → Action Value
 outside_prelude line name = found code.Unbound line (global_of name outermost)
 
 abbrev pub outside : Setting → Option ℕ → ℕ → ℕ → List ℕ → Action Value
 outside w None file line name = outside_prelude line name
-outside w (Some prelude) file line name = if not (nat_eq prelude file) && prelude_has w name prelude then found code.Unbound line (option_and_then (λ p. global_of name p.globals) (published_of w prelude)) else outside_prelude line name
+outside w (Some prelude) file line name =
+    if not (nat_eq prelude file) && prelude_has w name prelude
+    then found code.Unbound line (option_and_then (λ p. global_of name p.globals) (published_of w prelude))
+    else outside_prelude line name
 
 -- the value of a name: in the nearest frame that has it, where it may be unbound, else outside of the file
 abbrev pub read_found : Setting → Place → List ℕ → Option (Option Value) → Action Value
@@ -80,7 +94,9 @@ bind_name w p n v = seeing (λ s. bind_at p.frame v (own_slot w s p.frame n.text
 
 -- a new frame, in which all names of its block are unbound
 unfoldable pub new_frame : Setting → ℕ → ℕ → Option Value → Action Value
-new_frame w file number parent = make (cell.Frame (record { file = file; block = number; parent = parent; slots = replicate (length (names_of w file number)) None }))
+new_frame w file number parent =
+    make (cell.Frame (record { file = file; block = number; parent = parent;
+    slots = replicate (length (names_of w file number)) None }))
 
 -- variables by their names
 abbrev pub by_names : Setting → Variables

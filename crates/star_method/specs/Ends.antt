@@ -18,7 +18,8 @@ at_edge edge.End = ends_with nat_eq
 
 -- what `find` answers: the least place between two ends, else -1
 abbrev pub found_between : List ℕ → List ℕ → Option ℤ → Option ℤ → ℤ
-found_between t u a b = place_or_none (place_between t u (end_of (length t) (pos 0) a) (end_of (length t) (pos (length t)) b))
+found_between t u a b =
+    place_or_none (place_between t u (end_of (length t) (pos 0) a) (end_of (length t) (pos (length t)) b))
 
 -- the bytes of each of some strings
 abbrev pub bytes_each : Setting → State → List Value → List (List ℕ)

@@ -25,19 +25,25 @@ run_by_names w steps ss = run_file (by_names w) w most_levels ss (start w steps)
 abbrev pub shown : HeldEnded → Ended
 shown e = record { globals = owned e.globals.items; texts = owned e.texts.items }
 
--- an outcome is that of a run: the cells, globals, texts and lines of one that ran to its end, or the fault with the lines printed before it
+-- an outcome is that of a run: the cells, globals, texts and lines of one that ran to its end, or the fault with the
+-- lines printed before it
 abbrev pub IsOutcome : run.Outcome Ended → Outcome → Type 0
-IsOutcome (run.Done e s) (outcome.Good frozen texts lines) = (frozen ≡ record { cells = s.store.cells; globals = e.globals }) × (owned texts.items ≡ e.texts) × (lines.items ≡ s.lines)
+IsOutcome (run.Done e s) (outcome.Good frozen texts lines) =
+    (frozen ≡ record { cells = s.store.cells; globals = e.globals }) × (owned texts.items ≡ e.texts)
+    × (lines.items ≡ s.lines)
 IsOutcome (run.Done e s) (outcome.Fault code line lines) = ⊥
 IsOutcome (run.Failed f printed) (outcome.Good frozen texts lines) = ⊥
-IsOutcome (run.Failed f printed) (outcome.Fault code line lines) = (f ≡ record { code = code; line = line }) × (lines.items ≡ printed)
+IsOutcome (run.Failed f printed) (outcome.Fault code line lines) =
+    (f ≡ record { code = code; line = line }) × (lines.items ≡ printed)
 
 -- an outcome as the local meaning of a file
 abbrev pub meant : Setting → Outcome → Local
-meant w (outcome.Good frozen texts lines) = Good (put_up w.home frozen w.shelf) frozen.globals (owned texts.items) lines.items
+meant w (outcome.Good frozen texts lines) =
+    Good (put_up w.home frozen w.shelf) frozen.globals (owned texts.items) lines.items
 meant w (outcome.Fault code line lines) = Stopped (record { code = code; line = line }) lines.items
 
--- a file is ready to run: each file that has statements has the program that `resolve` answers for it, and each function of a published module is one of its file's definitions, in frames that fit the blocks around it
+-- a file is ready to run: each file that has statements has the program that `resolve` answers for it, and each
+-- function of a published module is one of its file's definitions, in frames that fit the blocks around it
 pub record AreReady (w : World) (steps : ℕ) : Type 0 where
   pub programs : ArePrograms w.files w.setting.prelude
   pub functions : AllFit (trees_of w.files) w.setting (start w.setting steps)

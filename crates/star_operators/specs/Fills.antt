@@ -9,7 +9,8 @@ use Rattle.star_machine.specs.Gives.{Ends}
 
 -- the values that are left after a letter, and what is made then
 abbrev pub letter_put : Setting → ℕ → ℕ → ℕ → List Value → List ℕ → Action (List Value × List ℕ)
-letter_put w levels line b xs out = if nat_eq b 37 then give (xs, out ++ b ∷ []) else (next_text w levels line b xs >>= λ r. give (r.1, out ++ r.0))
+letter_put w levels line b xs out =
+    if nat_eq b 37 then give (xs, out ++ b ∷ []) else (next_text w levels line b xs >>= λ r. give (r.1, out ++ r.0))
 
 -- A function that answers how many values are used did what was to be done.
 abbrev pub Fills : Outcome (List Value × List ℕ) → List Value → Result ℕ Stop → List ℕ → State → Type 0

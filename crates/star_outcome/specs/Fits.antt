@@ -16,10 +16,12 @@ abbrev pub IsAsked : List File → Plan → ℕ → Type 0
 IsAsked files plan n = IsWithin files plan × IsReached plan n
 
 -- what such a file loads is one, and each is a file
-pub asked_next : (files : List File) (plan : Plan) (n m : ℕ) → IsAsked files plan n → Loads (loaded plan) n m → IsAsked files plan m
+pub asked_next : (files : List File) (plan : Plan) (n m : ℕ) → IsAsked files plan n → Loads (loaded plan) n m
+    → IsAsked files plan m
 asked_next files plan n m a l = (a.0, load a.1 l)
 
-pub reached_below : (files : List File) (plan : Plan) (n : ℕ) → IsWithin files plan → IsReached plan n → n < length files
+pub reached_below : (files : List File) (plan : Plan) (n : ℕ) → IsWithin files plan → IsReached plan n → n
+    < length files
 reached_below files plan n w (root c) = w.roots n c
 reached_below files plan n w (load {n = k} r l) = w.loads k n l
 

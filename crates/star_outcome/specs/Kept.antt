@@ -66,7 +66,9 @@ pub record AreModules (plan : Plan) (ks : List KeptView) : Type 0 where
 
 -- so they do of the plan that files have for roots, a prelude and a number of steps
 abbrev pub AreModulesOf : List File → List ℕ → Option ℕ → ℕ → List KeptView → Type 0
-AreModulesOf files roots prelude steps ks = (plan : Plan) × IsPlanOf files plan × (plan.roots ≡ roots) × (plan.prelude ≡ prelude) × (plan.steps ≡ steps) × AreModules plan ks
+AreModulesOf files roots prelude steps ks =
+    (plan : Plan) × IsPlanOf files plan × (plan.roots ≡ roots) × (plan.prelude ≡ prelude) × (plan.steps ≡ steps)
+    × AreModules plan ks
 
 -- a note that knows a module which is good
 abbrev pub IsGoodKept : KeptView → Type 0

@@ -17,4 +17,6 @@ AreRefusals plan rs = All (λ r. IsRefusal plan r.file r.index) rs
 
 -- so they do in the plan that files have for roots, a prelude and a number of steps
 abbrev pub AreRefusalsOf : List File → List ℕ → Option ℕ → ℕ → List Refused → Type 0
-AreRefusalsOf files roots prelude steps rs = (plan : Plan) × IsPlanOf files plan × (plan.roots ≡ roots) × (plan.prelude ≡ prelude) × (plan.steps ≡ steps) × AreRefusals plan rs
+AreRefusalsOf files roots prelude steps rs =
+    (plan : Plan) × IsPlanOf files plan × (plan.roots ≡ roots) × (plan.prelude ≡ prelude) × (plan.steps ≡ steps)
+    × AreRefusals plan rs

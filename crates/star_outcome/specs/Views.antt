@@ -33,7 +33,8 @@ pub record AreStores (plan : Plan) (n : ℕ) (rs : List ReachView) : Type 0 wher
   pub own : All (λ r. LeadsTo (Loads (loaded plan)) n r.number × IsOwn plan r.number r.store) rs
   pub all : (k : ℕ) → LeadsTo (Loads (loaded plan)) n k → Contains (map (λ r. r.number) rs) k
 
--- what is left of the file n, whose outcome is a run that went well: the texts of its globals, its lines, and the stores
+-- what is left of the file n, whose outcome is a run that went well: the texts of its globals, its lines, and the
+-- stores
 pub record IsBody (plan : Plan) (n : ℕ) (b : Body) : Type 0 where
   pub shelf : Shelf
   pub globals : List (List ℕ × Value)
@@ -43,8 +44,11 @@ pub record IsBody (plan : Plan) (n : ℕ) (b : Body) : Type 0 where
 -- the file n ended so: with its outcome
 abbrev pub IsEnd : Plan → ℕ → Ended → Type 0
 IsEnd plan n (Static f) = IsOutcome plan n (StaticOutcome (fault_of f))
-IsEnd plan n (Unloaded index line) = IsOutcome plan n (UnloadedOutcome index) × ((l : Load) × (slice_get (loads_of plan n) index ≡ Some l) × (l.line ≡ line))
-IsEnd plan n (Stopped code line lines) = IsOutcome plan n (Ran (HadFault (record { code = code; line = line }) lines.items))
+IsEnd plan n (Unloaded index line) =
+    IsOutcome plan n (UnloadedOutcome index) × ((l : Load) × (slice_get (loads_of plan n) index ≡ Some l)
+    × (l.line ≡ line))
+IsEnd plan n (Stopped code line lines) =
+    IsOutcome plan n (Ran (HadFault (record { code = code; line = line }) lines.items))
 IsEnd plan n (Good body) = IsBody plan n body
 
 -- a module of the file n, with the files that it loads
@@ -60,7 +64,8 @@ IsGoodModule plan n m = IsModule plan n m × (ended_well m.ended ≡ true)
 -- the first so many loads of the file n are good, and these are their modules
 pub record AreGoodLoads (plan : Plan) (n told : ℕ) (ms : List Module) : Type 0 where
   pub count : length ms ≡ told
-  pub each : (i m : ℕ) → i < told → slice_get (loaded plan n) i ≡ Some m → (it : Module) × (slice_get ms i ≡ Some it) × IsGoodModule plan m it
+  pub each : (i m : ℕ) → i < told → slice_get (loaded plan n) i ≡ Some m → (it : Module) × (slice_get ms i ≡ Some it)
+      × IsGoodModule plan m it
 
 -- the load at this place of the file n leads to a file with this module
 abbrev pub IsModuleAt : Plan → ℕ → ℕ → Module → Type 0

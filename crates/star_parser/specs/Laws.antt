@@ -8,4 +8,6 @@ use Rattle.star_parser.specs.Sources.{Parses}
 
 -- The law: a text has one answer, want of memory aside.
 abbrev pub OneAnswer : Type 0
-OneAnswer = (text : Text) (r t : Result Tree SyntaxFault) → (r ≡ Err Memory → ⊥) → (t ≡ Err Memory → ⊥) → Parses text r → Parses text t → r ≡ t
+OneAnswer =
+    (text : Text) (r t : Result Tree SyntaxFault) → (r ≡ Err Memory → ⊥) → (t ≡ Err Memory → ⊥) → Parses text r
+    → Parses text t → r ≡ t

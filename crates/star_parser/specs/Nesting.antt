@@ -97,11 +97,14 @@ abbrev pub after_token : Effect → State → State
 after_token e.Nothing n = n
 after_token e.Adds n = record { weight = n.weight + 1; remembered = n.remembered; indents = n.indents }
 -- an opening bracket adds 1 and remembers the new weight
-after_token e.Opens n = record { weight = n.weight + 1; remembered = (n.weight + 1) ∷ n.remembered; indents = n.indents }
+after_token e.Opens n =
+    record { weight = n.weight + 1; remembered = (n.weight + 1) ∷ n.remembered; indents = n.indents }
 -- a closing bracket gives back what the innermost open one remembers, which is forgotten
-after_token e.Closes n = record { weight = innermost n.weight n.remembered; remembered = outer n.remembered; indents = n.indents }
+after_token e.Closes n =
+    record { weight = innermost n.weight n.remembered; remembered = outer n.remembered; indents = n.indents }
 -- so does a comma inside brackets, which forgets nothing
-after_token e.Comma n = record { weight = innermost n.weight n.remembered; remembered = n.remembered; indents = n.indents }
+after_token e.Comma n =
+    record { weight = innermost n.weight n.remembered; remembered = n.remembered; indents = n.indents }
 -- `lambda` adds 1, also to what the innermost open bracket remembers
 after_token e.Lambda n = record { weight = n.weight + 1; remembered = raised n.remembered; indents = n.indents }
 -- where a statement begins the weight is the number of open indentations

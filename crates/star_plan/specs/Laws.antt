@@ -25,7 +25,8 @@ use Rattle.star_plan.specs.Text.{IsReportText}
 
 -- a file on a cycle of loads is good at no depth, nor is the next file on it
 abbrev pub NoCycleIsGood : Type 0
-NoCycleIsGood = (plan : Plan) (d n m : ℕ) → IsOnCycle (Loads (loaded plan)) n m → (IsGoodAt plan d n → ⊥) × (IsGoodAt plan d m → ⊥)
+NoCycleIsGood =
+    (plan : Plan) (d n m : ℕ) → IsOnCycle (Loads (loaded plan)) n m → (IsGoodAt plan d n → ⊥) × (IsGoodAt plan d m → ⊥)
 
 -- a result stays at every greater depth
 abbrev pub ResultsStay : Type 0
@@ -45,7 +46,8 @@ OutcomesTell = (plan : Plan) (n : ℕ) (o : Outcome) → IsOutcome plan n o → 
 
 -- the reached files are those to which the roots lead by loads
 abbrev pub ReachedByWalks : Type 0
-ReachedByWalks = (plan : Plan) (n : ℕ) → IsReached plan n ↔ ((r : ℕ) × Contains plan.roots r × LeadsTo (Loads (loaded plan)) r n)
+ReachedByWalks =
+    (plan : Plan) (n : ℕ) → IsReached plan n ↔ ((r : ℕ) × Contains plan.roots r × LeadsTo (Loads (loaded plan)) r n)
 
 -- the reached files stand in each set that has the roots and all that its members load
 abbrev pub ReachedIsLeast : Type 0
@@ -64,7 +66,8 @@ FaultIsCause = (plan : Plan) (n : ℕ) → HasFault plan n → IsCause plan n (C
 
 -- so is a cycle, for the file from which it is listed
 abbrev pub CycleIsCause : Type 0
-CycleIsCause = (plan : Plan) (n : ℕ) (ns : List ℕ) → Lead plan n (n ∷ ns) n → AllDiffer (n ∷ ns) → IsCause plan n (Cycle (n ∷ ns))
+CycleIsCause =
+    (plan : Plan) (n : ℕ) (ns : List ℕ) → Lead plan n (n ∷ ns) n → AllDiffer (n ∷ ns) → IsCause plan n (Cycle (n ∷ ns))
 
 -- a file has the cause of the file by which it fails, unless it lies on that cycle itself
 abbrev pub CausesFollow : Type 0
@@ -74,44 +77,62 @@ CausesFollow = (plan : Plan) (n k : ℕ) → FailsBy plan n k
 
 -- the next file on a cycle has the cycle turned by one
 abbrev pub CyclesTurn : Type 0
-CyclesTurn = (plan : Plan) (n k : ℕ) (ns : List ℕ) → FailsBy plan n k → IsCause plan n (Cycle (n ∷ ns)) → IsCause plan k (Cycle (ns ++ n ∷ []))
+CyclesTurn =
+    (plan : Plan) (n k : ℕ) (ns : List ℕ) → FailsBy plan n k → IsCause plan n (Cycle (n ∷ ns))
+    → IsCause plan k (Cycle (ns ++ n ∷ []))
 
 -- a plan has at most one report
 abbrev pub OneReport : Type 0
-OneReport = (plan : Plan) (b c : ℕ) (ms ks : List Module) → IsReport plan b ms → IsReport plan c ks → (b ≡ c) × (ms ≡ ks)
+OneReport =
+    (plan : Plan) (b c : ℕ) (ms ks : List Module) → IsReport plan b ms → IsReport plan c ks → (b ≡ c) × (ms ≡ ks)
 
 -- each reached file of a plan of files has an outcome
 abbrev pub EachHasOutcome : Type 0
-EachHasOutcome = (files : List File) (plan : Plan) → IsPlanOf files plan → (n : ℕ) → IsReached plan n → (o : Outcome) × IsOutcome plan n o
+EachHasOutcome =
+    (files : List File) (plan : Plan) → IsPlanOf files plan → (n : ℕ) → IsReached plan n → (o : Outcome)
+    × IsOutcome plan n o
 
 -- each plan of files has a report
 abbrev pub EachHasReport : Type 0
-EachHasReport = (files : List File) (plan : Plan) → IsPlanOf files plan → (begun : ℕ) × (modules : List Module) × IsReport plan begun modules
+EachHasReport =
+    (files : List File) (plan : Plan) → IsPlanOf files plan → (begun : ℕ) × (modules : List Module)
+    × IsReport plan begun modules
 
 -- files with their roots, their prelude and the steps have at most one text that is their report
 abbrev pub OneText : Type 0
-OneText = (files : List File) → IsOrdered files → (p q : Plan) → IsPlanOf files p → IsPlanOf files q → p.roots ≡ q.roots → p.prelude ≡ q.prelude → p.steps ≡ q.steps
+OneText =
+    (files : List File) → IsOrdered files → (p q : Plan) → IsPlanOf files p → IsPlanOf files q → p.roots ≡ q.roots
+    → p.prelude ≡ q.prelude → p.steps ≡ q.steps
     → (a b : List ℕ) → IsReportText files p a → IsReportText files q b → a ≡ b
 
 -- readings of all roots and of all loads of files that were read, and of reached files alone, make a plan
 abbrev pub ReadingsMakePlans : Type 0
-ReadingsMakePlans = (files : List File) (plan : Plan) (prelude : Option Prelude) → IsPrelude files plan.prelude prelude → length plan.reads ≡ length files
+ReadingsMakePlans =
+    (files : List File) (plan : Plan) (prelude : Option Prelude) → IsPrelude files plan.prelude prelude
+    → length plan.reads ≡ length files
     → ((n : ℕ) (r : Reading) → read_of plan n ≡ Some r → IsRead files prelude n r × IsReached plan n)
     → ((n : ℕ) → Contains plan.roots n → (r : Reading) × (read_of plan n ≡ Some r))
-    → ((n m : ℕ) (r : Reading) → read_of plan n ≡ Some r → Loads (loaded plan) n m → (q : Reading) × (read_of plan m ≡ Some q))
+    → ((n m : ℕ) (r : Reading) → read_of plan n ≡ Some r → Loads (loaded plan) n m → (q : Reading)
+        × (read_of plan m ≡ Some q))
     → IsPlanOf files plan
 
 -- files have one plan for their roots, their prelude and the steps
 abbrev pub OnePlan : Type 0
-OnePlan = (files : List File) → IsOrdered files → (p q : Plan) → IsPlanOf files p → IsPlanOf files q → p.roots ≡ q.roots → p.prelude ≡ q.prelude → p.steps ≡ q.steps → p ≡ q
+OnePlan =
+    (files : List File) → IsOrdered files → (p q : Plan) → IsPlanOf files p → IsPlanOf files q → p.roots ≡ q.roots
+    → p.prelude ≡ q.prelude → p.steps ≡ q.steps → p ≡ q
 
 -- the outcome of a file without a static fault whose loads are good is the result of its run over theirs
 abbrev pub RunsOverLoads : Type 0
-RunsOverLoads = (plan : Plan) (n : ℕ) (ss : List Statement) (ms : List Local) → tree_in (read_of plan n) ≡ Some ss → AreGood plan (loaded plan n) ms → IsOutcome plan n (Ran (ran plan n ms))
+RunsOverLoads =
+    (plan : Plan) (n : ℕ) (ss : List Statement) (ms : List Local) → tree_in (read_of plan n) ≡ Some ss
+    → AreGood plan (loaded plan n) ms → IsOutcome plan n (Ran (ran plan n ms))
 
 -- each module on the shelf of a result is its file's own
 abbrev pub ShelvesHoldResults : Type 0
-ShelvesHoldResults = (plan : Plan) (d n : ℕ) (m : Local) → result plan d n ≡ Some m → (k : ℕ) (p : Published) → slice_get (reached m) k ≡ Some (Some p) → IsOwn plan k p
+ShelvesHoldResults =
+    (plan : Plan) (d n : ℕ) (m : Local) → result plan d n ≡ Some m → (k : ℕ) (p : Published) → slice_get (reached m) k
+    ≡ Some (Some p) → IsOwn plan k p
 
 -- a file has at most one module of its own
 abbrev pub OneModule : Type 0
@@ -122,41 +143,57 @@ abbrev pub GoodLoadsHavePrelude : Type 0
 GoodLoadsHavePrelude = (files : List File) (plan : Plan) (n : ℕ) (ss : List Statement) (ms : List Local)
     → IsPlanOf files plan → tree_in (read_of plan n) ≡ Some ss → AreGood plan (loaded plan n) ms → PreludeIsSound plan
 
--- where the prelude has no static fault, the tables that the programs of a plan give are right for each file in every run
+-- where the prelude has no static fault, the tables that the programs of a plan give are right for each file in every
+-- run
 abbrev pub PlansPlaceNames : Type 0
-PlansPlaceNames = (files : List File) (plan : Plan) (placed : Files) → IsPlanOf files plan → ArePlaced files plan placed → PreludeIsSound plan
-    → (n : ℕ) (ms : List Local) (file : ℕ) (ss : List Statement) → Stands (trees plan) file ss → IsResolved (tables_of placed) (given plan n ms) file ss
+PlansPlaceNames =
+    (files : List File) (plan : Plan) (placed : Files) → IsPlanOf files plan → ArePlaced files plan placed
+    → PreludeIsSound plan
+    → (n : ℕ) (ms : List Local) (file : ℕ) (ss : List Statement) → Stands (trees plan) file ss
+        → IsResolved (tables_of placed) (given plan n ms) file ss
 
--- where all loads of a file are good, each function that its run sees before it begins is one of its own file's definitions, in frames that fit the blocks around it
+-- where all loads of a file are good, each function that its run sees before it begins is one of its own file's
+-- definitions, in frames that fit the blocks around it
 abbrev pub PlansFit : Type 0
 PlansFit = (files : List File) (plan : Plan) (placed : Files) → IsPlanOf files plan → ArePlaced files plan placed
-    → (n : ℕ) (ss : List Statement) (ms : List Local) → tree_in (read_of plan n) ≡ Some ss → AreGood plan (loaded plan n) ms
+    → (n : ℕ) (ss : List Statement) (ms : List Local) → tree_in (read_of plan n) ≡ Some ss
+        → AreGood plan (loaded plan n) ms
     → AllFit (trees plan) (given plan n ms) (start (given plan n ms) plan.steps)
 
--- a file without a static fault whose loads are good: its run by places, by the programs of the plan, is its run by names, and gives its outcome
+-- a file without a static fault whose loads are good: its run by places, by the programs of the plan, is its run by
+-- names, and gives its outcome
 abbrev pub PlansRunByPlaces : Type 0
-PlansRunByPlaces = (files : List File) (plan : Plan) (placed : Files) → IsPlanOf files plan → ArePlaced files plan placed
-    → (n : ℕ) (ss : List Statement) (ms : List Local) → tree_in (read_of plan n) ≡ Some ss → AreGood plan (loaded plan n) ms
+PlansRunByPlaces =
+    (files : List File) (plan : Plan) (placed : Files) → IsPlanOf files plan → ArePlaced files plan placed
+    → (n : ℕ) (ss : List Statement) (ms : List Local) → tree_in (read_of plan n) ≡ Some ss
+        → AreGood plan (loaded plan n) ms
     → (run_by_places placed plan n ss ms ≡ run_by_names plan n ss ms)
     × (local_of (given plan n ms) (run_by_places placed plan n ss ms) ≡ ran plan n ms)
     × IsOutcome plan n (Ran (local_of (given plan n ms) (run_by_places placed plan n ss ms)))
 
 -- files that are good have good outcomes
 abbrev pub GoodFilesHaveOutcomes : Type 0
-GoodFilesHaveOutcomes = (plan : Plan) (ns : List ℕ) → ((i n : ℕ) → slice_get ns i ≡ Some n → IsGood plan n) → (ms : List Local) × AreGood plan ns ms
+GoodFilesHaveOutcomes =
+    (plan : Plan) (ns : List ℕ) → ((i n : ℕ) → slice_get ns i ≡ Some n → IsGood plan n) → (ms : List Local)
+    × AreGood plan ns ms
 
 -- a file needs its loads and all that these need
 abbrev pub NeedsOfLoads : Type 0
-NeedsOfLoads = (plan : Plan) (n k : ℕ) → Needs plan n k ↔ ((m : ℕ) × Loads (loaded plan) n m × ((m ≡ k) ⊎ Needs plan m k))
+NeedsOfLoads =
+    (plan : Plan) (n k : ℕ) → Needs plan n k ↔ ((m : ℕ) × Loads (loaded plan) n m × ((m ≡ k) ⊎ Needs plan m k))
 
--- the shelf that a run is given over good outcomes has the own modules of all files that the running file needs, and nothing else; its own is not among them
+-- the shelf that a run is given over good outcomes has the own modules of all files that the running file needs, and
+-- nothing else; its own is not among them
 abbrev pub GivenHoldsNeeds : Type 0
 GivenHoldsNeeds = (plan : Plan) (n : ℕ) (ms : List Local) → AreGood plan (loaded plan n) ms
-    → HoldsNeeds plan n (given plan n ms).shelf × ((p : Published) → slice_get (given plan n ms).shelf n ≡ Some (Some p) → ⊥)
+    → HoldsNeeds plan n (given plan n ms).shelf × ((p : Published) → slice_get (given plan n ms).shelf n ≡ Some (Some p)
+        → ⊥)
 
 -- and whatever shelf has these alone, with no place beyond the last, is that shelf
 abbrev pub OneShelf : Type 0
-OneShelf = (plan : Plan) (n : ℕ) (ms : List Local) → AreGood plan (loaded plan n) ms → (shelf : Shelf) → IsTight shelf → HoldsNeeds plan n shelf → shelf ≡ (given plan n ms).shelf
+OneShelf =
+    (plan : Plan) (n : ℕ) (ms : List Local) → AreGood plan (loaded plan n) ms → (shelf : Shelf) → IsTight shelf
+    → HoldsNeeds plan n shelf → shelf ≡ (given plan n ms).shelf
 
 -- a shelf with no place beyond its last module stays so when a module is put up
 abbrev pub PutsStayTight : Type 0
@@ -164,21 +201,27 @@ PutsStayTight = (shelf : Shelf) (home : ℕ) (p : Published) → IsTight shelf �
 
 -- the module that a good run puts up at its file's place is the file's own
 abbrev pub RunsLeaveOwn : Type 0
-RunsLeaveOwn = (plan : Plan) (n : ℕ) (ss : List Statement) (ms : List Local) → tree_in (read_of plan n) ≡ Some ss → AreGood plan (loaded plan n) ms
+RunsLeaveOwn =
+    (plan : Plan) (n : ℕ) (ss : List Statement) (ms : List Local) → tree_in (read_of plan n) ≡ Some ss
+    → AreGood plan (loaded plan n) ms
     → (p : Published) (globals : List (List ℕ × Value)) (texts : List (List ℕ × List ℕ)) (lines : List (List ℕ))
     → ran plan n ms ≡ Good (put_up n p (given plan n ms).shelf) globals texts lines → IsOwn plan n p
 
--- a file without a static fault whose loads are good: its statements stand among those of the programs, the programs are right for its run, the functions that it sees fit, and its local meaning is its outcome
+-- a file without a static fault whose loads are good: its statements stand among those of the programs, the programs
+-- are right for its run, the functions that it sees fit, and its local meaning is its outcome
 abbrev pub PlansAreReady : Type 0
 PlansAreReady = (files : List File) (plan : Plan) (placed : Files) → IsPlanOf files plan → ArePlaced files plan placed
-    → (n : ℕ) (ss : List Statement) (ms : List Local) → tree_in (read_of plan n) ≡ Some ss → AreGood plan (loaded plan n) ms
+    → (n : ℕ) (ss : List Statement) (ms : List Local) → tree_in (read_of plan n) ≡ Some ss
+        → AreGood plan (loaded plan n) ms
     → Stands (trees_of placed) n ss
     × ArePrograms placed (given plan n ms).prelude
     × AllFit (trees_of placed) (given plan n ms) (start (given plan n ms) plan.steps)
     × IsOutcome plan n (Ran (local (given plan n ms) plan.steps ss))
 
--- a file without a static fault whose loads are good may run over each shelf that holds the own modules of the files that it needs, and no others
+-- a file without a static fault whose loads are good may run over each shelf that holds the own modules of the files
+-- that it needs, and no others
 abbrev pub FilesMayRun : Type 0
 FilesMayRun = (files : List File) (plan : Plan) (placed : Files) → IsPlanOf files plan → ArePlaced files plan placed
     → (n : ℕ) (ss : List Statement) (shelf : Shelf) → tree_in (read_of plan n) ≡ Some ss
-    → ((i m : ℕ) → slice_get (loaded plan n) i ≡ Some m → IsGood plan m) → IsTight shelf → HoldsNeeds plan n shelf → MayRun plan placed n ss shelf
+    → ((i m : ℕ) → slice_get (loaded plan n) i ≡ Some m → IsGood plan m) → IsTight shelf → HoldsNeeds plan n shelf
+        → MayRun plan placed n ss shelf

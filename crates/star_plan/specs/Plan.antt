@@ -17,7 +17,8 @@ pub data Reading : Type 0 where
   Sound : List Statement → List Load → Reading
   Faulty : StaticFault → Reading
 
--- what is to be loaded: the roots, the prelude's file, the steps that each file has, and what was read, by the files' numbers; nothing of a file that is not reached
+-- what is to be loaded: the roots, the prelude's file, the steps that each file has, and what was read, by the files'
+-- numbers; nothing of a file that is not reached
 pub record Plan : Type 0 where
   pub roots : List ℕ
   pub prelude : Option ℕ

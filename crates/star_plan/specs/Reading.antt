@@ -21,14 +21,19 @@ statements_in (Err e) = None
 -- the prelude with the names of its block
 abbrev pub IsPrelude : List File → Option ℕ → Option Prelude → Type 0
 IsPrelude files None p = p ≡ None
-IsPrelude files (Some n) p = (answer : Result Tree SyntaxFault) × Parses (text_at files n) answer × (answer ≢ Err syntax_fault.Memory)
+IsPrelude files (Some n) p =
+    (answer : Result Tree SyntaxFault) × Parses (text_at files n) answer × (answer ≢ Err syntax_fault.Memory)
     × (p ≡ Some (record { file = n; names = prelude_names (statements_in answer) }))
 
 -- this is read of the file n, which sees this prelude or is it; want of memory is no reading
 abbrev pub IsRead : List File → Option Prelude → ℕ → Reading → Type 0
 IsRead files prelude n (Faulty (OfText e)) = Parses (text_at files n) (Err e) × (e ≢ syntax_fault.Memory)
-IsRead files prelude n (Faulty (OfNames e)) = (tree : Tree) × Parses (text_at files n) (Ok tree) × Resolves files n prelude tree.statements (Err e) × (e ≢ fault.Memory)
-IsRead files prelude n (Sound ss loads) = (tree : Tree) × Parses (text_at files n) (Ok tree) × (tree.statements ≡ ss) × ((p : Program) × Resolves files n prelude ss (Ok p) × (p.loads.items ≡ loads))
+IsRead files prelude n (Faulty (OfNames e)) =
+    (tree : Tree) × Parses (text_at files n) (Ok tree) × Resolves files n prelude tree.statements (Err e)
+    × (e ≢ fault.Memory)
+IsRead files prelude n (Sound ss loads) =
+    (tree : Tree) × Parses (text_at files n) (Ok tree) × (tree.statements ≡ ss)
+    × ((p : Program) × Resolves files n prelude ss (Ok p) × (p.loads.items ≡ loads))
 
 -- a plan has what is read of these files: of all that are reached, and of no others
 pub record IsPlanOf (files : List File) (plan : Plan) : Type 0 where

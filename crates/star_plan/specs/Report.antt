@@ -12,7 +12,8 @@ use Rattle.star_plan.specs.Results.{IsOutcome, Static, Unloaded, Ran}
 use Rattle.star_plan.specs.Reached.{IsReached}
 use Rattle.star_plan.specs.Causes.{Cause, IsCause}
 
--- how a module ended, as it is reported: its globals with their texts and its lines, or its fault with its lines, or its static fault, or the cause and the line of its first load that is not good
+-- how a module ended, as it is reported: its globals with their texts and its lines, or its fault with its lines, or
+-- its static fault, or the cause and the line of its first load that is not good
 pub data Ended : Type 0 where
   WentWell : List (List ℕ × List ℕ) → List (List ℕ) → Ended
   HadFault : Fault → List (List ℕ) → Ended
@@ -20,10 +21,13 @@ pub data Ended : Type 0 where
   HadLoad : Cause → ℕ → Ended
 
 abbrev pub IsEnded : Plan → ℕ → Ended → Type 0
-IsEnded plan n (WentWell texts lines) = (shelf : Shelf) × (globals : List (List ℕ × Value)) × IsOutcome plan n (Ran (Good shelf globals texts lines))
+IsEnded plan n (WentWell texts lines) =
+    (shelf : Shelf) × (globals : List (List ℕ × Value)) × IsOutcome plan n (Ran (Good shelf globals texts lines))
 IsEnded plan n (HadFault f lines) = IsOutcome plan n (Ran (Stopped f lines))
 IsEnded plan n (HadStatic f) = IsOutcome plan n (Static f)
-IsEnded plan n (HadLoad cause line) = IsCause plan n cause × ((i : ℕ) × (l : Load) × IsOutcome plan n (Unloaded i) × (slice_get (loads_of plan n) i ≡ Some l) × (l.line ≡ line))
+IsEnded plan n (HadLoad cause line) =
+    IsCause plan n cause × ((i : ℕ) × (l : Load) × IsOutcome plan n (Unloaded i)
+    × (slice_get (loads_of plan n) i ≡ Some l) × (l.line ≡ line))
 
 -- a module of the report: its file, and how it ended
 pub record Module : Type 0 where

@@ -21,10 +21,13 @@ all_good (r ∷ rs) = option_and_then (λ m. option_map (λ ms. m ∷ ms) (all_g
 unfoldable pub ran : Plan → ℕ → List Local → Local
 ran plan n results = local_meaning n (trees plan) (load_files (loads_of plan n)) plan.prelude results plan.steps
 
--- the result of a file at a depth, where it has one: it has no static fault, all its loads are good at the depth below, and its body runs over them
+-- the result of a file at a depth, where it has one: it has no static fault, all its loads are good at the depth below,
+-- and its body runs over them
 unfoldable pub result : Plan → ℕ → ℕ → Option Local
 result plan zero n = None
-result plan (suc d) n = option_and_then (λ ss. option_map (ran plan n) (all_good (map (result plan d) (loaded plan n)))) (tree_in (read_of plan n))
+result plan (suc d) n =
+    option_and_then (λ ss. option_map (ran plan n) (all_good (map (result plan d) (loaded plan n))))
+    (tree_in (read_of plan n))
 
 -- a file is good at a depth
 abbrev pub IsGoodAt : Plan → ℕ → ℕ → Type 0

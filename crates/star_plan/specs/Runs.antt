@@ -23,12 +23,14 @@ use Rattle.star_plan.specs.Shelves.{IsOwn}
 abbrev pub PreludeIsSound : Plan → Type 0
 PreludeIsSound plan = (q : ℕ) → plan.prelude ≡ Some q → (ss : List Statement) × (tree_in (read_of plan q) ≡ Some ss)
 
--- a row of programs is that of a plan of these files: it has the statements that were read, and each program is what `resolve` answers for the file of its number, which sees the plan's prelude or is it
+-- a row of programs is that of a plan of these files: it has the statements that were read, and each program is what
+-- `resolve` answers for the file of its number, which sees the plan's prelude or is it
 pub record ArePlaced (files : List File) (plan : Plan) (placed : Files) : Type 0 where
   pub prelude : Option Prelude
   pub prelude_is : IsPrelude files plan.prelude prelude
   pub statements : trees_of placed ≡ trees plan
-  pub right : (n : ℕ) (f : PlacedFile) → file_in placed n ≡ Some f → (p : Program) × (placed_file p ≡ f) × Resolves files n prelude f.statements (Ok p)
+  pub right : (n : ℕ) (f : PlacedFile) → file_in placed n ≡ Some f → (p : Program) × (placed_file p ≡ f)
+      × Resolves files n prelude f.statements (Ok p)
 
 -- what the run of a file is given over the outcomes of its loads
 abbrev pub given : Plan → ℕ → List Local → Setting
@@ -36,7 +38,9 @@ given plan n outcomes = setting n (trees plan) (load_files (loads_of plan n)) pl
 
 -- the run of a file over the outcomes of its loads
 abbrev pub run_with : (Setting → Variables) → Plan → ℕ → List Statement → List Local → Outcome Ended
-run_with variables plan n ss outcomes = run_file (variables (given plan n outcomes)) (given plan n outcomes) most_levels ss (start (given plan n outcomes) plan.steps)
+run_with variables plan n ss outcomes =
+    run_file (variables (given plan n outcomes)) (given plan n outcomes) most_levels ss
+    (start (given plan n outcomes) plan.steps)
 
 -- .. where variables are by their names
 abbrev pub run_by_names : Plan → ℕ → List Statement → List Local → Outcome Ended
@@ -48,13 +52,19 @@ run_by_places placed = run_with (by_places (tables_of placed))
 
 -- what the run of a file is given over a shelf, by a row of programs
 abbrev pub given_over : Files → Plan → ℕ → Shelf → Setting
-given_over placed plan n shelf = record { home = n; outlines = outlines (trees_of placed); shelf = shelf; loads = load_files (loads_of plan n); prelude = plan.prelude }
+given_over placed plan n shelf =
+    record { home = n; outlines = outlines (trees_of placed); shelf = shelf; loads = load_files (loads_of plan n);
+    prelude = plan.prelude }
 
--- a file may run over a shelf: its statements stand among those of the programs, the programs are right for the run, the functions that it sees fit; then its local meaning is its outcome, and the module that a good run puts up is the file's own
+-- a file may run over a shelf: its statements stand among those of the programs, the programs are right for the run,
+-- the functions that it sees fit; then its local meaning is its outcome, and the module that a good run puts up is the
+-- file's own
 pub record MayRun (plan : Plan) (placed : Files) (n : ℕ) (ss : List Statement) (shelf : Shelf) : Type 0 where
   pub stands : Stands (trees_of placed) n ss
   pub programs : ArePrograms placed (given_over placed plan n shelf).prelude
-  pub functions : AllFit (trees_of placed) (given_over placed plan n shelf) (start (given_over placed plan n shelf) plan.steps)
+  pub functions : AllFit (trees_of placed) (given_over placed plan n shelf)
+      (start (given_over placed plan n shelf) plan.steps)
   pub outcome : IsOutcome plan n (Ran (local (given_over placed plan n shelf) plan.steps ss))
   pub own : (p : Published) (globals : List (List ℕ × Value)) (texts : List (List ℕ × List ℕ)) (lines : List (List ℕ))
-      → local (given_over placed plan n shelf) plan.steps ss ≡ Good (put_up n p shelf) globals texts lines → IsOwn plan n p
+      → local (given_over placed plan n shelf) plan.steps ss ≡ Good (put_up n p shelf) globals texts lines
+          → IsOwn plan n p

@@ -28,4 +28,5 @@ IsTight shelf = (k : ℕ) → length shelf ≡ k + 1 → (p : Published) × (sli
 
 -- a shelf has the own module of each file that a file needs, at that file's place, and nothing else
 abbrev pub HoldsNeeds : Plan → ℕ → Shelf → Type 0
-HoldsNeeds plan n shelf = (k : ℕ) (p : Published) → (slice_get shelf k ≡ Some (Some p)) ↔ (Needs plan n k × IsOwn plan k p)
+HoldsNeeds plan n shelf =
+    (k : ℕ) (p : Published) → (slice_get shelf k ≡ Some (Some p)) ↔ (Needs plan n k × IsOwn plan k p)

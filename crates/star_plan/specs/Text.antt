@@ -92,7 +92,8 @@ well_data label texts lines =
     object (member (codes "globals") (globals_data texts) (member (codes "label") (string label)
     (member (codes "lines") (texts_data lines) (member (codes "status") (string (codes "ok")) no_members))))
 
--- a module that did not: its fault or its cause first, then its label, the line, the lines printed before, and the status
+-- a module that did not: its fault or its cause first, then its label, the line, the lines printed before, and the
+-- status
 abbrev pub ill_data : List ℕ → Data → List ℕ → ℕ → List (List ℕ) → List ℕ → Data
 ill_data key fault label line lines status =
     object (member key fault (member (codes "label") (string label) (member (codes "line") (number (unsigned line))
@@ -100,20 +101,26 @@ ill_data key fault label line lines status =
 
 -- of a load that is not good: the label of its cause, or the labels of the cycle
 abbrev pub load_data : List File → List ℕ → Cause → ℕ → Data
-load_data files label (Culprit n) line = ill_data (codes "cause") (string (label_at files n)) label line [] (codes "load")
-load_data files label (Cycle ns) line = ill_data (codes "cycle") (texts_data (map (label_at files) ns)) label line [] (codes "load")
+load_data files label (Culprit n) line =
+    ill_data (codes "cause") (string (label_at files n)) label line [] (codes "load")
+load_data files label (Cycle ns) line =
+    ill_data (codes "cycle") (texts_data (map (label_at files) ns)) label line [] (codes "load")
 
 abbrev pub ended_data : List File → List ℕ → Ended → Data
 ended_data files label (WentWell texts lines) = well_data label texts lines
-ended_data files label (HadFault f lines) = ill_data (codes "fault") (string (code_word f.code)) label f.line lines (codes "fault")
-ended_data files label (HadStatic f) = ill_data (codes "fault") (string (static_word f)) label (static_line f) [] (codes "static")
+ended_data files label (HadFault f lines) =
+    ill_data (codes "fault") (string (code_word f.code)) label f.line lines (codes "fault")
+ended_data files label (HadStatic f) =
+    ill_data (codes "fault") (string (static_word f)) label (static_line f) [] (codes "static")
 ended_data files label (HadLoad cause line) = load_data files label cause line
 
 abbrev pub module_data : List File → Module → Data
 module_data files m = ended_data files (label_at files m.file) m.ended
 
 abbrev pub report_data : List File → ℕ → List Module → Data
-report_data files begun modules = object (member (codes "begun") (number (unsigned begun)) (member (codes "modules") (array (items_of (map (module_data files) modules))) no_members))
+report_data files begun modules =
+    object (member (codes "begun") (number (unsigned begun))
+    (member (codes "modules") (array (items_of (map (module_data files) modules))) no_members))
 
 -- the text of a report
 unfoldable pub report_text : List File → ℕ → List Module → List ℕ
@@ -121,4 +128,5 @@ report_text files begun modules = compact_text (report_data files begun modules)
 
 -- a text is the report of a plan
 abbrev pub IsReportText : List File → Plan → List ℕ → Type 0
-IsReportText files plan text = (begun : ℕ) × (modules : List Module) × IsReport plan begun modules × (text ≡ report_text files begun modules)
+IsReportText files plan text =
+    (begun : ℕ) × (modules : List Module) × IsReport plan begun modules × (text ≡ report_text files begun modules)

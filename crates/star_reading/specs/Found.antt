@@ -20,7 +20,8 @@ pub record IsClosed (row : Row) (roots : List ℕ) : Type 0 where
   pub starts : AreRead row roots
   pub loads : (n : ℕ) → All (λ l. IsSome (read_at row l.file)) (loads_at row n)
 
--- what was read, as a plan for roots; which files are reached does not depend on the steps, nor on the prelude but by what was read
+-- what was read, as a plan for roots; which files are reached does not depend on the steps, nor on the prelude but by
+-- what was read
 abbrev pub plan_by : List ℕ → Row → Plan
 plan_by roots row = record { roots = roots; prelude = None; steps = 0; reads = readings row }
 
@@ -32,15 +33,18 @@ abbrev pub IsMarked : List Bool → ℕ → Type 0
 IsMarked marks n = slice_index_or marks n false ≡ true
 
 -- some of these files are found as well, and wait to be read
-pub record Grew (ns : List ℕ) (marks : List Bool) (todo : List ℕ) (marks_after : List Bool) (todo_after : List ℕ) : Type 0 where
+pub record Grew (ns : List ℕ) (marks : List Bool) (todo : List ℕ) (marks_after : List Bool) (todo_after : List ℕ) : Type
+    0 where
   pub size : length marks_after ≡ length marks
   pub stay : (k : ℕ) → IsMarked marks k → IsMarked marks_after k
   pub fresh : (k : ℕ) → IsMarked marks_after k → IsMarked marks k ⊎ (Contains ns k × Contains todo_after k)
   pub waiting : (k : ℕ) → Contains todo k → Contains todo_after k
   pub found : All (IsMarked marks) todo → All (IsMarked marks_after) todo_after
 
--- of these files, what was found so far: the roots, and the loads of all that was read; all of it is reached, and is read or waits to be
-pub record AreFound (files : List File) (prelude : Option Prelude) (roots : List ℕ) (row : Row) (marks : List Bool) (todo : List ℕ) : Type 0 where
+-- of these files, what was found so far: the roots, and the loads of all that was read; all of it is reached, and is
+-- read or waits to be
+pub record AreFound (files : List File) (prelude : Option Prelude) (roots : List ℕ) (row : Row) (marks : List Bool)
+    (todo : List ℕ) : Type 0 where
   pub right : AreReadAs files prelude row
   pub sized : length row ≡ length files
   pub marked : length marks ≡ length files
@@ -60,4 +64,5 @@ pub record IsRowOf (files : List File) (prelude : Option Prelude) (roots : List 
 
 -- so it is where the files see this prelude or are it
 abbrev pub IsReadOf : List File → List ℕ → Option ℕ → Row → Type 0
-IsReadOf files roots prelude row = (block : Option Prelude) × IsPrelude files prelude block × IsRowOf files block roots row
+IsReadOf files roots prelude row =
+    (block : Option Prelude) × IsPrelude files prelude block × IsRowOf files block roots row

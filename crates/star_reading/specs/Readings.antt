@@ -55,7 +55,9 @@ IsFaultOf text f = (e : SyntaxFault) × Parses text (Err e) × (fault_of f ≡ O
 
 -- this is read of the file n: its program, by its text and the prelude that it sees; or its static fault
 abbrev pub IsReadAs : List File → Option Prelude → ℕ → Read → Type 0
-IsReadAs files prelude n (read.Program p) = (tree : Tree) × Parses (text_at files n) (Ok tree) × (p.statements.now ≡ tree.statements) × Resolves files n prelude tree.statements (Ok p)
+IsReadAs files prelude n (read.Program p) =
+    (tree : Tree) × Parses (text_at files n) (Ok tree) × (p.statements.now ≡ tree.statements)
+    × Resolves files n prelude tree.statements (Ok p)
 IsReadAs files prelude n (read.Fault f) = IsRead files prelude n (Faulty (fault_of f))
 
 -- a place of a row has nothing, or what is read of the file
@@ -65,7 +67,8 @@ IsPlaceOf files prelude n (Some r) = IsReadAs files prelude n r
 
 -- so is each of a row
 abbrev pub AreReadAs : List File → Option Prelude → Row → Type 0
-AreReadAs files prelude row = (n : ℕ) (d : Option Read) → n < length row → IsPlaceOf files prelude n (slice_index_or row n d)
+AreReadAs files prelude row =
+    (n : ℕ) (d : Option Read) → n < length row → IsPlaceOf files prelude n (slice_index_or row n d)
 
 -- so is each of these, by its number
 abbrev pub AreAllReadAs : List File → Option Prelude → List (ℕ × Read) → Type 0

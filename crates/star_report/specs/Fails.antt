@@ -14,7 +14,8 @@ AreBelow count nexts = (n m : ℕ) → Goes nexts n m → m < count
 -- each next file is the one by which its file fails, and those of the files of the first so many notes are there
 pub record AreFailsBelow (plan : Plan) (ks : List KeptView) (count : ℕ) (nexts : Nexts) : Type 0 where
   pub right : (n m : ℕ) → Goes nexts n m → FailsBy plan n m
-  pub all : (k : ℕ) (d : KeptView) → k < count → (m : ℕ) → FailsBy plan (slice_index_or ks k d).number m → Goes nexts (slice_index_or ks k d).number m
+  pub all : (k : ℕ) (d : KeptView) → k < count → (m : ℕ) → FailsBy plan (slice_index_or ks k d).number m
+      → Goes nexts (slice_index_or ks k d).number m
 
 -- in each plan whose modules these notes know, these are the files by which files fail
 abbrev pub AreFails : List KeptView → Nexts → Type 0

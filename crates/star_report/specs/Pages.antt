@@ -11,7 +11,8 @@ use Rattle.star_report.specs.declared.pages.Page.{Page}
 
 -- a text is that of a value which shows a module
 abbrev pub IsTextOf : List File → Nexts → Module → List ℕ → Type 0
-IsTextOf files nexts m text = (v : Value) × IsShown files nexts m.number m.ended v × (has_float (view v) ≡ false → text ≡ compact_text (view v))
+IsTextOf files nexts m text =
+    (v : Value) × IsShown files nexts m.number m.ended v × (has_float (view v) ≡ false → text ≡ compact_text (view v))
 
 -- the module that a page is about, as what a note of it knows
 abbrev pub known_of : Page → Option Module
@@ -24,7 +25,8 @@ pub record IsWritten (files : List File) (nexts : Nexts) (old new : Page) : Type
 
 -- each page of a row was written
 abbrev pub AreWritten : List File → Nexts → List Page → List Page → Type 0
-AreWritten files nexts old new = (i : ℕ) (d : Page) → i < length old → IsWritten files nexts (slice_index_or old i d) (slice_index_or new i d)
+AreWritten files nexts old new =
+    (i : ℕ) (d : Page) → i < length old → IsWritten files nexts (slice_index_or old i d) (slice_index_or new i d)
 
 abbrev pub text_in : {Z : Type 0} → Option (String Z) → List ℕ
 text_in None = []
@@ -40,4 +42,5 @@ listed later (t ∷ ts) = comma_if later ++ (t ++ listed true ts)
 
 -- the text of a report, by the texts of its modules
 abbrev pub joined_text : ℕ → List (List ℕ) → List ℕ
-joined_text begun texts = codes "{\"begun\":" ++ (decimal begun ++ (codes ",\"modules\":[" ++ (listed false texts ++ codes "]}\n")))
+joined_text begun texts =
+    codes "{\"begun\":" ++ (decimal begun ++ (codes ",\"modules\":[" ++ (listed false texts ++ codes "]}\n")))

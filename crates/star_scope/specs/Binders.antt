@@ -24,7 +24,8 @@ binds b name number = noted_at b.numbers.items (get_by (λ k. slice_cmp nat_cmp 
 
 -- each block that has a name is noted for it
 abbrev pub Covers : List Block → Binders → Type 0
-Covers blocks b = (name : List ℕ) (number slot : ℕ) → slot_of name (names_in blocks number) ≡ Some slot → binds b name number ≡ true
+Covers blocks b =
+    (name : List ℕ) (number slot : ℕ) → slot_of name (names_in blocks number) ≡ Some slot → binds b name number ≡ true
 
 abbrev pub is_binder : Option (Bor (BTreeSet ℕ)) → ℕ → Bool
 is_binder None number = false
@@ -32,4 +33,5 @@ is_binder (Some numbers) number = contains_by (nat_cmp number) numbers.now
 
 -- each block that has this name is among these
 abbrev pub AreBinders : List Block → List ℕ → Option (Bor (BTreeSet ℕ)) → Type 0
-AreBinders blocks name numbers = (number slot : ℕ) → slot_of name (names_in blocks number) ≡ Some slot → is_binder numbers number ≡ true
+AreBinders blocks name numbers =
+    (number slot : ℕ) → slot_of name (names_in blocks number) ≡ Some slot → is_binder numbers number ≡ true

@@ -28,7 +28,9 @@ behind earlier (b ∷ bs) = behind (b ∷ earlier) bs
 
 -- what is known of earlier bindings becomes what is known of these too, and the first of their conflicts is found
 abbrev pub Binds : List Binding → Bound → Bound → Type 0
-Binds bs old new = (earlier : List Binding) → Knows old earlier → Knows new (behind earlier bs) × (new.found ≡ first_from old.found (conflicts earlier bs))
+Binds bs old new =
+    (earlier : List Binding) → Knows old earlier → Knows new (behind earlier bs)
+    × (new.found ≡ first_from old.found (conflicts earlier bs))
 
 abbrev pub binding : Name → Bool → Binding
 binding n alone = record { text = n.text; position = n.position; alone = alone }

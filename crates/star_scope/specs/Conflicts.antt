@@ -88,7 +88,9 @@ target_step (tree.Target-F.Target::Tuple ts) = all_of ts
 target_step (tree.Target-F.Target::List ts) = all_of ts
 
 abbrev pub target_bindings : Target → Bindings
-target_bindings = folds.fold-Target Bindings Bindings Bindings Bindings Bindings Bindings Bindings nothing nothing nothing nothing target_step nothing nothing
+target_bindings =
+    folds.fold-Target Bindings Bindings Bindings Bindings Bindings Bindings Bindings nothing nothing nothing nothing
+    target_step nothing nothing
 
 abbrev pub targets_bindings : List Target → Bindings
 targets_bindings ts = all_of (map target_bindings ts)

@@ -19,8 +19,11 @@ use Rattle.star_scope.specs.Faults.{at, first_from}
 
 -- in the package `here`, a module string is the label of the file n, or the label of no file, or no label
 abbrev pub LeadsTo : List File → List ℕ → List ℕ → Lead → Type 0
-LeadsTo files here text (lead.File n) = (p : List ℕ) × (m : List ℕ) × Reads here text p m × (n < length files) × (label_at files n ≡ label_text p m)
-LeadsTo files here text lead.NoFile = (p : List ℕ) × (m : List ℕ) × Reads here text p m × ((n : ℕ) → n < length files → label_at files n ≡ label_text p m → ⊥)
+LeadsTo files here text (lead.File n) =
+    (p : List ℕ) × (m : List ℕ) × Reads here text p m × (n < length files) × (label_at files n ≡ label_text p m)
+LeadsTo files here text lead.NoFile =
+    (p : List ℕ) × (m : List ℕ) × Reads here text p m
+    × ((n : ℕ) → n < length files → label_at files n ≡ label_text p m → ⊥)
 LeadsTo files here text lead.BadLabel = (p m : List ℕ) → Reads here text p m → ⊥
 
 -- a load statement: where it stands, its module string, and the names that it loads
@@ -79,7 +82,8 @@ abbrev pub load_of : Read → List Load
 load_of r = load_at r.0.position r.1
 
 -- to the loads before come those of load statements; and what was found first, in these and before
-pub record Adds (files : List File) (here : List ℕ) (ws : List Written) (before after : List Load) (found more : Option Refusal) : Type 0 where
+pub record Adds (files : List File) (here : List ℕ) (ws : List Written) (before after : List Load)
+    (found more : Option Refusal) : Type 0 where
   pub reads : List Read
   pub are : AreRead files here ws reads
   pub loads : after ≡ before ++ flat_map load_of reads
@@ -92,4 +96,5 @@ prelude_loads (Some n) = record { file = n; line = 1; token = None } ∷ []
 
 -- the loads of the file n: the prelude's, then those of its statements; and the first fault of its load statements
 abbrev pub IsLoads : List File → ℕ → Option ℕ → List Statement → List Load → Option Refusal → Type 0
-IsLoads files n prelude ss loads found = Adds files (package_of (label_at files n)) (written ss) (prelude_loads prelude) loads None found
+IsLoads files n prelude ss loads found =
+    Adds files (package_of (label_at files n)) (written ss) (prelude_loads prelude) loads None found

@@ -18,7 +18,8 @@ use Rattle.star_tree.specs.declared.tree.Form.TheOpen as form
 use Rattle.star_tree.specs.declared.tree.Form.TheFolds as form_folds
 use Rattle.star_tree.specs.declared.tree.Position.{Position}
 use Rattle.star_tree.specs.declared.tree.LoadedName.{LoadedName}
--- a block with the names that are bound in it: the file's own has number 0, that of a definition or a comprehension one more than the number of the token at which it begins
+-- a block with the names that are bound in it: the file's own has number 0, that of a definition or a comprehension one
+-- more than the number of the token at which it begins
 pub use Rattle.star_scope.specs.declared.blocks.Block.{Block}
 pub use Rattle.star_scope.specs.Definitions.{Body, Statements, Answer, Definition, definition_in}
 -- definitions and blocks
@@ -51,7 +52,9 @@ target_step (tree.Target-F.Target::Tuple ts) = all_names ts
 target_step (tree.Target-F.Target::List ts) = all_names ts
 
 abbrev pub target_names : Target → Names
-target_names = folds.fold-Target Names Names Names Names Names Names Names no_names no_names no_names no_names target_step no_names no_names
+target_names =
+    folds.fold-Target Names Names Names Names Names Names Names no_names no_names no_names no_names target_step no_names
+    no_names
 
 abbrev pub targets_names : List Target → Names
 targets_names ts = all_names (map target_names ts)
@@ -84,7 +87,8 @@ parameter_names p = parameter_step (parameter p)
 abbrev pub all_parameter_names : List Parameter → Names
 all_parameter_names ps = all_names (map parameter_names ps)
 
--- the names that a statement binds in its block: a `def` binds its own name, and none of its body; a load binds in the file's block, wherever it stands
+-- the names that a statement binds in its block: a `def` binds its own name, and none of its body; a load binds in the
+-- file's block, wherever it stands
 abbrev pub local_name : LoadedName → List ℕ
 local_name n = n.local.text
 
@@ -186,16 +190,20 @@ body_names (Answer e) = []
 
 -- a definition, and the block of its frame: its parameters, then the names that its body binds
 unfoldable pub definition : ℕ → List Parameter → Body → Found
-definition number ps body = record { definitions = record { number = number; parameters = ps; body = body } ∷ []; blocks = record { number = 1 + number; names = once (all_parameter_names ps ++ body_names body) } ∷ [] }
+definition number ps body =
+    record { definitions = record { number = number; parameters = ps; body = body }
+    ∷ []; blocks = record { number = 1 + number; names = once (all_parameter_names ps ++ body_names body) } ∷ [] }
 
 unfoldable pub comprehension : ℕ → Clauses → Found
-comprehension number cs = record { definitions = []; blocks = record { number = 1 + number; names = once (clauses_names cs) } ∷ [] }
+comprehension number cs =
+    record { definitions = []; blocks = record { number = 1 + number; names = once (clauses_names cs) } ∷ [] }
 
 abbrev pub firsts : {A : Type 0} → List (A × Found) → List A
 firsts xs = map (λ x. x.0) xs
 
 -- the layers of expressions, with what is found in their parts
-abbrev pub expression_found : tree.Expression-F (Argument × Found) (Clause × Found) (Expression × Found) (Parameter × Found) (Target × Found) (Clauses × Found) (Entry × Found) → Found
+abbrev pub expression_found : tree.Expression-F (Argument × Found) (Clause × Found) (Expression × Found)
+    (Parameter × Found) (Target × Found) (Clauses × Found) (Entry × Found) → Found
 expression_found (tree.Expression-F.Expression::Name n) = nothing
 expression_found (tree.Int n) = nothing
 expression_found (tree.Text t) = nothing
@@ -216,53 +224,73 @@ expression_found (tree.Attribute e n) = e.1
 expression_found (tree.Expression-F.Expression::Index e i) = and e.1 i.1
 expression_found (tree.Slice e a b c) = and e.1 (and (in_maybe a) (and (in_maybe b) (in_maybe c)))
 
-abbrev pub argument_found : tree.Argument-F (Argument × Found) (Clause × Found) (Expression × Found) (Parameter × Found) (Target × Found) (Clauses × Found) (Entry × Found) → Found
+abbrev pub argument_found : tree.Argument-F (Argument × Found) (Clause × Found) (Expression × Found) (Parameter × Found)
+    (Target × Found) (Clauses × Found) (Entry × Found) → Found
 argument_found (tree.Positional e) = e.1
 argument_found (tree.Named n e) = e.1
 argument_found (tree.Argument-F.Argument::Star e) = e.1
 argument_found (tree.Argument-F.Argument::StarStar e) = e.1
 
-abbrev pub clause_found : tree.Clause-F (Argument × Found) (Clause × Found) (Expression × Found) (Parameter × Found) (Target × Found) (Clauses × Found) (Entry × Found) → Found
+abbrev pub clause_found : tree.Clause-F (Argument × Found) (Clause × Found) (Expression × Found) (Parameter × Found)
+    (Target × Found) (Clauses × Found) (Entry × Found) → Found
 clause_found (tree.For t e) = and t.1 e.1
 clause_found (tree.If e) = e.1
 
-abbrev pub parameter_found : tree.Parameter-F (Argument × Found) (Clause × Found) (Expression × Found) (Parameter × Found) (Target × Found) (Clauses × Found) (Entry × Found) → Found
+abbrev pub parameter_found : tree.Parameter-F (Argument × Found) (Clause × Found) (Expression × Found)
+    (Parameter × Found) (Target × Found) (Clauses × Found) (Entry × Found) → Found
 parameter_found (tree.Default n e) = e.1
 parameter_found _ = nothing
 
-abbrev pub target_found : tree.Target-F (Argument × Found) (Clause × Found) (Expression × Found) (Parameter × Found) (Target × Found) (Clauses × Found) (Entry × Found) → Found
+abbrev pub target_found : tree.Target-F (Argument × Found) (Clause × Found) (Expression × Found) (Parameter × Found)
+    (Target × Found) (Clauses × Found) (Entry × Found) → Found
 target_found (tree.Target-F.Target::Name n) = nothing
 target_found (tree.Target-F.Target::Index e i) = and e.1 i.1
 target_found (tree.Target-F.Target::Tuple ts) = in_all ts
 target_found (tree.Target-F.Target::List ts) = in_all ts
 
-abbrev pub clauses_found : tree.Clauses-F (Argument × Found) (Clause × Found) (Expression × Found) (Parameter × Found) (Target × Found) (Clauses × Found) (Entry × Found) → Found
+abbrev pub clauses_found : tree.Clauses-F (Argument × Found) (Clause × Found) (Expression × Found) (Parameter × Found)
+    (Target × Found) (Clauses × Found) (Entry × Found) → Found
 clauses_found cs = and cs.target.1 (and cs.iterable.1 (in_all cs.more))
 
-abbrev pub entry_found : tree.Entry-F (Argument × Found) (Clause × Found) (Expression × Found) (Parameter × Found) (Target × Found) (Clauses × Found) (Entry × Found) → Found
+abbrev pub entry_found : tree.Entry-F (Argument × Found) (Clause × Found) (Expression × Found) (Parameter × Found)
+    (Target × Found) (Clauses × Found) (Entry × Found) → Found
 entry_found e = and e.key.1 e.value.1
 
 -- what is found in an expression, a target or a parameter
 abbrev pub in_expression : Expression → Found
-in_expression = folds.para-Expression Found Found Found Found Found Found Found argument_found clause_found expression_found parameter_found target_found clauses_found entry_found
+in_expression =
+    folds.para-Expression Found Found Found Found Found Found Found argument_found clause_found expression_found
+    parameter_found target_found clauses_found entry_found
 
 abbrev pub in_target : Target → Found
-in_target = folds.para-Target Found Found Found Found Found Found Found argument_found clause_found expression_found parameter_found target_found clauses_found entry_found
+in_target =
+    folds.para-Target Found Found Found Found Found Found Found argument_found clause_found expression_found
+    parameter_found target_found clauses_found entry_found
 
 abbrev pub in_parameter : Parameter → Found
-in_parameter = folds.para-Parameter Found Found Found Found Found Found Found argument_found clause_found expression_found parameter_found target_found clauses_found entry_found
+in_parameter =
+    folds.para-Parameter Found Found Found Found Found Found Found argument_found clause_found expression_found
+    parameter_found target_found clauses_found entry_found
 
 abbrev pub in_argument : Argument → Found
-in_argument = folds.para-Argument Found Found Found Found Found Found Found argument_found clause_found expression_found parameter_found target_found clauses_found entry_found
+in_argument =
+    folds.para-Argument Found Found Found Found Found Found Found argument_found clause_found expression_found
+    parameter_found target_found clauses_found entry_found
 
 abbrev pub in_clause : Clause → Found
-in_clause = folds.para-Clause Found Found Found Found Found Found Found argument_found clause_found expression_found parameter_found target_found clauses_found entry_found
+in_clause =
+    folds.para-Clause Found Found Found Found Found Found Found argument_found clause_found expression_found
+    parameter_found target_found clauses_found entry_found
 
 abbrev pub in_clauses : Clauses → Found
-in_clauses = folds.para-Clauses Found Found Found Found Found Found Found argument_found clause_found expression_found parameter_found target_found clauses_found entry_found
+in_clauses =
+    folds.para-Clauses Found Found Found Found Found Found Found argument_found clause_found expression_found
+    parameter_found target_found clauses_found entry_found
 
 abbrev pub in_entry : Entry → Found
-in_entry = folds.para-Entry Found Found Found Found Found Found Found argument_found clause_found expression_found parameter_found target_found clauses_found entry_found
+in_entry =
+    folds.para-Entry Found Found Found Found Found Found Found argument_found clause_found expression_found
+    parameter_found target_found clauses_found entry_found
 
 abbrev pub in_parameters : List Parameter → Found
 in_parameters ps = in_each in_parameter ps
@@ -320,4 +348,6 @@ loaded_by _ = []
 
 -- the outline of a file: its definitions, its own block and the others, and the names that it loads
 abbrev pub outline : List Statement → Outline
-outline ss = record { definitions = (in_statements ss).definitions; blocks = record { number = 0; names = file_names ss } ∷ (in_statements ss).blocks; loaded = flat_map (λ s. loaded_by (form_of s)) ss }
+outline ss =
+    record { definitions = (in_statements ss).definitions; blocks = record { number = 0; names = file_names ss }
+    ∷ (in_statements ss).blocks; loaded = flat_map (λ s. loaded_by (form_of s)) ss }

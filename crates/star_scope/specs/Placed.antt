@@ -13,14 +13,17 @@ use Rattle.star_scope.specs.Uses.{Use, Named, Defined}
 
 -- a use of a name stands in no more blocks than a chain may have, and where the name has a spot, its token has it
 abbrev pub HasSpot : Spots → List Block → Option Names → Use → Type 0
-HasSpot spots blocks prelude (Named n chain) = (length chain ≤ chain_length) × ((s : Spot) → spot_of blocks prelude n.text chain ≡ Some s → spots n.position.token ≡ Some s)
+HasSpot spots blocks prelude (Named n chain) =
+    (length chain ≤ chain_length) × ((s : Spot) → spot_of blocks prelude n.text chain ≡ Some s → spots n.position.token
+    ≡ Some s)
 HasSpot spots blocks prelude (Defined number chain) = Unit {0}
 
 abbrev pub AllHaveSpots : Spots → List Block → Option Names → List Use → Type 0
 AllHaveSpots spots blocks prelude [] = Unit {0}
 AllHaveSpots spots blocks prelude (u ∷ us) = HasSpot spots blocks prelude u × AllHaveSpots spots blocks prelude us
 
--- spots that are there stay; the uses have theirs; and the first undefined name is found, of these and what was found before
+-- spots that are there stay; the uses have theirs; and the first undefined name is found, of these and what was found
+-- before
 pub record Places (scope : Scope) (us : List Use) (old new : Placed) : Type 0 where
   pub kept : Keeps old.spots new.spots
   pub have : AllHaveSpots (spot_at new.spots) scope.blocks.now (names_outside scope.prelude) us

@@ -13,14 +13,18 @@ use Rattle.star_scope.specs.Names.{Names, has_name, same_name, slot_of}
 use Rattle.star_scope.specs.Outlines.{Block, names_in}
 use Rattle.star_scope.specs.Uses.{Use, Named, Defined}
 
--- the most blocks that stand in one another: the file's own; one for each of the 100 that the nesting weight lets stand in one
--- another; and one for a `def` on one line, which the `;` after it forgets
+-- the most blocks that stand in one another: the file's own; one for each of the 100 that the nesting weight lets stand
+-- in one another; and one for a `def` on one line, which the `;` after it forgets
 abbrev pub chain_length : ℕ
 chain_length = 102
 
 -- the names of the outermost block
 abbrev pub outermost_names : Names
-outermost_names = codes "None" ∷ codes "True" ∷ codes "False" ∷ codes "abs" ∷ codes "all" ∷ codes "any" ∷ codes "bool" ∷ codes "dict" ∷ codes "enumerate" ∷ codes "fail" ∷ codes "int" ∷ codes "len" ∷ codes "list" ∷ codes "max" ∷ codes "min" ∷ codes "print" ∷ codes "range" ∷ codes "repr" ∷ codes "reversed" ∷ codes "sorted" ∷ codes "str" ∷ codes "tuple" ∷ codes "type" ∷ codes "zip" ∷ []
+outermost_names =
+    codes "None" ∷ codes "True" ∷ codes "False" ∷ codes "abs" ∷ codes "all" ∷ codes "any" ∷ codes "bool" ∷ codes "dict"
+    ∷ codes "enumerate" ∷ codes "fail" ∷ codes "int" ∷ codes "len" ∷ codes "list" ∷ codes "max" ∷ codes "min"
+    ∷ codes "print" ∷ codes "range" ∷ codes "repr" ∷ codes "reversed" ∷ codes "sorted" ∷ codes "str" ∷ codes "tuple"
+    ∷ codes "type" ∷ codes "zip" ∷ []
 
 -- whether the prelude's block, whose names these are, has a name that other files see: one that is not private
 abbrev pub prelude_has : Option Names → List ℕ → Bool
@@ -29,16 +33,20 @@ prelude_has (Some names) name = not (is_private name) && has_name names name
 
 -- the spot of a name outside of the file: in the prelude, else in the outermost block
 abbrev pub outside_spot : Option Names → List ℕ → Option Spot
-outside_spot prelude name = if prelude_has prelude name then Some spot.Prelude else if has_name outermost_names name then Some spot.Outermost else None
+outside_spot prelude name =
+    if prelude_has prelude name then Some spot.Prelude else if has_name outermost_names name then Some spot.Outermost
+    else None
 
 abbrev pub or_further : ℕ → Option ℕ → Option Spot → Option Spot
 or_further up (Some slot) further = Some (spot.Frame up slot)
 or_further up None further = further
 
--- the spot of a name in a chain of blocks, the innermost first: in the first block that binds it, else outside of the file
+-- the spot of a name in a chain of blocks, the innermost first: in the first block that binds it, else outside of the
+-- file
 abbrev pub spot_in : List Block → Option Names → List ℕ → ℕ → List ℕ → Option Spot
 spot_in blocks prelude name up [] = outside_spot prelude name
-spot_in blocks prelude name up (b ∷ bs) = or_further up (slot_of name (names_in blocks b)) (spot_in blocks prelude name (up + 1) bs)
+spot_in blocks prelude name up (b ∷ bs) =
+    or_further up (slot_of name (names_in blocks b)) (spot_in blocks prelude name (up + 1) bs)
 
 abbrev pub spot_of : List Block → Option Names → List ℕ → List ℕ → Option Spot
 spot_of blocks prelude name chain = spot_in blocks prelude name 0 chain
@@ -61,7 +69,8 @@ Spots = ℕ → Option Spot
 
 -- a use of a name stands in no more blocks than a chain may have, and its token has its spot
 abbrev pub IsPlaced : Spots → List Block → Option Names → Use → Type 0
-IsPlaced spots blocks prelude (Named n chain) = (length chain ≤ chain_length) × (spots n.position.token ≡ spot_of blocks prelude n.text chain)
+IsPlaced spots blocks prelude (Named n chain) =
+    (length chain ≤ chain_length) × (spots n.position.token ≡ spot_of blocks prelude n.text chain)
 IsPlaced spots blocks prelude (Defined number chain) = Unit {0}
 
 abbrev pub AllPlaced : Spots → List Block → Option Names → List Use → Type 0
@@ -95,20 +104,29 @@ first_there None further = further
 -- the value of a name in the nearest row whose block binds it
 abbrev pub nearest : {V : Type 0} → List Block → List ℕ → List (Row V) → Option V
 nearest blocks name [] = None
-nearest blocks name (r ∷ rs) = first_there (value_beside name (names_in blocks r.block) r.values) (nearest blocks name rs)
+nearest blocks name (r ∷ rs) =
+    first_there (value_beside name (names_in blocks r.block) r.values) (nearest blocks name rs)
 
 -- the value that stands so many rows up, at this slot
 abbrev pub value_at : {V : Type 0} → ℕ → ℕ → List (Row V) → Option V
 value_at up slot rows = option_and_then (λ r. slice_get r.values slot) (slice_get rows up)
 
--- where the spot of a name leads in rows: to the value of the name in the nearest row that has it; outside of the rows only where no row has the name; to the outermost block only where the prelude has it neither; and a name without a spot is nowhere
-pub record Leads (V : Type 0) (blocks : List Block) (prelude : Option Names) (name : List ℕ) (rows : List (Row V)) (s : Option Spot) : Type 0 where
-  pub in_rows : (up slot : ℕ) → s ≡ Some (spot.Frame up slot) → (v : V) × (value_at up slot rows ≡ Some v) × (nearest blocks name rows ≡ Some v)
+-- where the spot of a name leads in rows: to the value of the name in the nearest row that has it; outside of the rows
+-- only where no row has the name; to the outermost block only where the prelude has it neither; and a name without a
+-- spot is nowhere
+pub record Leads (V : Type 0) (blocks : List Block) (prelude : Option Names) (name : List ℕ) (rows : List (Row V))
+    (s : Option Spot) : Type 0 where
+  pub in_rows : (up slot : ℕ) → s ≡ Some (spot.Frame up slot) → (v : V) × (value_at up slot rows ≡ Some v)
+      × (nearest blocks name rows ≡ Some v)
   pub in_prelude : s ≡ Some spot.Prelude → (nearest blocks name rows ≡ None) × (prelude_has prelude name ≡ true)
-  pub outermost : s ≡ Some spot.Outermost → (nearest blocks name rows ≡ None) × (prelude_has prelude name ≡ false) × (has_name outermost_names name ≡ true)
-  pub nowhere : s ≡ None → (nearest blocks name rows ≡ None) × (prelude_has prelude name ≡ false) × (has_name outermost_names name ≡ false)
+  pub outermost : s ≡ Some spot.Outermost → (nearest blocks name rows ≡ None) × (prelude_has prelude name ≡ false)
+      × (has_name outermost_names name ≡ true)
+  pub nowhere : s ≡ None → (nearest blocks name rows ≡ None) × (prelude_has prelude name ≡ false)
+      × (has_name outermost_names name ≡ false)
 
 -- the law of spots: they lead right in all rows that fit
 abbrev pub SpotsLead : Type 0 → Type 0
-SpotsLead V = (blocks : List Block) (prelude : Option Names) (name : List ℕ) (chain : List ℕ) (rows : List (Row V)) → FitRows blocks chain rows
+SpotsLead V =
+    (blocks : List Block) (prelude : Option Names) (name : List ℕ) (chain : List ℕ) (rows : List (Row V))
+    → FitRows blocks chain rows
     → Leads V blocks prelude name rows (spot_of blocks prelude name chain)

@@ -41,13 +41,17 @@ standing_in n (Some p) = if nat_eq p.file n then of_prelude else of_file
 abbrev pub repeated : List Definition → List Refusal
 repeated ds = flat_map (λ d. repeated_parameters d.parameters) ds
 
--- all static faults of a file, by how its statements stand, the names of the prelude that it sees, and its load statements, each beside what it leads to
+-- all static faults of a file, by how its statements stand, the names of the prelude that it sees, and its load
+-- statements, each beside what it leads to
 abbrev pub static_faults : Standing → Option Names → List Statement → List Read → List Refusal
 static_faults here outer ss reads =
-    in_statements ss here ++ (flat_map faults_of reads ++ (block_conflicts ss ++ (repeated (outline ss).definitions ++ undefined (outline ss).blocks outer (uses ss))))
+    in_statements ss here ++ (flat_map faults_of reads
+        ++ (block_conflicts ss ++ (repeated (outline ss).definitions ++ undefined (outline ss).blocks outer (uses ss))))
 
--- a program is that of a file: its loads are the prelude's and its statements', and it has the file's definitions, no two with one number, its blocks, the names that the file loads, and the spot of each name
-pub record IsProgram (n : ℕ) (prelude : Option Prelude) (ss : List Statement) (reads : List Read) (p : Program) : Type 0 where
+-- a program is that of a file: its loads are the prelude's and its statements', and it has the file's definitions, no
+-- two with one number, its blocks, the names that the file loads, and the spot of each name
+pub record IsProgram (n : ℕ) (prelude : Option Prelude) (ss : List Statement) (reads : List Read) (p : Program) : Type
+    0 where
   pub loads : p.loads.items ≡ prelude_loads (option_map (λ q. q.file) (seen_by n prelude)) ++ flat_map load_of reads
   pub statements : p.statements.now ≡ ss
   pub numbers : AllDiffer (map (λ d. d.number) p.definitions)
@@ -58,7 +62,8 @@ pub record IsProgram (n : ℕ) (prelude : Option Prelude) (ss : List Statement) 
 
 -- the static faults of a file that sees a prelude or is it
 abbrev pub faults_in : ℕ → Option Prelude → List Statement → List Read → List Refusal
-faults_in n prelude ss reads = static_faults (standing_in n prelude) (option_map (λ q. q.names) (seen_by n prelude)) ss reads
+faults_in n prelude ss reads =
+    static_faults (standing_in n prelude) (option_map (λ q. q.names) (seen_by n prelude)) ss reads
 
 -- these are the load statements of the file n, each beside what it leads to
 abbrev pub AreReadIn : List File → ℕ → List Statement → List Read → Type 0
@@ -66,5 +71,9 @@ AreReadIn files n ss reads = AreRead files (package_of (label_at files n)) (writ
 
 -- the answer on a file: its program where it has no static fault, else the first of them; or that memory was refused
 abbrev pub Resolves : List File → ℕ → Option Prelude → List Statement → Result Program ScopeFault → Type 0
-Resolves files n prelude ss (Ok p) = (reads : List Read) × AreReadIn files n ss reads × (first (faults_in n prelude ss reads) ≡ None) × IsProgram n prelude ss reads p
-Resolves files n prelude ss (Err e) = (e ≡ fault.Memory) ⊎ ((reads : List Read) × AreReadIn files n ss reads × ((r : Refusal) × (first (faults_in n prelude ss reads) ≡ Some r) × (e ≡ r.fault)))
+Resolves files n prelude ss (Ok p) =
+    (reads : List Read) × AreReadIn files n ss reads × (first (faults_in n prelude ss reads) ≡ None)
+    × IsProgram n prelude ss reads p
+Resolves files n prelude ss (Err e) =
+    (e ≡ fault.Memory) ⊎ ((reads : List Read) × AreReadIn files n ss reads
+    × ((r : Refusal) × (first (faults_in n prelude ss reads) ≡ Some r) × (e ≡ r.fault)))

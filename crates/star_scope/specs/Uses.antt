@@ -18,7 +18,8 @@ use Rattle.star_tree.specs.declared.tree.Argument.TheFolds as folds
 use Rattle.star_tree.specs.declared.tree.Form.TheOpen as form
 use Rattle.star_tree.specs.declared.tree.Form.TheFolds as form_folds
 
--- a name where it is read or bound, or a definition by its number, with the numbers of the blocks around it, the innermost first
+-- a name where it is read or bound, or a definition by its number, with the numbers of the blocks around it, the
+-- innermost first
 pub data Use : Type 0 where
   Named : Name → List ℕ → Use
   Defined : ℕ → List ℕ → Use
@@ -87,7 +88,8 @@ expression_uses (tree.Compare c a b) = also a b
 expression_uses (tree.And a b) = also a b
 expression_uses (tree.Or a b) = also a b
 expression_uses (tree.Conditional c a b) = also c (also a b)
-expression_uses (tree.Lambda at ps e) = also (defined at.token) (also (outer_of ps) (inside at.token (also (inner_of ps) e)))
+expression_uses (tree.Lambda at ps e) =
+    also (defined at.token) (also (outer_of ps) (inside at.token (also (inner_of ps) e)))
 expression_uses (tree.Call f es) = also f (each_use es)
 expression_uses (tree.Attribute e n) = e
 expression_uses (tree.Expression-F.Expression::Index e i) = also e i
@@ -123,25 +125,39 @@ abbrev pub entry_uses : tree.Entry-F Within Within Within ParameterUses Within C
 entry_uses e = also e.key e.value
 
 abbrev pub in_expression : Expression → Within
-in_expression = folds.fold-Expression Within Within Within ParameterUses Within ClauseUses Within argument_uses clause_uses expression_uses parameter_uses target_uses clauses_uses entry_uses
+in_expression =
+    folds.fold-Expression Within Within Within ParameterUses Within ClauseUses Within argument_uses clause_uses
+    expression_uses parameter_uses target_uses clauses_uses entry_uses
 
 abbrev pub in_target : Target → Within
-in_target = folds.fold-Target Within Within Within ParameterUses Within ClauseUses Within argument_uses clause_uses expression_uses parameter_uses target_uses clauses_uses entry_uses
+in_target =
+    folds.fold-Target Within Within Within ParameterUses Within ClauseUses Within argument_uses clause_uses
+    expression_uses parameter_uses target_uses clauses_uses entry_uses
 
 abbrev pub in_parameter : Parameter → ParameterUses
-in_parameter = folds.fold-Parameter Within Within Within ParameterUses Within ClauseUses Within argument_uses clause_uses expression_uses parameter_uses target_uses clauses_uses entry_uses
+in_parameter =
+    folds.fold-Parameter Within Within Within ParameterUses Within ClauseUses Within argument_uses clause_uses
+    expression_uses parameter_uses target_uses clauses_uses entry_uses
 
 abbrev pub in_argument : Argument → Within
-in_argument = folds.fold-Argument Within Within Within ParameterUses Within ClauseUses Within argument_uses clause_uses expression_uses parameter_uses target_uses clauses_uses entry_uses
+in_argument =
+    folds.fold-Argument Within Within Within ParameterUses Within ClauseUses Within argument_uses clause_uses
+    expression_uses parameter_uses target_uses clauses_uses entry_uses
 
 abbrev pub in_clause : Clause → Within
-in_clause = folds.fold-Clause Within Within Within ParameterUses Within ClauseUses Within argument_uses clause_uses expression_uses parameter_uses target_uses clauses_uses entry_uses
+in_clause =
+    folds.fold-Clause Within Within Within ParameterUses Within ClauseUses Within argument_uses clause_uses
+    expression_uses parameter_uses target_uses clauses_uses entry_uses
 
 abbrev pub in_clauses : Clauses → ClauseUses
-in_clauses = folds.fold-Clauses Within Within Within ParameterUses Within ClauseUses Within argument_uses clause_uses expression_uses parameter_uses target_uses clauses_uses entry_uses
+in_clauses =
+    folds.fold-Clauses Within Within Within ParameterUses Within ClauseUses Within argument_uses clause_uses
+    expression_uses parameter_uses target_uses clauses_uses entry_uses
 
 abbrev pub in_entry : Entry → Within
-in_entry = folds.fold-Entry Within Within Within ParameterUses Within ClauseUses Within argument_uses clause_uses expression_uses parameter_uses target_uses clauses_uses entry_uses
+in_entry =
+    folds.fold-Entry Within Within Within ParameterUses Within ClauseUses Within argument_uses clause_uses
+    expression_uses parameter_uses target_uses clauses_uses entry_uses
 
 abbrev pub in_parameters : List Parameter → List ParameterUses
 in_parameters [] = []
@@ -180,7 +196,9 @@ form_uses (form.Return e) token = in_returned e
 form_uses (form.Load l ns) token = loaded_uses ns
 form_uses (form.If cases otherwise) token = also (each_use cases) (each_use otherwise)
 form_uses (form.For t e body) token = also (in_expression e) (also (in_target t) (each_use body))
-form_uses (form.Def n ps body) token = also (defined token) (also (one_use n) (also (outer_of (in_parameters ps)) (inside token (also (inner_of (in_parameters ps)) (each_use body)))))
+form_uses (form.Def n ps body) token =
+    also (defined token) (also (one_use n) (also (outer_of (in_parameters ps))
+    (inside token (also (inner_of (in_parameters ps)) (each_use body)))))
 
 abbrev pub arm_uses : form.Arm-F OfForm Within Within → Within
 arm_uses a = also (in_expression a.condition) (each_use a.body)

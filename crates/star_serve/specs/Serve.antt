@@ -15,10 +15,11 @@ input_limit = 268435456
 abbrev pub ReadsAll : Said → Said → List ℕ → Type 0
 ReadsAll old new input = GivesAll old new input × (length input ≤ input_limit)
 
--- Between old and new the report of what is asked for was written, and nothing else; and the answer is whether each of the modules, which
--- are those of exactly the reached files, each with its file's outcome, is good.
+-- Between old and new the report of what is asked for was written, and nothing else; and the answer is whether each of
+-- the modules, which are those of exactly the reached files, each with its file's outcome, is good.
 abbrev pub Reports : Asked → ℕ → Option (List ℕ) → Option (List ℕ) → Bool → Type 0
-Reports asked steps old new all_ok = (text : List ℕ) × Adds old new text × IsReportOf asked.files asked.roots asked.prelude steps text
+Reports asked steps old new all_ok =
+    (text : List ℕ) × Adds old new text × IsReportOf asked.files asked.roots asked.prelude steps text
     × (modules : List KeptView) × AreModulesOf asked.files asked.roots asked.prelude steps modules
     × (all_ok ≡ true → AllGood modules) × (all_ok ≡ false → AllGood modules → ⊥)
 
@@ -29,8 +30,8 @@ IsRefusedRun unwritten Unpublished = unwritten
 IsRefusedRun unwritten Write = ⊤
 IsRefusedRun unwritten e = ⊥
 
--- What a refusal says. `answers r` says that all was read, and r is what was asked for or the refusal of it; `within` that no more
--- than the limit was read, `longer` that more was; `unwritten` that the writer is as it was.
+-- What a refusal says. `answers r` says that all was read, and r is what was asked for or the refusal of it; `within`
+-- that no more than the limit was read, `longer` that more was; `unwritten` that the writer is as it was.
 abbrev pub IsRefused : (Result Asked ServeError → Type 0) → Type 0 → Type 0 → Type 0 → ServeError → Type 0
 IsRefused answers within longer unwritten Read = within × unwritten
 IsRefused answers within longer unwritten TooBig = longer × unwritten
@@ -39,8 +40,9 @@ IsRefused answers within longer unwritten Unpublished = ((asked : Asked) × answ
 IsRefused answers within longer unwritten Write = (asked : Asked) × answers (Ok asked)
 IsRefused answers within longer unwritten e = answers (Err e) × unwritten
 
--- What a refusal says where the files are those of a folder. `stopped e` says that the walk through it stopped so; `answers r` that the
--- walk came to its end, and r is what was asked for of its files or the refusal of it; `unwritten` that the writer is as it was.
+-- What a refusal says where the files are those of a folder. `stopped e` says that the walk through it stopped so;
+-- `answers r` that the walk came to its end, and r is what was asked for of its files or the refusal of it; `unwritten`
+-- that the writer is as it was.
 abbrev pub IsRefusedDir : (ServeError → Type 0) → (Result Asked ServeError → Type 0) → Type 0 → ServeError → Type 0
 IsRefusedDir stopped answers unwritten BadRoot = answers (Err BadRoot) × unwritten
 IsRefusedDir stopped answers unwritten NoRoot = answers (Err NoRoot) × unwritten

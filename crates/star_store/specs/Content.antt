@@ -77,7 +77,8 @@ SameKeysHaveOneContent = (look : Value → Option Cell) (levels : ℕ) (x y : Va
 
 -- The law: a value is a key just where it has a content.
 abbrev pub KeysHaveContents : Type 0
-KeysHaveContents = (look : Value → Option Cell) (levels : ℕ) (v : Value) → is_key look levels v ≡ is_some (content look levels v)
+KeysHaveContents =
+    (look : Value → Option Cell) (levels : ℕ) (v : Value) → is_key look levels v ≡ is_some (content look levels v)
 
 -- each string and tuple that a value leads to by the one, it leads to by the other
 pub record KeepsKeys (look later : Value → Option Cell) : Type 0 where

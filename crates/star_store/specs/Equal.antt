@@ -24,7 +24,8 @@ same_place f xs ys i = same_pair f (slice_get xs i) (slice_get ys i)
 
 -- rows of items: their lengths first, then the items in order, up to the first difference
 abbrev pub same_items : (Value → Value → Spend Bool) → List Value → List Value → Spend Bool
-same_items f xs ys = if nat_eq (length xs) (length ys) then all_places (same_place f xs ys) (length xs) 0 else answer false
+same_items f xs ys =
+    if nat_eq (length xs) (length ys) then all_places (same_place f xs ys) (length xs) 0 else answer false
 
 -- a value, and the one that is found for its key
 abbrev pub same_found : (Value → Value → Spend Bool) → Value → Option Value → Spend Bool
@@ -32,20 +33,25 @@ same_found f x (Some y) = f x y
 same_found f x None = answer false
 
 -- an entry of the left dictionary: its key is looked up in the right one
-abbrev pub same_pairs : (Value → Option Cell) → (Value → Value → Spend Bool) → List (Value × Value) → Option (Value × Value) → Spend Bool
+abbrev pub same_pairs : (Value → Option Cell) → (Value → Value → Spend Bool) → List (Value × Value)
+    → Option (Value × Value) → Spend Bool
 same_pairs look f ys (Some e) = same_found f e.1 (value_of look e.0 ys)
 same_pairs look f ys None = answer true
 
 -- the left dictionary's entry at a place
-abbrev pub same_entry : (Value → Option Cell) → (Value → Value → Spend Bool) → List (Value × Value) → List (Value × Value) → ℕ → Spend Bool
+abbrev pub same_entry : (Value → Option Cell) → (Value → Value → Spend Bool) → List (Value × Value)
+    → List (Value × Value) → ℕ → Spend Bool
 same_entry look f xs ys i = same_pairs look f ys (slice_get xs i)
 
 -- dictionaries: their numbers of entries first, then the left one's entries in order, up to the first difference
-abbrev pub same_entries : (Value → Option Cell) → (Value → Value → Spend Bool) → List (Value × Value) → List (Value × Value) → Spend Bool
-same_entries look f xs ys = if nat_eq (length xs) (length ys) then all_places (same_entry look f xs ys) (length xs) 0 else answer false
+abbrev pub same_entries : (Value → Option Cell) → (Value → Value → Spend Bool) → List (Value × Value)
+    → List (Value × Value) → Spend Bool
+same_entries look f xs ys =
+    if nat_eq (length xs) (length ys) then all_places (same_entry look f xs ys) (length xs) 0 else answer false
 
 -- two cells, which may be one; functions and bound methods are equal where they are one cell
-abbrev pub same_cells : (Value → Option Cell) → (Value → Value → Spend Bool) → Bool → Option Cell → Option Cell → Spend Bool
+abbrev pub same_cells : (Value → Option Cell) → (Value → Value → Spend Bool) → Bool → Option Cell → Option Cell
+    → Spend Bool
 same_cells look f one (Some (cell.Text t)) (Some (cell.Text u)) = answer (pointwise nat_eq t u)
 same_cells look f one (Some (cell.Range r)) (Some (cell.Range s)) = answer (same_range r s)
 same_cells look f one (Some (cell.Tuple xs)) (Some (cell.Tuple ys)) = same_items f xs ys
@@ -61,7 +67,8 @@ same_values look f value.NoneValue value.NoneValue = answer true
 same_values look f (value.Bool b) (value.Bool c) = answer (beq b c)
 same_values look f (value.Int m) (value.Int n) = answer (int_eq m n)
 same_values look f (value.Builtin b) (value.Builtin c) = answer (nat_eq (built_in_number b) (built_in_number c))
-same_values look f (value.Ref h a) (value.Ref k b) = same_cells look f (nat_eq h k && nat_eq a b) (look (value.Ref h a)) (look (value.Ref k b))
+same_values look f (value.Ref h a) (value.Ref k b) =
+    same_cells look f (nat_eq h k && nat_eq a b) (look (value.Ref h a)) (look (value.Ref k b))
 same_values look f _ _ = answer false
 
 -- whether two values are equal, where so many levels may be opened: a pair opens one, and then pays its visit

@@ -46,7 +46,8 @@ alone s = look s []
 
 -- each index of a store is one of the dictionary at its address
 pub record AreIndexed (s : Store) (rows : Indexes) : Type 0 where
-  pub each : (at : ℕ) (index : List (List Atom)) → index_at rows at ≡ Some index → IsIndexed (alone s) (cell_at s.cells at) index
+  pub each : (at : ℕ) (index : List (List Atom)) → index_at rows at ≡ Some index
+      → IsIndexed (alone s) (cell_at s.cells at) index
   pub within : length rows ≤ length s.cells
 
 -- the entries of a dictionary, and none of another cell
@@ -62,9 +63,11 @@ index_after (change.Delete k) (Some i) atoms index = Some (remove index i)
 index_after _ place atoms index = None
 
 -- the other indexes stay, and the one at an address is what the change makes of it, or there is none any more
-pub record AreChanged (at : ℕ) (c : Change) (place : Option ℕ) (atoms : Option (List Atom)) (old new : Indexes) : Type 0 where
+pub record AreChanged (at : ℕ) (c : Change) (place : Option ℕ) (atoms : Option (List Atom)) (old new : Indexes) : Type
+    0 where
   pub others : (i : ℕ) → (i ≡ at → ⊥) → index_at new i ≡ index_at old i
-  pub here : (index : List (List Atom)) → index_at new at ≡ Some index → (before : List (List Atom)) × (index_at old at ≡ Some before) × (index_after c place atoms before ≡ Some index)
+  pub here : (index : List (List Atom)) → index_at new at ≡ Some index → (before : List (List Atom))
+      × (index_at old at ≡ Some before) × (index_after c place atoms before ≡ Some index)
   pub as_long : length new ≡ length old
 
 -- the value of an entry, and the value that another dictionary has for its key
@@ -73,7 +76,8 @@ beside look other e = (e.1, value_of look e.0 (entries_of other))
 
 -- a place is the one at which another dictionary has the key of the entry at a place
 abbrev pub PlacesAt : (Value → Option Cell) → Option Cell → ℕ → Option Cell → Option ℕ → Type 0
-PlacesAt look c at other place = (e : Value × Value) → slice_get (entries_of c) at ≡ Some e → Places look e.0 other place
+PlacesAt look c at other place =
+    (e : Value × Value) → slice_get (entries_of c) at ≡ Some e → Places look e.0 other place
 
 -- the value of the entry at a place, where there is one
 abbrev pub value_at : List (Value × Value) → Option ℕ → Option Value

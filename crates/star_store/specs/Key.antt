@@ -52,7 +52,8 @@ same_key_place f xs ys i = same_key_pair f (slice_get xs i) (slice_get ys i)
 
 -- rows of the same length with the same keys, in order
 abbrev pub same_key_items : (Value → Value → Bool) → List Value → List Value → Bool
-same_key_items f xs ys = if nat_eq (length xs) (length ys) then all_pass (same_key_place f xs ys) (length xs) 0 else false
+same_key_items f xs ys =
+    if nat_eq (length xs) (length ys) then all_pass (same_key_place f xs ys) (length xs) 0 else false
 
 -- strings with the same bytes, and tuples with the same keys in order
 abbrev pub same_key_cell : (Value → Value → Bool) → Option Cell → Option Cell → Bool

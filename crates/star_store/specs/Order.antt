@@ -33,18 +33,23 @@ abbrev pub order_place : (Value → Value → Spend Ordering) → List Value →
 order_place f xs ys i = order_pair f (slice_get xs i) (slice_get ys i)
 
 -- rows of items: the first pair that is not equal decides, else their lengths do
-abbrev pub order_items : (Value → Value → Spend Bool) → (Value → Value → Spend Ordering) → List Value → List Value → Spend Ordering
-order_items f g xs ys = order_places (same_place f xs ys) (order_place g xs ys) (nat_cmp (length xs) (length ys)) (min (length xs) (length ys)) 0
+abbrev pub order_items : (Value → Value → Spend Bool) → (Value → Value → Spend Ordering) → List Value → List Value
+    → Spend Ordering
+order_items f g xs ys =
+    order_places (same_place f xs ys) (order_place g xs ys) (nat_cmp (length xs) (length ys))
+    (min (length xs) (length ys)) 0
 
 -- strings by their bytes; two lists, or two tuples
-abbrev pub order_cells : (Value → Value → Spend Bool) → (Value → Value → Spend Ordering) → Option Cell → Option Cell → Spend Ordering
+abbrev pub order_cells : (Value → Value → Spend Bool) → (Value → Value → Spend Ordering) → Option Cell → Option Cell
+    → Spend Ordering
 order_cells f g (Some (cell.Text t)) (Some (cell.Text u)) = answer (slice_cmp nat_cmp t u)
 order_cells f g (Some (cell.Tuple xs)) (Some (cell.Tuple ys)) = order_items f g xs ys
 order_cells f g (Some (cell.List xs)) (Some (cell.List ys)) = order_items f g xs ys
 order_cells f g _ _ = refuse BadType
 
 -- ints, bools, strings, lists and tuples have an order, each among its own type
-abbrev pub order_values : (Value → Option Cell) → (Value → Value → Spend Bool) → (Value → Value → Spend Ordering) → Value → Value → Spend Ordering
+abbrev pub order_values : (Value → Option Cell) → (Value → Value → Spend Bool) → (Value → Value → Spend Ordering)
+    → Value → Value → Spend Ordering
 order_values look f g (value.Bool b) (value.Bool c) = answer (bool_order b c)
 order_values look f g (value.Int m) (value.Int n) = answer (int_cmp m n)
 order_values look f g (value.Ref h a) (value.Ref k b) = order_cells f g (look (value.Ref h a)) (look (value.Ref k b))

@@ -19,4 +19,6 @@ range_length r = length_by r.start r.stop r.step
 
 -- ranges with the same ints: the same number, the same first one, and the same step where there is a second one
 abbrev pub same_range : Range → Range → Bool
-same_range r s = nat_eq (range_length r) (range_length s) && (nat_eq (range_length r) 0 || (int_eq r.start s.start && (nat_eq (range_length r) 1 || int_eq r.step s.step)))
+same_range r s =
+    nat_eq (range_length r) (range_length s) && (nat_eq (range_length r) 0 ||
+    (int_eq r.start s.start && (nat_eq (range_length r) 1 || int_eq r.step s.step)))

@@ -1,4 +1,5 @@
--- Contents that are compared and hashed, and keys that are no tuples, by which entries are looked up with no content made.
+-- Contents that are compared and hashed, and keys that are no tuples, by which entries are looked up with no content
+-- made.
 use Rattle.std.specs.Prelude.{◌≡◌, [], ◌∷◌, ◌++◌, List, Bool, true, false, Option, Some, None}
 use Rattle.std.specs.Cmp.{IsEquivalence}
 use Rattle.std.specs.Cmp.Lexicographic.{pointwise, lists_equiv}

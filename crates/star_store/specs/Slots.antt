@@ -24,7 +24,8 @@ under_at (Some under) at = default_at (arc_slice_items under.value.ranks) under.
 
 -- what a slot has: the value of the row, or else that of the map, or else the default under it
 abbrev pub slot_at : List (Option Value) → Option (Box (BTreeMap ℕ Value)) → Option (Box Under) → ℕ → Option Value
-slot_at near far under at = option_or (option_flatten (slice_get near at)) (option_or (far_at far at) (under_at under at))
+slot_at near far under at =
+    option_or (option_flatten (slice_get near at)) (option_or (far_at far at) (under_at under at))
 
 -- what a function gives at the first numbers
 abbrev pub row : {A : Type 0} → (ℕ → A) → ℕ → List A

@@ -113,7 +113,8 @@ is_taken _ = false
 
 -- puts a published module on the shelf, at the place of its file; a module that stands there stays
 abbrev pub put_up : ℕ → Published → Shelf → Shelf
-put_up home p shelf = if is_taken (slice_get shelf home) then shelf else slice_set (widened (home + 1) shelf) home (Some p)
+put_up home p shelf =
+    if is_taken (slice_get shelf home) then shelf else slice_set (widened (home + 1) shelf) home (Some p)
 
 -- each name is below those after it, by their bytes
 abbrev pub ascend : List (List ℕ) → Type 0

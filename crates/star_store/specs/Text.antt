@@ -18,7 +18,8 @@ use Rattle.star_store.specs.Spend.{Spend, Spent, Enough, Lacks, answer, spend_th
 
 -- a character that stands for itself, or, below 32 and at 127, by its two lower-case hexadecimal digits
 abbrev pub plain_char : ℕ → List ℕ
-plain_char c = if nat_lt c 32 || nat_eq c 127 then codes "\\x" ++ digit_char (c / 16) ∷ digit_char (c % 16) ∷ [] else encode_utf8 c
+plain_char c =
+    if nat_lt c 32 || nat_eq c 127 then codes "\\x" ++ digit_char (c / 16) ∷ digit_char (c % 16) ∷ [] else encode_utf8 c
 
 -- a character of a string, as its text shows it
 unfoldable pub shown_char : ℕ → List ℕ
@@ -140,11 +141,13 @@ say_new_dict f es = then_say (say (codes "{")) (then_say (say_entries f es) (say
 
 -- a list that stands on its own path is not said again
 abbrev pub say_list : (List Value → Value → Say) → List Value → Value → List Value → Say
-say_list f path v xs = λ out left. if on_path v path then say (codes "[...]") out left else say_new_list (f (path ++ v ∷ [])) xs out left
+say_list f path v xs =
+    λ out left. if on_path v path then say (codes "[...]") out left else say_new_list (f (path ++ v ∷ [])) xs out left
 
 -- nor is a dictionary
 abbrev pub say_dict : (List Value → Value → Say) → List Value → Value → List (Value × Value) → Say
-say_dict f path v es = λ out left. if on_path v path then say (codes "{...}") out left else say_new_dict (f (path ++ v ∷ [])) es out left
+say_dict f path v es =
+    λ out left. if on_path v path then say (codes "{...}") out left else say_new_dict (f (path ++ v ∷ [])) es out left
 
 -- what a value leads to; a frame is no value of the language and says nothing
 abbrev pub say_cell : (List Value → Value → Say) → List Value → Value → Option Cell → Say
@@ -170,7 +173,8 @@ unfoldable pub text : (Value → Option Cell) → ℕ → List Value → Value �
 text look zero path v = λ out n. Lacks Deep n
 text look (suc levels) path v = λ out. visited (say_value look (text look levels) path v out)
 
--- What a function answered, the text that it left and the steps that it left are what was to be said, unless memory ran out.
+-- What a function answered, the text that it left and the steps that it left are what was to be said, unless memory ran
+-- out.
 abbrev pub Says : Spent (List ℕ) → Result (Unit {0}) StoreFault → List ℕ → ℕ → Type 0
 Says o (Ok x) out left = o ≡ Enough out left
 Says o (Err Memory) out left = Unit {0}

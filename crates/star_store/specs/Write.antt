@@ -79,12 +79,14 @@ change_items change.Clear xs = Ok (None, [])
 change_items _ xs = Err BadType
 
 -- an entry gets another value, and its key stays
-abbrev pub put_at : ℕ → Value → Option (Value × Value) → List (Value × Value) → Result (Option Value × List (Value × Value)) StoreFault
+abbrev pub put_at : ℕ → Value → Option (Value × Value) → List (Value × Value)
+    → Result (Option Value × List (Value × Value)) StoreFault
 put_at i v None es = Err Key
 put_at i v (Some e) es = Ok (Some e.1, slice_set es i (e.0, v))
 
 -- puts an entry in: at the place where its key stands, else after all others
-abbrev pub put : Value → Value → Option ℕ → List (Value × Value) → Result (Option Value × List (Value × Value)) StoreFault
+abbrev pub put : Value → Value → Option ℕ → List (Value × Value)
+    → Result (Option Value × List (Value × Value)) StoreFault
 put k v None es = Ok (None, es ++ (k, v) ∷ [])
 put k v (Some i) es = put_at i v (slice_get es i) es
 
@@ -94,14 +96,16 @@ delete None es = Err Key
 delete (Some i) es = taken Key (option_map (λ e. e.1) (slice_get es i)) (remove es i)
 
 -- what a change makes of the entries of a dictionary that has the change's key at a place
-abbrev pub change_entries : Change → Option ℕ → List (Value × Value) → Result (Option Value × List (Value × Value)) StoreFault
+abbrev pub change_entries : Change → Option ℕ → List (Value × Value)
+    → Result (Option Value × List (Value × Value)) StoreFault
 change_entries (change.Put k v) place es = put k v place es
 change_entries (change.Delete k) place es = delete place es
 change_entries change.Clear place es = Ok (None, [])
 change_entries _ place es = Err BadType
 
 -- an answer with the items or entries back in their cell
-abbrev pub in_cell : {A : Type 0} → (A → Cell) → Result (Option Value × A) StoreFault → Result (Option Value × Cell) StoreFault
+abbrev pub in_cell : {A : Type 0} → (A → Cell) → Result (Option Value × A) StoreFault
+    → Result (Option Value × Cell) StoreFault
 in_cell f (Ok r) = Ok (r.0, f r.1)
 in_cell f (Err e) = Err e
 
@@ -116,7 +120,8 @@ abbrev pub cell_at : List Counted → ℕ → Option Cell
 cell_at cells at = option_map (λ e. e.cell) (slice_get cells at)
 
 -- an answer with the cell back among its cells
-abbrev pub in_cells : List Counted → ℕ → Result (Option Value × Cell) StoreFault → Result (Option Value × List Counted) StoreFault
+abbrev pub in_cells : List Counted → ℕ → Result (Option Value × Cell) StoreFault
+    → Result (Option Value × List Counted) StoreFault
 in_cells cells at (Ok r) = Ok (r.0, changed_at (λ e. record e { cell = r.1 }) cells at)
 in_cells cells at (Err f) = Err f
 
@@ -138,15 +143,19 @@ allowed s shelf v c =
     else Err BadType
 
 -- an allowed write makes its change
-abbrev pub made_if : Result (Unit {0}) StoreFault → Result (Option Value × Store) StoreFault → Result (Option Value × Store) StoreFault
+abbrev pub made_if : Result (Unit {0}) StoreFault → Result (Option Value × Store) StoreFault
+    → Result (Option Value × Store) StoreFault
 made_if (Ok x) o = o
 made_if (Err f) o = Err f
 
 abbrev pub write : Store → Shelf → Value → Change → Result (Option Value × Store) StoreFault
-write s shelf v c = made_if (allowed s shelf v c) (in_store v s (change_cell c (place_in (look s shelf) (key_of c) (look s shelf v)) (look s shelf v)))
+write s shelf v c =
+    made_if (allowed s shelf v c) (in_store v s (change_cell c (place_in (look s shelf) (key_of c) (look s shelf v))
+    (look s shelf v)))
 
 -- What a writing call answered and left is what was to be written. After a refusal all is as it was.
-abbrev pub Writes : {A : Type 0} → Result (Option Value × A) StoreFault → Result (Option Value) StoreFault → A → A → Type 0
+abbrev pub Writes : {A : Type 0} → Result (Option Value × A) StoreFault → Result (Option Value) StoreFault → A → A
+    → Type 0
 Writes o (Ok x) old new = o ≡ Ok (x, new)
 Writes o (Err Memory) old new = new ≡ old
 Writes o (Err f) old new = (o ≡ Err f) × (new ≡ old)

@@ -412,7 +412,9 @@ named = act named_of (seq (before name (sign_ s.Assign)) a_test)
 
 -- name '=' Test | '*' Test | '**' Test | Test: a name before '=' begins a named argument
 unfoldable pub argument : G sorts.argument
-argument = alt named (alt (act arguments.Star (after (sign_ s.Star) a_test)) (alt (act arguments.StarStar (after (sign_ s.StarStar) a_test)) (act arguments.Positional a_test)))
+argument =
+    alt named (alt (act arguments.Star (after (sign_ s.Star) a_test))
+    (alt (act arguments.StarStar (after (sign_ s.StarStar) a_test)) (act arguments.Positional a_test)))
 
 -- ',' argument
 unfoldable pub next_argument : G sorts.argument
@@ -499,7 +501,8 @@ unfoldable pub stop_and_stride : G (both (maybe sorts.expression) (maybe sorts.e
 stop_and_stride = after (sign_ s.Colon) (seq (opt a_test) stride)
 
 -- ':' [Test] [':' [Test]] | {',' Test}
-unfoldable pub behind_start : G (both (maybe (both (maybe sorts.expression) (maybe sorts.expression))) (list sorts.expression))
+unfoldable pub behind_start : G (both (maybe (both (maybe sorts.expression) (maybe sorts.expression)))
+    (list sorts.expression))
 behind_start = alt (act as_slice stop_and_stride) (act as_index further_tests)
 
 -- Test (':' [Test] [':' [Test]] | {',' Test})

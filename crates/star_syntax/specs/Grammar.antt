@@ -39,44 +39,72 @@ Answer A = Option (A × List Leaf)
 pub data Spells (rule : (r : Rule) → G (sort r)) : (s : Sort) → G s → Val s → List Leaf → Type 0 where
   one' : {a : Sort} {p : Leaf → Option (Val a)} {x : Val a} {t : Leaf} → p t ≡ Some x → Spells rule _ (one p) x (t ∷ [])
   empty' : Spells rule _ empty tt []
-  seq' : {a b : Sort} {g : G a} {h : G b} {x : Val a} {y : Val b} {xs ys : List Leaf} → Spells rule _ g x xs → Spells rule _ h y ys → Spells rule _ (seq g h) (x, y) (xs ++ ys)
+  seq' : {a b : Sort} {g : G a} {h : G b} {x : Val a} {y : Val b} {xs ys : List Leaf} → Spells rule _ g x xs
+      → Spells rule _ h y ys → Spells rule _ (seq g h) (x, y) (xs ++ ys)
   left' : {a : Sort} {g h : G a} {x : Val a} {xs : List Leaf} → Spells rule _ g x xs → Spells rule _ (alt g h) x xs
   right' : {a : Sort} {g h : G a} {x : Val a} {xs : List Leaf} → Spells rule _ h x xs → Spells rule _ (alt g h) x xs
-  start' : {a b : Sort} {f : Val a → Val b → Val a} {g : G a} {h : G b} {x : Val a} {xs : List Leaf} → Spells rule _ g x xs → Spells rule _ (fold f g h) x xs
-  round' : {a b : Sort} {f : Val a → Val b → Val a} {g : G a} {h : G b} {x : Val a} {y : Val b} {xs ys : List Leaf} → Spells rule _ (fold f g h) x xs → Spells rule _ h y ys → Spells rule _ (fold f g h) (f x y) (xs ++ ys)
-  act' : {a b : Sort} {f : Val a → Val b} {g : G a} {x : Val a} {xs : List Leaf} → Spells rule _ g x xs → Spells rule _ (act f g) (f x) xs
-  when' : {a b : Sort} {f : Val a → Option (Val b)} {g : G a} {x : Val a} {y : Val b} {xs : List Leaf} → f x ≡ Some y → Spells rule _ g x xs → Spells rule _ (when f g) y xs
-  placed' : {a : Sort} {g : G a} {x : Val a} {t : Leaf} {xs : List Leaf} → Spells rule _ g x (t ∷ xs) → Spells rule _ (placed g) (t.position, x) (t ∷ xs)
+  start' : {a b : Sort} {f : Val a → Val b → Val a} {g : G a} {h : G b} {x : Val a} {xs : List Leaf}
+      → Spells rule _ g x xs → Spells rule _ (fold f g h) x xs
+  round' : {a b : Sort} {f : Val a → Val b → Val a} {g : G a} {h : G b} {x : Val a} {y : Val b} {xs ys : List Leaf}
+      → Spells rule _ (fold f g h) x xs → Spells rule _ h y ys → Spells rule _ (fold f g h) (f x y) (xs ++ ys)
+  act' : {a b : Sort} {f : Val a → Val b} {g : G a} {x : Val a} {xs : List Leaf} → Spells rule _ g x xs
+      → Spells rule _ (act f g) (f x) xs
+  when' : {a b : Sort} {f : Val a → Option (Val b)} {g : G a} {x : Val a} {y : Val b} {xs : List Leaf} → f x ≡ Some y
+      → Spells rule _ g x xs → Spells rule _ (when f g) y xs
+  placed' : {a : Sort} {g : G a} {x : Val a} {t : Leaf} {xs : List Leaf} → Spells rule _ g x (t ∷ xs)
+      → Spells rule _ (placed g) (t.position, x) (t ∷ xs)
   the' : {r : Rule} {x : Val (sort r)} {xs : List Leaf} → Spells rule _ (rule r) x xs → Spells rule _ (the r) x xs
 
 -- ---- what a part reads at the front of the leaves, or that it reads nothing there
 
 mutual
   pub data Reads (rule : (r : Rule) → G (sort r)) : (s : Sort) → G s → List Leaf → Answer (Val s) → Type 0 where
-    hit : {a : Sort} {p : Leaf → Option (Val a)} {x : Val a} {t : Leaf} {ts : List Leaf} → p t ≡ Some x → Reads rule _ (one p) (t ∷ ts) (Some (x, ts))
-    miss : {a : Sort} {p : Leaf → Option (Val a)} {t : Leaf} {ts : List Leaf} → p t ≡ None → Reads rule _ (one p) (t ∷ ts) None
+    hit : {a : Sort} {p : Leaf → Option (Val a)} {x : Val a} {t : Leaf} {ts : List Leaf} → p t ≡ Some x
+        → Reads rule _ (one p) (t ∷ ts) (Some (x, ts))
+    miss : {a : Sort} {p : Leaf → Option (Val a)} {t : Leaf} {ts : List Leaf} → p t ≡ None
+        → Reads rule _ (one p) (t ∷ ts) None
     over : {a : Sort} {p : Leaf → Option (Val a)} → Reads rule _ (one p) [] None
     free : {ts : List Leaf} → Reads rule _ empty ts (Some (tt, ts))
-    seq-some : {a b : Sort} {g : G a} {h : G b} {x : Val a} {y : Val b} {ts us vs : List Leaf} → Reads rule _ g ts (Some (x, us)) → Reads rule _ h us (Some (y, vs)) → Reads rule _ (seq g h) ts (Some ((x, y), vs))
-    seq-first : {a b : Sort} {g : G a} {h : G b} {ts : List Leaf} → Reads rule _ g ts None → Reads rule _ (seq g h) ts None
-    seq-second : {a b : Sort} {g : G a} {h : G b} {x : Val a} {ts us : List Leaf} → Reads rule _ g ts (Some (x, us)) → Reads rule _ h us None → Reads rule _ (seq g h) ts None
-    alt-first : {a : Sort} {g h : G a} {ts : List Leaf} {p : Val a × List Leaf} → Reads rule _ g ts (Some p) → Reads rule _ (alt g h) ts (Some p)
-    alt-second : {a : Sort} {g h : G a} {ts : List Leaf} {r : Answer (Val a)} → Reads rule _ g ts None → Reads rule _ h ts r → Reads rule _ (alt g h) ts r
-    fold-none : {a b : Sort} {f : Val a → Val b → Val a} {g : G a} {h : G b} {ts : List Leaf} → Reads rule _ g ts None → Reads rule _ (fold f g h) ts None
-    fold-some : {a b : Sort} {f : Val a → Val b → Val a} {g : G a} {h : G b} {x : Val a} {ts us : List Leaf} {p : Val a × List Leaf} → Reads rule _ g ts (Some (x, us)) → Rounds rule _ _ f h x us p → Reads rule _ (fold f g h) ts (Some p)
-    act-none : {a b : Sort} {f : Val a → Val b} {g : G a} {ts : List Leaf} → Reads rule _ g ts None → Reads rule _ (act f g) ts None
-    act-some : {a b : Sort} {f : Val a → Val b} {g : G a} {x : Val a} {ts us : List Leaf} → Reads rule _ g ts (Some (x, us)) → Reads rule _ (act f g) ts (Some (f x, us))
-    when-none : {a b : Sort} {f : Val a → Option (Val b)} {g : G a} {ts : List Leaf} → Reads rule _ g ts None → Reads rule _ (when f g) ts None
-    when-broken : {a b : Sort} {f : Val a → Option (Val b)} {g : G a} {x : Val a} {ts us : List Leaf} → f x ≡ None → Reads rule _ g ts (Some (x, us)) → Reads rule _ (when f g) ts None
-    when-some : {a b : Sort} {f : Val a → Option (Val b)} {g : G a} {x : Val a} {y : Val b} {ts us : List Leaf} → f x ≡ Some y → Reads rule _ g ts (Some (x, us)) → Reads rule _ (when f g) ts (Some (y, us))
+    seq-some : {a b : Sort} {g : G a} {h : G b} {x : Val a} {y : Val b} {ts us vs : List Leaf}
+        → Reads rule _ g ts (Some (x, us)) → Reads rule _ h us (Some (y, vs))
+        → Reads rule _ (seq g h) ts (Some ((x, y), vs))
+    seq-first : {a b : Sort} {g : G a} {h : G b} {ts : List Leaf} → Reads rule _ g ts None
+        → Reads rule _ (seq g h) ts None
+    seq-second : {a b : Sort} {g : G a} {h : G b} {x : Val a} {ts us : List Leaf} → Reads rule _ g ts (Some (x, us))
+        → Reads rule _ h us None → Reads rule _ (seq g h) ts None
+    alt-first : {a : Sort} {g h : G a} {ts : List Leaf} {p : Val a × List Leaf} → Reads rule _ g ts (Some p)
+        → Reads rule _ (alt g h) ts (Some p)
+    alt-second : {a : Sort} {g h : G a} {ts : List Leaf} {r : Answer (Val a)} → Reads rule _ g ts None
+        → Reads rule _ h ts r → Reads rule _ (alt g h) ts r
+    fold-none : {a b : Sort} {f : Val a → Val b → Val a} {g : G a} {h : G b} {ts : List Leaf} → Reads rule _ g ts None
+        → Reads rule _ (fold f g h) ts None
+    fold-some : {a b : Sort} {f : Val a → Val b → Val a} {g : G a} {h : G b} {x : Val a} {ts us : List Leaf}
+        {p : Val a × List Leaf} → Reads rule _ g ts (Some (x, us)) → Rounds rule _ _ f h x us p
+        → Reads rule _ (fold f g h) ts (Some p)
+    act-none : {a b : Sort} {f : Val a → Val b} {g : G a} {ts : List Leaf} → Reads rule _ g ts None
+        → Reads rule _ (act f g) ts None
+    act-some : {a b : Sort} {f : Val a → Val b} {g : G a} {x : Val a} {ts us : List Leaf}
+        → Reads rule _ g ts (Some (x, us)) → Reads rule _ (act f g) ts (Some (f x, us))
+    when-none : {a b : Sort} {f : Val a → Option (Val b)} {g : G a} {ts : List Leaf} → Reads rule _ g ts None
+        → Reads rule _ (when f g) ts None
+    when-broken : {a b : Sort} {f : Val a → Option (Val b)} {g : G a} {x : Val a} {ts us : List Leaf} → f x ≡ None
+        → Reads rule _ g ts (Some (x, us)) → Reads rule _ (when f g) ts None
+    when-some : {a b : Sort} {f : Val a → Option (Val b)} {g : G a} {x : Val a} {y : Val b} {ts us : List Leaf} → f x
+        ≡ Some y → Reads rule _ g ts (Some (x, us)) → Reads rule _ (when f g) ts (Some (y, us))
     placed-none : {a : Sort} {g : G a} {ts : List Leaf} → Reads rule _ g ts None → Reads rule _ (placed g) ts None
-    placed-some : {a : Sort} {g : G a} {x : Val a} {t : Leaf} (xs : List Leaf) {us : List Leaf} → Reads rule _ g (t ∷ (xs ++ us)) (Some (x, us)) → Reads rule _ (placed g) (t ∷ (xs ++ us)) (Some ((t.position, x), us))
-    itself : {r : Rule} {ts : List Leaf} {a : Answer (Val (sort r))} → Reads rule _ (rule r) ts a → Reads rule _ (the r) ts a
+    placed-some : {a : Sort} {g : G a} {x : Val a} {t : Leaf} (xs : List Leaf) {us : List Leaf}
+        → Reads rule _ g (t ∷ (xs ++ us)) (Some (x, us))
+        → Reads rule _ (placed g) (t ∷ (xs ++ us)) (Some ((t.position, x), us))
+    itself : {r : Rule} {ts : List Leaf} {a : Answer (Val (sort r))} → Reads rule _ (rule r) ts a
+        → Reads rule _ (the r) ts a
 
   -- a further round is taken wherever one reads
-  pub data Rounds (rule : (r : Rule) → G (sort r)) : (a b : Sort) → (Val a → Val b → Val a) → G b → Val a → List Leaf → Val a × List Leaf → Type 0 where
-    stop : {a b : Sort} {f : Val a → Val b → Val a} {h : G b} {x : Val a} {ts : List Leaf} → Reads rule _ h ts None → Rounds rule _ _ f h x ts (x, ts)
-    more : {a b : Sort} {f : Val a → Val b → Val a} {h : G b} {x : Val a} {y : Val b} {ts us : List Leaf} {p : Val a × List Leaf} → Reads rule _ h ts (Some (y, us)) → Rounds rule _ _ f h (f x y) us p → Rounds rule _ _ f h x ts p
+  pub data Rounds (rule : (r : Rule) → G (sort r)) : (a b : Sort) → (Val a → Val b → Val a) → G b → Val a → List Leaf
+      → Val a × List Leaf → Type 0 where
+    stop : {a b : Sort} {f : Val a → Val b → Val a} {h : G b} {x : Val a} {ts : List Leaf} → Reads rule _ h ts None
+        → Rounds rule _ _ f h x ts (x, ts)
+    more : {a b : Sort} {f : Val a → Val b → Val a} {h : G b} {x : Val a} {y : Val b} {ts us : List Leaf} {p : Val a
+        × List Leaf} → Reads rule _ h ts (Some (y, us)) → Rounds rule _ _ f h (f x y) us p → Rounds rule _ _ f h x ts p
 
 -- ---- reading, computed
 

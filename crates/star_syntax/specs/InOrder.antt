@@ -1,5 +1,5 @@
--- Expressions and statements whose arguments and parameters stand in order, at any depth; that whatever is read is so, and
--- that whatever is so can be written.
+-- Expressions and statements whose arguments and parameters stand in order, at any depth; that whatever is read is so,
+-- and that whatever is so can be written.
 use Rattle.std.specs.Prelude.{◌≡◌, Bool, true, ◌&&◌, List, [], ◌∷◌, map, Option, Some, None}
 use Rattle.star_syntax.specs.declared.leaf.Leaf.{Leaf}
 use Rattle.star_tree.specs.declared.tree.Argument.{Argument}
@@ -34,17 +34,20 @@ maybe_of (Some x) = x.1
 abbrev pub firsts : {A : Type 0} → List (A × Bool) → List A
 firsts xs = map (λ x. x.0) xs
 
-abbrev pub argument_step : tree.Argument-F (Argument × Bool) (Clause × Bool) (Expression × Bool) (Parameter × Bool) (Target × Bool) (Clauses × Bool) (Entry × Bool) → Bool
+abbrev pub argument_step : tree.Argument-F (Argument × Bool) (Clause × Bool) (Expression × Bool) (Parameter × Bool)
+    (Target × Bool) (Clauses × Bool) (Entry × Bool) → Bool
 argument_step (tree.Positional e) = e.1
 argument_step (tree.Named n e) = e.1
 argument_step (tree.Argument-F.Argument::Star e) = e.1
 argument_step (tree.Argument-F.Argument::StarStar e) = e.1
 
-abbrev pub clause_step : tree.Clause-F (Argument × Bool) (Clause × Bool) (Expression × Bool) (Parameter × Bool) (Target × Bool) (Clauses × Bool) (Entry × Bool) → Bool
+abbrev pub clause_step : tree.Clause-F (Argument × Bool) (Clause × Bool) (Expression × Bool) (Parameter × Bool)
+    (Target × Bool) (Clauses × Bool) (Entry × Bool) → Bool
 clause_step (tree.For t e) = t.1 && e.1
 clause_step (tree.If e) = e.1
 
-abbrev pub expression_step : tree.Expression-F (Argument × Bool) (Clause × Bool) (Expression × Bool) (Parameter × Bool) (Target × Bool) (Clauses × Bool) (Entry × Bool) → Bool
+abbrev pub expression_step : tree.Expression-F (Argument × Bool) (Clause × Bool) (Expression × Bool) (Parameter × Bool)
+    (Target × Bool) (Clauses × Bool) (Entry × Bool) → Bool
 expression_step (tree.Expression-F.Expression::Name n) = true
 expression_step (tree.Int n) = true
 expression_step (tree.Text t) = true
@@ -65,32 +68,42 @@ expression_step (tree.Attribute e n) = e.1
 expression_step (tree.Expression-F.Expression::Index e i) = e.1 && i.1
 expression_step (tree.Slice e a b c) = e.1 && (maybe_of a && (maybe_of b && maybe_of c))
 
-abbrev pub parameter_step : tree.Parameter-F (Argument × Bool) (Clause × Bool) (Expression × Bool) (Parameter × Bool) (Target × Bool) (Clauses × Bool) (Entry × Bool) → Bool
+abbrev pub parameter_step : tree.Parameter-F (Argument × Bool) (Clause × Bool) (Expression × Bool) (Parameter × Bool)
+    (Target × Bool) (Clauses × Bool) (Entry × Bool) → Bool
 parameter_step (tree.Default n e) = e.1
 parameter_step _ = true
 
-abbrev pub target_step : tree.Target-F (Argument × Bool) (Clause × Bool) (Expression × Bool) (Parameter × Bool) (Target × Bool) (Clauses × Bool) (Entry × Bool) → Bool
+abbrev pub target_step : tree.Target-F (Argument × Bool) (Clause × Bool) (Expression × Bool) (Parameter × Bool)
+    (Target × Bool) (Clauses × Bool) (Entry × Bool) → Bool
 target_step (tree.Target-F.Target::Name n) = true
 target_step (tree.Target-F.Target::Index e i) = e.1 && i.1
 target_step (tree.Target-F.Target::Tuple ts) = each_in_order ts
 target_step (tree.Target-F.Target::List ts) = each_in_order ts
 
-abbrev pub clauses_step : tree.Clauses-F (Argument × Bool) (Clause × Bool) (Expression × Bool) (Parameter × Bool) (Target × Bool) (Clauses × Bool) (Entry × Bool) → Bool
+abbrev pub clauses_step : tree.Clauses-F (Argument × Bool) (Clause × Bool) (Expression × Bool) (Parameter × Bool)
+    (Target × Bool) (Clauses × Bool) (Entry × Bool) → Bool
 clauses_step cs = cs.target.1 && (cs.iterable.1 && each_in_order cs.more)
 
-abbrev pub entry_step : tree.Entry-F (Argument × Bool) (Clause × Bool) (Expression × Bool) (Parameter × Bool) (Target × Bool) (Clauses × Bool) (Entry × Bool) → Bool
+abbrev pub entry_step : tree.Entry-F (Argument × Bool) (Clause × Bool) (Expression × Bool) (Parameter × Bool)
+    (Target × Bool) (Clauses × Bool) (Entry × Bool) → Bool
 entry_step e = e.key.1 && e.value.1
 
 -- each list of arguments and of parameters in an expression is in order
 unfoldable pub in_order : Expression → Bool
-in_order = folds.para-Expression Bool Bool Bool Bool Bool Bool Bool argument_step clause_step expression_step parameter_step target_step clauses_step entry_step
+in_order =
+    folds.para-Expression Bool Bool Bool Bool Bool Bool Bool argument_step clause_step expression_step parameter_step
+    target_step clauses_step entry_step
 
 -- the same of a parameter and of a target
 unfoldable pub parameter_in_order : Parameter → Bool
-parameter_in_order = folds.para-Parameter Bool Bool Bool Bool Bool Bool Bool argument_step clause_step expression_step parameter_step target_step clauses_step entry_step
+parameter_in_order =
+    folds.para-Parameter Bool Bool Bool Bool Bool Bool Bool argument_step clause_step expression_step parameter_step
+    target_step clauses_step entry_step
 
 unfoldable pub target_in_order : Target → Bool
-target_in_order = folds.para-Target Bool Bool Bool Bool Bool Bool Bool argument_step clause_step expression_step parameter_step target_step clauses_step entry_step
+target_in_order =
+    folds.para-Target Bool Bool Bool Bool Bool Bool Bool argument_step clause_step expression_step parameter_step
+    target_step clauses_step entry_step
 
 -- ---- statements
 
@@ -134,13 +147,19 @@ AllWritable = (x : Expression) → in_order x ≡ true → Writable x
 
 -- The law: an expression that is read, at any level of the grammar, is in order.
 abbrev pub ReadInOrder : Type 0
-ReadInOrder = (l : Level) (x : Expression) (ts us : List Leaf) → Reads rule sorts.expression (the (level l)) ts (Some (x, us)) → in_order x ≡ true
+ReadInOrder =
+    (l : Level) (x : Expression) (ts us : List Leaf) → Reads rule sorts.expression (the (level l)) ts (Some (x, us))
+    → in_order x ≡ true
 
 -- The law: so is each statement of a file's reading.
 abbrev pub TreeInOrder : Type 0
-TreeInOrder = (tree : List Statement) (leaves : List Leaf) → Reading tree leaves → every (map statement_in_order tree) ≡ true
+TreeInOrder =
+    (tree : List Statement) (leaves : List Leaf) → Reading tree leaves → every (map statement_in_order tree) ≡ true
 
--- The law: an expression that is read has a writing with a parenthesis round each part, which reads back as that expression.
+-- The law: an expression that is read has a writing with a parenthesis round each part, which reads back as that
+-- expression.
 abbrev pub ReadIsWritten : Type 0
-ReadIsWritten = (x : Expression) (ts us vs : List Leaf) → Reads rule sorts.expression (the (level levels.Test)) ts (Some (x, us)) → Stops vs
+ReadIsWritten =
+    (x : Expression) (ts us vs : List Leaf) → Reads rule sorts.expression (the (level levels.Test)) ts (Some (x, us))
+    → Stops vs
     → (ws : List Leaf) × Written x ws vs × Reads rule sorts.expression (the (level levels.Test)) ws (Some (x, vs))

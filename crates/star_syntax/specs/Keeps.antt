@@ -19,7 +19,8 @@ is_last (x ∷ more) = false
 
 -- ---- arguments
 
--- after the positional arguments: named ones, at most one with a star among them, and at the end at most one with two stars
+-- after the positional arguments: named ones, at most one with a star among them, and at the end at most one with two
+-- stars
 abbrev pub named_in_order : Bool → List Argument → Bool
 named_in_order star_may_come [] = true
 named_in_order star_may_come (argument.Positional x ∷ more) = false
@@ -60,8 +61,8 @@ defaults_in_order (parameter.Star name ∷ more) = starred_in_order more
 defaults_in_order (parameter.BareStar ∷ more) = name_follows more && starred_in_order more
 defaults_in_order (parameter.StarStar name ∷ more) = is_last more
 
--- names; then names with a default; then a star, with a name or alone; then names with or without a default; then two stars.
--- A star alone has a name after it.
+-- names; then names with a default; then a star, with a name or alone; then names with or without a default; then two
+-- stars. A star alone has a name after it.
 abbrev pub parameters_in_order : List Parameter → Bool
 parameters_in_order [] = true
 parameters_in_order (parameter.Plain name ∷ more) = parameters_in_order more
@@ -98,7 +99,9 @@ nothing_of x = tt
 
 -- a name, an index, or a tuple or list display of targets
 unfoldable pub target_of : Expression → Option Target
-target_of = para-Expression (Unit {0}) (Unit {0}) (Option Target) (Unit {0}) (Unit {0}) (Unit {0}) (Unit {0}) nothing_of nothing_of target_step nothing_of nothing_of nothing_of nothing_of
+target_of =
+    para-Expression (Unit {0}) (Unit {0}) (Option Target) (Unit {0}) (Unit {0}) (Unit {0}) (Unit {0}) nothing_of
+    nothing_of target_step nothing_of nothing_of nothing_of nothing_of
 
 abbrev pub augmented_level : {A B D E F G : Type 0} → Expression-F A B Expression D E F G → Option Target
 augmented_level (Expression-F.Expression::Name name) = Some (target.Name name)

@@ -26,7 +26,8 @@ abbrev pub rule : (r : Rule) → G (sort r)
 rule (level l) = rule_of_level l
 rule statement = one_statement
 
--- the tree that spells all the leaves, where each repetition or option takes a further round wherever a round reads at that place
+-- the tree that spells all the leaves, where each repetition or option takes a further round wherever a round reads at
+-- that place
 pub record Reading (tree : List Statement) (leaves : List Leaf) : Type 0 where
   pub spells : Spells rule (list sorts.statement) file tree leaves
   pub greedy : Reads rule (list sorts.statement) file leaves (Some (tree, []))
@@ -47,16 +48,20 @@ Gives r (Err e) = Unit {0}
 
 -- a function that reads expressions to a depth
 pub record Nests (depth : ℕ) (pre : Global → ℕ → Level → Bor (List Leaf) → Type 0)
-    (post : Global → ℕ → Level → Bor (List Leaf) → Result (Option (Expression × Bor (List Leaf))) AllocError → Type 0) : Type 0 where
+    (post : Global → ℕ → Level → Bor (List Leaf) → Result (Option (Expression × Bor (List Leaf))) AllocError
+        → Type 0) : Type 0 where
   pub callable : (alloc : Global) (l : Level) (ts : Bor (List Leaf)) → pre alloc depth l ts
-  pub reads : (alloc : Global) (l : Level) (ts : Bor (List Leaf)) (r : Result (Option (Expression × Bor (List Leaf))) AllocError) → post alloc depth l ts r
+  pub reads : (alloc : Global) (l : Level) (ts : Bor (List Leaf))
+      (r : Result (Option (Expression × Bor (List Leaf))) AllocError) → post alloc depth l ts r
       → Gives (run rule depth (level l) ts.now) r
 
 -- a function that reads statements to a depth
 pub record Blocks (depth : ℕ) (pre : Global → ℕ → Bor (List Leaf) → Type 0)
-    (post : Global → ℕ → Bor (List Leaf) → Result (Option (List Statement × Bor (List Leaf))) AllocError → Type 0) : Type 0 where
+    (post : Global → ℕ → Bor (List Leaf) → Result (Option (List Statement × Bor (List Leaf))) AllocError
+        → Type 0) : Type 0 where
   pub callable : (alloc : Global) (ts : Bor (List Leaf)) → pre alloc depth ts
-  pub reads : (alloc : Global) (ts : Bor (List Leaf)) (r : Result (Option (List Statement × Bor (List Leaf))) AllocError) → post alloc depth ts r
+  pub reads : (alloc : Global) (ts : Bor (List Leaf))
+      (r : Result (Option (List Statement × Bor (List Leaf))) AllocError) → post alloc depth ts r
       → Gives (run rule depth statement ts.now) r
 
 -- what reading a whole file answers: its reading, or nothing where there is none

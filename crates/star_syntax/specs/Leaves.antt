@@ -22,7 +22,8 @@ word_of k.End z = w.End
 
 -- the leaf of a token of a source, with the token's number
 abbrev pub leaf_of : Text → ℕ → Token → Leaf
-leaf_of source n t = record { word = word_of t.kind (text_at source t.span); position = record { line = t.line; token = n } }
+leaf_of source n t =
+    record { word = word_of t.kind (text_at source t.span); position = record { line = t.line; token = n } }
 
 -- the leaves of tokens, the first of which has the number
 abbrev pub leaves_from : Text → ℕ → List Token → List Leaf

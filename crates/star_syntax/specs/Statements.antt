@@ -186,7 +186,8 @@ told = when told_of (seq tests (opt right_side))
 
 -- 'break' | 'continue' | 'pass'
 unfoldable pub keyword_form : G sorts.form
-keyword_form = alt (act break_of (keyword_ k.Break)) (alt (act continue_of (keyword_ k.Continue)) (act pass_of (keyword_ k.Pass)))
+keyword_form =
+    alt (act break_of (keyword_ k.Break)) (alt (act continue_of (keyword_ k.Continue)) (act pass_of (keyword_ k.Pass)))
 
 -- Small = 'return' [Tests] | 'break' | 'continue' | 'pass' | Load | Tests | Tests '=' Tests | Tests AugOp Tests
 unfoldable pub small_form : G sorts.form

@@ -103,69 +103,98 @@ mutual
   -- `Written x ts us`: x, with a parenthesis round each part, stands in ts before us
   pub data Written : Expression → List Leaf → List Leaf → Type 0 where
     a-name : {x : Name} {us : List Leaf} → Written (e.Name x) (called x ∷ us) us
-    an-int : {p : Position} {value : ℤ} {us : List Leaf} → Written (e.Int value) (record { word = word.Int value; position = p } ∷ us) us
-    a-text : {p : Position} {text : List ℕ} {us : List Leaf} → Written (e.Text text) (record { word = word.Text text; position = p } ∷ us) us
+    an-int : {p : Position} {value : ℤ} {us : List Leaf}
+        → Written (e.Int value) (record { word = word.Int value; position = p } ∷ us) us
+    a-text : {p : Position} {text : List ℕ} {us : List Leaf}
+        → Written (e.Text text) (record { word = word.Text text; position = p } ∷ us) us
     -- +(x)
-    a-sign : {p : Position} {sign : Sign} {operator : UnaryOperator} {x : Expression} {ts us : List Leaf} → IsUnary sign operator → Enclosed x ts us → Written (e.Unary operator x) (mark p sign ∷ ts) us
+    a-sign : {p : Position} {sign : Sign} {operator : UnaryOperator} {x : Expression} {ts us : List Leaf}
+        → IsUnary sign operator → Enclosed x ts us → Written (e.Unary operator x) (mark p sign ∷ ts) us
     -- not (x)
-    a-denial : {p : Position} {x : Expression} {ts us : List Leaf} → Enclosed x ts us → Written (e.Unary unaries.Not x) (spelt p k.Not ∷ ts) us
+    a-denial : {p : Position} {x : Expression} {ts us : List Leaf} → Enclosed x ts us
+        → Written (e.Unary unaries.Not x) (spelt p k.Not ∷ ts) us
     -- (x) + (y)
-    a-binary : {p : Position} {sign : Sign} {operator : BinaryOperator} {x y : Expression} {ts vs us : List Leaf} → IsBinary sign operator
+    a-binary : {p : Position} {sign : Sign} {operator : BinaryOperator} {x y : Expression} {ts vs us : List Leaf}
+        → IsBinary sign operator
         → Enclosed x ts (mark p sign ∷ vs) → Enclosed y vs us → Written (e.Binary operator x y) ts us
     -- (x) == (y)
-    a-comparison : {p : Position} {w : Word} {comparator : Comparator} {x y : Expression} {ts vs us : List Leaf} → IsComparator w comparator
-        → Enclosed x ts (record { word = w; position = p } ∷ vs) → Enclosed y vs us → Written (e.Compare comparator x y) ts us
+    a-comparison : {p : Position} {w : Word} {comparator : Comparator} {x y : Expression} {ts vs us : List Leaf}
+        → IsComparator w comparator
+        → Enclosed x ts (record { word = w; position = p } ∷ vs) → Enclosed y vs us
+            → Written (e.Compare comparator x y) ts us
     -- (x) not in (y)
-    an-absence : {p q : Position} {x y : Expression} {ts vs us : List Leaf} → Enclosed x ts (spelt p k.Not ∷ spelt q k.In ∷ vs) → Enclosed y vs us → Written (e.Compare comparators.NotIn x y) ts us
+    an-absence : {p q : Position} {x y : Expression} {ts vs us : List Leaf}
+        → Enclosed x ts (spelt p k.Not ∷ spelt q k.In ∷ vs) → Enclosed y vs us
+        → Written (e.Compare comparators.NotIn x y) ts us
     -- (x) and (y)
-    an-and : {p : Position} {x y : Expression} {ts vs us : List Leaf} → Enclosed x ts (spelt p k.And ∷ vs) → Enclosed y vs us → Written (e.And x y) ts us
+    an-and : {p : Position} {x y : Expression} {ts vs us : List Leaf} → Enclosed x ts (spelt p k.And ∷ vs)
+        → Enclosed y vs us → Written (e.And x y) ts us
     -- (x) or (y)
-    an-or : {p : Position} {x y : Expression} {ts vs us : List Leaf} → Enclosed x ts (spelt p k.Or ∷ vs) → Enclosed y vs us → Written (e.Or x y) ts us
+    an-or : {p : Position} {x y : Expression} {ts vs us : List Leaf} → Enclosed x ts (spelt p k.Or ∷ vs)
+        → Enclosed y vs us → Written (e.Or x y) ts us
     -- (x) if (y) else (z)
     a-conditional : {p q : Position} {x y z : Expression} {ts vs ws us : List Leaf}
-        → Enclosed x ts (spelt p k.If ∷ vs) → Enclosed y vs (spelt q k.Else ∷ ws) → Enclosed z ws us → Written (e.Conditional y x z) ts us
+        → Enclosed x ts (spelt p k.If ∷ vs) → Enclosed y vs (spelt q k.Else ∷ ws) → Enclosed z ws us
+            → Written (e.Conditional y x z) ts us
     -- (x).name
-    an-attribute : {p : Position} {name : Name} {x : Expression} {ts us : List Leaf} → Enclosed x ts (mark p s.Dot ∷ called name ∷ us) → Written (e.Attribute x name) ts us
+    an-attribute : {p : Position} {name : Name} {x : Expression} {ts us : List Leaf}
+        → Enclosed x ts (mark p s.Dot ∷ called name ∷ us) → Written (e.Attribute x name) ts us
     -- (x)[(y)]
-    an-index : {p q : Position} {x y : Expression} {ts vs us : List Leaf} → Enclosed x ts (mark p s.LeftBracket ∷ vs) → Enclosed y vs (mark q s.RightBracket ∷ us) → Written (e.Index x y) ts us
+    an-index : {p q : Position} {x y : Expression} {ts vs us : List Leaf} → Enclosed x ts (mark p s.LeftBracket ∷ vs)
+        → Enclosed y vs (mark q s.RightBracket ∷ us) → Written (e.Index x y) ts us
     -- ()
-    an-empty-tuple : {p q : Position} {us : List Leaf} → Written (e.Tuple []) (mark p s.LeftParen ∷ mark q s.RightParen ∷ us) us
+    an-empty-tuple : {p q : Position} {us : List Leaf}
+        → Written (e.Tuple []) (mark p s.LeftParen ∷ mark q s.RightParen ∷ us) us
     -- ((x), (y),)
-    a-tuple : {p q r : Position} {x : Expression} {xs : List Expression} {ts vs us : List Leaf} → Enclosed x ts vs → Further xs vs (mark q s.Comma ∷ mark r s.RightParen ∷ us)
+    a-tuple : {p q r : Position} {x : Expression} {xs : List Expression} {ts vs us : List Leaf} → Enclosed x ts vs
+        → Further xs vs (mark q s.Comma ∷ mark r s.RightParen ∷ us)
         → Written (e.Tuple (x ∷ xs)) (mark p s.LeftParen ∷ ts) us
     -- []
-    an-empty-list : {p q : Position} {us : List Leaf} → Written (e.List []) (mark p s.LeftBracket ∷ mark q s.RightBracket ∷ us) us
+    an-empty-list : {p q : Position} {us : List Leaf}
+        → Written (e.List []) (mark p s.LeftBracket ∷ mark q s.RightBracket ∷ us) us
     -- [(x), (y)]
-    a-list : {p q : Position} {x : Expression} {xs : List Expression} {ts vs us : List Leaf} → Enclosed x ts vs → Further xs vs (mark q s.RightBracket ∷ us)
+    a-list : {p q : Position} {x : Expression} {xs : List Expression} {ts vs us : List Leaf} → Enclosed x ts vs
+        → Further xs vs (mark q s.RightBracket ∷ us)
         → Written (e.List (x ∷ xs)) (mark p s.LeftBracket ∷ ts) us
     -- {}
-    an-empty-dict : {p q : Position} {us : List Leaf} → Written (e.Dict []) (mark p s.LeftBrace ∷ mark q s.RightBrace ∷ us) us
+    an-empty-dict : {p q : Position} {us : List Leaf}
+        → Written (e.Dict []) (mark p s.LeftBrace ∷ mark q s.RightBrace ∷ us) us
     -- {(x): (y), (z): (w)}
-    a-dict : {p q : Position} {y : Entry} {ys : List Entry} {ts vs us : List Leaf} → OneEntry y ts vs → FurtherEntries ys vs (mark q s.RightBrace ∷ us) → Written (e.Dict (y ∷ ys)) (mark p s.LeftBrace ∷ ts) us
+    a-dict : {p q : Position} {y : Entry} {ys : List Entry} {ts vs us : List Leaf} → OneEntry y ts vs
+        → FurtherEntries ys vs (mark q s.RightBrace ∷ us) → Written (e.Dict (y ∷ ys)) (mark p s.LeftBrace ∷ ts) us
     -- [(x) for .. in ..]
-    a-list-comprehension : {p q : Position} {x : Expression} {c : Clauses} {ts vs us : List Leaf} → Enclosed x ts vs → AllClauses c vs (mark q s.RightBracket ∷ us)
+    a-list-comprehension : {p q : Position} {x : Expression} {c : Clauses} {ts vs us : List Leaf} → Enclosed x ts vs
+        → AllClauses c vs (mark q s.RightBracket ∷ us)
         → Written (e.ListComprehension p x c) (mark p s.LeftBracket ∷ ts) us
     -- {(x): (y) for .. in ..}
-    a-dict-comprehension : {p q : Position} {y : Entry} {c : Clauses} {ts vs us : List Leaf} → OneEntry y ts vs → AllClauses c vs (mark q s.RightBrace ∷ us)
+    a-dict-comprehension : {p q : Position} {y : Entry} {c : Clauses} {ts vs us : List Leaf} → OneEntry y ts vs
+        → AllClauses c vs (mark q s.RightBrace ∷ us)
         → Written (e.DictComprehension p y c) (mark p s.LeftBrace ∷ ts) us
     -- (x)(..), where the arguments stand in order
-    a-call : {p q : Position} {x : Expression} {given : List Argument} {ts vs us : List Leaf} → Enclosed x ts (mark p s.LeftParen ∷ vs) → Arguments given vs (mark q s.RightParen ∷ us) → arguments_in_order given ≡ true
+    a-call : {p q : Position} {x : Expression} {given : List Argument} {ts vs us : List Leaf}
+        → Enclosed x ts (mark p s.LeftParen ∷ vs) → Arguments given vs (mark q s.RightParen ∷ us)
+        → arguments_in_order given ≡ true
         → Written (e.Call x given) ts us
     -- (x)[(a):(b):(c)]
-    a-slice : {p q r t : Position} {x : Expression} {a b c : Option Expression} {ts vs ws zs us : List Leaf} → Enclosed x ts (mark p s.LeftBracket ∷ vs)
-        → Optional a vs (mark q s.Colon ∷ ws) → Optional b ws (mark r s.Colon ∷ zs) → Optional c zs (mark t s.RightBracket ∷ us) → Written (e.Slice x a b c) ts us
+    a-slice : {p q r t : Position} {x : Expression} {a b c : Option Expression} {ts vs ws zs us : List Leaf}
+        → Enclosed x ts (mark p s.LeftBracket ∷ vs)
+        → Optional a vs (mark q s.Colon ∷ ws) → Optional b ws (mark r s.Colon ∷ zs)
+            → Optional c zs (mark t s.RightBracket ∷ us) → Written (e.Slice x a b c) ts us
     -- lambda ..: (x), where the parameters stand in order
-    a-lambda : {p q : Position} {taken : List Parameter} {x : Expression} {ts vs us : List Leaf} → Parameters taken ts (mark q s.Colon ∷ vs) → parameters_in_order taken ≡ true → Enclosed x vs us
+    a-lambda : {p q : Position} {taken : List Parameter} {x : Expression} {ts vs us : List Leaf}
+        → Parameters taken ts (mark q s.Colon ∷ vs) → parameters_in_order taken ≡ true → Enclosed x vs us
         → Written (e.Lambda p taken x) (spelt p k.Lambda ∷ ts) us
 
   -- (x)
   pub data Enclosed : Expression → List Leaf → List Leaf → Type 0 where
-    enclosed : {p q : Position} {x : Expression} {ts us : List Leaf} → Written x ts (mark q s.RightParen ∷ us) → Enclosed x (mark p s.LeftParen ∷ ts) us
+    enclosed : {p q : Position} {x : Expression} {ts us : List Leaf} → Written x ts (mark q s.RightParen ∷ us)
+        → Enclosed x (mark p s.LeftParen ∷ ts) us
 
   -- , (x), (y)
   pub data Further : List Expression → List Leaf → List Leaf → Type 0 where
     no-further : {us : List Leaf} → Further [] us us
-    one-further : {p : Position} {x : Expression} {xs : List Expression} {ts vs us : List Leaf} → Enclosed x ts vs → Further xs vs us → Further (x ∷ xs) (mark p s.Comma ∷ ts) us
+    one-further : {p : Position} {x : Expression} {xs : List Expression} {ts vs us : List Leaf} → Enclosed x ts vs
+        → Further xs vs us → Further (x ∷ xs) (mark p s.Comma ∷ ts) us
 
   -- (x), or nothing
   pub data Optional : Option Expression → List Leaf → List Leaf → Type 0 where
@@ -174,66 +203,85 @@ mutual
 
   -- (x): (y)
   pub data OneEntry : Entry → List Leaf → List Leaf → Type 0 where
-    an-entry : {p : Position} {x y : Expression} {ts vs us : List Leaf} → Enclosed x ts (mark p s.Colon ∷ vs) → Enclosed y vs us → OneEntry (roll-Entry (record { key = x; value = y })) ts us
+    an-entry : {p : Position} {x y : Expression} {ts vs us : List Leaf} → Enclosed x ts (mark p s.Colon ∷ vs)
+        → Enclosed y vs us → OneEntry (roll-Entry (record { key = x; value = y })) ts us
 
   -- , (x): (y), (z): (w)
   pub data FurtherEntries : List Entry → List Leaf → List Leaf → Type 0 where
     no-entry : {us : List Leaf} → FurtherEntries [] us us
-    next-entry : {p : Position} {y : Entry} {ys : List Entry} {ts vs us : List Leaf} → OneEntry y ts vs → FurtherEntries ys vs us → FurtherEntries (y ∷ ys) (mark p s.Comma ∷ ts) us
+    next-entry : {p : Position} {y : Entry} {ys : List Entry} {ts vs us : List Leaf} → OneEntry y ts vs
+        → FurtherEntries ys vs us → FurtherEntries (y ∷ ys) (mark p s.Comma ∷ ts) us
 
   -- (x), name=(x), *(x) or **(x)
   pub data OneArgument : Argument → List Leaf → List Leaf → Type 0 where
     positional : {x : Expression} {ts us : List Leaf} → Enclosed x ts us → OneArgument (arguments.Positional x) ts us
-    by-name : {p : Position} {name : Name} {x : Expression} {ts us : List Leaf} → Enclosed x ts us → OneArgument (arguments.Named name x) (called name ∷ mark p s.Assign ∷ ts) us
-    with-star : {p : Position} {x : Expression} {ts us : List Leaf} → Enclosed x ts us → OneArgument (arguments.Star x) (mark p s.Star ∷ ts) us
-    with-two-stars : {p : Position} {x : Expression} {ts us : List Leaf} → Enclosed x ts us → OneArgument (arguments.StarStar x) (mark p s.StarStar ∷ ts) us
+    by-name : {p : Position} {name : Name} {x : Expression} {ts us : List Leaf} → Enclosed x ts us
+        → OneArgument (arguments.Named name x) (called name ∷ mark p s.Assign ∷ ts) us
+    with-star : {p : Position} {x : Expression} {ts us : List Leaf} → Enclosed x ts us
+        → OneArgument (arguments.Star x) (mark p s.Star ∷ ts) us
+    with-two-stars : {p : Position} {x : Expression} {ts us : List Leaf} → Enclosed x ts us
+        → OneArgument (arguments.StarStar x) (mark p s.StarStar ∷ ts) us
 
   -- , (x), name=(x)
   pub data FurtherArguments : List Argument → List Leaf → List Leaf → Type 0 where
     no-argument : {us : List Leaf} → FurtherArguments [] us us
-    next-argument : {p : Position} {y : Argument} {ys : List Argument} {ts vs us : List Leaf} → OneArgument y ts vs → FurtherArguments ys vs us → FurtherArguments (y ∷ ys) (mark p s.Comma ∷ ts) us
+    next-argument : {p : Position} {y : Argument} {ys : List Argument} {ts vs us : List Leaf} → OneArgument y ts vs
+        → FurtherArguments ys vs us → FurtherArguments (y ∷ ys) (mark p s.Comma ∷ ts) us
 
   -- (x), name=(x), or nothing
   pub data Arguments : List Argument → List Leaf → List Leaf → Type 0 where
     none-given : {us : List Leaf} → Arguments [] us us
-    some-given : {y : Argument} {ys : List Argument} {ts vs us : List Leaf} → OneArgument y ts vs → FurtherArguments ys vs us → Arguments (y ∷ ys) ts us
+    some-given : {y : Argument} {ys : List Argument} {ts vs us : List Leaf} → OneArgument y ts vs
+        → FurtherArguments ys vs us → Arguments (y ∷ ys) ts us
 
   -- name, name=(x), *name, * or **name
   pub data OneParameter : Parameter → List Leaf → List Leaf → Type 0 where
     plain : {name : Name} {us : List Leaf} → OneParameter (parameters.Plain name) (called name ∷ us) us
-    default : {p : Position} {name : Name} {x : Expression} {ts us : List Leaf} → Enclosed x ts us → OneParameter (parameters.Default name x) (called name ∷ mark p s.Assign ∷ ts) us
-    starred : {p : Position} {name : Name} {us : List Leaf} → OneParameter (parameters.Star name) (mark p s.Star ∷ called name ∷ us) us
+    default : {p : Position} {name : Name} {x : Expression} {ts us : List Leaf} → Enclosed x ts us
+        → OneParameter (parameters.Default name x) (called name ∷ mark p s.Assign ∷ ts) us
+    starred : {p : Position} {name : Name} {us : List Leaf}
+        → OneParameter (parameters.Star name) (mark p s.Star ∷ called name ∷ us) us
     bare-star : {p : Position} {us : List Leaf} → OneParameter parameters.BareStar (mark p s.Star ∷ us) us
-    twice-starred : {p : Position} {name : Name} {us : List Leaf} → OneParameter (parameters.StarStar name) (mark p s.StarStar ∷ called name ∷ us) us
+    twice-starred : {p : Position} {name : Name} {us : List Leaf}
+        → OneParameter (parameters.StarStar name) (mark p s.StarStar ∷ called name ∷ us) us
 
   -- , name, name=(x)
   pub data FurtherParameters : List Parameter → List Leaf → List Leaf → Type 0 where
     no-parameter : {us : List Leaf} → FurtherParameters [] us us
-    next-parameter : {p : Position} {y : Parameter} {ys : List Parameter} {ts vs us : List Leaf} → OneParameter y ts vs → FurtherParameters ys vs us → FurtherParameters (y ∷ ys) (mark p s.Comma ∷ ts) us
+    next-parameter : {p : Position} {y : Parameter} {ys : List Parameter} {ts vs us : List Leaf} → OneParameter y ts vs
+        → FurtherParameters ys vs us → FurtherParameters (y ∷ ys) (mark p s.Comma ∷ ts) us
 
   -- name, name=(x), or nothing
   pub data Parameters : List Parameter → List Leaf → List Leaf → Type 0 where
     none-taken : {us : List Leaf} → Parameters [] us us
-    some-taken : {y : Parameter} {ys : List Parameter} {ts vs us : List Leaf} → OneParameter y ts vs → FurtherParameters ys vs us → Parameters (y ∷ ys) ts us
+    some-taken : {y : Parameter} {ys : List Parameter} {ts vs us : List Leaf} → OneParameter y ts vs
+        → FurtherParameters ys vs us → Parameters (y ∷ ys) ts us
 
   -- for (z) in (y), where z is a target
   pub data ForPart : Target → Expression → List Leaf → List Leaf → Type 0 where
-    for-each : {p q : Position} {target : Target} {y z : Expression} {ts vs us : List Leaf} → target_of z ≡ Some target → Enclosed z ts (spelt q k.In ∷ vs) → Enclosed y vs us → ForPart target y (spelt p k.For ∷ ts) us
+    for-each : {p q : Position} {target : Target} {y z : Expression} {ts vs us : List Leaf} → target_of z ≡ Some target
+        → Enclosed z ts (spelt q k.In ∷ vs) → Enclosed y vs us → ForPart target y (spelt p k.For ∷ ts) us
 
   -- for (z) in (y), or if (y)
   pub data OneClause : Clause → List Leaf → List Leaf → Type 0 where
-    each : {target : Target} {y : Expression} {ts us : List Leaf} → ForPart target y ts us → OneClause (clauses.For target y) ts us
-    only-if : {p : Position} {y : Expression} {ts us : List Leaf} → Enclosed y ts us → OneClause (clauses.If y) (spelt p k.If ∷ ts) us
+    each : {target : Target} {y : Expression} {ts us : List Leaf} → ForPart target y ts us
+        → OneClause (clauses.For target y) ts us
+    only-if : {p : Position} {y : Expression} {ts us : List Leaf} → Enclosed y ts us
+        → OneClause (clauses.If y) (spelt p k.If ∷ ts) us
 
   pub data FurtherClauses : List Clause → List Leaf → List Leaf → Type 0 where
     no-clause : {us : List Leaf} → FurtherClauses [] us us
-    next-clause : {y : Clause} {ys : List Clause} {ts vs us : List Leaf} → OneClause y ts vs → FurtherClauses ys vs us → FurtherClauses (y ∷ ys) ts us
+    next-clause : {y : Clause} {ys : List Clause} {ts vs us : List Leaf} → OneClause y ts vs → FurtherClauses ys vs us
+        → FurtherClauses (y ∷ ys) ts us
 
   -- for (z) in (y), and further clauses
   pub data AllClauses : Clauses → List Leaf → List Leaf → Type 0 where
-    clauses-from : {target : Target} {y : Expression} {ys : List Clause} {ts vs us : List Leaf} → ForPart target y ts vs → FurtherClauses ys vs us
+    clauses-from : {target : Target} {y : Expression} {ys : List Clause} {ts vs us : List Leaf} → ForPart target y ts vs
+        → FurtherClauses ys vs us
         → AllClauses (roll-Clauses (record { target = target; iterable = y; more = ys })) ts us
 
 -- The law: what is written so reads back as itself.
 abbrev pub ReadsBack : Type 0
-ReadsBack = (x : Expression) (ts us : List Leaf) → Written x ts us → Stops us → Reads rule sorts.expression (the (level levels.Test)) ts (Some (x, us))
+ReadsBack =
+    (x : Expression) (ts us : List Leaf) → Written x ts us → Stops us
+    → Reads rule sorts.expression (the (level levels.Test)) ts (Some (x, us))

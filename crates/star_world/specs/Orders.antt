@@ -17,8 +17,9 @@ use Rattle.star_world.specs.declared.layouts.Cursor.{Cursor}
 use Rattle.star_world.specs.declared.layouts.Stage.{Stage}
 use Rattle.star_world.specs.declared.layouts.Stage.TheVariants as stage
 
--- a layout of parameters: how many slots they have, how many of the first slots take values by place, and how many defaults there are; for each slot the number of its default, if it has one;
--- the slots that need a value; and the slots of `*name` and `**name`
+-- a layout of parameters: how many slots they have, how many of the first slots take values by place, and how many
+-- defaults there are; for each slot the number of its default, if it has one; the slots that need a value; and the
+-- slots of `*name` and `**name`
 pub record Layout : Type 0 where
   pub count : ℕ
   pub by_place : ℕ
@@ -61,11 +62,18 @@ PlacesAreOver l stage.Ended i = ⊥
 
 -- a parameter has the slot at the cursor: one with a name alone needs a value, one with a default has the next default
 abbrev pub StandsAt : Spots → Names → Layout → Cursor → ParameterForm → Type 0
-StandsAt spots names l c (tree.Plain n) = MayStand l c.stage c.slot × IsSlot spots names c.slot n × (is_own l c.slot ≡ true) × (slice_get l.ranks c.slot ≡ Some None) × (slice_get l.needed c.needed ≡ Some c.slot)
-StandsAt spots names l c (tree.Default n e) = MayStand l c.stage c.slot × IsSlot spots names c.slot n × (is_own l c.slot ≡ true) × (slice_get l.ranks c.slot ≡ Some (Some c.rank)) × (c.rank < l.defaults)
-StandsAt spots names l c (tree.Parameter-F.Parameter::Star n) = PlacesEnd l c.stage c.slot (Some c.slot) × IsSlot spots names c.slot n
+StandsAt spots names l c (tree.Plain n) =
+    MayStand l c.stage c.slot × IsSlot spots names c.slot n × (is_own l c.slot ≡ true)
+    × (slice_get l.ranks c.slot ≡ Some None) × (slice_get l.needed c.needed ≡ Some c.slot)
+StandsAt spots names l c (tree.Default n e) =
+    MayStand l c.stage c.slot × IsSlot spots names c.slot n × (is_own l c.slot ≡ true)
+    × (slice_get l.ranks c.slot ≡ Some (Some c.rank)) × (c.rank < l.defaults)
+StandsAt spots names l c (tree.Parameter-F.Parameter::Star n) =
+    PlacesEnd l c.stage c.slot (Some c.slot) × IsSlot spots names c.slot n
 StandsAt spots names l c tree.BareStar = PlacesEnd l c.stage c.slot None
-StandsAt spots names l c (tree.Parameter-F.Parameter::StarStar n) = PlacesAreOver l c.stage c.slot × IsSlot spots names c.slot n × (is_at l.rest c.slot ≡ false) × (l.names ≡ Some c.slot)
+StandsAt spots names l c (tree.Parameter-F.Parameter::StarStar n) =
+    PlacesAreOver l c.stage c.slot × IsSlot spots names c.slot n × (is_at l.rest c.slot ≡ false)
+    × (l.names ≡ Some c.slot)
 
 -- the cursor after a parameter
 abbrev pub after : Cursor → ParameterForm → Cursor
@@ -88,7 +96,8 @@ MayEnd l stage.Ended i = Unit {0}
 -- parameters stand in order from the cursor on
 abbrev pub InOrder : Spots → Names → Layout → Cursor → List Parameter → Type 0
 InOrder spots names l c [] = (c.slot ≡ l.count) × MayEnd l c.stage c.slot
-InOrder spots names l c (p ∷ ps) = StandsAt spots names l c (parameter p) × InOrder spots names l (after c (parameter p)) ps
+InOrder spots names l c (p ∷ ps) =
+    StandsAt spots names l c (parameter p) × InOrder spots names l (after c (parameter p)) ps
 
 -- a slot, if there is one, is one of the first so many
 abbrev pub IsBelow : Option ℕ → ℕ → Type 0
@@ -108,7 +117,9 @@ AreLaidOut spots names l ps = InOrder spots names l start ps × IsBounded l
 
 -- so do those of the definition of a program with this number
 abbrev pub HasLayout : Program → ℕ → Layout → Type 0
-HasLayout p number l = (d : Definition) → definition_in p.definitions number ≡ Some d → AreLaidOut (spot_at p.spots) (names_in p.blocks (1 + number)) l d.parameters
+HasLayout p number l =
+    (d : Definition) → definition_in p.definitions number ≡ Some d
+    → AreLaidOut (spot_at p.spots) (names_in p.blocks (1 + number)) l d.parameters
 
 -- what a map has for numbers holds of the definitions with them
 abbrev pub HaveLayouts : Program → BTreeMap ℕ Layout → Type 0

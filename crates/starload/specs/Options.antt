@@ -13,7 +13,8 @@ values_of matches id = option_map_or raw_values (matched_of (found_of matches) i
 abbrev pub Writes : List ℕ → ℕ → Type 0
 Writes word n = IsNumeral 10 (without_leading_plus word) × (digits_value 10 (without_leading_plus word) ≡ n)
 
--- n is the number that the value of an option writes, where it writes one within the bounds, and the other one where it has no value
+-- n is the number that the value of an option writes, where it writes one within the bounds, and the other one where it
+-- has no value
 abbrev pub IsNumberOf : Option (List ℕ) → ℕ → ℕ → ℕ → ℕ → Type 0
 IsNumberOf None low high other n = n ≡ other
 IsNumberOf (Some word) low high other n = (m : ℕ) → Writes word m → low ≤ m → m ≤ high → n ≡ m
