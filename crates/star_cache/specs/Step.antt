@@ -33,8 +33,11 @@ module _ {P : Type 0} where
   after_begin b s n = record {
     entries = slice_set b.entries n Running;
     loaders =
-        slice_set b.loaders s (record { stack = n ∷ (stack_of b s); awaited = awaited_by b s;
-        count = (loader_at b s).count + 1 });
+        slice_set b.loaders s (record {
+          stack = n ∷ (stack_of b s);
+          awaited = awaited_by b s;
+          count = (loader_at b s).count + 1;
+        });
   }
 
   -- the seat awaits this, or nothing
@@ -54,8 +57,11 @@ module _ {P : Type 0} where
   after_end b s n entry = record {
     entries = slice_set b.entries n entry;
     loaders =
-        slice_set b.loaders s (record { stack = below_top (stack_of b s); awaited = awaited_by b s;
-        count = (loader_at b s).count });
+        slice_set b.loaders s (record {
+          stack = below_top (stack_of b s);
+          awaited = awaited_by b s;
+          count = (loader_at b s).count;
+        });
   }
 
   -- the entries with each of these spoiled

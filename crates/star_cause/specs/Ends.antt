@@ -74,4 +74,4 @@ pub record AreSettled (before : Ends) (files : List ℕ) (stop : Stop) (count : 
   pub known : (i : ℕ) → i < count → IsKnown after (slice_index files i)
   pub added : (x : ℕ) (e : End) → slice_get after x ≡ Some (Some e)
       → (slice_get before x ≡ Some (Some e)) ⊎ ((i : ℕ) × (i < count) × (slice_index files i ≡ x)
-          × (end_on files stop i ≡ e))
+      × (end_on files stop i ≡ e))

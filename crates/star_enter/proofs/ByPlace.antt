@@ -53,10 +53,10 @@ unfolding given
 given_plain w line vs s = simp (no_star vs, no_star_star vs, no_names vs, all_plain vs)
 
 -- values by place are passed as they are
-behind_both : (o : Outcome (List Value)) (v : Value) (q : Outcome (List Passed)) → q ≡ and_then o (λ vs. give (map Plain vs))
+after_both : (o : Outcome (List Value)) (v : Value) (q : Outcome (List Passed)) → q ≡ and_then o (λ vs. give (map Plain vs))
     → and_then q (λ ys. give (Plain v ∷ ys)) ≡ and_then (and_then o (λ vs. give (v ∷ vs))) (λ vs. give (map Plain vs))
-behind_both (Done vs t) v q h = ap (λ (r : Outcome (List Passed)). and_then r (λ ys. give (Plain v ∷ ys))) h
-behind_both (Failed e lines) v q h = ap (λ (r : Outcome (List Passed)). and_then r (λ ys. give (Plain v ∷ ys))) h
+after_both (Done vs t) v q h = ap (λ (r : Outcome (List Passed)). and_then r (λ ys. give (Plain v ∷ ys))) h
+after_both (Failed e lines) v q h = ap (λ (r : Outcome (List Passed)). and_then r (λ ys. give (Plain v ∷ ys))) h
 
 abbrev value : Meaning → Place → Argument → Action Value
 value m p a = m.expr p (expression_of a)
@@ -66,7 +66,7 @@ PassedAlike m p es s = each (pass m p) es s ≡ and_then (each (value m p) es s)
 
 pass_then : (o : Outcome Value) (m : Meaning) (p : Place) (es : List Argument) → ((t : State) → PassedAlike m p es t)
     → and_then (and_then o (λ v. give (Plain v))) (λ y t. and_then (each (pass m p) es t) (λ ys. give (y ∷ ys))) ≡ and_then (and_then o (λ v t. and_then (each (value m p) es t) (λ vs. give (v ∷ vs)))) (λ vs. give (map Plain vs))
-pass_then (Done v t) m p es k = behind_both (each (value m p) es t) v (each (pass m p) es t) (k t)
+pass_then (Done v t) m p es k = after_both (each (value m p) es t) v (each (pass m p) es t) (k t)
 pass_then (Failed e lines) m p es k = refl
 
 pass_more : (m : Meaning) (p : Place) (f : ArgumentForm) (es : List Argument) (s : State) → is_positional_form f ≡ true → ((t : State) → PassedAlike m p es t)

@@ -21,7 +21,7 @@ use Rattle.star_meaning.specs.Values.{is_true, iterate, leave}
 use Rattle.star_eval.specs.declared.output.Output.{Output}
 use Rattle.star_eval.specs.declared.open_clause.OpenClause.{OpenClause}
 use Rattle.star_tree.specs.declared.tree.Clauses.{Clauses, out-Clauses}
-use Rattle.star_eval.specs.Steps.{all_left, behind, container, filled, opened_left, turn_of, turns_left}
+use Rattle.star_eval.specs.Steps.{all_left, after, container, filled, opened_left, turn_of, turns_left}
 use Rattle.star_world.specs.World.{World, meant, variables}
 use Rattle.star_eval.proofs.Turns.{repeat_next}
 
@@ -98,7 +98,7 @@ last_ended c levels p o fs f s t h e k =
 
 -- a clause that was just opened
 pub just_opened : (c : World) (levels : ℕ) (p : Place) (o : Output) (g : Bor Target) (v : Value) (n : ℕ) (cs : Bor (List Clause)) (s t : State) → iterate c.setting p.line v s ≡ Done n t
-    → over (variables c) c.setting (meant c levels) p g.now v (behind c levels p cs.now o) s ≡ turns_left c levels p o (record { target = g; value = v; count = n; next = 0; more = cs }) t
+    → over (variables c) c.setting (meant c levels) p g.now v (after c levels p cs.now o) s ≡ turns_left c levels p o (record { target = g; value = v; count = n; next = 0; more = cs }) t
 just_opened c levels p o g v n cs s t h =
     let f : OpenClause = record { target = g; value = v; count = n; next = 0; more = cs } in
     ap (λ (r : Outcome ℕ). and_then r (λ k u. and_then (repeat (turn_of c levels p o f) k 0 u) (λ _. leave v))) h
@@ -124,46 +124,46 @@ if_opened : (k : Clause) (e : Expression) → k ≡ variant.If e → out-Clause 
 if_opened k e is = ap out-Clause (is ∙ sym (variant.rolls-If e)) ∙ out-roll-Clause (tree.If e)
 
 for_first : (c : World) (levels : ℕ) (p : Place) (o : Output) (ks : List Clause) (k : Clause) (more : List Clause) (g : Target) (e : Expression) (s : State) → ks ≡ k ∷ more → k ≡ variant.For g e
-    → behind c levels p ks o s ≡ and_then ((meant c levels).expr p e s) (λ v. over (variables c) c.setting (meant c levels) p g v (behind c levels p more o))
+    → after c levels p ks o s ≡ and_then ((meant c levels).expr p e s) (λ v. over (variables c) c.setting (meant c levels) p g v (after c levels p more o))
 for_first c levels p o ks k more g e s split is =
-    ap (λ xs. behind c levels p xs o s) split
-    ∙ ap (λ f. clause_node (variables c) c.setting (meant c levels) p f (behind c levels p more o) s) (for_opened k g e is)
+    ap (λ xs. after c levels p xs o s) split
+    ∙ ap (λ f. clause_node (variables c) c.setting (meant c levels) p f (after c levels p more o) s) (for_opened k g e is)
 
 if_first : (c : World) (levels : ℕ) (p : Place) (o : Output) (ks : List Clause) (k : Clause) (more : List Clause) (e : Expression) (s : State) → ks ≡ k ∷ more → k ≡ variant.If e
-    → behind c levels p ks o s ≡ and_then (and_then ((meant c levels).expr p e s) (is_true c.setting)) (λ b. if b then behind c levels p more o else give tt)
+    → after c levels p ks o s ≡ and_then (and_then ((meant c levels).expr p e s) (is_true c.setting)) (λ b. if b then after c levels p more o else give tt)
 if_first c levels p o ks k more e s split is =
-    ap (λ xs. behind c levels p xs o s) split
-    ∙ ap (λ f. clause_node (variables c) c.setting (meant c levels) p f (behind c levels p more o) s) (if_opened k e is)
+    ap (λ xs. after c levels p xs o s) split
+    ∙ ap (λ f. clause_node (variables c) c.setting (meant c levels) p f (after c levels p more o) s) (if_opened k e is)
 
 -- the next clause is a `for`, which is opened
 pub for_leads : (c : World) (levels : ℕ) (p : Place) (o : Output) (ks : List Clause) (k : Clause) (more : Bor (List Clause)) (g : Bor Target) (e : Expression) (v : Value) (n : ℕ) (s u t : State) → ks ≡ k ∷ more.now → k ≡ variant.For g.now e
     → (meant c levels).expr p e s ≡ Done v u → iterate c.setting p.line v u ≡ Done n t
-    → behind c levels p ks o s ≡ turns_left c levels p o (record { target = g; value = v; count = n; next = 0; more = more }) t
+    → after c levels p ks o s ≡ turns_left c levels p o (record { target = g; value = v; count = n; next = 0; more = more }) t
 for_leads c levels p o ks k more g e v n s u t split is run opens =
     for_first c levels p o ks k more.now g.now e s split is
-    ∙ ap (λ (r : Outcome Value). and_then r (λ x. over (variables c) c.setting (meant c levels) p g.now x (behind c levels p more.now o))) run
+    ∙ ap (λ (r : Outcome Value). and_then r (λ x. over (variables c) c.setting (meant c levels) p g.now x (after c levels p more.now o))) run
     ∙ just_opened c levels p o g v n more u t opens
 
 -- it is a condition
 if_leads : (c : World) (levels : ℕ) (p : Place) (o : Output) (ks : List Clause) (k : Clause) (more : List Clause) (e : Expression) (v : Value) (b : Bool) (s u : State) → ks ≡ k ∷ more → k ≡ variant.If e
     → (meant c levels).expr p e s ≡ Done v u → is_true c.setting v u ≡ Done b u
-    → behind c levels p ks o s ≡ (if b then behind c levels p more o else give tt) u
+    → after c levels p ks o s ≡ (if b then after c levels p more o else give tt) u
 if_leads c levels p o ks k more e v b s u split is run test =
     if_first c levels p o ks k more e s split is
-    ∙ ap (λ (r : Outcome Value). and_then (and_then r (is_true c.setting)) (λ x. if x then behind c levels p more o else give tt)) run
-    ∙ ap (λ (r : Outcome Bool). and_then r (λ x. if x then behind c levels p more o else give tt)) test
+    ∙ ap (λ (r : Outcome Value). and_then (and_then r (is_true c.setting)) (λ x. if x then after c levels p more o else give tt)) run
+    ∙ ap (λ (r : Outcome Bool). and_then r (λ x. if x then after c levels p more o else give tt)) test
 
 pub if_holds : (c : World) (levels : ℕ) (p : Place) (o : Output) (ks : List Clause) (k : Clause) (more : List Clause) (e : Expression) (v : Value) (s u : State) → ks ≡ k ∷ more → k ≡ variant.If e
-    → (meant c levels).expr p e s ≡ Done v u → is_true c.setting v u ≡ Done true u → behind c levels p ks o s ≡ behind c levels p more o u
+    → (meant c levels).expr p e s ≡ Done v u → is_true c.setting v u ≡ Done true u → after c levels p ks o s ≡ after c levels p more o u
 if_holds c levels p o ks k more e v s u split is run test = if_leads c levels p o ks k more e v true s u split is run test
 
 pub if_fails : (c : World) (levels : ℕ) (p : Place) (o : Output) (ks : List Clause) (k : Clause) (more : List Clause) (e : Expression) (v : Value) (s u : State) → ks ≡ k ∷ more → k ≡ variant.If e
-    → (meant c levels).expr p e s ≡ Done v u → is_true c.setting v u ≡ Done false u → behind c levels p ks o s ≡ Done tt u
+    → (meant c levels).expr p e s ≡ Done v u → is_true c.setting v u ≡ Done false u → after c levels p ks o s ≡ Done tt u
 if_fails c levels p o ks k more e v s u split is run test = if_leads c levels p o ks k more e v false s u split is run test
 
 -- all turns of a clause that goes over a value with so many items
 abbrev all_turns : World → ℕ → Place → Output → Target → Value → List Clause → ℕ → Action (Unit {0})
-all_turns c levels p o g v more n = λ s. and_then (repeat (clause_turn (variables c) c.setting (meant c levels) p g v (behind c levels p more o)) n 0 s) (λ _. leave v)
+all_turns c levels p o g v more n = λ s. and_then (repeat (clause_turn (variables c) c.setting (meant c levels) p g v (after c levels p more o)) n 0 s) (λ _. leave v)
 
 filled_is : (c : World) (levels : ℕ) (p : Place) (o : Output) (cs : Clauses) (v : Value) (n : ℕ) (more : List Clause) (w : Setting) (s t : State) → w ≡ c.setting → more ≡ (out-Clauses cs).more → iterate w p.line v s ≡ Done n t
     → filled c levels p cs v o s ≡ and_then (all_turns c levels p o (out-Clauses cs).target v more (n - 0) t) (λ _. give (container o))

@@ -26,13 +26,13 @@ last c levels p (output.Element e l) = add_element c.setting (meant c levels) p 
 last c levels p (output.Entry e d) = add_entry c.setting levels (meant c levels) p e.now d
 
 -- the clauses of a comprehension from one on, and what is added after them
-abbrev pub behind : World → ℕ → Place → List Clause → Output → Action (Unit {0})
-behind c levels p cs o = clauses (variables c) c.setting (meant c levels) p cs (last c levels p o)
+abbrev pub after : World → ℕ → Place → List Clause → Output → Action (Unit {0})
+after c levels p cs o = clauses (variables c) c.setting (meant c levels) p cs (last c levels p o)
 
 -- a turn of an open `for` clause
 abbrev pub turn_of : World → ℕ → Place → Output → OpenClause → ℕ → Action (Unit {0})
 turn_of c levels p o f i =
-    clause_turn (variables c) c.setting (meant c levels) p f.target.now f.value (behind c levels p f.more.now o) i
+    clause_turn (variables c) c.setting (meant c levels) p f.target.now f.value (after c levels p f.more.now o) i
 
 -- what is left of an open clause: its turns from the next item on, and then its value is left
 abbrev pub turns_left : World → ℕ → Place → Output → OpenClause → Action (Unit {0})

@@ -4,7 +4,7 @@ ghost use Rattle.std.specs.Prelude.{◌+◌, ◌<◌, ◌≤◌, OnOk};
 ghost use Rattle.star_machine.specs.Gives.{Gives};
 ghost use Rattle.star_meaning.specs.Comprehensions.{dict_comprehension, list_comprehension};
 ghost use Rattle.star_world.specs.World.{meant, variables};
-ghost use Rattle.star_eval.specs.Steps.{Leads, behind, filled, filled_dict, filled_list, last, opened_left, turn_of, turns_left};
+ghost use Rattle.star_eval.specs.Steps.{Leads, after, filled, filled_dict, filled_list, last, opened_left, turn_of, turns_left};
 
 use crate::evaluate::{evaluate, evaluate_entry};
 use crate::execute::assign_to;
@@ -198,7 +198,7 @@ fn run_clauses<'t>(
     output: Output<'_>,
 ) -> Result<Option<OpenClause<'t>>, Stop>
     ensures run { let rest = opened_left world.now levels place.now output.entry in
-        Leads rest (behind world.now levels place.now clauses.now output.entry machine.old) result machine.new }
+        Leads rest (after world.now levels place.now clauses.now output.entry machine.old) result machine.new }
     ensures spent { OnOk result (machine.new.steps ≤ machine.old.steps) }
 {
     let mut rest = clauses;

@@ -16,8 +16,16 @@ use Rattle.star_plan.specs.Shelves.{IsOwn}
 -- what a body is given over a shelf
 abbrev pub world_over : ℕ → Shelf → Files → List Load → Option ℕ → World
 world_over home shelf files loads prelude =
-    record { setting = record { home = home; outlines = outlines (trees_of files); shelf = shelf;
-    loads = load_files loads; prelude = prelude }; files = files }
+    record {
+      setting = record {
+        home = home;
+        outlines = outlines (trees_of files);
+        shelf = shelf;
+        loads = load_files loads;
+        prelude = prelude;
+      };
+      files = files;
+    }
 
 -- the module that a good run left is the file's own
 abbrev pub IsOwnIn : Plan → ℕ → Outcome → Type 0

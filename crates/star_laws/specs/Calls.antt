@@ -66,10 +66,10 @@ pub record Fits (ps : List Parameter) (g : Given) : Type 0 where
 abbrev pub BoundWhereTheyFit : Type 0
 BoundWhereTheyFit = (ps : List Parameter) (defaults : List Value) (g : Given)
     → length (filter (λ p. has_default (parameter p)) ps) ≤ length defaults → is_some (bound_to ps defaults g) ≡ true
-        ↔ Fits ps g
+    ↔ Fits ps g
 
 -- The law: of the values by name that a call gives, no two have the same name.
 abbrev pub GivenNamesDiffer : Type 0
 GivenNamesDiffer = (w : Setting) (line : ℕ) (ps : List Passed) (s t : State) (g : Given) → given w line ps s ≡ Done g t
     → (i j : ℕ) (m n : NamedValue) → slice_get g.named i ≡ Some m → slice_get g.named j ≡ Some n → m.name ≡ n.name → i
-        ≡ j
+    ≡ j

@@ -54,4 +54,4 @@ LoopsAreCounted = (w : Setting) (line n : ℕ) (v : Value) (s t : State) (loops 
 abbrev pub OpenIterationsAreOpenLoops : Type 0
 OpenIterationsAreOpenLoops = (s : Store) (loops : List Value) (at : ℕ) (a : Counted) → AreCounted s loops
     → slice_get s.cells at ≡ Some a → is_container a.cell ≡ true → iterations_of s (value.Ref s.home at)
-        ≡ loops_over s.home at loops
+    ≡ loops_over s.home at loops

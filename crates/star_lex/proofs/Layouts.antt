@@ -19,22 +19,22 @@ more_closed_more n None = refl
 more_closed_more n (Some m) = ap Some (omega arith)
 
 -- the lines after the first
-abbrev pub behind : List Cut → List Line
-behind [] = []
-behind (c ∷ cs) = lines 0 cs
+abbrev pub after : List Cut → List Line
+after [] = []
+after (c ∷ cs) = lines 0 cs
 
-put_first : (c : Cut) (cs : List Cut) (p : ℕ × ℕ) (ls : List Line) → ls ≡ line_of (take p.0 cs) p.1 ∷ behind (drop p.0 cs)
-    → put c ls ≡ line_of (take (counted 1 p).0 (c ∷ cs)) (counted 1 p).1 ∷ behind (drop (counted 1 p).0 (c ∷ cs))
+put_first : (c : Cut) (cs : List Cut) (p : ℕ × ℕ) (ls : List Line) → ls ≡ line_of (take p.0 cs) p.1 ∷ after (drop p.0 cs)
+    → put c ls ≡ line_of (take (counted 1 p).0 (c ∷ cs)) (counted 1 p).1 ∷ after (drop (counted 1 p).0 (c ∷ cs))
 put_first c cs p ls e = let s : 1 + p.0 ≡ suc p.0 = omega arith in rw (e, s) refl
 
 -- the first line, and those after it
-pub first_line : (d : ℕ) (cs : List Cut) → lines d cs ≡ line_of (take (line_size d cs).0 cs) (line_size d cs).1 ∷ behind (drop (line_size d cs).0 cs)
+pub first_line : (d : ℕ) (cs : List Cut) → lines d cs ≡ line_of (take (line_size d cs).0 cs) (line_size d cs).1 ∷ after (drop (line_size d cs).0 cs)
 first_line d [] = refl
 first_line d (c ∷ cs) =
     let q = line_size (depth_after d c.piece) cs in
     let p : Bool → ℕ × ℕ = λ v. cond v (0, 0) (counted 1 q) in
     let ih = put_first c cs q (lines (depth_after d c.piece) cs) (first_line (depth_after d c.piece) cs) in
-    elim (ends_line d c.piece) as (λ v. cond v (line_of [] 0 ∷ lines 0 cs) (put c (lines (depth_after d c.piece) cs)) ≡ line_of (take (p v).0 (c ∷ cs)) (p v).1 ∷ behind (drop (p v).0 (c ∷ cs)))
+    elim (ends_line d c.piece) as (λ v. cond v (line_of [] 0 ∷ lines 0 cs) (put c (lines (depth_after d c.piece) cs)) ≡ line_of (take (p v).0 (c ∷ cs)) (p v).1 ∷ after (drop (p v).0 (c ∷ cs)))
     [ true ↦ refl | false ↦ ih ]
 
 -- the depth before a line does not matter
@@ -42,11 +42,11 @@ lay_any : (line at d e : ℕ) (ts : List ℕ) (ls : List Line) (l : Line) (more 
 lay_any line at d e ts ls l more h = rw h refl
 
 pub lay_first : (line at d : ℕ) (ts : List ℕ) (cs : List Cut) → let p = line_size 0 cs in let l = line_of (take p.0 cs) p.1 in
-    lay line at ts d (lines 0 cs) ≡ line_tokens ts l >>= (λ front. onto front (lay line at (opened_after ts l) p.1 (behind (drop p.0 cs))))
+    lay line at ts d (lines 0 cs) ≡ line_tokens ts l >>= (λ front. onto front (lay line at (opened_after ts l) p.1 (after (drop p.0 cs))))
 lay_first line at d ts cs = rw (first_line 0 cs) refl
 
 pub lay_next : (line at d : ℕ) (ts : List ℕ) (cs : List Cut) → lay line at ts d (lines 0 cs) ≡ lay line at ts 0 (lines 0 cs)
-lay_next line at d ts cs = let p = line_size 0 cs in lay_any line at d 0 ts (lines 0 cs) (line_of (take p.0 cs) p.1) (behind (drop p.0 cs)) (first_line 0 cs)
+lay_next line at d ts cs = let p = line_size 0 cs in lay_any line at d 0 ts (lines 0 cs) (line_of (take p.0 cs) p.1) (after (drop p.0 cs)) (first_line 0 cs)
 
 refused_at : (whole : Result (List Token) SyntaxFault) (xs : List Token) (r k : Result (List Token) SyntaxFault) (e : SyntaxFault)
     → whole ≡ onto xs (r >>= (λ front. onto front k)) → onto xs r ≡ Err e → whole ≡ Err e
@@ -80,25 +80,25 @@ line_refused whole line at opened xs new rest first p e w s f t =
     let l = line_of (take q.0 rest) q.1 in
     let same : line_of first p.1 ≡ l = rw (f, s) refl in
     let t' : Pushes (onto xs (line_tokens opened l)) (Err e) new = subst (λ m. Pushes (onto xs (line_tokens opened m)) (Err e) new) same t in
-    refused whole xs new (line_tokens opened l) (lay line at (opened_after opened l) q.1 (behind (drop q.0 rest))) e (w ∙ ap (onto xs) (lay_first line at 0 opened rest)) t'
+    refused whole xs new (line_tokens opened l) (lay line at (opened_after opened l) q.1 (after (drop q.0 rest))) e (w ∙ ap (onto xs) (lay_first line at 0 opened rest)) t'
 
 pub line_read : (whole : Result (List Token) SyntaxFault) (line at : ℕ) (opened opened' : List ℕ) (xs new : List Token) (rest first tail : List Cut) (p : ℕ × ℕ)
     → whole ≡ onto xs (lay line at opened 0 (lines 0 rest)) → p ≡ line_size 0 rest → first ≡ take p.0 rest → tail ≡ drop p.0 rest
     → onto xs (line_tokens opened (line_of first p.1)) ≡ Ok new → opened' ≡ opened_after opened (line_of first p.1)
-    → whole ≡ onto new (lay line at opened' p.1 (behind tail))
+    → whole ≡ onto new (lay line at opened' p.1 (after tail))
 line_read whole line at opened opened' xs new rest first tail p w s f b t o =
     let q = line_size 0 rest in
     let l = line_of (take q.0 rest) q.1 in
     let same : line_of first p.1 ≡ l = rw (f, s) refl in
     let t' : onto xs (line_tokens opened l) ≡ Ok new = subst (λ m. onto xs (line_tokens opened m) ≡ Ok new) same t in
     let o' : opened' ≡ opened_after opened l = subst (λ m. opened' ≡ opened_after opened m) same o in
-    let r = read whole xs new (line_tokens opened l) (lay line at (opened_after opened l) q.1 (behind (drop q.0 rest))) (w ∙ ap (onto xs) (lay_first line at 0 opened rest)) t' in
+    let r = read whole xs new (line_tokens opened l) (lay line at (opened_after opened l) q.1 (after (drop q.0 rest))) (w ∙ ap (onto xs) (lay_first line at 0 opened rest)) t' in
     rw (b, s, o') r
 
-pub at_end : (line at d : ℕ) (opened : List ℕ) (tail : List Cut) → length tail < 1 → lay line at opened d (behind tail) ≡ Ok (finish d opened line at)
+pub at_end : (line at d : ℕ) (opened : List ℕ) (tail : List Cut) → length tail < 1 → lay line at opened d (after tail) ≡ Ok (finish d opened line at)
 at_end line at d opened [] h = refl
 at_end line at d opened (c ∷ cs) h = absurd (omega arith)
 
-pub at_next : (line at d : ℕ) (opened : List ℕ) (tail : List Cut) → 1 ≤ length tail → lay line at opened d (behind tail) ≡ lay line at opened 0 (lines 0 (drop 1 tail))
+pub at_next : (line at d : ℕ) (opened : List ℕ) (tail : List Cut) → 1 ≤ length tail → lay line at opened d (after tail) ≡ lay line at opened 0 (lines 0 (drop 1 tail))
 at_next line at d opened [] h = absurd (omega arith)
 at_next line at d opened (c ∷ cs) h = lay_next line at d opened cs

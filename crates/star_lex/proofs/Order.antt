@@ -56,20 +56,20 @@ at_piece d before c cs p = elim p [
 ]
 
 -- what holds of the pieces after one
-Behind : ℕ → List Cut → ℕ → ℕ → Type 0
-Behind d cs at hi = (before : Option Cut) (lo : ℕ) (ts : List Token) → Ended before lo → lo ≤ at → tokens d before cs ≡ Ok ts → InOrder lo ts hi
+After : ℕ → List Cut → ℕ → ℕ → Type 0
+After d cs at hi = (before : Option Cut) (lo : ℕ) (ts : List Token) → Ended before lo → lo ≤ at → tokens d before cs ≡ Ok ts → InOrder lo ts hi
 
 order_lexeme : (d : ℕ) (c : Cut) (cs : List Cut) (kind : Kind) (lo hi : ℕ) (r : Result (List Token) SyntaxFault) (ts : List Token) → lo ≤ c.span.start → c.span.start ≤ c.span.end
-    → tokens d (Some c) cs ≡ r → Behind d cs c.span.end hi → onto (token_of kind c ∷ []) r ≡ Ok ts → InOrder lo ts hi
-unfolding Behind Ended
+    → tokens d (Some c) cs ≡ r → After d cs c.span.end hi → onto (token_of kind c ∷ []) r ≡ Ok ts → InOrder lo ts hi
+unfolding After Ended
 order_lexeme d c cs kind lo hi (Ok ys) ts h s e ih w =
     let same : token_of kind c ∷ ys ≡ ts = cc in
     order_ok (token_of kind c ∷ ys) ts lo hi same (h, s, ih (Some c) c.span.end ys refl (omega arith) e)
 order_lexeme d c cs kind lo hi (Err f) ts h s e ih w = cc
 
 order_piece : (d : ℕ) (before : Option Cut) (c : Cut) (cs : List Cut) (p : Piece) (lo hi : ℕ) (ts : List Token) → Ended before lo → lo ≤ c.span.start → c.span.start ≤ c.span.end
-    → Behind d cs c.span.end hi → at_piece d before c cs p ≡ Ok ts → InOrder lo ts hi
-unfolding at_piece Behind
+    → After d cs c.span.end hi → at_piece d before c cs p ≡ Ok ts → InOrder lo ts hi
+unfolding at_piece After
 order_piece d before c cs Blank lo hi ts e h s ih w = ih before lo ts e (omega arith) w
 order_piece d before c cs Tabbed lo hi ts e h s ih w = ih before lo ts e (omega arith) w
 order_piece d before c cs Comment lo hi ts e h s ih w = ih before lo ts e (omega arith) w
@@ -79,8 +79,8 @@ order_piece d (Some b) c cs Joint lo hi ts e h s ih w = ih (Some b) lo ts e (ome
 order_piece d before c cs (Lexeme kind) lo hi ts e h s ih w = order_lexeme d c cs kind lo hi (tokens d (Some c) cs) ts h s refl ih w
 order_piece d before c cs Bad lo hi ts e h s ih w = cc
 
-order_tokens : (d : ℕ) (cs : List Cut) (at hi : ℕ) → Tiles at cs hi → Behind d cs at hi
-unfolding Behind at_piece
+order_tokens : (d : ℕ) (cs : List Cut) (at hi : ℕ) → Tiles at cs hi → After d cs at hi
+unfolding After at_piece
 order_tokens d [] at hi t before lo ts e h w =
     let same : newline d before ≡ ts = cc in
     order_ok (newline d before) ts lo hi same (order_newline d before lo hi e (omega arith))
@@ -96,7 +96,7 @@ FromLeader d cs at hi = (c : Cut) (ts : List Token) → leader cs ≡ Some c →
 
 order_said : (d : ℕ) (b : Cut) (cs : List Cut) (at hi : ℕ) (c : Cut) (ts : List Token) → Tiles at (b ∷ cs) hi → Some b ≡ Some c → tokens d None (b ∷ cs) ≡ Ok ts
     → (at ≤ c.span.start) × InOrder c.span.start ts hi
-unfolding Behind Ended
+unfolding After Ended
 order_said d b cs at hi c ts t e w =
     let same : b ≡ c = cc in
     let P : Cut → Type 0 = λ x. (at ≤ x.span.start) × InOrder x.span.start ts hi in

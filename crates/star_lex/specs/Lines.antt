@@ -48,7 +48,7 @@ abbrev pub lines : ℕ → List Cut → List Line
 lines d [] = record { cuts = []; depth = d } ∷ []
 lines d (c ∷ cs) =
     if ends_line d c.piece then record { cuts = []; depth = 0 } ∷ lines 0 cs
-        else put c (lines (depth_after d c.piece) cs)
+    else put c (lines (depth_after d c.piece) cs)
 
 -- ---- indentation; the open ones, the innermost first
 

@@ -79,8 +79,12 @@ line_ends (b ∷ z) = if b == 10 || (b == 13 && not (begins (10 ∷ []) z)) then
 
 abbrev pub cut_at : First → ℕ → ℕ → Text → Cut
 cut_at f line at z =
-    record { piece = f.0; line = line; last = line + line_ends (take f.1 z);
-    span = record { start = at; end = at + f.1 } }
+    record {
+      piece = f.0;
+      line = line;
+      last = line + line_ends (take f.1 z);
+      span = record { start = at; end = at + f.1 };
+    }
 
 -- the pieces of a text whose first byte is at a place, on a line; the first number counts the bytes that are left of a
 -- piece

@@ -40,18 +40,18 @@ bang z = if begins (61 ∷ []) z then Some (s.NotEqual, 2) else None
 abbrev pub doubled : ℕ → Text → Option Found
 doubled b z =
     if b == 42 then Some (star z) else (if b == 47 then slash z
-        else (if b == 60 then Some (less z) else (if b == 62 then Some (greater z)
+    else (if b == 60 then Some (less z) else (if b == 62 then Some (greater z)
     else (if b == 33 then bang z else None))))
 
 -- the signs of a byte that only `=` may follow
 abbrev pub single : ℕ → Text → Option Found
 single b z =
     if b == 43 then Some (assigned s.Plus s.PlusAssign 1 z)
-        else (if b == 45 then Some (assigned s.Minus s.MinusAssign 1 z)
+    else (if b == 45 then Some (assigned s.Minus s.MinusAssign 1 z)
     else (if b == 37 then Some (assigned s.Percent s.PercentAssign 1 z)
-        else (if b == 38 then Some (assigned s.Ampersand s.AmpersandAssign 1 z)
+    else (if b == 38 then Some (assigned s.Ampersand s.AmpersandAssign 1 z)
     else (if b == 124 then Some (assigned s.Bar s.BarAssign 1 z)
-        else (if b == 94 then Some (assigned s.Caret s.CaretAssign 1 z)
+    else (if b == 94 then Some (assigned s.Caret s.CaretAssign 1 z)
     else (if b == 61 then Some (assigned s.Assign s.EqualEqual 1 z) else None))))))
 
 abbrev pub either : Option Found → Option Found → Option Found

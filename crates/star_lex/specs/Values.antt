@@ -104,9 +104,9 @@ meant (Scalar c) = encode_utf8 c
 abbrev pub Part : Type 0
 Part = ℕ × Meaning
 
-abbrev pub behind : ℕ → Option Part → Option Part
-behind n None = None
-behind n (Some p) = Some (n + p.0, p.1)
+abbrev pub after : ℕ → Option Part → Option Part
+after n None = None
+after n (Some p) = Some (n + p.0, p.1)
 
 abbrev pub is_scalar : ℕ → Bool
 is_scalar n = nat_lt n 0xD800 || (nat_le 0xE000 n && nat_le n 0x10FFFF)
@@ -125,7 +125,7 @@ abbrev pub letter : ℕ → Option Part
 letter b =
     if b == 97 then Some (1, Byte 7) else (if b == 98 then Some (1, Byte 8) else (if b == 102 then Some (1, Byte 12)
     else (if b == 110 then Some (1, Byte 10) else (if b == 114 then Some (1, Byte 13)
-        else (if b == 116 then Some (1, Byte 9)
+    else (if b == 116 then Some (1, Byte 9)
     else (if b == 118 then Some (1, Byte 11) else (if b == 92 || is_quote b then Some (1, Byte b) else None)))))))
 
 -- an escape, after its backslash: a line end means nothing; one to three octal digits, `x` and two hexadecimal digits,
@@ -135,9 +135,9 @@ escape [] = None
 escape (b ∷ z) =
     if is_line_end b then Some (line_end_size (b ∷ z), Nothing)
     else (if is_in class.Octal b then numbered 8 (prefix_len (is_in class.Octal) (take 3 (b ∷ z))) 127 (b ∷ z)
-    else (if b == 120 then behind 1 (numbered 16 2 127 z)
-    else (if b == 117 then behind 1 (numbered 16 4 0x10FFFF z)
-    else (if b == 85 then behind 1 (numbered 16 8 0x10FFFF z)
+    else (if b == 120 then after 1 (numbered 16 2 127 z)
+    else (if b == 117 then after 1 (numbered 16 4 0x10FFFF z)
+    else (if b == 85 then after 1 (numbered 16 8 0x10FFFF z)
     else letter b))))
 
 -- a byte that means itself, or a line end, which means LF and stands only in a string quoted three times
@@ -157,8 +157,8 @@ as_kept (Some p) = Some (1 + p.0, Kept p.1)
 unfoldable pub part : Quoting → Text → Option Part
 part q [] = None
 part q (b ∷ z) =
-    if b == 92 then (if q.raw then as_kept (plain q.triple z) else behind 1 (escape z))
-        else as_byte (plain q.triple (b ∷ z))
+    if b == 92 then (if q.raw then as_kept (plain q.triple z) else after 1 (escape z))
+    else as_byte (plain q.triple (b ∷ z))
 
 abbrev pub more : ℕ → Option ℕ → Option ℕ
 more n None = None

@@ -225,9 +225,9 @@ pub fn lay(alloc: Global, cuts: &[Cut], line: usize, at: usize) -> Result<Vec<To
     let mut rest = cuts;
     'lines: loop {
         let (size, depth) = line_size(rest);
-        let (first, behind) = rest.split_at(size);
+        let (first, after) = rest.split_at(size);
         push_line(&mut out, &mut opened, first, depth)?;
-        match behind {
+        match after {
             [] => {
                 finish(&mut out, &opened, depth, line, at)?;
                 return Ok(out);

@@ -192,11 +192,11 @@ call_function : (tables : Tables) (trees : Trees) (w : Setting) (m n : Meaning) 
 call_function tables trees w m n p ss chain h levels f d ps us bs stands there known =
     agree_then trees w f.file bs (Some f.frame) _ _ _ _ (agree_kept trees w f.file bs (Some f.frame) _ (keeps-given w p.line ps)) (λ g. call_found tables trees w m n p ss chain h f d g us bs stands there known (bound_to d.parameters f.defaults g) refl)
 
-abbrev behind : Setting → ℕ → Meaning → Place → List Passed → Callee → Action Value
-behind w levels m p ps c = given w p.line ps >>= λ g. called w levels m p c g
+abbrev after : Setting → ℕ → Meaning → Place → List Passed → Callee → Action Value
+after w levels m p ps c = given w p.line ps >>= λ g. called w levels m p c g
 
 called_then : (tables : Tables) (trees : Trees) (w : Setting) (m n : Meaning) (p : Place) (ss : List Statement) (chain : List ℕ) → Scene tables trees w m n p ss chain → (levels : ℕ) (ps : List Passed) (s : State) (fit : AllFit trees w s) (fits : FitsChain w s p.file chain (Some p.frame)) (v : Value) (o : Outcome Callee) → callee w p.line v s ≡ o → quiet.Followed s o
-    → (and_then o (behind w levels m p ps) ≡ and_then o (behind w levels n p ps)) × Good trees w s (and_then o (behind w levels n p ps))
+    → (and_then o (after w levels m p ps) ≡ and_then o (after w levels n p ps)) × Good trees w s (and_then o (after w levels n p ps))
 called_then tables trees w m n p ss chain h levels ps s fit fits v (Failed e lines) is k = (refl, tt)
 called_then tables trees w m n p ss chain h levels ps s fit fits v (Done (AFunction f d) t) is k =
     let c = callable w p.line s t v (AFunction f d) is in
@@ -211,7 +211,7 @@ called_then tables trees w m n p ss chain h levels ps s fit fits v (Done (AMetho
     let r = (agree_then trees w p.file chain (Some p.frame) _ _ _ _ (agree_kept trees w p.file chain (Some p.frame) _ (keeps-given w p.line ps)) (λ g. agree_kept trees w p.file chain (Some p.frame) _ (keeps-call_method w levels p.line b x g))).holds t (fit_follows trees w s t k fit) (chain_carries w s t (carries_follows s t k) p.file chain (Some p.frame) fits) in
     (r.0, good_on trees w s t (carries_follows s t k) _ r.1)
 
-pub agree-callee : (tables : Tables) (trees : Trees) (w : Setting) (m n : Meaning) (p : Place) (ss : List Statement) (chain : List ℕ) → Scene tables trees w m n p ss chain → (levels : ℕ) (ps : List Passed) (v : Value) → Agree trees w p.file chain (Some p.frame) (callee w p.line v >>= behind w levels m p ps) (callee w p.line v >>= behind w levels n p ps)
+pub agree-callee : (tables : Tables) (trees : Trees) (w : Setting) (m n : Meaning) (p : Place) (ss : List Statement) (chain : List ℕ) → Scene tables trees w m n p ss chain → (levels : ℕ) (ps : List Passed) (v : Value) → Agree trees w p.file chain (Some p.frame) (callee w p.line v >>= after w levels m p ps) (callee w p.line v >>= after w levels n p ps)
 agree-callee tables trees w m n p ss chain h levels ps v = record { holds = λ s fit fits. called_then tables trees w m n p ss chain h levels ps s fit fits v (callee w p.line v s) refl (((keeps-callee w p.line v).follows refl).holds s) }
 
 pub agree-call_node : (tables : Tables) (trees : Trees) (w : Setting) (m n : Meaning) (p : Place) (ss : List Statement) (chain : List ℕ) → Scene tables trees w m n p ss chain → (levels : ℕ) (f : Expression) (es : List Argument) → Sub (in_expression f chain) (uses ss) → Sub (all_uses in_argument es chain) (uses ss) → Agree trees w p.file chain (Some p.frame) (call_node w levels m p f es) (call_node w levels n p f es)

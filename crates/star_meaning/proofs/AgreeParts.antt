@@ -26,7 +26,7 @@ use Rattle.star_meaning.specs.Meaning.{Meaning}
 use Rattle.star_meaning.specs.Binding.{Share}
 use Rattle.star_meaning.specs.Targets.{to_form, to_target, to_each, unpack, target_node, parts_node}
 use Rattle.star_meaning.specs.Comprehensions.{clause_turn, over, clause_node, clauses, all_clauses, add_element, add_entry, inner, list_comprehension, dict_comprehension}
-use Rattle.star_meaning.specs.Expressions.{defaults_behind, defaults, new_function, entry_of, maybe}
+use Rattle.star_meaning.specs.Expressions.{defaults_after, defaults, new_function, entry_of, maybe}
 use Rattle.star_meaning.specs.Local.{Trees}
 use Rattle.star_meaning.specs.Places.{Stands, Tables, by_places, new_slots}
 use Rattle.star_meaning.proofs.Agree.{Agree, Every, Good, Resolved, agree_bind, agree_fail, agree_frame, agree_function, agree_give, agree_if, agree_kept, agree_quiet, agree_repeat, agree_then}
@@ -166,16 +166,16 @@ agree-dict_comprehension tables trees w m n p ss chain h levels token e cs k l j
 
 -- ---- parts of expressions
 
-pub agree-defaults_behind : (tables : Tables) (trees : Trees) (w : Setting) (m n : Meaning) (p : Place) (ss : List Statement) (chain : List ℕ) → Scene tables trees w m n p ss chain → (a b : Action (List Value)) (x : ParameterForm) → Agree trees w p.file chain (Some p.frame) (a) (b) → Sub (outer_level x chain) (uses ss) → Agree trees w p.file chain (Some p.frame) (defaults_behind a m p x) (defaults_behind b n p x)
-agree-defaults_behind tables trees w m n p ss chain h a b (tree.Default x e) r k = agree_then trees w p.file chain (Some p.frame) _ _ _ _ (h.parts.expr p e ss chain h.stands (k)) (λ v. agree_then trees w p.file chain (Some p.frame) _ _ _ _ (r) (λ vs. agree_give trees w p.file chain (Some p.frame) (v ∷ vs)))
-agree-defaults_behind tables trees w m n p ss chain h a b (tree.Plain x) r k = r
-agree-defaults_behind tables trees w m n p ss chain h a b (tree.Parameter-F.Parameter::Star x) r k = r
-agree-defaults_behind tables trees w m n p ss chain h a b tree.BareStar r k = r
-agree-defaults_behind tables trees w m n p ss chain h a b (tree.Parameter-F.Parameter::StarStar x) r k = r
+pub agree-defaults_after : (tables : Tables) (trees : Trees) (w : Setting) (m n : Meaning) (p : Place) (ss : List Statement) (chain : List ℕ) → Scene tables trees w m n p ss chain → (a b : Action (List Value)) (x : ParameterForm) → Agree trees w p.file chain (Some p.frame) (a) (b) → Sub (outer_level x chain) (uses ss) → Agree trees w p.file chain (Some p.frame) (defaults_after a m p x) (defaults_after b n p x)
+agree-defaults_after tables trees w m n p ss chain h a b (tree.Default x e) r k = agree_then trees w p.file chain (Some p.frame) _ _ _ _ (h.parts.expr p e ss chain h.stands (k)) (λ v. agree_then trees w p.file chain (Some p.frame) _ _ _ _ (r) (λ vs. agree_give trees w p.file chain (Some p.frame) (v ∷ vs)))
+agree-defaults_after tables trees w m n p ss chain h a b (tree.Plain x) r k = r
+agree-defaults_after tables trees w m n p ss chain h a b (tree.Parameter-F.Parameter::Star x) r k = r
+agree-defaults_after tables trees w m n p ss chain h a b tree.BareStar r k = r
+agree-defaults_after tables trees w m n p ss chain h a b (tree.Parameter-F.Parameter::StarStar x) r k = r
 
 pub agree-defaults : (tables : Tables) (trees : Trees) (w : Setting) (m n : Meaning) (p : Place) (ss : List Statement) (chain : List ℕ) → Scene tables trees w m n p ss chain → (ps : List Parameter) → Sub (outer_of (in_parameters ps) chain) (uses ss) → Agree trees w p.file chain (Some p.frame) (defaults m p ps) (defaults n p ps)
 agree-defaults tables trees w m n p ss chain h [] k = agree_give {A = List Value} trees w p.file chain (Some p.frame) []
-agree-defaults tables trees w m n p ss chain h (x ∷ ps) k = agree-defaults_behind tables trees w m n p ss chain h _ _ (parameter x) (agree-defaults tables trees w m n p ss chain h ps (right _ _ (uses ss) (k))) (by _ _ (uses ss) (of_outer x chain) (left _ _ (uses ss) (k)))
+agree-defaults tables trees w m n p ss chain h (x ∷ ps) k = agree-defaults_after tables trees w m n p ss chain h _ _ (parameter x) (agree-defaults tables trees w m n p ss chain h ps (right _ _ (uses ss) (k))) (by _ _ (uses ss) (of_outer x chain) (left _ _ (uses ss) (k)))
 
 pub agree-new_function : (tables : Tables) (trees : Trees) (w : Setting) (m n : Meaning) (p : Place) (ss : List Statement) (chain : List ℕ) → Scene tables trees w m n p ss chain → (number : ℕ) (name : List ℕ) (ps : List Parameter) → Contains (uses ss) (Defined number chain) → Sub (outer_of (in_parameters ps) chain) (uses ss) → Agree trees w p.file chain (Some p.frame) (new_function m p number name ps) (new_function n p number name ps)
 agree-new_function tables trees w m n p ss chain h number name ps k l = agree_then trees w p.file chain (Some p.frame) _ _ _ _ (agree-defaults tables trees w m n p ss chain h ps l) (λ vs. agree_function trees w p.line 1 (record { file = p.file; definition = number; name = name; defaults = vs; frame = p.frame }) ss chain h.stands k)

@@ -11,7 +11,7 @@ use Rattle.star_meaning.specs.Variables.{by_names}
 use Rattle.star_meaning.specs.Meaning.{Meaning}
 use Rattle.star_meaning.specs.Module.{Ended, at_line, end, last_line, meaning, most_levels, nothing_opens, one_more, run_file, start}
 use Rattle.star_meaning.specs.Local.{Trees}
-use Rattle.star_meaning.specs.Places.{FitBehind, PlacesMeanNames, Stands, Tables, by_places}
+use Rattle.star_meaning.specs.Places.{FitAfter, PlacesMeanNames, Stands, Tables, by_places}
 use Rattle.star_meaning.proofs.Agree.{Agree, Good, agree_block, agree_fail, agree_frame, agree_kept, agree_then}
 use Rattle.star_meaning.proofs.AgreeParts.{AllAgree, Known, Scene, agree-parts_node, agree-target_node}
 use Rattle.star_meaning.proofs.AgreeCalls.{agree-run}
@@ -85,12 +85,12 @@ file_agrees tables trees w levels ss k h =
     (every in_statement ss (0 ∷ []) (uses ss) (by _ _ (uses ss) (uses_are ss) (all (uses ss)))))
     (λ _. agree_kept trees w w.home (0 ∷ []) (Some v) _ (keeps-end w levels (last_line 1 ss) v)))
 
-behind : (trees : Trees) (w : Setting) (steps : ℕ) (o : Outcome Ended) → Good trees w (start w steps) o → FitBehind trees w o
-behind trees w steps (Done e t) h = h.1
-behind trees w steps (Failed f lines) h = tt
+after : (trees : Trees) (w : Setting) (steps : ℕ) (o : Outcome Ended) → Good trees w (start w steps) o → FitAfter trees w o
+after trees w steps (Done e t) h = h.1
+after trees w steps (Failed f lines) h = tt
 
 pub places_mean_names : PlacesMeanNames
 places_mean_names tables trees w ss steps o stands resolved fit =
     let known : Known tables trees w = record { resolved = record { outlines = o; files = resolved }; definitions = definitions_stand trees w o (λ file us h. (resolved file us h).numbers) } in
     let r = (file_agrees tables trees w most_levels ss known stands).holds (start w steps) fit refl in
-    (r.0, behind trees w steps (run_file (by_names w) w most_levels ss (start w steps)) r.1)
+    (r.0, after trees w steps (run_file (by_names w) w most_levels ss (start w steps)) r.1)

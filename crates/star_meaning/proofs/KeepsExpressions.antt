@@ -10,7 +10,7 @@ use Rattle.star_meaning.specs.Program.{Setting, Variables}
 use Rattle.star_meaning.specs.Meaning.{Meaning}
 use Rattle.std.proofs.Common.{ℕ, List, [], ◌∷◌, Option, Some, None, false}
 use Rattle.star_meaning.specs.Run.{Action}
-use Rattle.star_meaning.specs.Expressions.{defaults_behind, defaults, new_function, entry_of, fresh_entry, fresh_entries, maybe, node}
+use Rattle.star_meaning.specs.Expressions.{defaults_after, defaults, new_function, entry_of, fresh_entry, fresh_entries, maybe, node}
 use Rattle.star_meaning.proofs.Keeps.{keeps, Keeps, AllKeep, VariablesKeep}
 use Rattle.star_meaning.proofs.KeepsValues.{keeps-new_text, keeps-new_tuple, keeps-new_list, keeps-new_dict, keeps-is_true, keeps-check_key}
 use Rattle.star_meaning.proofs.KeepsOperators.{keeps-operate, keeps-prefix, keeps-compared}
@@ -20,13 +20,13 @@ use Rattle.star_meaning.proofs.KeepsComprehensions.{keeps-list_comprehension, ke
 use Rattle.star_meaning.proofs.KeepsCalls.{keeps-call_node}
 use Rattle.star_meaning.proofs.KeepsEntries.{keeps-fresh_entries}
 
-pub keeps-defaults_behind : (rest : Action (List Value)) (m : Meaning) (p : Place) (a3 : ParameterForm) → Keeps false rest → AllKeep m → Keeps false (defaults_behind rest m p a3)
-keeps-defaults_behind rest m p (tree.Default n e) k0 k1 = search keeps depth 14
-keeps-defaults_behind rest m p _ k0 k1 = search keeps depth 14
+pub keeps-defaults_after : (rest : Action (List Value)) (m : Meaning) (p : Place) (a3 : ParameterForm) → Keeps false rest → AllKeep m → Keeps false (defaults_after rest m p a3)
+keeps-defaults_after rest m p (tree.Default n e) k0 k1 = search keeps depth 14
+keeps-defaults_after rest m p _ k0 k1 = search keeps depth 14
 
 pub keeps-defaults : (m : Meaning) (p : Place) (a2 : List Parameter) → AllKeep m → Keeps false (defaults m p a2)
 keeps-defaults m p [] k0 = search keeps depth 14
-keeps-defaults m p (q ∷ qs) k0 = let h1 : (z1 : Place) → Keeps false (defaults m z1 qs) = λ z1. keeps-defaults m z1 qs k0 in search (keeps, keeps-defaults_behind, h1) depth 14
+keeps-defaults m p (q ∷ qs) k0 = let h1 : (z1 : Place) → Keeps false (defaults m z1 qs) = λ z1. keeps-defaults m z1 qs k0 in search (keeps, keeps-defaults_after, h1) depth 14
 
 pub keeps-new_function : (m : Meaning) (p : Place) (number : ℕ) (name : List ℕ) (ps : List Parameter) → AllKeep m → Keeps false (new_function m p number name ps)
 keeps-new_function m p number name ps k0 = search (keeps, keeps-defaults) depth 14

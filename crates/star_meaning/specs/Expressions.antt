@@ -21,20 +21,25 @@ use Rattle.star_meaning.specs.Calls.{call_node}
 use Rattle.star_meaning.specs.Comprehensions.{list_comprehension, dict_comprehension}
 
 -- the defaults of parameters, in order
-abbrev pub defaults_behind : Action (List Value) → Meaning → Place → ParameterForm → Action (List Value)
-defaults_behind rest m p (tree.Default n e) = m.expr p e >>= λ v. rest >>= λ vs. give (v ∷ vs)
-defaults_behind rest m p _ = rest
+abbrev pub defaults_after : Action (List Value) → Meaning → Place → ParameterForm → Action (List Value)
+defaults_after rest m p (tree.Default n e) = m.expr p e >>= λ v. rest >>= λ vs. give (v ∷ vs)
+defaults_after rest m p _ = rest
 
 abbrev pub defaults : Meaning → Place → List Parameter → Action (List Value)
 defaults m p [] = give []
-defaults m p (q ∷ qs) = defaults_behind (defaults m p qs) m p (parameter q)
+defaults m p (q ∷ qs) = defaults_after (defaults m p qs) m p (parameter q)
 
 -- a new function: its defaults in order, then 1
 abbrev pub new_function : Meaning → Place → ℕ → List ℕ → List Parameter → Action Value
 new_function m p number name ps = do
   vs ← defaults m p ps
-  build p.line 1 (cell.Func (record { file = p.file; definition = number; name = name; defaults = vs;
-      frame = p.frame }))
+  build p.line 1 (cell.Func (record {
+    file = p.file;
+    definition = number;
+    name = name;
+    defaults = vs;
+    frame = p.frame;
+  }))
 
 -- a key and a value of a display
 abbrev pub entry_of : Meaning → Place → Entry → Action (Value × Value)

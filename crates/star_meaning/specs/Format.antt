@@ -72,7 +72,7 @@ formatted w levels line g (b ∷ bs) Closing k out =
     if nat_eq b 125 then formatted w levels line g bs Outside k (out ++ b ∷ []) else fail code.BadValue line
 formatted w levels line g (b ∷ bs) (Field f) k out =
     if nat_eq b 123 then (if nat_eq (length f) 0 then formatted w levels line g bs Outside k (out ++ b ∷ [])
-        else fail code.BadValue line)
+    else fail code.BadValue line)
     else (if nat_eq b 125 then (field_value line g f k >>= λ r. str w levels line r.0
-        >>= λ t. formatted w levels line g bs Outside r.1 (out ++ t))
+    >>= λ t. formatted w levels line g bs Outside r.1 (out ++ t))
     else formatted w levels line g bs (Field (f ++ b ∷ [])) k out)

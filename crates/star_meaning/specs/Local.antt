@@ -32,8 +32,13 @@ reached (Stopped f lines) = []
 -- file, and the outcomes of its loads
 abbrev pub setting : ℕ → Trees → List (ℕ × ℕ) → Option ℕ → List Local → Setting
 setting file trees loads prelude outcomes =
-    record { home = file; outlines = outlines trees; shelf = union (map reached outcomes); loads = loads;
-    prelude = prelude }
+    record {
+      home = file;
+      outlines = outlines trees;
+      shelf = union (map reached outcomes);
+      loads = loads;
+      prelude = prelude;
+    }
 
 -- the local meaning of a file with so many steps: the run of its statements over all that its loads reach, and the
 -- texts of its globals

@@ -68,8 +68,12 @@ bind_spot tables p n v = bind_at p.frame v (own_spot (tables.spots p.file n.posi
 -- a new frame has the slots of its block, all of them unbound
 unfoldable pub new_slots : Tables → ℕ → ℕ → Option Value → Action Value
 new_slots tables file number parent =
-    make (cell.Frame (record { file = file; block = number; parent = parent;
-    slots = replicate (tables.slots file number) None }))
+    make (cell.Frame (record {
+      file = file;
+      block = number;
+      parent = parent;
+      slots = replicate (tables.slots file number) None;
+    }))
 
 -- variables by their places
 abbrev pub by_places : Tables → Setting → Variables
@@ -127,9 +131,9 @@ abbrev pub AllFit : Trees → Setting → State → Type 0
 AllFit trees w s = (v : Value) (f : Function) → seen w s v ≡ Some (cell.Func f) → FitsFunction trees w s f
 
 -- all functions fit after a run that ends well
-abbrev pub FitBehind : Trees → Setting → Outcome Ended → Type 0
-FitBehind trees w (Done e t) = AllFit trees w t
-FitBehind trees w (Failed f lines) = Unit {0}
+abbrev pub FitAfter : Trees → Setting → Outcome Ended → Type 0
+FitAfter trees w (Done e t) = AllFit trees w t
+FitAfter trees w (Failed f lines) = Unit {0}
 
 -- The law: where the tables are right for all files, and the functions of the published modules fit, the run of a file
 -- by places is its run by names, and after it all functions fit.
@@ -140,8 +144,8 @@ PlacesMeanNames = (tables : Tables) (trees : Trees) (w : Setting) (statements : 
     → ((file : ℕ) (ss : List Statement) → Stands trees file ss → IsResolved tables w file ss)
     → AllFit trees w (start w steps)
     → (run_file (by_places tables w) w most_levels statements (start w steps)
-        ≡ run_file (by_names w) w most_levels statements (start w steps))
-    × FitBehind trees w (run_file (by_names w) w most_levels statements (start w steps))
+    ≡ run_file (by_names w) w most_levels statements (start w steps))
+    × FitAfter trees w (run_file (by_names w) w most_levels statements (start w steps))
 
 -- a module whose run ended so, seen by another one before its run: its cells stand on the shelf under its file, and so
 -- do all modules that it saw; it is another module, and did not see that one
@@ -158,5 +162,5 @@ pub record Loaded (u : Setting) (t : State) (w : Setting) : Type 0 where
 abbrev pub LoadsFit : Type 0
 LoadsFit = (trees : Trees) (w : Setting) (steps : ℕ)
     → ((v : Value) (f : Function) → seen w (start w steps) v ≡ Some (cell.Func f) → (u : Setting) × (t : State)
-        × Loaded u t w × AllFit trees u t × (seen u t v ≡ Some (cell.Func f)))
+    × Loaded u t w × AllFit trees u t × (seen u t v ≡ Some (cell.Func f)))
     → AllFit trees w (start w steps)

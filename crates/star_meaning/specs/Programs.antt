@@ -92,7 +92,7 @@ prelude_in files prelude =
 abbrev pub ArePrograms : Files → Option ℕ → Type 0
 ArePrograms files prelude = (file : ℕ) (f : PlacedFile) → file_in files file ≡ Some f
     → (reads : List Read) × (p : Program) × (placed_file p ≡ f)
-        × IsProgram file (prelude_in files prelude) f.statements reads p
+    × IsProgram file (prelude_in files prelude) f.statements reads p
 
 -- The law: the tables that the programs of files give are right for each of these files.
 abbrev pub ProgramsPlaceNames : Type 0

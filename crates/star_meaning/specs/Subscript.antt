@@ -115,8 +115,11 @@ bound_of n low high absent (Some z) = int_min high (int_max low (from_end n z))
 abbrev pub slice_range : ℕ → Option ℤ → Option ℤ → ℤ → Range
 slice_range n a b c =
     if int_lt c (pos 0)
-    then record { start = bound_of n (negsuc 0) (pos n -ℤ pos 1) (pos n -ℤ pos 1) a;
-        stop = bound_of n (negsuc 0) (pos n -ℤ pos 1) (negsuc 0) b; step = c }
+    then record {
+      start = bound_of n (negsuc 0) (pos n -ℤ pos 1) (pos n -ℤ pos 1) a;
+      stop = bound_of n (negsuc 0) (pos n -ℤ pos 1) (negsuc 0) b;
+      step = c;
+    }
     else record { start = bound_of n (pos 0) (pos n) (pos 0) a; stop = bound_of n (pos 0) (pos n) (pos n) b; step = c }
 
 -- so many ints of a range, from the i-th on, as places

@@ -95,8 +95,12 @@ bind_name w p n v = seeing (λ s. bind_at p.frame v (own_slot w s p.frame n.text
 -- a new frame, in which all names of its block are unbound
 unfoldable pub new_frame : Setting → ℕ → ℕ → Option Value → Action Value
 new_frame w file number parent =
-    make (cell.Frame (record { file = file; block = number; parent = parent;
-    slots = replicate (length (names_of w file number)) None }))
+    make (cell.Frame (record {
+      file = file;
+      block = number;
+      parent = parent;
+      slots = replicate (length (names_of w file number)) None;
+    }))
 
 -- variables by their names
 abbrev pub by_names : Setting → Variables

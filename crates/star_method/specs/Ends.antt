@@ -26,6 +26,6 @@ abbrev pub bytes_each : Setting → State → List Value → List (List ℕ)
 bytes_each w s xs = map (λ x. bytes_of (content w s x)) xs
 
 -- strings, each after another one
-abbrev pub each_behind : List ℕ → List (List ℕ) → List ℕ
-each_behind by [] = []
-each_behind by (u ∷ us) = by ++ u ++ each_behind by us
+abbrev pub each_after : List ℕ → List (List ℕ) → List ℕ
+each_after by [] = []
+each_after by (u ∷ us) = by ++ u ++ each_after by us

@@ -11,7 +11,7 @@ ghost use Rattle.star_meaning.specs.declared.fault.Code.TheVariants.{BadType};
 ghost use Rattle.star_meaning.specs.TextMethods as spec;
 ghost use Rattle.star_meaning.specs.Texts.{characters, lower, upper, without_end, without_front};
 ghost use Rattle.star_meaning.specs.Values.{content, text_of};
-ghost use Rattle.star_method.specs.Ends.{at_edge, bytes_each, each_behind, found_between};
+ghost use Rattle.star_method.specs.Ends.{at_edge, bytes_each, each_after, found_between};
 ghost use Rattle.star_method.specs.Sets.{test_of};
 
 use crate::characters::{Lookup, Set, without_end, without_front};
@@ -422,7 +422,7 @@ fn push_each(
     texts: &[Value],
 ) -> Result<(), AllocError>
     ensures { OnOk result (string_bytes made.new ≡ string_bytes made.old
-        ++ each_behind by.now (bytes_each setting.now machine.now texts.now)) }
+        ++ each_after by.now (bytes_each setting.now machine.now texts.now)) }
 {
     for text in texts {
         let text = machine.copied_text(setting, *text)?;

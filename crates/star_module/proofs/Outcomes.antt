@@ -7,7 +7,7 @@ use Rattle.star_meaning.specs.declared.fault.Code.{Code}
 use Rattle.star_meaning.specs.declared.fault.Fault.{Fault}
 use Rattle.star_meaning.specs.Local.{outlines}
 use Rattle.star_meaning.specs.Module.{Ended, Local, Good, Stopped, local, local_of}
-use Rattle.star_meaning.specs.Places.{FitBehind, Stands}
+use Rattle.star_meaning.specs.Places.{FitAfter, Stands}
 use Rattle.star_meaning.specs.Program.{Setting}
 use Rattle.star_meaning.specs.Programs.{tables_of, trees_of}
 use Rattle.star_meaning.specs.Run as run
@@ -44,7 +44,7 @@ meant_is w (run.Failed f printed) (outcome.Good frozen texts lines) h = absurd h
 meant_is w (run.Failed f printed) (outcome.Fault code line lines) h = λ i. Stopped (sym h.0 i) (h.1 i)
 
 named : (w : World) (ss : List Statement) (steps : ℕ) → w.setting.outlines ≡ outlines (trees_of w.files) → Stands (trees_of w.files) w.setting.home ss → AreReady w steps
-    → (run_by_places w steps ss ≡ run_by_names w.setting steps ss) × FitBehind (trees_of w.files) w.setting (run_by_names w.setting steps ss)
+    → (run_by_places w steps ss ≡ run_by_names w.setting steps ss) × FitAfter (trees_of w.files) w.setting (run_by_names w.setting steps ss)
 named w ss steps h s r = places_mean_names (tables_of w.files) (trees_of w.files) w.setting ss steps h s (programs_place_names w.files w.setting h r.programs) r.functions
 
 means_local : (w : World) (ss : List Statement) (steps : ℕ) (out : Outcome) → w.setting.outlines ≡ outlines (trees_of w.files) → Stands (trees_of w.files) w.setting.home ss → AreReady w steps
@@ -57,5 +57,5 @@ means_names w ss steps (Ok out) h s r o = means_local w ss steps out h s r o
 means_names w ss steps (Err e) h s r o = tt
 
 pub all_fit : (w : World) (ss : List Statement) (steps : ℕ) → w.setting.outlines ≡ outlines (trees_of w.files) → Stands (trees_of w.files) w.setting.home ss → AreReady w steps
-    → FitBehind (trees_of w.files) w.setting (run_by_names w.setting steps ss)
+    → FitAfter (trees_of w.files) w.setting (run_by_names w.setting steps ss)
 all_fit w ss steps h s r = (named w ss steps h s r).1

@@ -3,7 +3,7 @@
 ghost use Rattle.std.specs.Prelude.{◌≡◌, ◌≤◌, ◌<◌, ◌+◌, ◌^◌, length, string_bytes, IfOk};
 ghost use Rattle.star_machine.specs.Gives.{GivesBy};
 ghost use Rattle.star_meaning.specs.Module as spec;
-ghost use Rattle.star_meaning.specs.Places.{FitBehind, Stands};
+ghost use Rattle.star_meaning.specs.Places.{FitAfter, Stands};
 ghost use Rattle.star_meaning.specs.Programs.{trees_of};
 ghost use Rattle.star_meaning.specs.Run as run;
 ghost use Rattle.star_world.specs.World.{variables};
@@ -173,7 +173,7 @@ pub fn run_body(
     ensures names { let w = world.now in AreReady w steps
         → IfOk result (λ o. meant w.setting o ≡ spec.local w.setting steps program.now.statements.now) }
     ensures fit { let w = world.now in AreReady w steps
-        → FitBehind (trees_of w.files) w.setting (run_by_names w.setting steps program.now.statements.now) }
+        → FitAfter (trees_of w.files) w.setting (run_by_names w.setting steps program.now.statements.now) }
 {
     world.are_outlined();
     let mut machine = Machine::new(alloc, world.setting().home(), steps);

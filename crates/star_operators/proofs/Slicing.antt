@@ -74,8 +74,8 @@ whole_part t u a b h k p q e = (is_whole_run t a b h ∙ and_true (is_boundary t
 pub cut_before : (t : List ℕ) (a b : ℕ) → a < b → is_boundary t a ≡ false → Parts None t (run a b)
 cut_before t a b h p = is_whole_run t a b h ∙ ap (λ e. e && is_boundary t b) p
 
-pub cut_behind : (t : List ℕ) (a b : ℕ) → a < b → is_boundary t a ≡ true → is_boundary t b ≡ false → Parts None t (run a b)
-cut_behind t a b h p q = is_whole_run t a b h ∙ and_false (is_boundary t a) (is_boundary t b) q
+pub cut_after : (t : List ℕ) (a b : ℕ) → a < b → is_boundary t a ≡ true → is_boundary t b ≡ false → Parts None t (run a b)
+cut_after t a b h p q = is_whole_run t a b h ∙ and_false (is_boundary t a) (is_boundary t b) q
 
 pub run_is : (t : List ℕ) (o : Option (List ℕ)) (s : Span) (a b : ℕ) → Parts o t (run a b) → s.step ≡ pos 1 → s.start ≡ pos a → s.stop ≡ pos b → Parts o t (as_range s)
 run_is t o s a b h e f g = rw (e, f, g) h

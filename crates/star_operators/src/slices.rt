@@ -149,7 +149,7 @@ fn is_boundary(text: &[u8], at: usize) -> bool
 }
 
 /// A part of a string: none where an end of it lies inside a character.
-#[tactic(auto, using(crate::proofs::Slicing::empty_part, crate::proofs::Slicing::whole_part, crate::proofs::Slicing::cut_before, crate::proofs::Slicing::cut_behind))]
+#[tactic(auto, using(crate::proofs::Slicing::empty_part, crate::proofs::Slicing::whole_part, crate::proofs::Slicing::cut_before, crate::proofs::Slicing::cut_after))]
 fn part(alloc: Global, text: &str, start: usize, stop: usize) -> Result<Option<Text>, AllocError>
     requires start { start ≤ length text.now }
     requires stop { stop ≤ length text.now }

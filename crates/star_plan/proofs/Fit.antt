@@ -12,7 +12,7 @@ use Rattle.star_store.specs.Write.{cell_at}
 use Rattle.star_tree.specs.declared.tree.Statement.{Statement}
 use Rattle.star_meaning.specs.Local.{reached}
 use Rattle.star_meaning.specs.Module.{Local, start, union}
-use Rattle.star_meaning.specs.Places.{AllFit, FitBehind, IsResolved, Loaded, Stands, Tables}
+use Rattle.star_meaning.specs.Places.{AllFit, FitAfter, IsResolved, Loaded, Stands, Tables}
 use Rattle.star_meaning.specs.Program.{Setting, published_of, seen}
 use Rattle.star_meaning.specs.Run.{State}
 use Rattle.star_meaning.proofs.ByPlaces.{places_mean_names}
@@ -138,7 +138,7 @@ seen_there plan d n ms k m s home p there at c here =
 fits_after : (plan : Plan) (tables : Tables) → Right plan tables → (d n : ℕ) (ms : List Local) (k : ℕ) (m : Local) (s : Source plan d n ms k m) → FitAt plan d → AllFit (trees plan) (given plan k s.outcomes) s.run.state
 fits_after plan tables right d n ms k m s fit =
     let after = places_mean_names tables (trees plan) (given plan k s.outcomes) s.statements plan.steps refl (stands plan k s.statements s.sound) (right k s.outcomes) (fit k s.outcomes s.below) in
-    subst (FitBehind (trees plan) (given plan k s.outcomes)) s.run.done after.1
+    subst (FitAfter (trees plan) (given plan k s.outcomes)) s.run.done after.1
 
 -- a function that a file sees was seen by a load, after whose run all functions fit
 was_seen : (plan : Plan) (tables : Tables) → Right plan tables → (d n : ℕ) (ms : List Local) → all_good (map (result plan (suc d)) (loaded plan n)) ≡ Some ms → FitAt plan d

@@ -113,7 +113,7 @@ ReadingsMakePlans =
     → ((n : ℕ) (r : Reading) → read_of plan n ≡ Some r → IsRead files prelude n r × IsReached plan n)
     → ((n : ℕ) → Contains plan.roots n → (r : Reading) × (read_of plan n ≡ Some r))
     → ((n m : ℕ) (r : Reading) → read_of plan n ≡ Some r → Loads (loaded plan) n m → (q : Reading)
-        × (read_of plan m ≡ Some q))
+    × (read_of plan m ≡ Some q))
     → IsPlanOf files plan
 
 -- files have one plan for their roots, their prelude and the steps
@@ -150,14 +150,14 @@ PlansPlaceNames =
     (files : List File) (plan : Plan) (placed : Files) → IsPlanOf files plan → ArePlaced files plan placed
     → PreludeIsSound plan
     → (n : ℕ) (ms : List Local) (file : ℕ) (ss : List Statement) → Stands (trees plan) file ss
-        → IsResolved (tables_of placed) (given plan n ms) file ss
+    → IsResolved (tables_of placed) (given plan n ms) file ss
 
 -- where all loads of a file are good, each function that its run sees before it begins is one of its own file's
 -- definitions, in frames that fit the blocks around it
 abbrev pub PlansFit : Type 0
 PlansFit = (files : List File) (plan : Plan) (placed : Files) → IsPlanOf files plan → ArePlaced files plan placed
     → (n : ℕ) (ss : List Statement) (ms : List Local) → tree_in (read_of plan n) ≡ Some ss
-        → AreGood plan (loaded plan n) ms
+    → AreGood plan (loaded plan n) ms
     → AllFit (trees plan) (given plan n ms) (start (given plan n ms) plan.steps)
 
 -- a file without a static fault whose loads are good: its run by places, by the programs of the plan, is its run by
@@ -166,7 +166,7 @@ abbrev pub PlansRunByPlaces : Type 0
 PlansRunByPlaces =
     (files : List File) (plan : Plan) (placed : Files) → IsPlanOf files plan → ArePlaced files plan placed
     → (n : ℕ) (ss : List Statement) (ms : List Local) → tree_in (read_of plan n) ≡ Some ss
-        → AreGood plan (loaded plan n) ms
+    → AreGood plan (loaded plan n) ms
     → (run_by_places placed plan n ss ms ≡ run_by_names plan n ss ms)
     × (local_of (given plan n ms) (run_by_places placed plan n ss ms) ≡ ran plan n ms)
     × IsOutcome plan n (Ran (local_of (given plan n ms) (run_by_places placed plan n ss ms)))
@@ -187,7 +187,7 @@ NeedsOfLoads =
 abbrev pub GivenHoldsNeeds : Type 0
 GivenHoldsNeeds = (plan : Plan) (n : ℕ) (ms : List Local) → AreGood plan (loaded plan n) ms
     → HoldsNeeds plan n (given plan n ms).shelf × ((p : Published) → slice_get (given plan n ms).shelf n ≡ Some (Some p)
-        → ⊥)
+    → ⊥)
 
 -- and whatever shelf has these alone, with no place beyond the last, is that shelf
 abbrev pub OneShelf : Type 0
@@ -212,7 +212,7 @@ RunsLeaveOwn =
 abbrev pub PlansAreReady : Type 0
 PlansAreReady = (files : List File) (plan : Plan) (placed : Files) → IsPlanOf files plan → ArePlaced files plan placed
     → (n : ℕ) (ss : List Statement) (ms : List Local) → tree_in (read_of plan n) ≡ Some ss
-        → AreGood plan (loaded plan n) ms
+    → AreGood plan (loaded plan n) ms
     → Stands (trees_of placed) n ss
     × ArePrograms placed (given plan n ms).prelude
     × AllFit (trees_of placed) (given plan n ms) (start (given plan n ms) plan.steps)
@@ -224,4 +224,4 @@ abbrev pub FilesMayRun : Type 0
 FilesMayRun = (files : List File) (plan : Plan) (placed : Files) → IsPlanOf files plan → ArePlaced files plan placed
     → (n : ℕ) (ss : List Statement) (shelf : Shelf) → tree_in (read_of plan n) ≡ Some ss
     → ((i m : ℕ) → slice_get (loaded plan n) i ≡ Some m → IsGood plan m) → IsTight shelf → HoldsNeeds plan n shelf
-        → MayRun plan placed n ss shelf
+    → MayRun plan placed n ss shelf

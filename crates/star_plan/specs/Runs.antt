@@ -53,8 +53,13 @@ run_by_places placed = run_with (by_places (tables_of placed))
 -- what the run of a file is given over a shelf, by a row of programs
 abbrev pub given_over : Files → Plan → ℕ → Shelf → Setting
 given_over placed plan n shelf =
-    record { home = n; outlines = outlines (trees_of placed); shelf = shelf; loads = load_files (loads_of plan n);
-    prelude = plan.prelude }
+    record {
+      home = n;
+      outlines = outlines (trees_of placed);
+      shelf = shelf;
+      loads = load_files (loads_of plan n);
+      prelude = plan.prelude;
+    }
 
 -- a file may run over a shelf: its statements stand among those of the programs, the programs are right for the run,
 -- the functions that it sees fit; then its local meaning is its outcome, and the module that a good run puts up is the
@@ -67,4 +72,4 @@ pub record MayRun (plan : Plan) (placed : Files) (n : ℕ) (ss : List Statement)
   pub outcome : IsOutcome plan n (Ran (local (given_over placed plan n shelf) plan.steps ss))
   pub own : (p : Published) (globals : List (List ℕ × Value)) (texts : List (List ℕ × List ℕ)) (lines : List (List ℕ))
       → local (given_over placed plan n shelf) plan.steps ss ≡ Good (put_up n p shelf) globals texts lines
-          → IsOwn plan n p
+      → IsOwn plan n p

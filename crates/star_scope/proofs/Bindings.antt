@@ -20,7 +20,7 @@ use Rattle.star_tree.specs.declared.tree.Argument.TheOpen as tree
 use Rattle.star_tree.specs.declared.tree.Name.{Name}
 use Rattle.star_tree.specs.declared.tree.Expression.{Expression}
 use Rattle.star_scope.specs.declared.conflicts.Bound.{Bound}
-use Rattle.star_scope.specs.Bound.{Binds, Knows, behind, is_in, names_of}
+use Rattle.star_scope.specs.Bound.{Binds, Knows, after, is_in, names_of}
 use Rattle.star_scope.specs.Conflicts.{Binding, alone, conflict, conflict_at, conflicts, parameter_binding, parameter_bindings, parameter_form}
 use Rattle.star_scope.specs.Faults.{first_from}
 use Rattle.star_scope.proofs.Faults.{first_joined, first_none}
@@ -107,23 +107,23 @@ bind_one old new b all alone found earlier k = (
       ∙ ap (λ fs. first_from old.found fs) (sym (append-nil (conflict earlier b))),
 )
 
-behind_both : (earlier bs cs : List Binding) → behind earlier (bs ++ cs) ≡ behind (behind earlier bs) cs
-behind_both earlier [] cs = refl
-behind_both earlier (b ∷ bs) cs = behind_both (b ∷ earlier) bs cs
+after_both : (earlier bs cs : List Binding) → after earlier (bs ++ cs) ≡ after (after earlier bs) cs
+after_both earlier [] cs = refl
+after_both earlier (b ∷ bs) cs = after_both (b ∷ earlier) bs cs
 
-conflicts_both : (earlier bs cs : List Binding) → conflicts earlier (bs ++ cs) ≡ conflicts earlier bs ++ conflicts (behind earlier bs) cs
+conflicts_both : (earlier bs cs : List Binding) → conflicts earlier (bs ++ cs) ≡ conflicts earlier bs ++ conflicts (after earlier bs) cs
 conflicts_both earlier [] cs = refl
 conflicts_both earlier (b ∷ bs) cs =
     ap (λ fs. conflict earlier b ++ fs) (conflicts_both (b ∷ earlier) bs cs)
-    ∙ sym (append_assoc (conflict earlier b) (conflicts (b ∷ earlier) bs) (conflicts (behind (b ∷ earlier) bs) cs))
+    ∙ sym (append_assoc (conflict earlier b) (conflicts (b ∷ earlier) bs) (conflicts (after (b ∷ earlier) bs) cs))
 
 pub bind_both : (bs cs : List Binding) (a b c : Bound) → Binds bs a b → Binds cs b c → Binds (bs ++ cs) a c
 bind_both bs cs a b c f g earlier k =
     let x = f earlier k in
-    let y = g (behind earlier bs) x.0 in (
-      subst (λ es. Knows c es) (sym (behind_both earlier bs cs)) y.0,
-      y.1 ∙ ap (λ o. first_from o (conflicts (behind earlier bs) cs)) x.1
-          ∙ sym (first_joined a.found (conflicts earlier bs) (conflicts (behind earlier bs) cs))
+    let y = g (after earlier bs) x.0 in (
+      subst (λ es. Knows c es) (sym (after_both earlier bs cs)) y.0,
+      y.1 ∙ ap (λ o. first_from o (conflicts (after earlier bs) cs)) x.1
+          ∙ sym (first_joined a.found (conflicts earlier bs) (conflicts (after earlier bs) cs))
           ∙ ap (λ fs. first_from a.found fs) (sym (conflicts_both earlier bs cs)),
     )
 

@@ -22,14 +22,14 @@ Knows b earlier = ((x : List ℕ) → is_in (names_of b.all) x ≡ list_any (λ 
     × ((x : List ℕ) → is_in (names_of b.alone) x ≡ list_any (λ e. bytes_eq x e.text && e.alone) earlier)
 
 -- bindings after earlier ones, the latest first
-abbrev pub behind : List Binding → List Binding → List Binding
-behind earlier [] = earlier
-behind earlier (b ∷ bs) = behind (b ∷ earlier) bs
+abbrev pub after : List Binding → List Binding → List Binding
+after earlier [] = earlier
+after earlier (b ∷ bs) = after (b ∷ earlier) bs
 
 -- what is known of earlier bindings becomes what is known of these too, and the first of their conflicts is found
 abbrev pub Binds : List Binding → Bound → Bound → Type 0
 Binds bs old new =
-    (earlier : List Binding) → Knows old earlier → Knows new (behind earlier bs)
+    (earlier : List Binding) → Knows old earlier → Knows new (after earlier bs)
     × (new.found ≡ first_from old.found (conflicts earlier bs))
 
 abbrev pub binding : Name → Bool → Binding

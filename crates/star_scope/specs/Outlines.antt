@@ -191,8 +191,11 @@ body_names (Answer e) = []
 -- a definition, and the block of its frame: its parameters, then the names that its body binds
 unfoldable pub definition : ℕ → List Parameter → Body → Found
 definition number ps body =
-    record { definitions = record { number = number; parameters = ps; body = body }
-    ∷ []; blocks = record { number = 1 + number; names = once (all_parameter_names ps ++ body_names body) } ∷ [] }
+    record {
+      definitions = record { number = number; parameters = ps; body = body }
+          ∷ [];
+      blocks = record { number = 1 + number; names = once (all_parameter_names ps ++ body_names body) } ∷ [];
+    }
 
 unfoldable pub comprehension : ℕ → Clauses → Found
 comprehension number cs =
@@ -349,5 +352,9 @@ loaded_by _ = []
 -- the outline of a file: its definitions, its own block and the others, and the names that it loads
 abbrev pub outline : List Statement → Outline
 outline ss =
-    record { definitions = (in_statements ss).definitions; blocks = record { number = 0; names = file_names ss }
-    ∷ (in_statements ss).blocks; loaded = flat_map (λ s. loaded_by (form_of s)) ss }
+    record {
+      definitions = (in_statements ss).definitions;
+      blocks = record { number = 0; names = file_names ss }
+          ∷ (in_statements ss).blocks;
+      loaded = flat_map (λ s. loaded_by (form_of s)) ss;
+    }

@@ -46,7 +46,7 @@ repeated ds = flat_map (λ d. repeated_parameters d.parameters) ds
 abbrev pub static_faults : Standing → Option Names → List Statement → List Read → List Refusal
 static_faults here outer ss reads =
     in_statements ss here ++ (flat_map faults_of reads
-        ++ (block_conflicts ss ++ (repeated (outline ss).definitions ++ undefined (outline ss).blocks outer (uses ss))))
+    ++ (block_conflicts ss ++ (repeated (outline ss).definitions ++ undefined (outline ss).blocks outer (uses ss))))
 
 -- a program is that of a file: its loads are the prelude's and its statements', and it has the file's definitions, no
 -- two with one number, its blocks, the names that the file loads, and the spot of each name

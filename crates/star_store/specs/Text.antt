@@ -40,9 +40,9 @@ abbrev pub quoted : List ℕ → List ℕ
 quoted t = codes "\"" ++ shown t ++ codes "\""
 
 -- pieces put after what stands there already, in order
-abbrev pub behind : List ℕ → List (List ℕ) → List ℕ
-behind out [] = out
-behind out (t ∷ ts) = behind (out ++ t) ts
+abbrev pub after : List ℕ → List (List ℕ) → List ℕ
+after out [] = out
+after out (t ∷ ts) = after (out ++ t) ts
 
 -- stop alone, or start and stop, or start, stop and step
 abbrev pub bounds_parts : Range → List (List ℕ)
@@ -53,8 +53,8 @@ bounds_parts r =
     else signed_decimal r.start ∷ codes ", " ∷ signed_decimal r.stop ∷ codes ", " ∷ signed_decimal r.step ∷ []
 
 -- range(stop), range(start, stop) or range(start, stop, step)
-abbrev pub range_behind : List ℕ → Range → List ℕ
-range_behind out r = behind (out ++ codes "range(") (bounds_parts r) ++ codes ")"
+abbrev pub range_after : List ℕ → Range → List ℕ
+range_after out r = after (out ++ codes "range(") (bounds_parts r) ++ codes ")"
 
 abbrev pub function_parts : List ℕ → List (List ℕ)
 function_parts name = codes "<function " ∷ name ∷ codes ">" ∷ []
@@ -78,7 +78,7 @@ say t = λ out. answer (out ++ t)
 
 -- these pieces, for nothing
 abbrev pub say_parts : List (List ℕ) → Say
-say_parts ts = λ out. answer (behind out ts)
+say_parts ts = λ out. answer (after out ts)
 
 -- one text and then another
 abbrev pub then_say : Say → Say → Say
@@ -152,7 +152,7 @@ say_dict f path v es =
 -- what a value leads to; a frame is no value of the language and says nothing
 abbrev pub say_cell : (List Value → Value → Say) → List Value → Value → Option Cell → Say
 say_cell f path v (Some (cell.Text t)) = say (quoted t)
-say_cell f path v (Some (cell.Range r)) = λ out. answer (range_behind out r)
+say_cell f path v (Some (cell.Range r)) = λ out. answer (range_after out r)
 say_cell f path v (Some (cell.Tuple xs)) = say_tuple (f path) xs
 say_cell f path v (Some (cell.List xs)) = say_list f path v xs
 say_cell f path v (Some (cell.Dict es)) = say_dict f path v es

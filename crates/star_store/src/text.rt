@@ -5,7 +5,7 @@ ghost use Rattle.std.specs.Char.{digit_char};
 ghost use Rattle.std.specs.Fmt.{signed_decimal};
 ghost use Rattle.std.specs.Option.{option_copied};
 ghost use Rattle.star_store.specs.Store.{look};
-ghost use Rattle.star_store.specs.Text.{Says, Tells, behind, bool_text, bounds_parts, built_in_parts, function_parts, method_parts, on_path, plain_char, quoted, range_behind, same_address, say_cell, say_dict, say_entries, say_entry, say_items, say_list, say_new_dict, say_new_list, say_place, say_tuple, say_value, separator, shown, shown_char, text, tuple_end};
+ghost use Rattle.star_store.specs.Text.{Says, Tells, after, bool_text, bounds_parts, built_in_parts, function_parts, method_parts, on_path, plain_char, quoted, range_after, same_address, say_cell, say_dict, say_entries, say_entry, say_items, say_list, say_new_dict, say_new_list, say_place, say_tuple, say_value, separator, shown, shown_char, text, tuple_end};
 
 use crate::arena::{Arena, Homes};
 use crate::budget::Budget;
@@ -403,7 +403,7 @@ impl Page {
 
     fn say_built_in(&mut self, name: &str) -> Result<(), AllocError>
         ensures said { OnOk result ((string_bytes self.new.out)
-            ≡ behind (string_bytes self.old.out) (built_in_parts name.now)) }
+            ≡ after (string_bytes self.old.out) (built_in_parts name.now)) }
         ensures path { self.new.path.items ≡ self.old.path.items }
         ensures steps { self.new.steps ≡ self.old.steps }
     {
@@ -414,7 +414,7 @@ impl Page {
 
     fn say_function(&mut self, name: &Text) -> Result<(), AllocError>
         ensures said { OnOk result ((string_bytes self.new.out)
-            ≡ behind (string_bytes self.old.out) (function_parts name.now)) }
+            ≡ after (string_bytes self.old.out) (function_parts name.now)) }
         ensures path { self.new.path.items ≡ self.old.path.items }
         ensures steps { self.new.steps ≡ self.old.steps }
     {
@@ -425,7 +425,7 @@ impl Page {
 
     fn say_method(&mut self, method: Method) -> Result<(), AllocError>
         ensures said { OnOk result ((string_bytes self.new.out)
-            ≡ behind (string_bytes self.old.out) (method_parts method)) }
+            ≡ after (string_bytes self.old.out) (method_parts method)) }
         ensures path { self.new.path.items ≡ self.old.path.items }
         ensures steps { self.new.steps ≡ self.old.steps }
     {
@@ -437,7 +437,7 @@ impl Page {
     }
 
     fn say_range(&mut self, range: Range) -> Result<(), AllocError>
-        ensures said { OnOk result ((string_bytes self.new.out) ≡ range_behind (string_bytes self.old.out) range) }
+        ensures said { OnOk result ((string_bytes self.new.out) ≡ range_after (string_bytes self.old.out) range) }
         ensures path { self.new.path.items ≡ self.old.path.items }
         ensures steps { self.new.steps ≡ self.old.steps }
     {
@@ -448,7 +448,7 @@ impl Page {
 
     fn say_bounds(&mut self, range: Range) -> Result<(), AllocError>
         ensures said { OnOk result ((string_bytes self.new.out)
-            ≡ behind (string_bytes self.old.out) (bounds_parts range)) }
+            ≡ after (string_bytes self.old.out) (bounds_parts range)) }
         ensures path { self.new.path.items ≡ self.old.path.items }
         ensures steps { self.new.steps ≡ self.old.steps }
     {

@@ -4,7 +4,7 @@ use Rattle.star_syntax.specs.declared.level.Level.{Level}
 use Rattle.star_syntax.specs.declared.level.Level.TheVariants as levels
 use Rattle.star_syntax.specs.Grammar.{level}
 use Rattle.star_syntax.proofs.Soundness.{cost, safe}
-use Rattle.star_syntax.specs.Expressions.{next_test, list_of_tests, next_primary, list_of_primaries, primaries, targets, for_clause, if_clause, next_clause, further_clauses, all_clauses, inside, parentheses, further_tests, behind_element, elements, list_display, entry, next_entry, further_entries, behind_entry, entries, dict_display, atom, operand, named, argument, next_argument, list_of_arguments, ordered_arguments, given, default, named_parameter, star, star_star, parameter, next_parameter, list_of_parameters, ordered_parameters, lambda_parameters, lambda, attribute, call, stride, stop_and_stride, behind_start, from_test, in_brackets, subscript, suffix, primary, signed, unary, climb, bit_or, comparator, compared, comparison, denied, negation, next_negation, conjunction, next_conjunction, disjunction, choice, conditional, any_test}
+use Rattle.star_syntax.specs.Expressions.{next_test, list_of_tests, next_primary, list_of_primaries, primaries, targets, for_clause, if_clause, next_clause, further_clauses, all_clauses, inside, parentheses, further_tests, after_element, elements, list_display, entry, next_entry, further_entries, after_entry, entries, dict_display, atom, operand, named, argument, next_argument, list_of_arguments, ordered_arguments, given, default, named_parameter, star, star_star, parameter, next_parameter, list_of_parameters, ordered_parameters, lambda_parameters, lambda, attribute, call, stride, stop_and_stride, after_start, from_test, in_brackets, subscript, suffix, primary, signed, unary, climb, bit_or, comparator, compared, comparison, denied, negation, next_negation, conjunction, next_conjunction, disjunction, choice, conditional, any_test}
 use Rattle.star_syntax.specs.Language.{rule}
 use Rattle.star_syntax.proofs.Ranks.{rank}
 
@@ -17,19 +17,19 @@ unfolding all_clauses for_clause further_clauses next_clause if_clause targets p
 clauses-safe = refl
 
 list-cost : cost list_display ≡ 2
-unfolding list_display elements behind_element further_tests
+unfolding list_display elements after_element further_tests
 list-cost = simp clauses-cost
 
 list-safe : (m : ℕ) → safe rank 2 m list_display ≡ true
-unfolding list_display elements behind_element further_tests next_test
+unfolding list_display elements after_element further_tests next_test
 list-safe m = simp (clauses-safe, clauses-cost)
 
 dict-cost : cost dict_display ≡ 2
-unfolding dict_display entries behind_entry entry further_entries
+unfolding dict_display entries after_entry entry further_entries
 dict-cost = simp clauses-cost
 
 dict-safe : (m : ℕ) → safe rank 2 m dict_display ≡ true
-unfolding dict_display entries behind_entry entry further_entries next_entry
+unfolding dict_display entries after_entry entry further_entries next_entry
 dict-safe m = simp (clauses-safe, clauses-cost)
 
 parentheses-cost : cost parentheses ≡ 2
@@ -57,11 +57,11 @@ unfolding call given ordered_arguments list_of_arguments argument named next_arg
 call-safe m = refl
 
 subscript-cost : cost subscript ≡ 3
-unfolding subscript in_brackets from_test behind_start stop_and_stride stride further_tests
+unfolding subscript in_brackets from_test after_start stop_and_stride stride further_tests
 subscript-cost = refl
 
 subscript-safe : (m : ℕ) → safe rank 2 m subscript ≡ true
-unfolding subscript in_brackets from_test behind_start stop_and_stride stride further_tests next_test
+unfolding subscript in_brackets from_test after_start stop_and_stride stride further_tests next_test
 subscript-safe m = refl
 
 suffix-cost : cost suffix ≡ 2

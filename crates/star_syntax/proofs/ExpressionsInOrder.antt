@@ -18,7 +18,7 @@ use Rattle.star_syntax.specs.Sorts.{Val, both, maybe, list}
 use Rattle.star_syntax.specs.Sorts as sorts
 use Rattle.star_syntax.specs.Grammar.{level, the, Knot}
 use Rattle.star_syntax.specs.Keeps.{keep, arguments_in_order, parameters_in_order}
-use Rattle.star_syntax.specs.Expressions.{StopAndStride, atom_of, tuple_unless_one, parentheses_of, list_of, dict_of, comparison_of, conditional_of, subscript_of, with_suffix, parameter_of, star_of, next_test, list_of_tests, tests, next_primary, list_of_primaries, primaries, targets, for_clause, if_clause, next_clause, further_clauses, all_clauses, inside, parentheses, further_tests, behind_element, elements, list_display, entry, next_entry, further_entries, behind_entry, entries, dict_display, atom, operand, named, argument, next_argument, list_of_arguments, ordered_arguments, given, default, named_parameter, star, star_star, parameter, next_parameter, list_of_parameters, ordered_parameters, taken, parameters_in_parentheses, lambda_parameters, lambda, attribute, call, stride, stop_and_stride, behind_start, from_test, in_brackets, subscript, suffix, primary, signed, unary, climb, bit_or, compared, comparison, denied, negation, next_negation, conjunction, next_conjunction, disjunction, choice, conditional, any_test}
+use Rattle.star_syntax.specs.Expressions.{StopAndStride, atom_of, tuple_unless_one, parentheses_of, list_of, dict_of, comparison_of, conditional_of, subscript_of, with_suffix, parameter_of, star_of, next_test, list_of_tests, tests, next_primary, list_of_primaries, primaries, targets, for_clause, if_clause, next_clause, further_clauses, all_clauses, inside, parentheses, further_tests, after_element, elements, list_display, entry, next_entry, further_entries, after_entry, entries, dict_display, atom, operand, named, argument, next_argument, list_of_arguments, ordered_arguments, given, default, named_parameter, star, star_star, parameter, next_parameter, list_of_parameters, ordered_parameters, taken, parameters_in_parentheses, lambda_parameters, lambda, attribute, call, stride, stop_and_stride, after_start, from_test, in_brackets, subscript, suffix, primary, signed, unary, climb, bit_or, compared, comparison, denied, negation, next_negation, conjunction, next_conjunction, disjunction, choice, conditional, any_test}
 use Rattle.star_syntax.proofs.Kept.{OfExpression, OfArgument, OfParameter, OfTarget, OfClause, OfClauses, OfEntry, Given, Taken, of-Name, of-Int, of-Text, of-Tuple, of-List, of-Dict, of-ListComprehension, of-DictComprehension, of-Unary, of-Binary, of-Compare, of-And, of-Or, of-Conditional, of-Lambda, of-Call, of-Attribute, of-Index, of-Slice, of-Positional, of-Named, of-StarArgument, of-StarStarArgument, of-Plain, of-Default, of-StarParameter, of-BareStar, of-StarStarParameter, of-For, of-If, of-clauses, of-entry}
 use Rattle.star_syntax.proofs.Makes.{Makes, Each, Maybe, nothing-found, same_some, makes-any, makes-one, makes-seq, makes-alt, makes-act, makes-when, makes-fold, makes-after, makes-before, makes-opt, makes-list, makes-rep}
 use Rattle.star_syntax.proofs.TargetsInOrder.{target-kept}
@@ -38,11 +38,11 @@ abbrev OfStopAndStride : StopAndStride → Type 0
 OfStopAndStride c = Maybe OfExpression c.0 × Maybe OfExpression c.1
 
 -- clauses, or further parts
-abbrev Behind : {A : Type 0} → (A → Type 0) → Option Clauses × List A → Type 0
-Behind P p = Maybe OfClauses p.0 × Each P p.1
+abbrev After : {A : Type 0} → (A → Type 0) → Option Clauses × List A → Type 0
+After P p = Maybe OfClauses p.0 × Each P p.1
 
-abbrev BehindStart : Option StopAndStride × List Expression → Type 0
-BehindStart p = Maybe OfStopAndStride p.0 × Each OfExpression p.1
+abbrev AfterStart : Option StopAndStride × List Expression → Type 0
+AfterStart p = Maybe OfStopAndStride p.0 × Each OfExpression p.1
 
 a-tuple-unless-one : (xs : List Expression) → Each OfExpression xs → OfExpression (tuple_unless_one xs)
 a-tuple-unless-one [] k = of-Tuple [] tt
@@ -54,12 +54,12 @@ in-parentheses None k = of-Tuple [] tt
 in-parentheses (Some (xs, None)) k = a-tuple-unless-one xs k.0
 in-parentheses (Some (xs, Some comma)) k = of-Tuple xs k.0
 
-a-list : (p : Position × Option (Expression × (Option Clauses × List Expression))) → Unit {0} × Maybe (λ q. OfExpression q.0 × Behind OfExpression q.1) p.1 → OfExpression (list_of p)
+a-list : (p : Position × Option (Expression × (Option Clauses × List Expression))) → Unit {0} × Maybe (λ q. OfExpression q.0 × After OfExpression q.1) p.1 → OfExpression (list_of p)
 a-list (at, None) k = of-List [] tt
 a-list (at, Some (x, (None, more))) k = of-List (x ∷ more) (k.1.0, k.1.1.1)
 a-list (at, Some (x, (Some c, more))) k = of-ListComprehension at x c k.1.0 k.1.1.0
 
-a-dict : (p : Position × Option (Entry × (Option Clauses × List Entry))) → Unit {0} × Maybe (λ q. OfEntry q.0 × Behind OfEntry q.1) p.1 → OfExpression (dict_of p)
+a-dict : (p : Position × Option (Entry × (Option Clauses × List Entry))) → Unit {0} × Maybe (λ q. OfEntry q.0 × After OfEntry q.1) p.1 → OfExpression (dict_of p)
 a-dict (at, None) k = of-Dict [] tt
 a-dict (at, Some (x, (None, more))) k = of-Dict (x ∷ more) (k.1.0, k.1.1.1)
 a-dict (at, Some (x, (Some c, more))) k = of-DictComprehension at x c k.1.0 k.1.1.0
@@ -83,7 +83,7 @@ a-conditional : (p : Expression × Option (Expression × Expression)) → OfExpr
 a-conditional (chosen, None) k = k.0
 a-conditional (chosen, Some q) k = of-Conditional q.0 chosen q.1 k.1.0 k.0 k.1.1
 
-a-subscript : (p : Expression × (Option StopAndStride × List Expression)) → OfExpression p.0 × BehindStart p.1 → OfSuffix (subscript_of p)
+a-subscript : (p : Expression × (Option StopAndStride × List Expression)) → OfExpression p.0 × AfterStart p.1 → OfSuffix (subscript_of p)
 a-subscript (x, (None, more)) k = a-tuple-unless-one (x ∷ more) (k.0, k.1.1)
 a-subscript (x, (Some c, more)) k = (k.0, (k.1.0.0, k.1.0.1))
 
@@ -156,7 +156,7 @@ module _ (k : Knot) (m : (l : Level) → Makes k sorts.expression (the (level l)
   further-tests = makes-rep k next-test
 
   list-display : Makes k _ list_display OfExpression
-  unfolding list_display elements behind_element
+  unfolding list_display elements after_element
   list-display = makes-act k a-list (makes-seq k (makes-any k) (makes-before k (makes-opt k (makes-seq k (m levels.Test)
       (makes-alt k (makes-act k (λ c q. (q, tt)) all-clauses) (makes-act k (λ xs q. (tt, q)) (makes-before k further-tests)))))))
 
@@ -165,7 +165,7 @@ module _ (k : Knot) (m : (l : Level) → Makes k sorts.expression (the (level l)
   entry' = makes-act k (λ p q. of-entry p.0 p.1 q.0 q.1) (makes-seq k (m levels.Test) (makes-after k (m levels.Test)))
 
   dict-display : Makes k _ dict_display OfExpression
-  unfolding dict_display entries behind_entry further_entries next_entry
+  unfolding dict_display entries after_entry further_entries next_entry
   dict-display = makes-act k a-dict (makes-seq k (makes-any k) (makes-before k (makes-opt k (makes-seq k entry'
       (makes-alt k (makes-act k (λ c q. (q, tt)) all-clauses) (makes-act k (λ xs q. (tt, q)) (makes-before k (makes-rep k (makes-after k entry')))))))))
 
@@ -204,7 +204,7 @@ module _ (k : Knot) (m : (l : Level) → Makes k sorts.expression (the (level l)
   stop-and-stride = makes-after k (makes-seq k (makes-opt k (m levels.Test)) (makes-alt k (makes-after k (makes-opt k (m levels.Test))) (makes-act k (λ u q. tt) (makes-any k))))
 
   subscript' : Makes k _ subscript OfSuffix
-  unfolding subscript in_brackets from_test behind_start
+  unfolding subscript in_brackets from_test after_start
   subscript' = makes-after k (makes-before k (makes-alt k
       (makes-act k a-subscript (makes-seq k (m levels.Test) (makes-alt k (makes-act k (λ c q. (q, tt)) stop-and-stride) (makes-act k (λ xs q. (tt, q)) further-tests))))
       (makes-act k (λ c q. (tt, (q.0, q.1))) stop-and-stride)))

@@ -20,7 +20,7 @@ use Rattle.star_tree.specs.declared.tree.Expression.{Expression}
 use Rattle.star_tree.specs.declared.tree.Expression.TheVariants as e
 use Rattle.star_syntax.specs.Sorts as sorts
 use Rattle.star_syntax.specs.Grammar.{level, the, Reads, hit, miss, free, seq-some, seq-first, seq-second, alt-first, alt-second, fold-none, fold-some, act-none, act-some, itself, Rounds, stop, more}
-use Rattle.star_syntax.specs.Expressions.{same_sign, same_keyword, is_sign, is_keyword, binary_operator, snoc, next_test, list_of_tests, for_clause, all_clauses, inside, parentheses, further_tests, behind_element, elements, list_display, atom, operand, attribute, call, stop_and_stride, behind_start, from_test, in_brackets, subscript, suffix, primary, signed, unary, bit_or, comparator, compared, comparison, denied, negation, next_negation, conjunction, next_conjunction, disjunction, choice, conditional}
+use Rattle.star_syntax.specs.Expressions.{same_sign, same_keyword, is_sign, is_keyword, binary_operator, snoc, next_test, list_of_tests, for_clause, all_clauses, inside, parentheses, further_tests, after_element, elements, list_display, atom, operand, attribute, call, stop_and_stride, after_start, from_test, in_brackets, subscript, suffix, primary, signed, unary, bit_or, comparator, compared, comparison, denied, negation, next_negation, conjunction, next_conjunction, disjunction, choice, conditional}
 use Rattle.star_syntax.specs.Language.{rule}
 use Rattle.star_syntax.specs.Written.{mark, spelt, called, IsUnary, positive, negative, inverted, IsBinary, times, divided, modulo, plus, minus, to-left, to-right, bits-and, bits-xor, bits-or, IsComparator, equal, unequal, less, greater, at-most, at-least, contained}
 use Rattle.star_syntax.proofs.Quiet.{BeginsNone, suffix-none, test-none}
@@ -101,7 +101,7 @@ module _ {ts vs us : List Leaf} {x y : Expression} where
 
   pub index-of : (p q : Position) → Reads rule _ operand ts (Some (x, mark p s.LeftBracket ∷ vs)) → Reads rule _ (the (level levels.Test)) vs (Some (y, mark q s.RightBracket ∷ us)) → Reads rule _ suffix us None
       → Reads rule _ primary ts (Some (e.Index x y, us))
-  unfolding primary suffix attribute call subscript in_brackets from_test behind_start stop_and_stride further_tests next_test same_sign
+  unfolding primary suffix attribute call subscript in_brackets from_test after_start stop_and_stride further_tests next_test same_sign
   index-of p q d f n = fold-some d (more {y = suffixes.Index y}
       (alt-second (act-none (act-none (seq-first (miss refl)))) (alt-second (act-none (act-none (seq-first (miss refl))))
       (act-some {x = (tt, suffixes.Index y)} (seq-some (hit refl) (act-some {x = (suffixes.Index y, tt)} (seq-some
@@ -140,9 +140,9 @@ pub no-bracket : BeginsNone (word.Sign s.RightBracket)
 unfolding same_sign same_keyword
 no-bracket = record { lambda' = refl; denial = refl; sign = refl; atom' = λ p. refl; paren = refl; bracket = refl; brace = refl }
 
-pub no-test-behind : (p : Position) (w : Word) (ts : List Leaf) → is_sign s.Comma w ≡ None → Reads rule _ next_test (record { word = w; position = p } ∷ ts) None
+pub no-test-after : (p : Position) (w : Word) (ts : List Leaf) → is_sign s.Comma w ≡ None → Reads rule _ next_test (record { word = w; position = p } ∷ ts) None
 unfolding next_test
-no-test-behind p w ts n = act-none (seq-first (miss n))
+no-test-after p w ts n = act-none (seq-first (miss n))
 
 pub last-comma : (p q : Position) (ts : List Leaf) → Reads rule _ next_test (mark p s.Comma ∷ mark q s.RightParen ∷ ts) None
 unfolding next_test same_sign
@@ -177,6 +177,6 @@ empty-list-of p q us = alt-second (miss refl) (alt-second (act-none (seq-first (
 
 pub list-of : {ts vs us : List Leaf} {x : Expression} {xs : List Expression} (p q : Position) → Reads rule _ (the (level levels.Test)) ts (Some (x, vs)) → Reads rule _ all_clauses vs None → Tests [] vs xs (mark q s.RightBracket ∷ us)
     → Reads rule _ operand (mark p s.LeftBracket ∷ ts) (Some (e.List (x ∷ xs), us))
-unfolding operand atom parentheses list_display elements behind_element further_tests same_sign
+unfolding operand atom parentheses list_display elements after_element further_tests same_sign
 list-of {x = x} {xs = xs} p q d n f = alt-second (miss refl) (alt-second (act-none (seq-first (miss refl))) (alt-first (act-some {x = (p, Some (x, (None, xs)))} (seq-some (hit refl) (act-some {x = (Some (x, (None, xs)), tt)} (seq-some
     (alt-first (act-some {x = (x, (None, xs))} (seq-some d (alt-second (act-none n) (act-some {x = xs} (act-some {x = (xs, None)} (seq-some (fold-some (act-some {x = tt} free) f) (alt-second (act-none (miss refl)) (act-some {x = tt} free))))))))) (hit refl)))))))

@@ -24,7 +24,7 @@ use Rattle.star_syntax.specs.Sorts.{Sort, Val}
 use Rattle.star_syntax.specs.Sorts as sorts
 use Rattle.star_syntax.specs.Grammar.{level, G, the, Reads, hit, miss, free, seq-some, seq-first, alt-first, alt-second, fold-none, fold-some, act-none, act-some, when-none, when-some, itself, Rounds, stop, more}
 use Rattle.star_syntax.specs.Keeps.{keep, arguments_in_order, parameters_in_order, target_of}
-use Rattle.star_syntax.specs.Expressions.{same_sign, same_keyword, snoc, opt, after, sign_, a_test, name, next_primary, list_of_primaries, primaries, targets, for_clause, if_clause, next_clause, further_clauses, all_clauses, parentheses, behind_element, elements, list_display, entry, next_entry, further_entries, behind_entry, entries, dict_display, atom, operand, named, argument, next_argument, list_of_arguments, ordered_arguments, given, default, named_parameter, star, star_star, parameter, next_parameter, list_of_parameters, ordered_parameters, lambda_parameters, lambda, attribute, call, stride, stop_and_stride, behind_start, from_test, in_brackets, subscript, suffix, primary, disjunction, any_test}
+use Rattle.star_syntax.specs.Expressions.{same_sign, same_keyword, snoc, opt, after, sign_, a_test, name, next_primary, list_of_primaries, primaries, targets, for_clause, if_clause, next_clause, further_clauses, all_clauses, parentheses, after_element, elements, list_display, entry, next_entry, further_entries, after_entry, entries, dict_display, atom, operand, named, argument, next_argument, list_of_arguments, ordered_arguments, given, default, named_parameter, star, star_star, parameter, next_parameter, list_of_parameters, ordered_parameters, lambda_parameters, lambda, attribute, call, stride, stop_and_stride, after_start, from_test, in_brackets, subscript, suffix, primary, disjunction, any_test}
 use Rattle.star_syntax.specs.Language.{rule}
 use Rattle.star_syntax.specs.Written.{mark, spelt, called}
 use Rattle.star_syntax.proofs.Quiet.{BeginsNone, test-none}
@@ -80,7 +80,7 @@ empty-dict-of p q us = alt-second (miss refl) (alt-second (act-none (seq-first (
 
 pub dict-of : {ts vs us : List Leaf} {y : Entry} {ys : List Entry} (p q : Position) → Reads rule _ entry ts (Some (y, vs)) → Reads rule _ all_clauses vs None → Listed sorts.entry next_entry [] vs ys (mark q s.RightBrace ∷ us)
     → Reads rule _ operand (mark p s.LeftBrace ∷ ts) (Some (e.Dict (y ∷ ys), us))
-unfolding operand atom parentheses list_display dict_display entries behind_entry further_entries same_sign
+unfolding operand atom parentheses list_display dict_display entries after_entry further_entries same_sign
 dict-of {y = y} {ys = ys} p q d n f = alt-second (miss refl) (alt-second (act-none (seq-first (miss refl))) (alt-second (act-none (seq-first (miss refl))) (act-some {x = (p, Some (y, (None, ys)))} (seq-some (hit refl) (act-some {x = (Some (y, (None, ys)), tt)} (seq-some
     (alt-first (act-some {x = (y, (None, ys))} (seq-some d (alt-second (act-none n) (act-some {x = ys} (act-some {x = (ys, None)} (seq-some (fold-some (act-some {x = tt} free) f) (alt-second (act-none (miss refl)) (act-some {x = tt} free))))))))) (hit refl)))))))
 
@@ -88,13 +88,13 @@ dict-of {y = y} {ys = ys} p q d n f = alt-second (miss refl) (alt-second (act-no
 
 pub list-comprehension-of : {ts vs us : List Leaf} {x : Expression} {c : Clauses} (p q : Position) → Reads rule _ (the (level levels.Test)) ts (Some (x, vs)) → Reads rule _ all_clauses vs (Some (c, mark q s.RightBracket ∷ us))
     → Reads rule _ operand (mark p s.LeftBracket ∷ ts) (Some (e.ListComprehension p x c, us))
-unfolding operand atom parentheses list_display elements behind_element same_sign
+unfolding operand atom parentheses list_display elements after_element same_sign
 list-comprehension-of {x = x} {c = c} p q d f = alt-second (miss refl) (alt-second (act-none (seq-first (miss refl))) (alt-first (act-some {x = (p, Some (x, (Some c, [])))} (seq-some (hit refl) (act-some {x = (Some (x, (Some c, [])), tt)} (seq-some
     (alt-first (act-some {x = (x, (Some c, []))} (seq-some d (alt-first (act-some {x = c} f))))) (hit refl)))))))
 
 pub dict-comprehension-of : {ts vs us : List Leaf} {y : Entry} {c : Clauses} (p q : Position) → Reads rule _ entry ts (Some (y, vs)) → Reads rule _ all_clauses vs (Some (c, mark q s.RightBrace ∷ us))
     → Reads rule _ operand (mark p s.LeftBrace ∷ ts) (Some (e.DictComprehension p y c, us))
-unfolding operand atom parentheses list_display dict_display entries behind_entry same_sign
+unfolding operand atom parentheses list_display dict_display entries after_entry same_sign
 dict-comprehension-of {y = y} {c = c} p q d f = alt-second (miss refl) (alt-second (act-none (seq-first (miss refl))) (alt-second (act-none (seq-first (miss refl))) (act-some {x = (p, Some (y, (Some c, [])))} (seq-some (hit refl) (act-some {x = (Some (y, (Some c, [])), tt)} (seq-some
     (alt-first (act-some {x = (y, (Some c, []))} (seq-some d (alt-first (act-some {x = c} f))))) (hit refl)))))))
 
@@ -187,7 +187,7 @@ unfolding stop_and_stride stride same_sign
 stop-and-stride-of {b = b} {c = c} p q d f = act-some {x = (tt, (b, c))} (seq-some (hit refl) (seq-some d (alt-first (act-some {x = (tt, c)} (seq-some (hit refl) f)))))
 
 pub from-start : {ts us vs : List Leaf} {x : Expression} {b c : Option Expression} → Reads rule _ (the (level levels.Test)) ts (Some (x, vs)) → Reads rule _ stop_and_stride vs (Some ((b, c), us)) → Reads rule _ in_brackets ts (Some (suffixes.Slice (Some x) b c, us))
-unfolding in_brackets from_test behind_start
+unfolding in_brackets from_test after_start
 from-start {x = x} {b = b} {c = c} d f = alt-first (act-some {x = (x, (Some (b, c), []))} (seq-some d (alt-first (act-some {x = (b, c)} f))))
 
 pub from-nothing : {ts us : List Leaf} {b c : Option Expression} → Reads rule _ (the (level levels.Test)) ts None → Reads rule _ stop_and_stride ts (Some ((b, c), us)) → Reads rule _ in_brackets ts (Some (suffixes.Slice None b c, us))

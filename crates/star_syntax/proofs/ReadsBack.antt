@@ -23,7 +23,7 @@ use Rattle.star_syntax.specs.Language.{rule}
 use Rattle.star_syntax.specs.Written.{mark, spelt, right-paren, right-bracket, right-brace, comma, colon, for', before, Written, a-name, an-int, a-text, a-sign, a-denial, a-binary, a-comparison, an-absence, an-and, an-or, a-conditional, an-attribute, an-index, an-empty-tuple, a-tuple, an-empty-list, a-list, an-empty-dict, a-dict, a-list-comprehension, a-dict-comprehension, a-call, a-slice, a-lambda, Enclosed, enclosed, Further, no-further, one-further, Optional, left-out, put, OneEntry, an-entry, FurtherEntries, no-entry, next-entry, OneArgument, positional, by-name, with-star, with-two-stars, FurtherArguments, no-argument, next-argument, Arguments, none-given, some-given, OneParameter, plain, default, starred, bare-star, twice-starred, FurtherParameters, no-parameter, next-parameter, Parameters, none-taken, some-taken, ForPart, for-each, OneClause, each, only-if, FurtherClauses, no-clause, next-clause, AllClauses, clauses-from, ReadsBack}
 use Rattle.star_syntax.proofs.Quiet.{Quiet, quiet, comparator-none, and-none, or-none, test-none}
 use Rattle.star_syntax.proofs.Levels.{Front, front, in_front, primary-of, unary-of, bit-or-of, comparison-of, negation-of, conjunction-of, disjunction-of, test-of, from-disjunction, from-negation, from-comparison, from-bit-or, from-unary, from-primary, from-operand, binary-of}
-use Rattle.star_syntax.proofs.Forms.{after_binary, after_comparator, no_sign_of_comparator, compares, not_in, after_keyword, no_sign, compared-of, and-of, or-of, choice-of, index-of, sign-of, denial-of, attribute-of, enclosed-of, no-test-behind, last-comma, next-test-of, no-clauses, Tests, empty-tuple-of, tuple-of, empty-list-of, list-of, no-bracket}
+use Rattle.star_syntax.proofs.Forms.{after_binary, after_comparator, no_sign_of_comparator, compares, not_in, after_keyword, no_sign, compared-of, and-of, or-of, choice-of, index-of, sign-of, denial-of, attribute-of, enclosed-of, no-test-after, last-comma, next-test-of, no-clauses, Tests, empty-tuple-of, tuple-of, empty-list-of, list-of, no-bracket}
 use Rattle.star_syntax.proofs.Lists.{Listed, last-listed, one-listed, no-colon, entry-of, next-entry-of, no-next-entry, empty-dict-of, dict-of, list-comprehension-of, dict-comprehension-of, for-of, each-of, only-if-of, no-next-clause, clauses-of, Unnamed, unnamed, positional-of, by-name-of, with-star-of, with-two-stars-of, next-argument-of, no-next-argument, none-given-of, given-of, call-of, put-of, left-out-of, stop-and-stride-of, from-start, from-nothing, slice-of, Closed, closed-comma, closed-colon, plain-of, default-of, starred-of, bare-star-of, twice-starred-of, next-parameter-of, no-next-parameter, none-taken-of, taken-of, lambda-of}
 
 before-comma : (p : Position) (ts : List Leaf) → Quiet (mark p s.Comma ∷ ts)
@@ -191,7 +191,7 @@ mutual
   law (an-empty-list {p = p} {q = p'} {us = us}) q = from-operand (front-bracket p (mark p' s.RightBracket ∷ us)) q (empty-list-of p p' us)
   law (a-list {p = p} {q = p'} {ts = ts} {us = us} i js) q =
       let b = before-bracket p' us in
-      from-operand (front-bracket p ts) q (list-of p p' (from-operand (front-of i) (quiet-further js b) (part i)) (no-clauses-further js (no-clauses p' (word.Sign s.RightBracket) us refl)) (parts js [] b (no-test-behind p' (word.Sign s.RightBracket) us refl)))
+      from-operand (front-bracket p ts) q (list-of p p' (from-operand (front-of i) (quiet-further js b) (part i)) (no-clauses-further js (no-clauses p' (word.Sign s.RightBracket) us refl)) (parts js [] b (no-test-after p' (word.Sign s.RightBracket) us refl)))
   law (an-empty-dict {p = p} {q = p'} {us = us}) q = from-operand (front-brace p (mark p' s.RightBrace ∷ us)) q (empty-dict-of p p' us)
   law (a-dict {p = p} {q = p'} {ts = ts} {us = us} y ys) q =
       let b = before-brace p' us in

@@ -361,12 +361,12 @@ unfoldable pub further_tests : G (list sorts.expression)
 further_tests = rep next_test
 
 -- Clauses | {',' Test} [',']
-unfoldable pub behind_element : G (both (maybe sorts.clauses) (list sorts.expression))
-behind_element = alt (act as_clauses all_clauses) (act as_further (before further_tests (opt (sign_ s.Comma))))
+unfoldable pub after_element : G (both (maybe sorts.clauses) (list sorts.expression))
+after_element = alt (act as_clauses all_clauses) (act as_further (before further_tests (opt (sign_ s.Comma))))
 
 -- [Test (Clauses | {',' Test} [','])]
 unfoldable pub elements : G (maybe (both sorts.expression (both (maybe sorts.clauses) (list sorts.expression))))
-elements = opt (seq a_test behind_element)
+elements = opt (seq a_test after_element)
 
 -- '[' [Tests [',']] ']' | '[' Test Clauses ']'
 unfoldable pub list_display : G sorts.expression
@@ -385,12 +385,12 @@ unfoldable pub further_entries : G (list sorts.entry)
 further_entries = rep next_entry
 
 -- Clauses | {',' Entry} [',']
-unfoldable pub behind_entry : G (both (maybe sorts.clauses) (list sorts.entry))
-behind_entry = alt (act as_clauses all_clauses) (act as_further (before further_entries (opt (sign_ s.Comma))))
+unfoldable pub after_entry : G (both (maybe sorts.clauses) (list sorts.entry))
+after_entry = alt (act as_clauses all_clauses) (act as_further (before further_entries (opt (sign_ s.Comma))))
 
 -- [Entry (Clauses | {',' Entry} [','])]
 unfoldable pub entries : G (maybe (both sorts.entry (both (maybe sorts.clauses) (list sorts.entry))))
-entries = opt (seq entry behind_entry)
+entries = opt (seq entry after_entry)
 
 -- '{' [Entry {',' Entry} [',']] '}' | '{' Entry Clauses '}'
 unfoldable pub dict_display : G sorts.expression
@@ -501,13 +501,13 @@ unfoldable pub stop_and_stride : G (both (maybe sorts.expression) (maybe sorts.e
 stop_and_stride = after (sign_ s.Colon) (seq (opt a_test) stride)
 
 -- ':' [Test] [':' [Test]] | {',' Test}
-unfoldable pub behind_start : G (both (maybe (both (maybe sorts.expression) (maybe sorts.expression)))
+unfoldable pub after_start : G (both (maybe (both (maybe sorts.expression) (maybe sorts.expression)))
     (list sorts.expression))
-behind_start = alt (act as_slice stop_and_stride) (act as_index further_tests)
+after_start = alt (act as_slice stop_and_stride) (act as_index further_tests)
 
 -- Test (':' [Test] [':' [Test]] | {',' Test})
 unfoldable pub from_test : G sorts.suffix
-from_test = act subscript_of (seq a_test behind_start)
+from_test = act subscript_of (seq a_test after_start)
 
 -- Tests | [Test] ':' [Test] [':' [Test]]
 unfoldable pub in_brackets : G sorts.suffix

@@ -49,7 +49,7 @@ Gives r (Err e) = Unit {0}
 -- a function that reads expressions to a depth
 pub record Nests (depth : ℕ) (pre : Global → ℕ → Level → Bor (List Leaf) → Type 0)
     (post : Global → ℕ → Level → Bor (List Leaf) → Result (Option (Expression × Bor (List Leaf))) AllocError
-        → Type 0) : Type 0 where
+    → Type 0) : Type 0 where
   pub callable : (alloc : Global) (l : Level) (ts : Bor (List Leaf)) → pre alloc depth l ts
   pub reads : (alloc : Global) (l : Level) (ts : Bor (List Leaf))
       (r : Result (Option (Expression × Bor (List Leaf))) AllocError) → post alloc depth l ts r
@@ -58,7 +58,7 @@ pub record Nests (depth : ℕ) (pre : Global → ℕ → Level → Bor (List Lea
 -- a function that reads statements to a depth
 pub record Blocks (depth : ℕ) (pre : Global → ℕ → Bor (List Leaf) → Type 0)
     (post : Global → ℕ → Bor (List Leaf) → Result (Option (List Statement × Bor (List Leaf))) AllocError
-        → Type 0) : Type 0 where
+    → Type 0) : Type 0 where
   pub callable : (alloc : Global) (ts : Bor (List Leaf)) → pre alloc depth ts
   pub reads : (alloc : Global) (ts : Bor (List Leaf))
       (r : Result (Option (List Statement × Bor (List Leaf))) AllocError) → post alloc depth ts r

@@ -121,7 +121,7 @@ mutual
     a-comparison : {p : Position} {w : Word} {comparator : Comparator} {x y : Expression} {ts vs us : List Leaf}
         → IsComparator w comparator
         → Enclosed x ts (record { word = w; position = p } ∷ vs) → Enclosed y vs us
-            → Written (e.Compare comparator x y) ts us
+        → Written (e.Compare comparator x y) ts us
     -- (x) not in (y)
     an-absence : {p q : Position} {x y : Expression} {ts vs us : List Leaf}
         → Enclosed x ts (spelt p k.Not ∷ spelt q k.In ∷ vs) → Enclosed y vs us
@@ -135,7 +135,7 @@ mutual
     -- (x) if (y) else (z)
     a-conditional : {p q : Position} {x y z : Expression} {ts vs ws us : List Leaf}
         → Enclosed x ts (spelt p k.If ∷ vs) → Enclosed y vs (spelt q k.Else ∷ ws) → Enclosed z ws us
-            → Written (e.Conditional y x z) ts us
+        → Written (e.Conditional y x z) ts us
     -- (x).name
     an-attribute : {p : Position} {name : Name} {x : Expression} {ts us : List Leaf}
         → Enclosed x ts (mark p s.Dot ∷ called name ∷ us) → Written (e.Attribute x name) ts us
@@ -179,7 +179,7 @@ mutual
     a-slice : {p q r t : Position} {x : Expression} {a b c : Option Expression} {ts vs ws zs us : List Leaf}
         → Enclosed x ts (mark p s.LeftBracket ∷ vs)
         → Optional a vs (mark q s.Colon ∷ ws) → Optional b ws (mark r s.Colon ∷ zs)
-            → Optional c zs (mark t s.RightBracket ∷ us) → Written (e.Slice x a b c) ts us
+        → Optional c zs (mark t s.RightBracket ∷ us) → Written (e.Slice x a b c) ts us
     -- lambda ..: (x), where the parameters stand in order
     a-lambda : {p q : Position} {taken : List Parameter} {x : Expression} {ts vs us : List Leaf}
         → Parameters taken ts (mark q s.Colon ∷ vs) → parameters_in_order taken ≡ true → Enclosed x vs us

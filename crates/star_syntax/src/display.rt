@@ -14,7 +14,7 @@ use star_tree::tree::{Clause, Clauses, Entry, Expression, Position, Target};
 use std::alloc::{AllocError, Global};
 
 /// What stands after the first element or entry of a display: clauses, or further ones.
-type Behind<T> = (Option<Boxed<Clauses>>, Items<T>);
+type After<T> = (Option<Boxed<Clauses>>, Items<T>);
 
 /// What stands between parentheses, and whether a comma ends it.
 type Inside = Option<(Items<Expression>, Option<()>)>;
@@ -34,14 +34,14 @@ fn parentheses_of(alloc: Global, found: Inside) -> Expression
 fn list_of(
     alloc: Global,
     position: Position,
-    found: Option<(Boxed<Expression>, Behind<Expression>)>,
+    found: Option<(Boxed<Expression>, After<Expression>)>,
 ) -> Result<Boxed<Expression>, AllocError>
     ensures { IfOk result (λ made. made ≡ spec.list_of (position, found)) }
 {
     match found {
         None => Boxed::new(alloc, Expression::List(Items::new(alloc))),
-        Some((first, behind)) => {
-            let (clauses, more) = behind;
+        Some((first, after)) => {
+            let (clauses, more) = after;
             match clauses {
                 None => Boxed::new(
                     alloc,
@@ -65,14 +65,14 @@ fn list_of(
 fn dict_of(
     alloc: Global,
     position: Position,
-    found: Option<(Entry, Behind<Entry>)>,
+    found: Option<(Entry, After<Entry>)>,
 ) -> Result<Boxed<Expression>, AllocError>
     ensures { IfOk result (λ made. made ≡ spec.dict_of (position, found)) }
 {
     match found {
         None => Boxed::new(alloc, Expression::Dict(Items::new(alloc))),
-        Some((first, behind)) => {
-            let (clauses, more) = behind;
+        Some((first, after)) => {
+            let (clauses, more) = after;
             match clauses {
                 None => Boxed::new(alloc, Expression::Dict(onto(alloc, first, more)?)),
                 Some(clauses) => {
@@ -278,10 +278,10 @@ impl<F: Fn(Global, u128, Level, &[Leaf]) -> Read<'_, Boxed<Expression>>> Grammar
         )))
     }
 
-    #[tactic(auto, unfolding(crate::specs::Expressions::behind_element))]
-    fn behind_element<'a>(&self, leaves: &'a [Leaf]) -> Read<'a, Behind<Expression>>
+    #[tactic(auto, unfolding(crate::specs::Expressions::after_element))]
+    fn after_element<'a>(&self, leaves: &'a [Leaf]) -> Read<'a, After<Expression>>
         requires { Nests self.now.depth (F.pre self.now.expression) (F.post self.now.expression) }
-        ensures { Gives (reads self.now.depth spec.behind_element leaves.now) result }
+        ensures { Gives (reads self.now.depth spec.after_element leaves.now) result }
     {
         if let Some((clauses, rest)) = self.all_clauses(leaves)? {
             return Ok(Some(((Some(clauses), Items::new(self.alloc)), rest)));
@@ -299,15 +299,15 @@ impl<F: Fn(Global, u128, Level, &[Leaf]) -> Read<'_, Boxed<Expression>>> Grammar
     fn elements<'a>(
         &self,
         leaves: &'a [Leaf],
-    ) -> Read<'a, Option<(Boxed<Expression>, Behind<Expression>)>>
+    ) -> Read<'a, Option<(Boxed<Expression>, After<Expression>)>>
         requires { Nests self.now.depth (F.pre self.now.expression) (F.post self.now.expression) }
         ensures { Gives (reads self.now.depth spec.elements leaves.now) result }
     {
         let Some((first, rest)) = self.nested(Level::Test, leaves)? else {
             return Ok(Some((None, leaves)));
         };
-        match self.behind_element(rest)? {
-            Some((behind, rest)) => Ok(Some((Some((first, behind)), rest))),
+        match self.after_element(rest)? {
+            Some((after, rest)) => Ok(Some((Some((first, after)), rest))),
             None => Ok(Some((None, leaves))),
         }
     }
@@ -375,10 +375,10 @@ impl<F: Fn(Global, u128, Level, &[Leaf]) -> Read<'_, Boxed<Expression>>> Grammar
         Ok(Some((found, rest)))
     }
 
-    #[tactic(auto, unfolding(crate::specs::Expressions::behind_entry))]
-    fn behind_entry<'a>(&self, leaves: &'a [Leaf]) -> Read<'a, Behind<Entry>>
+    #[tactic(auto, unfolding(crate::specs::Expressions::after_entry))]
+    fn after_entry<'a>(&self, leaves: &'a [Leaf]) -> Read<'a, After<Entry>>
         requires { Nests self.now.depth (F.pre self.now.expression) (F.post self.now.expression) }
-        ensures { Gives (reads self.now.depth spec.behind_entry leaves.now) result }
+        ensures { Gives (reads self.now.depth spec.after_entry leaves.now) result }
     {
         if let Some((clauses, rest)) = self.all_clauses(leaves)? {
             return Ok(Some(((Some(clauses), Items::new(self.alloc)), rest)));
@@ -393,15 +393,15 @@ impl<F: Fn(Global, u128, Level, &[Leaf]) -> Read<'_, Boxed<Expression>>> Grammar
     }
 
     #[tactic(auto, unfolding(crate::specs::Expressions::entries))]
-    fn entries<'a>(&self, leaves: &'a [Leaf]) -> Read<'a, Option<(Entry, Behind<Entry>)>>
+    fn entries<'a>(&self, leaves: &'a [Leaf]) -> Read<'a, Option<(Entry, After<Entry>)>>
         requires { Nests self.now.depth (F.pre self.now.expression) (F.post self.now.expression) }
         ensures { Gives (reads self.now.depth spec.entries leaves.now) result }
     {
         let Some((first, rest)) = self.entry(leaves)? else {
             return Ok(Some((None, leaves)));
         };
-        match self.behind_entry(rest)? {
-            Some((behind, rest)) => Ok(Some((Some((first, behind)), rest))),
+        match self.after_entry(rest)? {
+            Some((after, rest)) => Ok(Some((Some((first, after)), rest))),
             None => Ok(Some((None, leaves))),
         }
     }

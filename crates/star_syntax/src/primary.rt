@@ -115,16 +115,16 @@ impl<F: Fn(Global, u128, Level, &[Leaf]) -> Read<'_, Boxed<Expression>>> Grammar
         Ok(Some(((stop, stride), rest)))
     }
 
-    #[tactic(auto, unfolding(crate::specs::Expressions::behind_start))]
-    fn behind_start<'a>(
+    #[tactic(auto, unfolding(crate::specs::Expressions::after_start))]
+    fn after_start<'a>(
         &self,
         leaves: &'a [Leaf],
     ) -> Read<'a, (Option<StopAndStride>, Items<Expression>)>
         requires { Nests self.now.depth (F.pre self.now.expression) (F.post self.now.expression) }
-        ensures { Gives (reads self.now.depth spec.behind_start leaves.now) result }
+        ensures { Gives (reads self.now.depth spec.after_start leaves.now) result }
     {
-        if let Some((behind, rest)) = self.stop_and_stride(leaves)? {
-            return Ok(Some(((Some(behind), Items::new(self.alloc)), rest)));
+        if let Some((after, rest)) = self.stop_and_stride(leaves)? {
+            return Ok(Some(((Some(after), Items::new(self.alloc)), rest)));
         }
         let Some((more, rest)) = self.further_tests(leaves)? else {
             return Ok(None);
@@ -141,10 +141,10 @@ impl<F: Fn(Global, u128, Level, &[Leaf]) -> Read<'_, Boxed<Expression>>> Grammar
         let Some((first, rest)) = self.nested(Level::Test, leaves)? else {
             return Ok(None);
         };
-        let Some((behind, rest)) = self.behind_start(rest)? else {
+        let Some((after, rest)) = self.after_start(rest)? else {
             return Ok(None);
         };
-        let (slice, more) = behind;
+        let (slice, more) = after;
         match slice {
             None => {
                 let found = tuple_unless_one(onto(self.alloc, first.into_inner(), more)?);

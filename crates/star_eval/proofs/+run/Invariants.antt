@@ -12,7 +12,7 @@ use Rattle.star_meaning.specs.Statements.{arms, loop_turn}
 use Rattle.star_meaning.specs.Targets.{to_each}
 use Rattle.star_world.specs.World.{meant, variables}
 use Rattle.star_enter.specs.ByPlace.{expression_of}
-use Rattle.star_eval.specs.Steps.{all_left, behind, turns_left}
+use Rattle.star_eval.specs.Steps.{all_left, after, turns_left}
 use Rattle.star_call.specs.Passed.{all_shown}
 use Rattle.star_eval.proofs.+run.Given as goal
 
@@ -263,7 +263,7 @@ decreases-comprehensions::run_turns-turns l = 2 * l.machine.steps + vec_len l.ou
 
 abbrev pub invariant-comprehensions::run_clauses-loop-rest : goal.invariant-comprehensions::run_clauses-loop-rest
 invariant-comprehensions::run_clauses-loop-rest l =
-    let f : List Clause → Action (Unit {0}) = λ cs. behind l.world l.levels l.place cs l.output in
+    let f : List Clause → Action (Unit {0}) = λ cs. after l.world l.levels l.place cs l.output in
     record { same : f l.rest l.machine ≡ f l.clauses l.fn.machine; spent : l.machine.steps ≤ l.fn.machine.steps }
 
 abbrev pub decreases-comprehensions::run_clauses-loop-rest : goal.decreases-comprehensions::run_clauses-loop-rest
