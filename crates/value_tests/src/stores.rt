@@ -1,6 +1,7 @@
 // What the calls of this crate answer, on examples.
 
 use sqlite_items::Boxed;
+use star_machine::gathered::Gathered;
 use star_store::arena::write::Change;
 use star_store::arena::{Arena, Homes, freeze};
 use star_store::budget::Budget;
@@ -631,6 +632,18 @@ fn a_key_has_its_content(
     Ok(())
 }
 
+fn rows_with_room(rt: &impl Abort, alloc: Global) -> Result<(), Fail> {
+    let mut entries = Entries::with_capacity(alloc, 1)?;
+    assert_eq!(rt; entries.len(), 0);
+    entries.push(Value::Int(1), Value::NoneValue)?;
+    entries.push(Value::Int(2), Value::Bool(true))?;
+    assert_eq!(rt; entries.get(0), Some((Value::Int(1), Value::NoneValue)));
+    assert_eq!(rt; entries.get(1), Some((Value::Int(2), Value::Bool(true))));
+    let gathered = Gathered::with_capacity(alloc, 1)?;
+    assert_eq!(rt; gathered.into_entries().len(), 0);
+    Ok(())
+}
+
 fn stores_in(rt: &impl Abort, alloc: Global, arena: &mut Arena, homes: &Homes) -> Result<(), Fail> {
     a_list_in_its_life(rt, alloc, arena, homes)?;
     changes_of_a_list(rt, alloc, arena, homes)?;
@@ -641,7 +654,8 @@ fn stores_in(rt: &impl Abort, alloc: Global, arena: &mut Arena, homes: &Homes) -
     orders(rt, alloc, arena, homes)?;
     texts_of_what_holds_itself(rt, alloc, arena, homes)?;
     frames_and_functions(rt, alloc, arena, homes)?;
-    a_key_has_its_content(rt, alloc, arena, homes)
+    a_key_has_its_content(rt, alloc, arena, homes)?;
+    rows_with_room(rt, alloc)
 }
 
 #[test]
