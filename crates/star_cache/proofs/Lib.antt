@@ -11,5 +11,6 @@ pub mod Ask
 pub mod Settle
 pub mod Abandon
 pub mod New
+pub mod Headlines
 mod Counts
 mod SeatRows

@@ -5,3 +5,4 @@ pub mod Step
 pub mod Tells
 pub mod Ring
 pub mod Seats
+pub mod Headline

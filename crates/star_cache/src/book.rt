@@ -49,6 +49,7 @@ impl<P: Product> Model for Book<P> {
 
 impl<P: Product> Book<P> {
     ghost use Rattle.star_cache.specs.State.{BookState, HasEnded, Loads, top_of, stack_of, entry_at, awaited_by, loader_at, begun_count};
+    ghost use Rattle.star_cache.specs.Headline.{Headline};
     ghost use Rattle.star_cache.specs.Step.{IsBook, MayAsk, IsTurnRefused, IsStanding, MeetsSeat, IsAsked, IsAskRefused, IsWoken, IsWakeRefused, after_begin, after_wait, after_wake, after_end, after_abandon, fresh_book};
 
     /// The book of so many files, none of which has been asked for, and of 1 to 64 loaders that have done nothing.
@@ -86,6 +87,7 @@ impl<P: Product> Book<P> {
     /// How many loaders there are. Their seats have the numbers below it.
     pub fn loaders(&self) -> usize
         ensures count { result ≡ length self.now.loaders }
+        ensures headline { Headline P.IsReached P.IsRight self.now }
         ensures book { IsBook P.loads P.IsReached P.IsRight P.files self.now }
     {
         self.loaders.len()
@@ -332,7 +334,8 @@ impl<P: Product> Book<P> {
 
     /// How many entries have been begun.
     pub fn begun(&self) -> u32
-        ensures { result ≡ begun_count self.now }
+        ensures count { result ≡ begun_count self.now }
+        ensures headline { Headline P.IsReached P.IsRight self.now }
     {
         self.begun
     }

@@ -5,6 +5,7 @@ ghost use Rattle.star_cache.specs.State.{HasEnded, LoaderState, Loads, awaited_b
 ghost use Rattle.star_cache.specs.Step.{MayAsk, IsAsked, IsAskRefused, IsTurnRefused, IsWoken, after_end, after_abandon};
 ghost use Rattle.star_cache.specs.Tells.{Tells, IsCyclic, begins};
 ghost use Rattle.star_cache.specs.Seats.{AreAll, AreNew, IsClosing, counts_of};
+ghost use Rattle.star_cache.specs.Headline.{Headline};
 
 use crate::book::Book;
 use crate::product::Product;
@@ -121,6 +122,7 @@ impl<P: Product> State<P> {
         requires { vec_len seats ≡ P.seats }
         ensures book { result.0 ≡ self }
         ensures closing { IsClosing seats.items result.0 result.1 }
+        ensures headline { Headline P.IsReached P.IsRight result.0 }
     {
         let State {
             book,
@@ -172,7 +174,8 @@ fn merged<P: Product>(mut all: Share<P::Name>, seats: Vec<Seat<P>>) -> Share<P::
 
 // The loaders' counts in the order of their seats, and 0 after the last.
 fn counts<P: Product>(book: &Book<P>) -> [u32; 64]
-    ensures { result ≡ counts_of book.now }
+    ensures counts { result ≡ counts_of book.now }
+    ensures headline { Headline P.IsReached P.IsRight book.now }
 {
     let mut counts = [0; 64];
     for seat in 0..book.loaders() {
@@ -291,9 +294,10 @@ impl<P: Product> LoadCache<P> {
         mut self,
         seats: Vec<Seat<P>>,
     ) -> Result<(Book<P>, [u32; 64]), (LoadCache<P>, Vec<Seat<P>>)>
-        ensures { MatchResult result
+        ensures closing { MatchResult result
             (λ closed. AreAll P.seats seats.items × IsClosing seats.items closed.0 closed.1)
             (λ back. (AreAll P.seats seats.items → ⊥) × (back.1 ≡ seats)) }
+        ensures headline { IfOk result (λ closed. Headline P.IsReached P.IsRight closed.0) }
     {
         let loaders = self.state.get_mut().loaders();
         if !are_all(&seats, loaders) {
@@ -313,6 +317,7 @@ impl<P: Product> LoadCache<P> {
     ) -> Result<(Book<P>, [u32; 64]), (LoadCache<P>, Vec<Seat<P>>)>
         requires all { AreAll P.seats seats.items }
         ensures closing { IfOk result (λ closed. IsClosing seats.items closed.0 closed.1) }
+        ensures headline { IfOk result (λ closed. Headline P.IsReached P.IsRight closed.0) }
         ensures ended { IfOk result (λ closed. All (HasEnded closed.0) files.now) }
         ensures back { IfErr result (λ back. back.1 ≡ seats) }
     {

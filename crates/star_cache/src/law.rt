@@ -1,7 +1,9 @@
 ghost use Rattle.std.specs.Prelude.{ℕ, suc, List};
-ghost use Rattle.star_cache.specs.State.{Loads};
+ghost use Rattle.star_cache.specs.State.{BookState, IsLawful, Loads};
+ghost use Rattle.star_cache.specs.Headline.{Headline};
 ghost use Rattle.star_cache.specs.Walk.{IsOnCycle};
 
+use crate::product::Product;
 use std::marker::PhantomData;
 
 /// What is meant by a good file, counted by depth. Only contracts see it.
@@ -24,4 +26,9 @@ pub trait ByDepth {
 /// So a load that is refused as a cycle is refused only where neither the file that loads nor its target could be good.
 pub fn no_cycle_is_good<D: ByDepth>(_depths: PhantomData<D>)
     ensures { (d n m : ℕ) → IsOnCycle (Loads D.loads) n m → (D.GoodAt d n → ⊥) × (D.GoodAt d m → ⊥) }
+{}
+
+/// A lawful book has the headline.
+pub fn lawful_books_have_the_headline<P: Product>(_products: PhantomData<P>)
+    ensures { (b : BookState P) → IsLawful P.loads P.IsReached P.IsRight b → Headline P.IsReached P.IsRight b }
 {}

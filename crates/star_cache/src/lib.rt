@@ -13,7 +13,7 @@ mod seat;
 pub use book::Book;
 pub use cache::LoadCache;
 pub use entry::Entry;
-pub use law::{ByDepth, no_cycle_is_good};
+pub use law::{ByDepth, lawful_books_have_the_headline, no_cycle_is_good};
 pub use product::Product;
 pub use reply::{BookError, Reply};
 pub use seat::Seat;

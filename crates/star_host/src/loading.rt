@@ -180,7 +180,7 @@ fn take_turn<'s, 'r, 'p, 't, J: Naming, R: Wait, G: Gate>(
     match cache.ask(rt, seat, Some(file), load.file) {
         Ok(Reply::Begun) => return Ok(Turn::Enter(load.file)),
         Ok(Reply::Ready(told)) => top.tell(told_module(common, load.file, told))?,
-        Ok(Reply::Failed(told)) => top.tell(told_module(common, load.file, told))?,
+        Ok(Reply::Failed(_told)) => top.refuse(),
         Ok(Reply::Cycle) => {
             // A line of the trace that gets no memory is left out.
             let _ = trace.push(rt, Refused { file, index });

@@ -5,3 +5,4 @@ pub mod Gathered
 pub mod Refusals
 pub mod Frames
 pub mod Kept
+pub mod Goods

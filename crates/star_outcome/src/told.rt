@@ -1,6 +1,8 @@
 //! What a loader is told of a file that has ended.
 
 ghost use Rattle.std.specs.Prelude.{◌≡◌, length, slice_index};
+ghost use Rattle.star_cache.specs.Headline.{Headline};
+ghost use Rattle.star_outcome.specs.Fits.{IsAsked};
 ghost use Rattle.star_outcome.specs.Kept.{IsKept};
 ghost use Rattle.star_outcome.specs.Views.{IsTold};
 
@@ -8,7 +10,7 @@ use crate::module::Module;
 use crate::naming::Naming;
 use crate::outcome::Kept;
 use once_cell::race::Note;
-use star_cache::Product;
+use star_cache::{Book, Product};
 use std::alloc::AllocError;
 use std::marker::{Model, PhantomData};
 
@@ -71,17 +73,12 @@ impl<J: Naming> Told<J> {
             note: self.note.again(),
         }
     }
-
-    /// Whether the file may be used by those that load it.
-    pub fn went_well(&self) -> bool
-        ensures { result ≡ self.now.good }
-    {
-        self.good
-    }
 }
 
 impl<J: Naming> Product for Told<J> {
     ghost use Rattle.std.specs.Prelude.{◌≡◌, length, true};
+    ghost use Rattle.star_plan.specs.Results as results;
+    ghost use Rattle.star_outcome.specs.Goods.{told_good};
     ghost use Rattle.std.proofs.Common.{refl};
     ghost use Rattle.star_plan.specs.Plan.{loaded};
     ghost use Rattle.star_outcome.specs.Views.{IsTold};
@@ -95,8 +92,7 @@ impl<J: Naming> Product for Told<J> {
 
     ghost loads = { loaded J.plan };
 
-    // a file that has ended is told to each that asks, good or not
-    ghost IsGood = { λ n. Unit {0} };
+    ghost IsGood = { results.IsGood J.plan };
 
     ghost IsReached = { IsAsked J.files J.plan };
 
@@ -104,7 +100,7 @@ impl<J: Naming> Product for Told<J> {
 
     ghost number_of = { λ t. t.number };
 
-    ghost is_good = { λ t. true };
+    ghost is_good = { λ t. t.good };
 
     ghost always_shares = { true };
 
@@ -112,7 +108,7 @@ impl<J: Naming> Product for Told<J> {
 
     ghost right_number = { λ n t r. r.number };
 
-    ghost right_good = { λ n t r. ((λ e. tt), (λ g. refl)) };
+    ghost right_good = { told_good J.files J.plan };
 
     ghost next_reached = { asked_next J.files J.plan };
 
@@ -123,7 +119,7 @@ impl<J: Naming> Product for Told<J> {
     }
 
     fn good(&self) -> bool {
-        true
+        self.good
     }
 
     fn share(&mut self) -> Result<Told<J>, AllocError> {
@@ -134,4 +130,12 @@ impl<J: Naming> Product for Told<J> {
             of: PhantomData,
         })
     }
+}
+
+/// The headline at the host's product: what holds of the book of a run's files whenever the lock of its cache is free.
+/// The loads, the reached files and the outcomes are those of the plan.
+pub fn headline<J: Naming>(book: &Book<Told<J>>)
+    ensures { Headline (IsAsked J.files J.plan) (IsTold J.files J.plan) book.now }
+{
+    let _begun = book.begun();
 }

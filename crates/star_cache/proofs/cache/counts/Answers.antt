@@ -9,5 +9,5 @@ loop-seat-preserved g c =
     ap (λ v. set c.loop-seat.counts c.loop-seat.seat v) c.count.ensures
     ∙ counts-next c.loop-seat.seat c.args.book.now.loaders idle c.loop-seat.counts (omega arith) few c.loop-seat.invariant
 
-pub returns : goal.returns
-returns g c = counts-done c.loop-seat.seat c.args.book.now.loaders c.loop-seat.counts (omega arith) c.loop-seat.invariant
+pub returns-clause-counts : goal.returns-clause-counts
+returns-clause-counts g c = counts-done c.loop-seat.seat c.args.book.now.loaders c.loop-seat.counts (omega arith) c.loop-seat.invariant
