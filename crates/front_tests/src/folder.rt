@@ -3,13 +3,14 @@
 ghost use Rattle.star_folder.specs.Folder.{unsaid};
 
 use star_bundle::error::ServeError;
-use star_folder::disk::DiskFolder;
+use star_folder::disk::{DiskFolder, front_at, path_of};
 use star_folder::folder::{Folder, FolderError, Kind};
 use star_folder::memory::{MemoryFolder, Row};
 use star_folder::walk::files_in;
 use star_label::label::Label;
 use std::alloc::Global;
 use std::collections::BTreeMap;
+use std::fs;
 use std::process::Abort;
 use std::test::Fail;
 
@@ -142,5 +143,26 @@ fn folders_of_the_disk(rt: HostRuntime) -> Result<(), Fail> {
         let refused = files_in(alloc, &mut DiskFolder::new(&rt, none)).err();
         assert_eq!(rt; refused, Some(ServeError::BadDir));
     }
+    Ok(())
+}
+
+#[test]
+fn files_of_the_disk(rt: HostRuntime) -> Result<(), Fail> {
+    let alloc = rt.alloc();
+    let label = Label::read(alloc, "//a/b:c.star", "")?;
+    for (top, want) in [
+        ("top", "top/a/b/c.star"),
+        ("/", "//a/b/c.star"),
+        ("", "a/b/c.star"),
+    ] {
+        assert_eq!(rt; path_of(alloc, top, &label)?.as_str(), want);
+    }
+    let label = Label::read(alloc, "//:BUILD", "")?;
+    assert_eq!(rt; path_of(alloc, ".", &label)?.as_str(), ".//BUILD");
+    fs::write(&rt, "front-of-a-file", "x = 1")?;
+    let front = front_at(&rt, String::from_str(alloc, "front-of-a-file")?, 3)?;
+    fs::remove_file(&rt, "front-of-a-file")?;
+    assert_eq!(rt; front.bytes.as_slice(), b"x =".as_slice());
+    assert_eq!(rt; front.path.as_str(), "front-of-a-file");
     Ok(())
 }

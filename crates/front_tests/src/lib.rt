@@ -12,6 +12,8 @@ mod names;
 #[cfg(test)]
 mod programs;
 #[cfg(test)]
+mod repo;
+#[cfg(test)]
 mod rows;
 #[cfg(test)]
 mod static_faults;

@@ -4,3 +4,4 @@ pub mod Refusal
 pub mod Views
 pub mod Memory
 pub mod Laws
+pub mod Disk

@@ -1,13 +1,17 @@
 //! A folder on the disk.
 
-ghost use Rattle.std.specs.Prelude.{◌≡◌, ◌≤◌, IfOk, vec_len};
+ghost use Rattle.std.specs.Prelude.{◌≡◌, ◌≤◌, IfOk, string_bytes, vec_len};
+ghost use Rattle.std.specs.Fs.{dir_entry_name};
+ghost use Rattle.star_label.specs.Label.{name_of};
+ghost use Rattle.star_label.specs.View.{text_of};
+ghost use Rattle.star_folder.specs.Disk.{file_at, folder_at, kind_of};
 ghost use Rattle.star_folder.specs.Folder.{unsaid};
 
 use crate::folder::{FRONT, Folder, FolderError, Kind};
 use star_label::label::Label;
 use std::alloc::{AllocError, Global};
 use std::collections::BTreeMap;
-use std::fs::{self, File, FileType};
+use std::fs::{self, DirEntry, File, FileType};
 use std::io::{self, ErrorKind, Read};
 use std::rt::Files;
 
@@ -50,7 +54,7 @@ impl<'a, R: Files + AllocGlobal + Clone + Drop> Folder for DiskFolder<'a, R> {
             return Ok(BTreeMap::new(alloc));
         }
         match entries_of(self.rt, self.top, path) {
-            Ok(entries) => Ok(entries),
+            Ok(listing) => Ok(listing.entries),
             Err(error) => {
                 if error.kind() == ErrorKind::OutOfMemory {
                     return Err(FolderError::Memory);
@@ -66,7 +70,7 @@ impl<'a, R: Files + AllocGlobal + Clone + Drop> Folder for DiskFolder<'a, R> {
             return Ok(Vec::new(alloc));
         }
         match front_of(self.rt, self.top, label) {
-            Ok(bytes) => Ok(bytes),
+            Ok(front) => Ok(front.bytes),
             Err(error) => {
                 if error.kind() == ErrorKind::OutOfMemory {
                     return Err(FolderError::Memory);
@@ -78,18 +82,23 @@ impl<'a, R: Files + AllocGlobal + Clone + Drop> Folder for DiskFolder<'a, R> {
     }
 }
 
-/// A path in the folder at `top`. No folder has the empty path.
-fn below(alloc: Global, top: &str, path: &str) -> Result<String, AllocError> {
-    let mut text = String::from_str(alloc, top)?;
-    if !top.is_empty() {
-        text.push('/')?;
+/// The path of a folder in the folder at `top`. No folder has the empty path.
+fn below(alloc: Global, top: &str, path: &str) -> Result<String, AllocError>
+    ensures { IfOk result (λ text. string_bytes text ≡ folder_at top.now path.now) }
+{
+    if top == "" {
+        return String::from_str(alloc, path);
     }
+    let mut text = String::from_str(alloc, top)?;
+    text.push('/')?;
     text.push_str(path)?;
     Ok(text)
 }
 
 /// What an entry is, by its type.
-fn kind_of(found: FileType) -> Kind {
+fn kind_of(found: FileType) -> Kind
+    ensures { result ≡ kind_of found }
+{
     if found.is_file() {
         Kind::File
     } else if found.is_dir() {
@@ -99,42 +108,93 @@ fn kind_of(found: FileType) -> Kind {
     }
 }
 
-/// The entries of the folder at a path, by their names.
+/// The name of an entry, and what it is.
+fn entry_of<R: Files + AllocGlobal + Clone + Drop>(
+    alloc: Global,
+    entry: &DirEntry<R>,
+) -> io::Result<(String, Kind)>
+    ensures { IfOk result (λ e. string_bytes e.0 ≡ dir_entry_name entry.now) }
+{
+    let kind = kind_of(entry.file_type()?);
+    Ok((String::from_str(alloc, entry.file_name())?, kind))
+}
+
+/// The entries of a folder by their names, and the path at which it was listed.
+#[derive(Drop)]
+struct Listing {
+    path: String,
+    entries: BTreeMap<String, Kind>,
+}
+
+/// Lists the folder at a path.
+fn listed_at<R: Files + AllocGlobal + Clone + Drop>(rt: &R, path: String) -> io::Result<Listing>
+    ensures { IfOk result (λ listing. string_bytes listing.path ≡ string_bytes path) }
+{
+    let alloc = rt.alloc();
+    let mut entries = BTreeMap::new(alloc);
+    for entry in fs::read_dir(rt, path.as_str())? {
+        let (name, kind) = entry_of(alloc, &entry?)?;
+        entries.insert(name, kind)?;
+    }
+    Ok(Listing { path, entries })
+}
+
+/// Lists a folder of the folder at `top`.
 fn entries_of<R: Files + AllocGlobal + Clone + Drop>(
     rt: &R,
     top: &str,
     path: &str,
-) -> io::Result<BTreeMap<String, Kind>> {
-    let alloc = rt.alloc();
-    let mut entries = BTreeMap::new(alloc);
-    let path = below(alloc, top, path)?;
-    for entry in fs::read_dir(rt, path.as_str())? {
-        let entry = entry?;
-        let kind = kind_of(entry.file_type()?);
-        entries.insert(String::from_str(alloc, entry.file_name())?, kind)?;
-    }
-    Ok(entries)
+) -> io::Result<Listing>
+    ensures { IfOk result (λ listing. string_bytes listing.path ≡ folder_at top.now path.now) }
+{
+    let path = below(rt.alloc(), top, path)?;
+    listed_at(rt, path)
 }
 
-/// Where the file of a label lies.
-fn path_of(alloc: Global, top: &str, label: &Label) -> Result<String, AllocError> {
+/// Where the file of a label lies in the folder at `top`.
+pub fn path_of(alloc: Global, top: &str, label: &Label) -> Result<String, AllocError>
+    ensures { IfOk result (λ path. string_bytes path ≡ file_at top.now (text_of label.now)) }
+{
     let mut path = below(alloc, top, label.package())?;
     path.push('/')?;
-    if let Some((_, name)) = label.text().split_once(':') {
-        path.push_str(name)?;
-    }
+    path.push_str(name_of(label))?;
     Ok(path)
 }
 
-/// The first bytes of the file of a label.
-fn front_of<R: Files + AllocGlobal>(rt: &R, top: &str, label: &Label) -> io::Result<Vec<u8>>
-    ensures { IfOk result (λ bytes. vec_len bytes ≤ 1048577) }
+/// The name of a label: what stands after its colon.
+fn name_of(label: &Label) -> &str
+    ensures { result.now ≡ name_of (text_of label.now) }
 {
-    let alloc = rt.alloc();
-    let path = path_of(alloc, top, label)?;
+    match label.text().split_once(':') {
+        Some((_, name)) => name,
+        None => "",
+    }
+}
+
+/// The first bytes of a file, and the path at which it was opened.
+#[derive(Drop)]
+pub struct Front {
+    pub path: String,
+    pub bytes: Vec<u8>,
+}
+
+/// Reads at most so many of the first bytes of the file at a path.
+pub fn front_at<R: Files + AllocGlobal>(rt: &R, path: String, most: usize) -> io::Result<Front>
+    ensures path { IfOk result (λ front. string_bytes front.path ≡ string_bytes path) }
+    ensures few { IfOk result (λ front. vec_len front.bytes ≤ most) }
+{
     let file = File::open(rt, path.as_str())?;
-    let mut bytes = Vec::new(alloc);
-    file.take(FRONT as u64).read_to_end(&mut bytes)?;
-    bytes.truncate(FRONT);
-    Ok(bytes)
+    let mut bytes = Vec::new(rt.alloc());
+    file.take(most as u64).read_to_end(&mut bytes)?;
+    bytes.truncate(most);
+    Ok(Front { path, bytes })
+}
+
+/// The first 1,048,577 bytes of the file of a label in the folder at `top`.
+fn front_of<R: Files + AllocGlobal>(rt: &R, top: &str, label: &Label) -> io::Result<Front>
+    ensures path { IfOk result (λ front. string_bytes front.path ≡ file_at top.now (text_of label.now)) }
+    ensures few { IfOk result (λ front. vec_len front.bytes ≤ 1048577) }
+{
+    let path = path_of(rt.alloc(), top, label)?;
+    front_at(rt, path, FRONT)
 }

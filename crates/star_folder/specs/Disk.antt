@@ -1,0 +1,19 @@
+-- Where the disk has what a folder holds.
+use Rattle.std.specs.Prelude.{ℕ, List, [], ◌∷◌, ◌++◌, if◌then◌else◌, ◌==◌}
+use Rattle.std.specs.Str.{bytes_eq}
+use Rattle.std.specs.declared.fs.attrs.FileType.{FileType}
+use Rattle.star_label.specs.Label.{name_of, package_of}
+use Rattle.star_folder.specs.declared.folder.Kind.{Kind}
+use Rattle.star_folder.specs.declared.folder.Kind.TheVariants as kind
+
+-- the path of a folder in the folder at `top`: that of the latter, `/`, and its own; no folder has the empty path
+abbrev pub folder_at : List ℕ → List ℕ → List ℕ
+folder_at top path = if bytes_eq top [] then path else top ++ 47 ∷ path
+
+-- the path of the file of a label in the folder at `top`: that of the folder of its package, `/`, and its name
+abbrev pub file_at : List ℕ → List ℕ → List ℕ
+file_at top label = folder_at top (package_of label) ++ 47 ∷ name_of label
+
+-- what an entry is, by the type that the disk gives it: a regular file, a directory, or something else
+abbrev pub kind_of : FileType → Kind
+kind_of t = if t.bits == 0o100000 then kind.File else (if t.bits == 0o040000 then kind.Folder else kind.Other)

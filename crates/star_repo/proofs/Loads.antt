@@ -1,0 +1,68 @@
+-- Which labels load statements name.
+use Rattle.std.proofs.Common.{◌≡◌, ◌⊎◌, inl, inr, ℕ, List, ◌∷◌, ◌++◌, ap, sym, ◌∙◌, subst, Ok, Err, arith}
+use Rattle.std.specs.Prelude.{◌↔◌, Result}
+use Rattle.star_label.specs.Label.{Reads, label_text}
+use Rattle.star_lex.specs.declared.token.SyntaxFault.{SyntaxFault}
+use Rattle.star_lex.specs.declared.token.SyntaxFault.TheVariants.{Memory}
+use Rattle.star_parser.specs.Sources.{Parses}
+use Rattle.star_parser.proofs.Once.{one_answer}
+use Rattle.star_tree.specs.declared.tree.Tree.{Tree}
+use Rattle.star_scope.specs.Loads.{Written, written}
+use Rattle.star_repo.specs.Loading.{LoadsLabel}
+use Rattle.star_repo.specs.Rows.{IsIn}
+use Rattle.star_repo.specs.Views.{IsNamed}
+use Rattle.star_repo.proofs.Labels.{in_back, in_either, in_front}
+use Rattle.star_repo.proofs.Rows.{from_in, to_in}
+
+pub named_either : (here : List ℕ) (xs ys : List Written) (m : List ℕ) → IsNamed here (xs ++ ys) m → IsNamed here xs m ⊎ IsNamed here ys m
+named_either here xs ys m h = elim (in_either h.0 xs ys h.1) [ inl j ↦ inl (h.0, j, h.2, h.3, h.4, h.5) | inr j ↦ inr (h.0, j, h.2, h.3, h.4, h.5) ]
+
+pub named_front : (here : List ℕ) (xs ys : List Written) (m : List ℕ) → IsNamed here xs m → IsNamed here (xs ++ ys) m
+named_front here xs ys m h = (h.0, in_front h.0 xs ys h.1, h.2, h.3, h.4, h.5)
+
+pub named_back : (here : List ℕ) (xs ys : List Written) (m : List ℕ) → IsNamed here ys m → IsNamed here (xs ++ ys) m
+named_back here xs ys m h = (h.0, in_back h.0 xs ys h.1, h.2, h.3, h.4, h.5)
+
+abbrev slash : ℕ
+slash = 47
+
+abbrev colon : ℕ
+colon = 58
+
+differ : (xs ys : List ℕ) → slash ∷ xs ≡ colon ∷ ys → ⊥
+differ xs ys e = let heads : slash ≡ colon = cc in let no : ⊥ = omega arith in no
+
+rest_of : (x : ℕ) (xs ys : List ℕ) → x ∷ xs ≡ x ∷ ys → xs ≡ ys
+rest_of x xs ys e = cc
+
+-- a module string is one label
+pub one_label : (here text p n q m : List ℕ) → Reads here text p n → Reads here text q m → label_text p n ≡ label_text q m
+one_label here text p n q m a b = pick a.form b.form
+  where
+    pick : ((text ≡ label_text p n) ⊎ ((text ≡ 58 ∷ n) × (p ≡ here))) → ((text ≡ label_text q m) ⊎ ((text ≡ 58 ∷ m) × (q ≡ here))) → label_text p n ≡ label_text q m
+    pick (inl e) (inl f) = sym e ∙ f
+    pick (inl e) (inr (f, g)) = absurd (differ (47 ∷ (p ++ 58 ∷ n)) m (sym e ∙ f))
+    pick (inr (e, g)) (inl f) = absurd (differ (47 ∷ (q ++ 58 ∷ m)) n (sym f ∙ e))
+    pick (inr (e, g)) (inr (f, h)) = ap (λ z. label_text z n) (g ∙ sym h) ∙ ap (label_text q) (rest_of 58 n m (sym e ∙ f))
+
+one_tree : (text : List ℕ) (a b : Tree) → Parses text (Ok a) → Parses text (Ok b) → a ≡ b
+one_tree text a b h k =
+    let same = one_answer text (Ok a) (Ok b) (λ e. let no : ⊥ = cc in no) (λ e. let no : ⊥ = cc in no) h k in
+    cc
+
+-- a text that parses loads what the load statements of its tree name
+pub loads_of_tree : (here text : List ℕ) (tree : Tree) (m : List ℕ) → Parses text (Ok tree) → IsNamed here (written tree.statements) m ↔ LoadsLabel here text m
+loads_of_tree here text tree m parses = (
+  (λ h. (tree, parses, h.0, from_in (written tree.statements) h.0 h.1, h.2, h.3, h.4, h.5)),
+  (λ h. let same : h.0 ≡ tree = one_tree text h.0 tree h.1 parses in
+      (h.2, subst (λ (t : Tree). IsIn h.2 (written t.statements)) same (to_in (written h.0.statements) h.2 h.3), h.4, h.5, h.6, h.7)),
+)
+
+-- one that does not loads nothing
+pub no_loads : (here text : List ℕ) (fault : SyntaxFault) (m : List ℕ) → Parses text (Err fault) → (fault ≡ Memory → ⊥) → LoadsLabel here text m → ⊥
+no_loads here text fault m parses named h =
+    let same = one_answer text (Ok h.0) (Err fault) (λ e. let no : ⊥ = cc in no) (λ e. named (err_same fault Memory e)) h.1 parses in
+    let no : ⊥ = cc in no
+  where
+    err_same : (a b : SyntaxFault) → ◌≡◌ {A = Result Tree SyntaxFault} (Err a) (Err b) → a ≡ b
+    err_same a b e = cc

@@ -1,0 +1,36 @@
+-- What stands in a folder at each label.
+use Rattle.std.specs.Prelude.{◌≡◌, ⊤, ℕ, ◌≤◌, List, [], ◌∷◌, length, take, drop, Option, Some, None, option_map, IfSome, if◌then◌else◌}
+use Rattle.std.specs.Str.{bytes_eq}
+
+-- at each label the text of a file, or no file
+abbrev pub Held : Type 0
+Held = List ℕ → Option (List ℕ)
+
+-- what a folder says of the labels; nothing where nothing is said of one
+abbrev pub Said : Type 0
+Said = List ℕ → Option (Option (List ℕ))
+
+-- a folder that says nothing
+abbrev pub unsaid : Said
+unsaid label = None
+
+abbrev pub Tells : Option (Option (List ℕ)) → Option (List ℕ) → Type 0
+Tells None found = ⊤
+Tells (Some all) found = found ≡ all
+
+-- a folder may hold this, by what it says
+abbrev pub Fits : Said → Held → Type 0
+Fits said held = (label : List ℕ) → Tells (said label) (held label)
+
+-- what is read at a label: the text, or its first 1,048,577 bytes where it has more
+abbrev pub TellsFront : Option (Option (List ℕ)) → Option (List ℕ) → Type 0
+TellsFront None found = IfSome found (λ front. length front ≤ 1048577)
+TellsFront (Some all) found = found ≡ option_map (take 1048577) all
+
+-- the byte order mark, in UTF-8
+abbrev pub mark : List ℕ
+mark = 0xef ∷ 0xbb ∷ 0xbf ∷ []
+
+-- the text that the bytes of a file are: a mark at the front is no part of it
+abbrev pub unmarked : List ℕ → List ℕ
+unmarked bytes = if bytes_eq (take 3 bytes) mark then drop 3 bytes else bytes

@@ -1,0 +1,12 @@
+pub mod Rows
+pub mod Held
+pub mod Memory
+pub mod Loading
+pub mod Reach
+pub mod Refusal
+pub mod Laws
+pub mod Parsed
+pub mod Way
+pub mod Views
+pub mod Turn
+pub mod Words

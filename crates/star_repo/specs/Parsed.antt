@@ -1,0 +1,34 @@
+-- What the parser has made of texts.
+use Rattle.std.specs.Prelude.{◌≢◌, ℕ, ◌*◌, ◌<◌, List, length, take, drop, Result, Ok, Err, IfOk, Vec, String, string_bytes, slice_index_or}
+use Rattle.std.specs.List.{AllZip}
+use Rattle.std.specs.declared.alloc.AllocError.{AllocError}
+use Rattle.std.specs.declared.alloc.Global.{Global}
+use denote.Ref.{Bor}
+use Rattle.star_label.specs.declared.label.Label.{Label}
+use Rattle.star_label.specs.Files.{File}
+use Rattle.star_lex.specs.declared.token.SyntaxFault.{SyntaxFault}
+use Rattle.star_lex.specs.declared.token.SyntaxFault.TheVariants.{Memory}
+use Rattle.star_parser.specs.Sources.{Parses}
+use Rattle.star_tree.specs.declared.tree.Tree.{Tree}
+
+-- the tree of a text, or the fault of a text that has none
+abbrev pub ParsedView : Type 0
+ParsedView = Result (Bor Tree) SyntaxFault
+
+abbrev pub IsParsed : List ℕ → ParsedView → Type 0
+IsParsed text (Ok tree) = Parses text (Ok tree.now)
+IsParsed text (Err fault) = Parses text (Err fault) × (fault ≢ Memory)
+
+-- labels with texts, each beside what the parser has made of its text
+abbrev pub AreParsed : List (Label × String Global) → List ParsedView → Type 0
+AreParsed files parses = AllZip (λ f p. IsParsed (string_bytes f.1) p) files parses
+
+-- the same of files
+abbrev pub AreFilesParsed : List File → List ParsedView → Type 0
+AreFilesParsed files parses = AllZip (λ f p. IsParsed f.1 p) files parses
+
+-- what was made of the parts of a list that is cut into parts of this size, where memory sufficed
+abbrev pub ArePartsParsed : List (Label × String Global) → ℕ → List (Result (Vec ParsedView Global) AllocError) → Type 0
+ArePartsParsed files size parts =
+    (n : ℕ) (d : Result (Vec ParsedView Global) AllocError) → n < length parts
+    → IfOk (slice_index_or parts n d) (λ parses. AreParsed (take size (drop (n * size) files)) parses.items)

@@ -1,0 +1,98 @@
+-- What the program's values stand for.
+use Rattle.std.specs.Prelude.{◌≡◌, ℕ, ⊤, List, [], ◌∷◌, ◌++◌, map, All, Option, None, Some, IfSome, option_map, Result, Ok, Err, String, string_bytes}
+use Rattle.std.specs.BTreeMap.{BTreeMap, insert_entry, values}
+use Rattle.std.specs.Cmp.Lexicographic.{slice_cmp}
+use Rattle.std.specs.Ordering.{nat_cmp}
+use Rattle.std.specs.declared.cmp.Ordering.TheVariants.{Less}
+use Rattle.std.specs.declared.alloc.Global.{Global}
+use Rattle.star_label.specs.declared.label.Label.{Label}
+use Rattle.star_label.specs.Files.{File, file_of}
+use Rattle.star_label.specs.Label.{Reads, label_text}
+use Rattle.star_label.specs.View.{text_of}
+use Rattle.star_bundle.specs.declared.error.ServeError.TheVariants.{BadFile}
+use Rattle.star_scope.specs.Loads.{Written}
+use Rattle.star_repo.specs.Held.{Fits, Held, Said}
+use Rattle.star_repo.specs.Parsed.{IsParsed, ParsedView}
+use Rattle.star_repo.specs.Reach.{Words}
+use Rattle.star_repo.specs.Refusal.{IsRefusedAt}
+use Rattle.star_repo.specs.Rows.{IsIn}
+use Rattle.star_repo.specs.Way.{Answer, IsLooked, IsWay}
+use Rattle.star_repo.specs.declared.error.ReadError.{ReadError}
+use Rattle.star_repo.specs.declared.error.ReadError.TheVariants as why
+use Rattle.star_repo.specs.declared.found.Found.{Found}
+use Rattle.star_repo.specs.declared.found.ReadFile.{ReadFile}
+
+abbrev pub labels_of : List Label → List (List ℕ)
+labels_of ls = map text_of ls
+
+-- what a run asks for: these labels
+abbrev pub words_of : List Label → Words
+words_of labels = record { roots = labels_of labels; prelude = None }
+
+-- what was found at a label
+abbrev pub answer_of : Label × Option ReadFile → Answer
+answer_of e = (text_of e.0, option_map (λ f. string_bytes f.text) e.1)
+
+abbrev pub fresh_answer : Label × String Global → Answer
+fresh_answer f = (text_of f.0, Some (string_bytes f.1))
+
+-- what was looked up: the fresh files, and what was found before them
+abbrev pub answers_in : List (Label × String Global) → List (Label × Option ReadFile) → List Answer
+answers_in fresh looked = map fresh_answer fresh ++ map answer_of looked
+
+-- the reading has come so far: these labels wait
+abbrev pub IsOnWay : Said → Words → ℕ → Found → List (List ℕ) → Type 0
+IsOnWay said words d found rest =
+    IsWay said words d (answers_in found.fresh.items found.looked.entries) (map file_of found.fresh.items) rest
+    found.count found.size
+
+-- each file that was read is beside what the parser has made of its text
+abbrev pub IsRead : Option ReadFile → Type 0
+IsRead o = IfSome o (λ f. IsParsed (string_bytes f.text) f.parsed)
+
+abbrev pub AllRead : BTreeMap Label (Option ReadFile) → Type 0
+AllRead looked = All IsRead (values looked)
+
+-- the label is not among these entries
+abbrev pub IsUnknown : Label → List (Label × Option ReadFile) → Type 0
+IsUnknown label looked = IsLooked (text_of label) (map answer_of looked) → ⊥
+
+-- what an error says: the files of the run are refused so at this label, or memory ran out
+abbrev pub Says : Said → Words → ReadError → Type 0
+Says said words (why.Refused label error) =
+    (held : Held) × Fits said held × IsRefusedAt held words (text_of label) error
+Says said words why.Memory = ⊤
+
+-- one read failed where the answer is so, and else none
+abbrev pub failed_read : ReadError → ℕ
+failed_read (why.Refused label BadFile) = 1
+failed_read e = 0
+
+abbrev pub reads_failed : {T : Type 0} → Result T ReadError → ℕ
+reads_failed (Ok x) = 0
+reads_failed (Err e) = failed_read e
+
+-- load statements name the label in a file of the package `here`
+abbrev pub IsNamed : List ℕ → List Written → List ℕ → Type 0
+IsNamed here ws m = (w : Written) × IsIn w ws
+    × (p : List ℕ) × (n : List ℕ) × Reads here w.module_string.text p n × (m ≡ label_text p n)
+
+-- a file is kept after the others, beside what the parser has made of it; nothing is where there is no file
+abbrev pub IsKept : List (Label × String Global) → List ParsedView → Label → Option ReadFile
+    → List (Label × String Global) → List ParsedView → Type 0
+IsKept texts parses label None more others = (more ≡ texts) × (others ≡ parses)
+IsKept texts parses label (Some f) more others =
+    (more ≡ texts ++ (label, f.text) ∷ []) × (others ≡ parses ++ f.parsed ∷ [])
+
+-- the label comes after those of these files
+abbrev pub IsAfter : Label → List (Label × String Global) → Type 0
+IsAfter label texts = (f : File) → IsIn f (map file_of texts) → slice_cmp nat_cmp f.0 (text_of label) ≡ Less
+
+-- the entries with that of a file, at the place of its label
+abbrev pub with_read : List (Label × Option ReadFile) → Label → ReadFile → List (Label × Option ReadFile)
+with_read looked label file = insert_entry (λ l m. slice_cmp nat_cmp (text_of l) (text_of m)) looked label (Some file)
+
+-- some reading has come to its end with this
+abbrev pub IsEnded : Found → Type 0
+IsEnded found =
+    (said : Said) × (words : Words) × (d : ℕ) × IsOnWay said words d found [] × (found.fresh.items ≡ [])

@@ -1,0 +1,125 @@
+//! A folder on the disk whose files are found by their labels.
+
+ghost use Rattle.std.specs.Prelude.{◌≡◌, ◌≤◌, IfOk, IfSome, string_bytes, take, vec_len};
+ghost use Rattle.star_label.specs.View.{text_of};
+ghost use Rattle.star_folder.specs.Disk.{file_at};
+ghost use Rattle.star_repo.specs.Held.{unmarked, unsaid};
+
+use crate::mark::{FRONT, MARK, front_of};
+use crate::repo::Repo;
+use star_folder::disk::{front_at, path_of};
+use star_folder::folder::FolderError;
+use star_label::label::Label;
+use std::alloc::{AllocError, Global};
+use std::fs;
+use std::io::{self, ErrorKind};
+use std::rt::Files;
+
+/// The folder at a path of the disk. It counts its failures, and says nothing of what it holds: no contract can say
+/// what a disk gives. Links are followed.
+#[derive(Drop)]
+pub struct DiskRepo<'a, R> {
+    rt: &'a R,
+    top: &'a str,
+    failed: u64,
+}
+
+impl<'a, R> DiskRepo<'a, R> {
+    /// The folder at this path. Nothing has failed yet.
+    pub fn new(rt: &'a R, top: &'a str) -> Self
+        ensures top { result.top.now ≡ top.now }
+        ensures failed { result.failed ≡ 0 }
+    {
+        DiskRepo { rt, top, failed: 0 }
+    }
+}
+
+impl<'a, R: Files + AllocGlobal> Repo for DiskRepo<'a, R> {
+    ghost says = { λ s. unsaid };
+
+    ghost failed = { λ s. s.failed };
+
+    fn find(&mut self, alloc: Global, label: &Label) -> Result<Option<Vec<u8>>, FolderError> {
+        if self.failed == u64::MAX {
+            return Ok(Some(Vec::new(alloc)));
+        }
+        match found_of(self.rt, self.top, label) {
+            Ok(found) => Ok(found.text),
+            Err(error) => {
+                if error.kind() == ErrorKind::OutOfMemory {
+                    return Err(FolderError::Memory);
+                }
+                self.failed += 1;
+                Err(FolderError::Failed)
+            }
+        }
+    }
+}
+
+/// What was found at a path: the first bytes of a text, or no file.
+#[derive(Drop)]
+struct Found {
+    path: String,
+    text: Option<Vec<u8>>,
+}
+
+/// Whether an error says that the path leads to no file.
+fn leads_nowhere(kind: ErrorKind) -> bool {
+    matches!(
+        kind,
+        ErrorKind::NotFound
+            | ErrorKind::NotADirectory
+            | ErrorKind::FilesystemLoop
+            | ErrorKind::InvalidFilename
+    )
+}
+
+/// Whether a path leads to a file, through links too.
+fn is_file<R: Files>(rt: &R, path: &str) -> io::Result<bool> {
+    match fs::metadata(rt, path) {
+        Ok(metadata) => Ok(metadata.is_file()),
+        Err(error) => {
+            if leads_nowhere(error.kind()) {
+                Ok(false)
+            } else {
+                Err(error)
+            }
+        }
+    }
+}
+
+/// The text that the bytes of a file are, or its first 1,048,577 bytes.
+fn text_in(alloc: Global, mut bytes: Vec<u8>) -> Result<Vec<u8>, AllocError>
+    ensures { IfOk result (λ text. text.items ≡ take 1048577 (unmarked bytes.items)) }
+{
+    if let Some(text) = bytes.as_slice().strip_prefix(MARK.as_slice()) {
+        return Ok(front_of(alloc, text)?);
+    }
+    bytes.truncate(FRONT);
+    Ok(bytes)
+}
+
+/// What is found at a path.
+fn found_at<R: Files + AllocGlobal>(rt: &R, path: String) -> io::Result<Found>
+    ensures path { IfOk result (λ found. string_bytes found.path ≡ string_bytes path) }
+    ensures few { IfOk result (λ found. IfSome found.text (λ text. vec_len text ≤ 1048577)) }
+{
+    if !is_file(rt, path.as_str())? {
+        return Ok(Found { path, text: None });
+    }
+    let front = front_at(rt, path, FRONT + MARK.len())?;
+    let text = text_in(rt.alloc(), front.bytes)?;
+    Ok(Found {
+        path: front.path,
+        text: Some(text),
+    })
+}
+
+/// What is found at the path of a label in the folder at `top`.
+fn found_of<R: Files + AllocGlobal>(rt: &R, top: &str, label: &Label) -> io::Result<Found>
+    ensures path { IfOk result (λ found. string_bytes found.path ≡ file_at top.now (text_of label.now)) }
+    ensures few { IfOk result (λ found. IfSome found.text (λ text. vec_len text ≤ 1048577)) }
+{
+    let path = path_of(rt.alloc(), top, label)?;
+    found_at(rt, path)
+}

@@ -1,0 +1,36 @@
+//! Why the files of a run were not read.
+
+ghost use Rattle.std.specs.Prelude.{◌≡◌};
+ghost use Rattle.star_repo.specs.declared.error.ReadError.TheVariants.{Memory};
+
+use star_bundle::error::ServeError;
+use star_label::label::Label;
+use std::alloc::{AllocError, AllocFailed};
+use thiserror::Error;
+
+/// Why the files of a run were not read.
+#[derive(Debug, Drop, Error)]
+pub enum ReadError {
+    /// The file of a label is refused.
+    #[error("{error}: {label}")]
+    Refused { label: Label, error: ServeError },
+    /// A growth was refused.
+    #[error("out of memory")]
+    Memory,
+}
+
+impl From<AllocError> for ReadError {
+    ghost from_gives = { λ _ e. e ≡ Memory };
+
+    fn from(_error: AllocError) -> ReadError {
+        ReadError::Memory
+    }
+}
+
+impl<T: Drop> From<AllocFailed<T>> for ReadError {
+    ghost from_gives = { λ _ e. e ≡ Memory };
+
+    fn from(_error: AllocFailed<T>) -> ReadError {
+        ReadError::Memory
+    }
+}

@@ -1,0 +1,29 @@
+//! What the reading of a run has found so far.
+
+ghost use Rattle.std.specs.Prelude.{◌≤◌};
+
+use crate::parse::Parsed;
+use star_label::label::Label;
+use std::collections::BTreeMap;
+
+/// A file that was read: its text, and what the parser has made of it.
+#[derive(Drop)]
+pub(crate) struct ReadFile<'t> {
+    pub(crate) text: String,
+    pub(crate) parsed: Parsed<'t>,
+}
+
+/// What was found so far.
+#[derive(Drop)]
+pub(crate) struct Found<'t> {
+    /// What stands at the labels that were looked up: a file, or none. The fresh files are not among these.
+    pub(crate) looked: BTreeMap<Label, Option<ReadFile<'t>>>,
+    /// The files of this round, which are not parsed yet.
+    pub(crate) fresh: Vec<(Label, String)>,
+    /// How many files were found.
+    pub(crate) count: usize,
+    /// How many bytes they have.
+    pub(crate) size: usize,
+    ghost few_files: { count ≤ 10000 },
+    ghost few_bytes: { size ≤ 268435456 },
+}

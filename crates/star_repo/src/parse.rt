@@ -1,0 +1,112 @@
+//! What the parser makes of texts, several of which are parsed side by side.
+
+ghost use Rattle.std.specs.Prelude.{◌≡◌, ◌*◌, ◌<◌, ℕ, List, IfOk, String, length, take};
+ghost use Rattle.std.specs.declared.alloc.Global.{Global as GlobalView};
+ghost use Rattle.star_label.specs.declared.label.Label.{Label as LabelView};
+ghost use Rattle.star_repo.specs.Parsed.{AreParsed, ArePartsParsed, IsParsed};
+
+use star_label::label::Label;
+use star_lex::token::SyntaxFault;
+use star_parser::parse;
+use star_tree::tree::Tree;
+use std::alloc::{AllocError, Global};
+use std::sync::Wait;
+use std::thread::{self, Threads};
+
+/// For so many texts a thread more parses.
+const SHARE: usize = 16;
+
+/// What the parser has made of a text: its tree, or its fault, which is not want of memory.
+pub type Parsed<'t> = Result<&'t Tree, SyntaxFault>;
+
+/// Parses a text, and keeps its tree with the other trees.
+fn parsed<'t, R: Wait>(
+    rt: &R,
+    alloc: Global,
+    trees: &'t boxcar::Vec<Tree>,
+    text: &str,
+) -> Result<Parsed<'t>, AllocError>
+    ensures { IfOk result (IsParsed text.now) }
+{
+    let tree = match parse(alloc, text) {
+        Ok(tree) => tree,
+        Err(SyntaxFault::Memory) => return Err(AllocError),
+        Err(fault) => return Ok(Err(fault)),
+    };
+    match trees.push_shown(rt, tree) {
+        Ok(pushed) => Ok(Ok(trees.value(&pushed))),
+        Err(_) => Err(AllocError),
+    }
+}
+
+/// Parses one text after another.
+fn parsed_each<'t, R: Wait>(
+    rt: &R,
+    alloc: Global,
+    trees: &'t boxcar::Vec<Tree>,
+    files: &[(Label, String)],
+) -> Result<Vec<Parsed<'t>>, AllocError>
+    ensures { IfOk result (λ parses. AreParsed files.now parses.items) }
+{
+    let mut parses = Vec::new(alloc);
+    for file in files {
+        parses.push(parsed(rt, alloc, trees, file.1.as_str())?)?;
+    }
+    Ok(parses)
+}
+
+/// What was made of all texts, by what was made of the parts of their list.
+fn joined<'t>(
+    alloc: Global,
+    parts: Vec<Result<Vec<Parsed<'t>>, AllocError>>,
+) -> Result<Vec<Parsed<'t>>, AllocError>
+    ensures { IfOk result (λ parses. (files : List (LabelView × String GlobalView)) (size : ℕ)
+        → ArePartsParsed files size parts.entry.items
+        → AreParsed (take (length parts.entry.items * size) files) parses.items) }
+{
+    let mut parses = Vec::new(alloc);
+    for part in parts {
+        parses.append(&mut part?)?;
+    }
+    Ok(parses)
+}
+
+/// Parses parts of this size side by side.
+fn parsed_parts<'t, R: Threads + Wait + Sync>(
+    rt: &R,
+    alloc: Global,
+    trees: &'t boxcar::Vec<Tree>,
+    files: &[(Label, String)],
+    size: usize,
+) -> Result<Vec<Parsed<'t>>, AllocError>
+    requires { 0 < size }
+    ensures { IfOk result (λ parses. AreParsed files.now parses.items) }
+{
+    let parts = thread::map_chunks(
+        rt,
+        alloc,
+        files,
+        size,
+        &|_start: usize, part: &[(Label, String)]| -> Result<Vec<Parsed>, AllocError>
+            ensures { IfOk result (λ parses. AreParsed part.now parses.items) }
+        { parsed_each(rt, alloc, trees, part) },
+    )?;
+    joined(alloc, parts)
+}
+
+/// Parses texts by at most so many threads.
+pub(crate) fn parsed_all<'t, R: Threads + Wait + Sync>(
+    rt: &R,
+    alloc: Global,
+    trees: &'t boxcar::Vec<Tree>,
+    files: &[(Label, String)],
+    threads: usize,
+) -> Result<Vec<Parsed<'t>>, AllocError>
+    ensures { IfOk result (λ parses. AreParsed files.now parses.items) }
+{
+    let threads = threads.min(files.len() / SHARE + 1);
+    if threads < 2 {
+        return parsed_each(rt, alloc, trees, files);
+    }
+    parsed_parts(rt, alloc, trees, files, files.len() / threads + 1)
+}

@@ -1,0 +1,204 @@
+//! The files of a run.
+
+ghost use Rattle.std.specs.Prelude.{◌≡◌, ◌+◌, ◌↔◌, ℕ, List, [], None, Some, IfOk, IfErr, OnOk, map};
+ghost use Rattle.star_label.specs.Files.{IsOrdered, file_of, limit_passed};
+ghost use Rattle.star_repo.specs.Held.{Fits, Held, Said};
+ghost use Rattle.star_repo.specs.Parsed.{AreFilesParsed, AreParsed};
+ghost use Rattle.star_repo.specs.Reach.{AreReachedFiles, Words};
+ghost use Rattle.star_repo.specs.Refusal.{Pass};
+ghost use Rattle.star_repo.specs.Rows.{IsIn};
+ghost use Rattle.star_repo.specs.Turn.{IsTurn, Turns};
+ghost use Rattle.star_repo.specs.Views.{AllRead, IsAfter, IsEnded, IsKept, IsOnWay, Says, answer_of, labels_of, reads_failed, words_of};
+
+use crate::error::ReadError;
+use crate::found::{Found, ReadFile};
+use crate::parse::{Parsed, parsed_all};
+use crate::repo::Repo;
+use crate::round::{read_round, settled};
+use star_label::error::LabelError;
+use star_label::files::Files;
+use star_label::label::Label;
+use star_tree::tree::Tree;
+use std::alloc::{AllocError, Global};
+use std::collections::{BTreeMap, BTreeSet};
+use std::sync::Wait;
+use std::thread::Threads;
+
+/// The files that a run reaches, numbered by the order of their labels, and by their numbers what the parser has made
+/// of their texts.
+#[derive(Drop)]
+pub struct Reached<'t> {
+    pub files: Files,
+    pub parses: Vec<Parsed<'t>>,
+}
+
+/// Keeps the file that was read at a label, where there is one.
+fn keep<'t>(
+    texts: &mut BTreeMap<Label, String>,
+    parses: &mut Vec<Parsed<'t>>,
+    label: Label,
+    read: Option<ReadFile<'t>>,
+) -> Result<(), AllocError>
+    ensures { OnOk result (IsAfter label texts.old.entries
+        → IsKept texts.old.entries parses.old.items label read.entry texts.new.entries parses.new.items) }
+{
+    let Some(file) = read else {
+        return Ok(());
+    };
+    texts.insert(label, file.text)?;
+    parses.push(file.parsed)?;
+    Ok(())
+}
+
+/// The files that were read, and what the parser has made of each.
+fn kept<'t>(
+    alloc: Global,
+    mut looked: BTreeMap<Label, Option<ReadFile<'t>>>,
+) -> Result<(BTreeMap<Label, String>, Vec<Parsed<'t>>), AllocError>
+    ensures files { IfOk result (λ r. (l t : List ℕ) → IsIn (l, t) (map file_of r.0.entries)
+        ↔ IsIn (l, Some t) (map answer_of looked.entry.entries)) }
+    ensures ordered { IfOk result (λ r. IsOrdered (map file_of r.0.entries)) }
+    ensures parsed { IfOk result (λ r. AllRead looked.entry → AreParsed r.0.entries r.1.items) }
+{
+    let mut texts = BTreeMap::new(alloc);
+    let mut parses = Vec::new(alloc);
+    while let Some((label, read)) = looked.pop_first() {
+        keep(&mut texts, &mut parses, label, read)?;
+    }
+    Ok((texts, parses))
+}
+
+/// Numbers files that are within the limits.
+fn numbered(alloc: Global, texts: BTreeMap<Label, String>) -> Result<Files, AllocError>
+    requires { limit_passed (map file_of texts.entries) ≡ None }
+    ensures { IfOk result (λ files. files ≡ map file_of texts.entries) }
+{
+    match Files::new(alloc, texts) {
+        Ok(files) => Ok(files),
+        Err(LabelError::Memory) => Err(AllocError),
+        Err(_) => unreachable!(),
+    }
+}
+
+/// The files that a reading has found, which has come to its end.
+fn ended<'t>(alloc: Global, found: Found<'t>) -> Result<Reached<'t>, AllocError>
+    requires { IsEnded found }
+    ensures files { IfOk result (λ r. (said : Said) (words : Words) (d : ℕ) → IsOnWay said words d found.entry []
+        → found.entry.fresh.items ≡ []
+        → (held : Held) × Fits said held × AreReachedFiles held words r.files × Pass r.files) }
+    ensures parsed { IfOk result (λ r. AllRead found.entry.looked → AreFilesParsed r.files r.parses.items) }
+{
+    let (texts, parses) = kept(alloc, found.looked)?;
+    let files = numbered(alloc, texts)?;
+    Ok(Reached { files, parses })
+}
+
+/// How far a reading has come at the front of a round.
+#[derive(Drop)]
+struct Round<'t> {
+    found: Found<'t>,
+    waiting: BTreeSet<Label>,
+}
+
+/// A reading that begins with these labels.
+fn begun<'t>(alloc: Global, words: BTreeSet<Label>) -> Round<'t>
+    ensures on_way { (said : Said) → IsOnWay said (words_of words.keys) 0 result.found (labels_of result.waiting.keys) }
+    ensures read { AllRead result.found.looked }
+    ensures fresh { result.found.fresh.items ≡ [] }
+{
+    Round {
+        found: Found {
+            looked: BTreeMap::new(alloc),
+            fresh: Vec::new(alloc),
+            count: 0,
+            size: 0,
+        },
+        waiting: words,
+    }
+}
+
+/// The round that comes next, or the end of the reading.
+#[derive(Drop)]
+enum Turn<'t> {
+    Next(Round<'t>),
+    End(Found<'t>),
+}
+
+/// What comes after the labels that waited were looked up: no further round where none of them has a file.
+fn turned<'t, R: Threads + Wait + Sync>(
+    rt: &R,
+    alloc: Global,
+    trees: &'t boxcar::Vec<Tree>,
+    found: Found<'t>,
+    threads: usize,
+) -> Result<Turn<'t>, AllocError>
+    ensures { IfOk result (λ turn. AllRead found.entry.looked → Turns found.entry turn) }
+{
+    if found.fresh.is_empty() {
+        return Ok(Turn::End(found));
+    }
+    let parses = parsed_all(rt, alloc, trees, found.fresh.as_slice(), threads)?;
+    let (found, waiting) = settled(alloc, found, parses)?;
+    Ok(Turn::Next(Round { found, waiting }))
+}
+
+/// Looks up the labels of a round, and goes on to the next.
+fn next_turn<'t, R: Threads + Wait + Sync, F: Repo>(
+    rt: &R,
+    alloc: Global,
+    folder: &mut F,
+    trees: &'t boxcar::Vec<Tree>,
+    round: Round<'t>,
+    threads: usize,
+) -> Result<Turn<'t>, ReadError>
+    ensures turns { IfOk result (λ turn. (words : Words) (d : ℕ)
+        → IsOnWay (F.says folder.old) words d round.entry.found (labels_of round.entry.waiting.keys)
+        → AllRead round.entry.found.looked → round.entry.found.fresh.items ≡ []
+        → IsTurn (F.says folder.old) words d round.entry.found.count turn) }
+    ensures refused { IfErr result (λ e. (words : Words) (d : ℕ)
+        → IsOnWay (F.says folder.old) words d round.entry.found (labels_of round.entry.waiting.keys)
+        → Says (F.says folder.old) words e) }
+    ensures same { F.says folder.new ≡ F.says folder.old }
+    ensures failed { F.failed folder.new ≡ F.failed folder.old + reads_failed result }
+{
+    let Round { found, waiting } = round;
+    match read_round(alloc, folder, found, waiting) {
+        Ok(found) => match turned(rt, alloc, trees, found, threads) {
+            Ok(turn) => Ok(turn),
+            Err(_) => Err(ReadError::Memory),
+        },
+        Err(error) => Err(error),
+    }
+}
+
+/// The files that these labels reach in a folder. Each label is looked up once, when it is met: first these, and in
+/// each further round those that the files of the round before load; in a round in the order of the labels. The texts
+/// of a round are then parsed by at most so many threads, and their trees are kept with the others.
+///
+/// It stops at the first label, by its round and its bytes, whose file does not pass: `BadFile`, it cannot be read;
+/// `TooMany`, it is the 10,001st; `TooLong`, it has more than 1,048,576 bytes; `NotText`, it is not UTF-8; `TooBig`,
+/// the texts so far have more than 268,435,456 bytes.
+pub fn read_reached<'t, R: Threads + Wait + Sync, F: Repo>(
+    rt: &R,
+    alloc: Global,
+    folder: &mut F,
+    trees: &'t boxcar::Vec<Tree>,
+    words: BTreeSet<Label>,
+    threads: usize,
+) -> Result<Reached<'t>, ReadError>
+    ensures files { IfOk result (λ r. (held : Held) × Fits (F.says folder.old) held
+        × AreReachedFiles held (words_of words.keys) r.files × Pass r.files) }
+    ensures parsed { IfOk result (λ r. AreFilesParsed r.files r.parses.items) }
+    ensures refused { IfErr result (Says (F.says folder.old) (words_of words.keys)) }
+    ensures same { F.says folder.new ≡ F.says folder.old }
+    ensures failed { F.failed folder.new ≡ F.failed folder.old + reads_failed result }
+{
+    let mut round = begun(alloc, words);
+    'rounds: loop {
+        match next_turn(rt, alloc, folder, trees, round, threads) {
+            Ok(Turn::Next(next)) => round = next,
+            Ok(Turn::End(found)) => return Ok(ended(alloc, found)?),
+            Err(error) => return Err(error),
+        }
+    }
+}

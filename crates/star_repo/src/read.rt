@@ -1,0 +1,148 @@
+//! The file of one label.
+
+ghost use Rattle.std.specs.Prelude.{◌≡◌, ◌≢◌, ◌+◌, ◌<◌, ◌≤◌, ◌∷◌, ℕ, List, None, Some, IfOk, IfErr, length, string_bytes, vec_len};
+ghost use Rattle.std.specs.Str.{IsUtf8};
+ghost use Rattle.star_label.specs.View.{text_of};
+ghost use Rattle.star_repo.specs.Held.{Said, Tells, TellsFront};
+ghost use Rattle.star_repo.specs.Reach.{Words};
+ghost use Rattle.star_repo.specs.Refusal.{Refuses};
+ghost use Rattle.star_repo.specs.Views.{AllRead, IsOnWay, IsUnknown, Says, reads_failed};
+ghost use Rattle.star_repo.specs.Way.{IsBelow};
+
+use crate::error::ReadError;
+use crate::found::Found;
+use crate::repo::Repo;
+use star_bundle::error::ServeError;
+use star_folder::folder::FolderError;
+use star_label::label::Label;
+use std::alloc::Global;
+
+/// The most files.
+const FILES: usize = 10_000;
+
+/// The most bytes of a text.
+const BYTES: usize = 1_048_576;
+
+/// The most bytes of all texts.
+const ALL_BYTES: usize = 268_435_456;
+
+/// The text that is found after so many files and bytes: `TooMany`, `TooLong`, `NotText`, `TooBig`, whichever comes
+/// first.
+fn passed(count: usize, size: usize, bytes: Vec<u8>) -> Result<String, ServeError>
+    requires count { count ≤ 10000 }
+    requires size { size ≤ 268435456 }
+    ensures text { IfOk result (λ text. string_bytes text ≡ bytes.items) }
+    ensures few { IfOk result (λ text. count < 10000) }
+    ensures short { IfOk result (λ text. length bytes.items ≤ 1048576) }
+    ensures is_text { IfOk result (λ text. IsUtf8 bytes.items) }
+    ensures small { IfOk result (λ text. size + length bytes.items ≤ 268435456) }
+    ensures refused { IfErr result (Refuses count size bytes.items) }
+    ensures read { IfErr result (λ e. e ≢ ServeError.BadFile) }
+{
+    if count == FILES {
+        return Err(ServeError::TooMany);
+    }
+    if bytes.len() > BYTES {
+        return Err(ServeError::TooLong);
+    }
+    let Ok(text) = String::from_utf8(bytes) else {
+        return Err(ServeError::NotText);
+    };
+    if text.as_str().len() > ALL_BYTES - size {
+        return Err(ServeError::TooBig);
+    }
+    Ok(text)
+}
+
+/// No file stands at a label.
+fn without_file<'t>(found: Found<'t>, label: Label) -> Result<Found<'t>, ReadError>
+    ensures on_way { IfOk result (λ after. (said : Said) (words : Words) (d : ℕ) (rest : List (List ℕ))
+        → IsUnknown label found.entry.looked.entries → IsBelow (text_of label) rest → Tells (said (text_of label)) None
+        → IsOnWay said words d found.entry (text_of label ∷ rest) → IsOnWay said words d after rest) }
+    ensures memory { IfErr result (λ e. e ≡ ReadError.Memory) }
+    ensures read { IfOk result (λ after. AllRead found.entry.looked → AllRead after.looked) }
+    ensures count { IfOk result (λ after. after.count ≡ found.entry.count) }
+    ensures fresh { IfOk result (λ after. vec_len after.fresh ≡ vec_len found.entry.fresh) }
+{
+    let Found {
+        mut looked,
+        fresh,
+        count,
+        size,
+    } = found;
+    looked.insert(label, None)?;
+    Ok(Found {
+        looked,
+        fresh,
+        count,
+        size,
+    })
+}
+
+/// The file of a label begins with these bytes.
+fn with_file<'t>(found: Found<'t>, label: Label, bytes: Vec<u8>) -> Result<Found<'t>, ReadError>
+    ensures on_way { IfOk result (λ after. (said : Said) (words : Words) (d : ℕ) (rest : List (List ℕ))
+        → IsUnknown label found.entry.looked.entries → IsBelow (text_of label) rest
+        → TellsFront (said (text_of label)) (Some bytes.items)
+        → IsOnWay said words d found.entry (text_of label ∷ rest) → IsOnWay said words d after rest) }
+    ensures refused { IfErr result (λ e. (said : Said) (words : Words) (d : ℕ) (rest : List (List ℕ))
+        → IsUnknown label found.entry.looked.entries → IsBelow (text_of label) rest
+        → TellsFront (said (text_of label)) (Some bytes.items)
+        → IsOnWay said words d found.entry (text_of label ∷ rest) → Says said words e) }
+    ensures no_read_failed { reads_failed result ≡ 0 }
+    ensures read { IfOk result (λ after. AllRead found.entry.looked → AllRead after.looked) }
+    ensures count { IfOk result (λ after. after.count ≡ found.entry.count + 1) }
+    ensures fresh { IfOk result (λ after. vec_len after.fresh ≡ vec_len found.entry.fresh + 1) }
+{
+    let Found {
+        looked,
+        mut fresh,
+        count,
+        size,
+    } = found;
+    let text = match passed(count, size, bytes) {
+        Ok(text) => text,
+        Err(error) => return Err(ReadError::Refused { label, error }),
+    };
+    let bytes = text.len();
+    fresh.push((label, text))?;
+    Ok(Found {
+        looked,
+        fresh,
+        count: count + 1,
+        size: size + bytes,
+    })
+}
+
+/// Looks up a label, unless that was done.
+pub(crate) fn after_label<'t, F: Repo>(
+    alloc: Global,
+    folder: &mut F,
+    found: Found<'t>,
+    label: Label,
+) -> Result<Found<'t>, ReadError>
+    ensures on_way { IfOk result (λ after. (words : Words) (d : ℕ) (rest : List (List ℕ))
+        → IsBelow (text_of label) rest → IsOnWay (F.says folder.old) words d found.entry (text_of label ∷ rest)
+        → IsOnWay (F.says folder.old) words d after rest) }
+    ensures refused { IfErr result (λ e. (words : Words) (d : ℕ) (rest : List (List ℕ))
+        → IsBelow (text_of label) rest → IsOnWay (F.says folder.old) words d found.entry (text_of label ∷ rest)
+        → Says (F.says folder.old) words e) }
+    ensures read { IfOk result (λ after. AllRead found.entry.looked → AllRead after.looked) }
+    ensures counted { IfOk result (λ after.
+        after.count + vec_len found.entry.fresh ≡ found.entry.count + vec_len after.fresh) }
+    ensures same { F.says folder.new ≡ F.says folder.old }
+    ensures failed { F.failed folder.new ≡ F.failed folder.old + reads_failed result }
+{
+    if found.looked.contains_key(&label) {
+        return Ok(found);
+    }
+    match folder.find(alloc, &label) {
+        Ok(Some(bytes)) => with_file(found, label, bytes),
+        Ok(None) => without_file(found, label),
+        Err(FolderError::Failed) => Err(ReadError::Refused {
+            label,
+            error: ServeError::BadFile,
+        }),
+        Err(FolderError::Memory) => Err(ReadError::Memory),
+    }
+}
