@@ -1,27 +1,28 @@
 -- The text of a report is what the texts of its modules make.
 use Rattle.std.proofs.Common.{arith, ◌≡◌, ◌<◌, ◌+◌, ◌≤◌, ℕ, zero, suc, Bool, true, false, ◌||◌, List, [], ◌∷◌, ◌++◌, map, take, length, get_or, Option, Some, None, IfOk, IfSome, IsSome, Result, Ok, Err, refl, ap, sym, subst, ◌∙◌, codes, string_bytes}
-use denote.Ref.{Bor}
-use Rattle.std.specs.Prelude.{All, String, decimal, slice_index_or}
+use Rattle.std.specs.Prelude.{All, String, decimal, filter, slice_index_or, if◌then◌else◌}
+use Rattle.std.proofs.lemmas.Simd.{map-map}
 use Rattle.std.proofs.lemmas.Bool.{true≢false}
-use Rattle.std.proofs.lemmas.List.{append-nil, append_assoc, length-map, get_or-map, map_push, take_all, take_more}
+use Rattle.std.proofs.lemmas.List.{append-nil, append_assoc, length-map, length_push, get_or-map, map_push, take_all, take_more}
 use Rattle.serde_json.proofs.OnLiterals.{serde_json_on_literals}
 use Rattle.serde_json.specs.Data.{Data}
 use Rattle.serde_json.specs.View.{items_of, view}
 use Rattle.serde_json.specs.Written.{comma_if, compact_text, has_float, items_have_float, items_text}
-use Rattle.serde_json.specs.declared.value.Value.{Value}
 use Rattle.star_cause.specs.Causes.{AreNextsOf}
 use Rattle.star_cause.specs.Ways.{Nexts}
 use Rattle.star_label.specs.Files.{File}
 use Rattle.star_plan.specs.Plan.{Plan}
 use Rattle.star_plan.specs.Reading.{IsPlanOf}
-use Rattle.star_plan.specs.Report.{Module as ReportModule}
-use Rattle.star_plan.specs.Text.{module_data, report_text}
 use Rattle.star_outcome.specs.Kept.{AreModules, KeptView}
-use Rattle.star_report.specs.Pages.{AreWritten, IsTextOf, joined_text, known_of, listed, page_text, text_in}
+use Rattle.star_report.specs.Pages.{AreWritten, IsTextOf, SaysShown, joined_text, known_of, listed, page_text, shown_texts_of, text_in}
 use Rattle.star_report.specs.Shown.{AreShown, IsReportBut}
 use Rattle.star_outcome.specs.declared.module.Module.{Module}
 use Rattle.star_report.specs.declared.pages.Page.{Page}
-use Rattle.star_report.proofs.NoFloat.{modules_none}
+use Rattle.star_report.specs.Shelf.{more_of}
+use Rattle.star_report.specs.Wanted.{Full, added, full_data, full_text, is_shown, is_shown_by}
+use Rattle.star_outcome.specs.Views.{ended_well}
+use Rattle.star_report.specs.declared.wanted.Wanted.{Wanted}
+use Rattle.star_report.proofs.NoFloat.{fulls_none}
 use Rattle.star_report.proofs.Shows.{report_shown, shown_all, shown_more, shown_none}
 
 -- ---- texts with commas
@@ -41,6 +42,50 @@ pub listed_on : (first : List ℕ) (ts : List (List ℕ)) (t old new : List ℕ)
 listed_on first ts t old new later some none was now =
     now ∙ (ap (λ x. x ++ (comma_if later ++ t)) was ∙ (append_assoc first (listed false ts) (comma_if later ++ t) ∙ ap (λ x. first ++ x) (sym (listed_more ts t later some none))))
 
+-- what holds of the texts of the pages so far, whether one stands there and what was written
+pub record SoFar (first : List ℕ) (ts : List (List ℕ)) (later : Bool) (all : List ℕ) : Type 0 where
+  pub some : later ≡ true → 0 < length ts
+  pub none : later ≡ false → length ts ≡ 0
+  pub text : all ≡ first ++ listed false ts
+
+pub page_more : (first : List ℕ) (ts : List (List ℕ)) (t old new : List ℕ) (later now shown : Bool) → SoFar first ts later old → now ≡ (later || shown) → new ≡ old ++ (if shown then comma_if later ++ t else []) → SoFar first (ts ++ (if shown then t ∷ [] else [])) now new
+page_more first ts t old new later now true was is text =
+    let longer : length (ts ++ t ∷ []) ≡ length ts + 1 = length_push ts t in
+    record {
+      some = λ h. omega (arith, longer);
+      none = λ h. absurd (let no : ⊥ = never later now is h in no);
+      text = listed_on first ts t old new later was.some was.none was.text text;
+    }
+  where
+    never : (later now : Bool) → now ≡ (later || true) → now ≡ false → ⊥
+    never true now is h = let no : true ≡ false = sym is ∙ h in let none : ⊥ = cc in none
+    never false now is h = let no : true ≡ false = sym is ∙ h in let none : ⊥ = cc in none
+page_more first ts t old new later now false was is text =
+    let same : ts ++ [] ≡ ts = append-nil ts in
+    let later_is : now ≡ later = is ∙ or_false later in
+    record {
+      some = λ h. subst (λ us. 0 < length us) (sym same) (was.some (sym later_is ∙ h));
+      none = λ h. subst (λ us. length us ≡ 0) (sym same) (was.none (sym later_is ∙ h));
+      text = text ∙ (append-nil old ∙ (was.text ∙ ap (λ us. first ++ listed false us) (sym same)));
+    }
+  where
+    or_false : (b : Bool) → (b || false) ≡ b
+    or_false true = refl
+    or_false false = refl
+
+-- the texts of one page more
+pub shown_push : (ps : List Page) (p : Page) → shown_texts_of (ps ++ p ∷ []) ≡ shown_texts_of ps ++ (if p.shown then page_text p ∷ [] else [])
+shown_push [] p = one p.shown
+  where
+    one : (b : Bool) → map page_text (if b then p ∷ [] else []) ≡ (if b then page_text p ∷ [] else [])
+    one true = refl
+    one false = refl
+shown_push (q ∷ ps) p = by q.shown (shown_push ps p)
+  where
+    by : (b : Bool) → shown_texts_of (ps ++ p ∷ []) ≡ shown_texts_of ps ++ (if p.shown then page_text p ∷ [] else []) → map page_text (if b then q ∷ filter (λ (x : Page). x.shown) (ps ++ p ∷ []) else filter (λ (x : Page). x.shown) (ps ++ p ∷ [])) ≡ map page_text (if b then q ∷ filter (λ (x : Page). x.shown) ps else filter (λ (x : Page). x.shown) ps) ++ (if p.shown then page_text p ∷ [] else [])
+    by true rest = ap (λ ts. page_text q ∷ ts) rest
+    by false rest = rest
+
 -- the whole text, by what stands before the texts
 pub listed_end : (begun : ℕ) (ts : List (List ℕ)) (first : List ℕ) → first ≡ codes "{\"begun\":" ++ (decimal begun ++ codes ",\"modules\":[") → (first ++ listed false ts) ++ codes "]}\n" ≡ joined_text begun ts
 listed_end begun ts first is =
@@ -58,10 +103,10 @@ items_listed later (d ∷ ds) =
     ∙ (ap (λ x. comma_if later ++ x) (sym (append_assoc (compact_text d) rest (93 ∷ []))) ∙ sym (append_assoc (comma_if later) (compact_text d ++ rest) (93 ∷ [])))
 
 -- the text of a report by those of its modules
-pub report_joined : (files : List File) (begun : ℕ) (ms : List ReportModule) → report_text files begun ms ≡ joined_text begun (map compact_text (map (module_data files) ms))
-unfolding serde_json_on_literals report_text
-report_joined files begun ms =
-    let ds : List Data = map (module_data files) ms in
+pub report_joined : (wanted : Wanted) (files : List File) (plan : Plan) (begun : ℕ) (fs : List Full) → full_text wanted files plan begun fs ≡ joined_text begun (map compact_text (map (full_data files) (filter (is_shown wanted plan) fs)))
+unfolding serde_json_on_literals full_text
+report_joined wanted files plan begun fs =
+    let ds : List Data = map (full_data files) (filter (is_shown wanted plan) fs) in
     let all : List ℕ = listed false (map compact_text ds) in
     let items : List ℕ = items_text false (items_of ds) in
     let ends : (items ++ 125 ∷ []) ++ 10 ∷ [] ≡ all ++ codes "]}\n" = append_assoc items (125 ∷ []) (10 ∷ []) ∙ (ap (λ x. x ++ 125 ∷ 10 ∷ []) (items_listed false ds) ∙ append_assoc all (93 ∷ []) (125 ∷ 10 ∷ [])) in
@@ -69,18 +114,18 @@ report_joined files begun ms =
 
 -- ---- the pages of modules
 
--- values whose texts these are, where they have no float
-abbrev AreTextsOf : List (List ℕ) → List Value → Type 0
+-- data whose texts these are, where they have no float
+abbrev AreTextsOf : List (List ℕ) → List Data → Type 0
 AreTextsOf [] [] = Unit {0}
-AreTextsOf [] (v ∷ vs) = ⊥
+AreTextsOf [] (d ∷ ds) = ⊥
 AreTextsOf (t ∷ ts) [] = ⊥
-AreTextsOf (t ∷ ts) (v ∷ vs) = (has_float (view v) ≡ false → t ≡ compact_text (view v)) × AreTextsOf ts vs
+AreTextsOf (t ∷ ts) (d ∷ ds) = (has_float d ≡ false → t ≡ compact_text d) × AreTextsOf ts ds
 
-texts_push : (ts : List (List ℕ)) (vs : List Value) (t : List ℕ) (v : Value) → AreTextsOf ts vs → (has_float (view v) ≡ false → t ≡ compact_text (view v)) → AreTextsOf (ts ++ t ∷ []) (vs ++ v ∷ [])
-texts_push [] [] t v are is = (is, tt)
-texts_push [] (w ∷ vs) t v are is = absurd are
-texts_push (s ∷ ts) [] t v are is = absurd are
-texts_push (s ∷ ts) (w ∷ vs) t v are is = (are.0, texts_push ts vs t v are.1 is)
+texts_push : (ts : List (List ℕ)) (ds : List Data) (t : List ℕ) (d : Data) → AreTextsOf ts ds → (has_float d ≡ false → t ≡ compact_text d) → AreTextsOf (ts ++ t ∷ []) (ds ++ d ∷ [])
+texts_push [] [] t d are is = (is, tt)
+texts_push [] (e ∷ ds) t d are is = absurd are
+texts_push (s ∷ ts) [] t d are is = absurd are
+texts_push (s ∷ ts) (e ∷ ds) t d are is = (are.0, texts_push ts ds t d are.1 is)
 
 first_none : (d : Data) (ds : List Data) → items_have_float (items_of (d ∷ ds)) ≡ false → (has_float d ≡ false) × (items_have_float (items_of ds) ≡ false)
 first_none d ds h = halves (has_float d) (items_have_float (items_of ds)) h
@@ -89,25 +134,24 @@ first_none d ds h = halves (has_float d) (items_have_float (items_of ds)) h
     halves true b h = absurd (let no : ⊥ = cc in no)
     halves false b h = (refl, h)
 
-texts_are : (ts : List (List ℕ)) (vs : List Value) (ds : List Data) → AreTextsOf ts vs → map view vs ≡ ds → items_have_float (items_of ds) ≡ false → ts ≡ map compact_text ds
-texts_are [] [] ds are views none = ap (map compact_text) views
-texts_are [] (v ∷ vs) ds are views none = absurd are
-texts_are (t ∷ ts) [] ds are views none = absurd are
-texts_are (t ∷ ts) (v ∷ vs) ds are views none =
-    let here : items_have_float (items_of (map view (v ∷ vs))) ≡ false = subst (λ xs. items_have_float (items_of xs) ≡ false) (sym views) none in
-    let both = first_none (view v) (map view vs) here in
-    ap (λ x. x ∷ ts) (are.0 both.0) ∙ (ap (λ xs. compact_text (view v) ∷ xs) (texts_are ts vs (map view vs) are.1 refl both.1) ∙ ap (map compact_text) views)
+texts_are : (ts : List (List ℕ)) (ds : List Data) → AreTextsOf ts ds → items_have_float (items_of ds) ≡ false → ts ≡ map compact_text ds
+texts_are [] [] are none = refl
+texts_are [] (d ∷ ds) are none = absurd are
+texts_are (t ∷ ts) [] are none = absurd are
+texts_are (t ∷ ts) (d ∷ ds) are none =
+    let both = first_none d ds none in
+    ap (λ x. x ∷ ts) (are.0 both.0) ∙ ap (λ xs. compact_text d ∷ xs) (texts_are ts ds are.1 both.1)
 
 -- a page that has the text of its module
-abbrev pub HasText : List File → Nexts → Page → Type 0
-HasText files nexts p = IfSome p.text (λ s. IsTextOf files nexts p.about.now (string_bytes s)) × IsSome p.text
+abbrev pub HasText : Wanted → List File → Nexts → Page → Type 0
+HasText wanted files nexts p = IfSome p.text (λ s. IsTextOf wanted files nexts p.about.now (string_bytes s)) × IsSome p.text
 
-in_page : {Z : Type 0} (files : List File) (nexts : Nexts) (m : Module) (o : Option (String Z)) → IfSome o (λ s. IsTextOf files nexts m (string_bytes s)) → IsSome o → IsTextOf files nexts m (text_in o)
-in_page files nexts m None is some = absurd (true≢false (sym some))
-in_page files nexts m (Some s) is some = is
+in_page : {Z : Type 0} (wanted : Wanted) (files : List File) (nexts : Nexts) (m : Module) (o : Option (String Z)) → IfSome o (λ s. IsTextOf wanted files nexts m (string_bytes s)) → IsSome o → IsTextOf wanted files nexts m (text_in o)
+in_page wanted files nexts m None is some = absurd (true≢false (sym some))
+in_page wanted files nexts m (Some s) is some = is
 
-text_of_page : (files : List File) (nexts : Nexts) (p : Page) → HasText files nexts p → IsTextOf files nexts p.about.now (page_text p)
-text_of_page files nexts p h = in_page files nexts p.about.now p.text h.0 h.1
+text_of_page : (wanted : Wanted) (files : List File) (nexts : Nexts) (p : Page) → HasText wanted files nexts p → IsTextOf wanted files nexts p.about.now (page_text p)
+text_of_page wanted files nexts p h = in_page wanted files nexts p.about.now p.text h.0 h.1
 
 element : {X : Type 0} (xs : List X) (i : ℕ) → i < length xs → (x : X) × ((d : X) → get_or xs i d ≡ x)
 element [] i less = absurd (let no : ⊥ = omega (arith, less) in no)
@@ -115,63 +159,96 @@ element (x ∷ xs) zero less = (x, λ d. refl)
 element (x ∷ xs) (suc i) less = element xs i (omega (arith, less))
 
 -- pages that were written know the modules that they knew
-pub written_known : (files : List File) (nexts : Nexts) (old new : List Page) → AreWritten files nexts old new → length new ≡ length old → map known_of new ≡ map known_of old
-written_known files nexts [] [] written long = refl
-written_known files nexts [] (q ∷ qs) written long = absurd (let no : ⊥ = omega (arith, long) in no)
-written_known files nexts (p ∷ ps) [] written long = absurd (let no : ⊥ = omega (arith, long) in no)
-written_known files nexts (p ∷ ps) (q ∷ qs) written long =
+pub written_known : (wanted : Wanted) (files : List File) (nexts : Nexts) (old new : List Page) → AreWritten wanted files nexts old new → length new ≡ length old → map known_of new ≡ map known_of old
+written_known wanted files nexts [] [] written long = refl
+written_known wanted files nexts [] (q ∷ qs) written long = absurd (let no : ⊥ = omega (arith, long) in no)
+written_known wanted files nexts (p ∷ ps) [] written long = absurd (let no : ⊥ = omega (arith, long) in no)
+written_known wanted files nexts (p ∷ ps) (q ∷ qs) written long =
     ap (λ m. Some m.now ∷ map known_of qs) (written 0 p (omega arith)).same
-    ∙ ap (λ x. known_of p ∷ x) (written_known files nexts ps qs (λ i d less. written (suc i) d (omega (arith, less))) (omega (arith, long)))
+    ∙ ap (λ x. known_of p ∷ x) (written_known wanted files nexts ps qs (λ i d less. written (suc i) d (omega (arith, less))) (omega (arith, long)))
 
 -- pages that were written, and have texts, have those of their modules
-pub written_have : (files : List File) (nexts : Nexts) (old new : List Page) → AreWritten files nexts old new → length new ≡ length old → All (λ (p : Page). IsSome p.text) new → All (HasText files nexts) new
-written_have files nexts old new written long some = λ i d less. ((written i d (omega (arith, less, long))).text, some i d less)
+pub written_have : (wanted : Wanted) (files : List File) (nexts : Nexts) (old new : List Page) → AreWritten wanted files nexts old new → length new ≡ length old → All (λ (p : Page). IsSome p.text) new → All (HasText wanted files nexts) new
+written_have wanted files nexts old new written long some = λ i d less. ((written i d (omega (arith, less, long))).text, some i d less)
 
-module _ (files : List File) (plan : Plan) (nexts : Nexts) (ks : List KeptView) (ps : List Page) where
+-- pages that were written say what they said
+written_says : (wanted : Wanted) (files : List File) (plan : Plan) (nexts : Nexts) (old new : List Page) → All (SaysShown wanted plan.roots) old → AreWritten wanted files nexts old new → length new ≡ length old → All (SaysShown wanted plan.roots) new
+written_says wanted files plan nexts old new says written long = λ i d less. (
+    let inside : i < length old = omega (arith, less, long) in
+    let w = written i d inside in
+    let was : SaysShown wanted plan.roots (slice_index_or old i d) = says i d inside in
+    w.shown ∙ (was ∙ ap (λ m. is_shown_by wanted plan.roots (ended_well m.now.ended) m.now.number) (sym w.same))
+    )
+
+-- those of two rows that are kept are as alike as the rows are, where the same are kept
+both_kept : {X Y Z : Type 0} (f : X → Z) (g : Y → Z) (x : X) (y : Y) (xs : List X) (ys : List Y) (b c : Bool) → b ≡ c → f x ≡ g y → map f xs ≡ map g ys → map f (if b then x ∷ xs else xs) ≡ map g (if c then y ∷ ys else ys)
+both_kept f g x y xs ys true true e one rest = ap (λ z. z ∷ map f xs) one ∙ ap (λ zs. g y ∷ zs) rest
+both_kept f g x y xs ys false false e one rest = rest
+both_kept f g x y xs ys true false e one rest = absurd (let no : ⊥ = cc in no)
+both_kept f g x y xs ys false true e one rest = absurd (let no : ⊥ = cc in no)
+
+filtered : {X Y Z : Type 0} (f : X → Z) (p : X → Bool) (g : Y → Z) (q : Y → Bool) (xs : List X) (ys : List Y) → map f xs ≡ map g ys → map p xs ≡ map q ys → map f (filter p xs) ≡ map g (filter q ys)
+filtered f p g q [] [] same kept = refl
+filtered f p g q [] (y ∷ ys) same kept = absurd (let no : ⊥ = cc in no)
+filtered f p g q (x ∷ xs) [] same kept = absurd (let no : ⊥ = cc in no)
+filtered f p g q (x ∷ xs) (y ∷ ys) same kept =
+    let one : f x ≡ g y = cc in
+    let keeps : p x ≡ q y = cc in
+    let tails : map f xs ≡ map g ys = cc in
+    let kept_tails : map p xs ≡ map q ys = cc in
+    both_kept f g x y (filter p xs) (filter q ys) (p x) (q y) keeps one (filtered f p g q xs ys tails kept_tails)
+
+module _ (wanted : Wanted) (files : List File) (plan : Plan) (nexts : Nexts) (ks : List KeptView) (ps : List Page) where
   -- the modules of the first pages are shown, with their texts
   abbrev Shown : ℕ → Type 0
-  Shown i = (vs : List Value) × AreShown files plan (take i ks) vs × AreTextsOf (map page_text (take i ps)) vs
+  Shown i = (ds : List Data) × AreShown wanted files plan (take i ks) ds (map (λ (p : Page). p.shown) (take i ps)) × AreTextsOf (map page_text (take i ps)) ds
 
-  shown_next : map known_of ps ≡ map (λ (k : KeptView). k.known) ks → All (HasText files nexts) ps → IsPlanOf files plan → AreModules plan ks → AreNextsOf plan nexts → (i : ℕ) → i < length ks → i < length ps → Shown i → Shown (i + 1)
-  shown_next same has planned are nexts_are i less inside before =
+  shown_next : map known_of ps ≡ map (λ (k : KeptView). k.known) ks → All (HasText wanted files nexts) ps → All (SaysShown wanted plan.roots) ps → IsPlanOf files plan → AreModules plan ks → AreNextsOf plan nexts → (i : ℕ) → i < length ks → i < length ps → Shown i → Shown (i + 1)
+  shown_next same has says planned are nexts_are i less inside before =
       let found = element ps i inside in
       let p : Page = found.0 in
       let it : Module = p.about.now in
       let known : (d : KeptView) → (slice_index_or ks i d).known ≡ Some it =
       λ d. sym (get_or-map (λ (k : KeptView). k.known) ks i d (Some it) less)
       ∙ (ap (λ xs. get_or xs i (Some it)) (sym same) ∙ (get_or-map known_of ps i p (Some it) inside ∙ ap known_of (found.1 p))) in
-      let own : HasText files nexts p = subst (HasText files nexts) (found.1 p) (has i p inside) in
-      let text = text_of_page files nexts p own in
+      let own : HasText wanted files nexts p = subst (HasText wanted files nexts) (found.1 p) (has i p inside) in
+      let text = text_of_page wanted files nexts p own in
       let first : take (i + 1) ps ≡ take i ps ++ p ∷ [] = take_more ps i p inside ∙ ap (λ x. take i ps ++ x ∷ []) (found.1 p) in (
-        before.0 ++ text.0 ∷ [],
-        shown_more files plan nexts ks i before.0 it text.0 less known text.1 planned are nexts_are before.1,
-        subst (λ ts. AreTextsOf ts (before.0 ++ text.0 ∷ [])) (sym (ap (map page_text) first ∙ map_push page_text (take i ps) p)) (texts_push (map page_text (take i ps)) before.0 (page_text p) text.0 before.2 text.2),
+        before.0 ++ added (more_of wanted (length files) it) (view text.0) ∷ [],
+        subst (AreShown wanted files plan (take (i + 1) ks) (before.0 ++ added (more_of wanted (length files) it) (view text.0) ∷ [])) (sym (ap (map (λ (q : Page). q.shown)) first ∙ map_push (λ (q : Page). q.shown) (take i ps) p))
+            (shown_more wanted files plan nexts ks i before.0 (map (λ (q : Page). q.shown) (take i ps)) it text.0 p.shown less known text.1 (subst (SaysShown wanted plan.roots) (found.1 p) (says i p inside)) planned are nexts_are before.1),
+        subst (λ ts. AreTextsOf ts (before.0 ++ added (more_of wanted (length files) it) (view text.0) ∷ [])) (sym (ap (map page_text) first ∙ map_push page_text (take i ps) p)) (texts_push (map page_text (take i ps)) before.0 (page_text p) (added (more_of wanted (length files) it) (view text.0)) before.2 text.2),
       )
 
-  shown_to : map known_of ps ≡ map (λ (k : KeptView). k.known) ks → All (HasText files nexts) ps → IsPlanOf files plan → AreModules plan ks → AreNextsOf plan nexts → (i : ℕ) → i ≤ length ks → i ≤ length ps → Shown i
-  shown_to same has planned are nexts_are zero le small = ([], shown_none files plan ks, tt)
-  shown_to same has planned are nexts_are (suc i) le small =
+  shown_to : map known_of ps ≡ map (λ (k : KeptView). k.known) ks → All (HasText wanted files nexts) ps → All (SaysShown wanted plan.roots) ps → IsPlanOf files plan → AreModules plan ks → AreNextsOf plan nexts → (i : ℕ) → i ≤ length ks → i ≤ length ps → Shown i
+  shown_to same has says planned are nexts_are zero le small = ([], shown_none wanted files plan ks, tt)
+  shown_to same has says planned are nexts_are (suc i) le small =
       subst Shown (let on : i + 1 ≡ suc i = omega arith in on)
-      (shown_next same has planned are nexts_are i (omega (arith, le)) (omega (arith, small)) (shown_to same has planned are nexts_are i (omega (arith, le)) (omega (arith, small))))
+      (shown_next same has says planned are nexts_are i (omega (arith, le)) (omega (arith, small)) (shown_to same has says planned are nexts_are i (omega (arith, le)) (omega (arith, small))))
 
   -- what the texts of all pages make is the text of the report
-  pub pages_report : map known_of ps ≡ map (λ (k : KeptView). k.known) ks → All (HasText files nexts) ps → IsPlanOf files plan → AreModules plan ks → AreNextsOf plan nexts → (begun : ℕ) → IsReportBut files plan (length ks) begun (joined_text begun (map page_text ps))
-  pages_report same has planned are nexts_are begun =
+  pub pages_report : map known_of ps ≡ map (λ (k : KeptView). k.known) ks → All (HasText wanted files nexts) ps → All (SaysShown wanted plan.roots) ps → IsPlanOf files plan → AreModules plan ks → AreNextsOf plan nexts → (begun : ℕ) → IsReportBut wanted files plan (length ks) begun (joined_text begun (shown_texts_of ps))
+  pages_report same has says planned are nexts_are begun =
       let long : length ps ≡ length ks = sym (length-map ps known_of) ∙ (ap length same ∙ length-map ks (λ (k : KeptView). k.known)) in
-      let all = shown_to same has planned are nexts_are (length ks) (omega arith) (omega (arith, long)) in
-      let shown : AreShown files plan ks all.0 = shown_all files plan ks (length ks) all.0 refl all.1 in
-      let ms : List ReportModule = shown.modules in
+      let all = shown_to same has says planned are nexts_are (length ks) (omega arith) (omega (arith, long)) in
       let whole : take (length ks) ps ≡ ps = take_all (length ks) ps (omega (arith, long)) in
-      let texts : map page_text ps ≡ map compact_text (map (module_data files) ms) = texts_are (map page_text ps) all.0 (map (module_data files) ms) (subst (λ qs. AreTextsOf (map page_text qs) all.0) whole all.2) shown.views (modules_none files ms) in
-      (ms, report_shown files plan ks all.0 are shown, ap (joined_text begun) texts ∙ sym (report_joined files begun ms))
+      let shown : AreShown wanted files plan ks all.0 (map (λ (p : Page). p.shown) ps) =
+      subst (λ qs. AreShown wanted files plan ks all.0 (map (λ (p : Page). p.shown) qs)) whole (shown_all wanted files plan ks (length ks) all.0 (map (λ (p : Page). p.shown) (take (length ks) ps)) refl all.1) in
+      let fs : List Full = shown.fulls in
+      let none : items_have_float (items_of all.0) ≡ false = subst (λ ds. items_have_float (items_of ds) ≡ false) (sym shown.data_are) (fulls_none wanted files plan fs shown.more) in
+      let texts : map page_text ps ≡ map (λ f. compact_text (full_data files f)) fs =
+      texts_are (map page_text ps) all.0 (subst (λ qs. AreTextsOf (map page_text qs) all.0) whole all.2) none ∙ (ap (map compact_text) shown.data_are ∙ map-map compact_text (full_data files) fs) in
+      let kept : shown_texts_of ps ≡ map compact_text (map (full_data files) (filter (is_shown wanted plan) fs)) =
+      filtered page_text (λ (p : Page). p.shown) (λ (f : Full). compact_text (full_data files f)) (is_shown wanted plan) ps fs texts shown.shown_are ∙ sym (map-map compact_text (full_data files) (filter (is_shown wanted plan) fs)) in
+      record { fulls = fs; report = report_shown wanted files plan ks all.0 (map (λ (p : Page). p.shown) ps) are shown; more = shown.more; text_is = ap (joined_text begun) kept ∙ sym (report_joined wanted files plan begun fs) }
 
 -- what is written for the pages of a run's modules is the text of its report
-pub pages_text : (files : List File) (plan : Plan) (nexts : Nexts) (ks : List KeptView) (old new : List Page) (begun : ℕ) (text : List ℕ) → map known_of old ≡ map (λ (k : KeptView). k.known) ks → AreWritten files nexts old new → length new ≡ length old
-    → All (λ (p : Page). IsSome p.text) new → text ≡ joined_text begun (map page_text new) → IsPlanOf files plan → AreModules plan ks → AreNextsOf plan nexts → IsReportBut files plan (length ks) begun text
-pages_text files plan nexts ks old new begun text known written long some is planned are nexts_are =
-    let same : map known_of new ≡ map (λ (k : KeptView). k.known) ks = written_known files nexts old new written long ∙ known in
-    subst (IsReportBut files plan (length ks) begun) (sym is)
-    (pages_report files plan nexts ks new same (written_have files nexts old new written long some) planned are nexts_are begun)
+pub pages_text : (wanted : Wanted) (files : List File) (plan : Plan) (nexts : Nexts) (ks : List KeptView) (old new : List Page) (begun : ℕ) (text : List ℕ) → map known_of old ≡ map (λ (k : KeptView). k.known) ks → All (SaysShown wanted plan.roots) old → AreWritten wanted files nexts old new → length new ≡ length old
+    → All (λ (p : Page). IsSome p.text) new → text ≡ joined_text begun (shown_texts_of new) → IsPlanOf files plan → AreModules plan ks → AreNextsOf plan nexts → IsReportBut wanted files plan (length ks) begun text
+pages_text wanted files plan nexts ks old new begun text known says written long some is planned are nexts_are =
+    let same : map known_of new ≡ map (λ (k : KeptView). k.known) ks = written_known wanted files nexts old new written long ∙ known in
+    subst (IsReportBut wanted files plan (length ks) begun) (sym is)
+    (pages_report wanted files plan nexts ks new same (written_have wanted files nexts old new written long some) (written_says wanted files plan nexts old new says written long) planned are nexts_are begun)
 
 pub both_ok : {X E : Type 0} (r : Result X E) (P Q : X → Type 0) → IfOk r P → IfOk r Q → IfOk r (λ x. P x × Q x)
 both_ok (Ok x) P Q p q = (p, q)

@@ -1,6 +1,7 @@
 -- The values that show modules, and the report of them.
-use Rattle.std.proofs.Common.{arith, ◌≡◌, ◌<◌, ◌+◌, ℕ, List, [], ◌∷◌, ◌++◌, map, take, length, get_or, Option, Some, None, refl, ap, sym, subst, ◌∙◌}
-use Rattle.std.specs.Prelude.{Contains, slice_index_or}
+use Rattle.std.proofs.Common.{arith, ◌≡◌, ◌<◌, ◌+◌, ℕ, Bool, List, [], ◌∷◌, ◌++◌, map, take, length, get_or, Option, Some, None, refl, ap, sym, subst, ◌∙◌}
+use Rattle.std.specs.Prelude.{All, Contains, slice_index_or}
+use Rattle.serde_json.specs.Data.{Data, Members, no_members}
 use Rattle.std.specs.List.Sorted.{IsStrictlyIncreasing}
 use Rattle.std.proofs.lemmas.List.{get_or-map, length-map, map_push, take_all, take_more}
 use Rattle.std.proofs.lemmas.List.Elements.{All-get_or, All-nil, All-push}
@@ -13,15 +14,19 @@ use Rattle.star_plan.specs.Reached.{IsReached}
 use Rattle.star_plan.specs.Reading.{IsPlanOf}
 use Rattle.star_plan.specs.Report.{Ended as ReportEnded, HadFault, HadLoad, HadStatic, IsEnded, IsReport, Module as ReportModule, WentWell}
 use Rattle.star_plan.specs.Results.{IsFirstBad, IsGood, result}
-use Rattle.star_plan.specs.Text.{ended_data, module_data}
+use Rattle.star_plan.specs.Text.{ended_data}
 use Rattle.star_plan.proofs.Outcomes.{no_bad}
 use Rattle.star_plan.proofs.Stay.{good_is}
 use Rattle.star_cause.specs.Causes.{AreNextsOf}
 use Rattle.star_cause.specs.Ways.{Nexts}
 use Rattle.star_reading.specs.Codes.{fault_of}
 use Rattle.star_outcome.specs.Kept.{AreModules, AreModulesOf, KeptView}
+use Rattle.star_report.specs.Shelf.{more_of}
 use Rattle.star_report.specs.Shown.{AreShown, IsReportBut, IsReportOf, IsShown}
-use Rattle.star_outcome.specs.Views.{IsEnd, IsModule}
+use Rattle.star_report.specs.Wanted.{AreMore, Full, added, full_data, is_ok, is_shown, is_shown_by}
+use Rattle.star_report.specs.declared.wanted.Wanted.{Wanted}
+use Rattle.star_report.proofs.Stores.{more_is}
+use Rattle.star_outcome.specs.Views.{IsEnd, IsModule, ended_well}
 use Rattle.star_outcome.specs.declared.module.Ended.{Ended}
 use Rattle.star_outcome.specs.declared.module.Ended.TheVariants.{Static, Load as Unloaded, Stopped, Good}
 use Rattle.star_outcome.specs.declared.module.Module.{Module}
@@ -34,12 +39,12 @@ bad_load plan n index bad good = no_bad plan good.0 n good.1.0 index (good_is (r
 
 -- a value that shows how a file ended is that of its module in the report
 pub one_shown : (files : List File) (plan : Plan) (nexts : Nexts) (n : ℕ) (e : Ended) (v : Value) → IsPlanOf files plan → AreNextsOf plan nexts → IsReached plan n → IsEnd plan n e → IsShown files nexts n e v
-    → (r : ReportEnded) × IsEnded plan n r × (view v ≡ ended_data files (label_at files n) r)
-one_shown files plan nexts n (Static f) v planned are reached is shown = (HadStatic (fault_of f), is, shown)
+    → (r : ReportEnded) × IsEnded plan n r × (view v ≡ ended_data files (label_at files n) r) × (is_ok r ≡ ended_well e)
+one_shown files plan nexts n (Static f) v planned are reached is shown = (HadStatic (fault_of f), is, shown, refl)
 one_shown files plan nexts n (Unloaded index line) v planned are reached is shown =
-    (HadLoad shown.0 line, (shown.1 files plan planned are reached (bad_load plan n index is.0), (index, is.1.0, is.0, is.1.1, is.1.2)), shown.2)
-one_shown files plan nexts n (Stopped code line lines) v planned are reached is shown = (HadFault (record { code = code; line = line }) lines.items, is, shown)
-one_shown files plan nexts n (Good body) v planned are reached is shown = (WentWell (shown_texts body.shown.items) body.lines.items, (is.shelf, is.globals, is.outcome), shown)
+    (HadLoad shown.0 line, (shown.1 files plan planned are reached (bad_load plan n index is.0), (index, is.1.0, is.0, is.1.1, is.1.2)), shown.2, refl)
+one_shown files plan nexts n (Stopped code line lines) v planned are reached is shown = (HadFault (record { code = code; line = line }) lines.items, is, shown, refl)
+one_shown files plan nexts n (Good body) v planned are reached is shown = (WentWell (shown_texts body.shown.items) body.lines.items, (is.shelf, is.globals, is.outcome), shown, refl)
 
 -- ---- the modules that are kept
 
@@ -68,47 +73,76 @@ reached_at plan ks i d less are =
 
 -- ---- their values
 
-pub shown_none : (files : List File) (plan : Plan) (ks : List KeptView) → AreShown files plan (take 0 ks) []
-shown_none files plan ks = record { modules = []; numbers = refl; each_ended = All-nil (λ (m : ReportModule). IsEnded plan m.file m.ended); views = refl }
+pub shown_none : (wanted : Wanted) (files : List File) (plan : Plan) (ks : List KeptView) → AreShown wanted files plan (take 0 ks) [] []
+shown_none wanted files plan ks = record {
+  fulls = [];
+  numbers = refl;
+  each_ended = All-nil (λ (f : Full). IsEnded plan f.shown.file f.shown.ended);
+  more = All-nil (λ (f : Full). AreMore wanted plan f.shown.file f.more);
+  data_are = refl;
+  shown_are = refl;
+}
 
-shown_push : (files : List File) (plan : Plan) (ks : List KeptView) (vs : List Value) (k : KeptView) (v : Value) (r : ReportEnded) → IsEnded plan k.number r → view v ≡ ended_data files (label_at files k.number) r → AreShown files plan ks vs → AreShown files plan (ks ++ k ∷ []) (vs ++ v ∷ [])
-shown_push files plan ks vs k v r is seen was =
-    let m : ReportModule = record { file = k.number; ended = r } in
+pub shown_push : (wanted : Wanted) (files : List File) (plan : Plan) (ks : List KeptView) (ds : List Data) (bs : List Bool) (k : KeptView) (d : Data) (b : Bool) (r : ReportEnded) (ms : Members) → IsEnded plan k.number r → AreMore wanted plan k.number ms → d ≡ ended_data files (label_at files k.number) r
+    → b ≡ is_shown_by wanted plan.roots (is_ok r) k.number → AreShown wanted files plan ks ds bs → AreShown wanted files plan (ks ++ k ∷ []) (ds ++ added ms d ∷ []) (bs ++ b ∷ [])
+shown_push wanted files plan ks ds bs k d b r ms is more seen kept was =
+    let f : Full = record { shown = record { file = k.number; ended = r }; more = ms } in
     record {
-      modules = was.modules ++ m ∷ [];
-      numbers = map_push (λ (x : ReportModule). x.file) was.modules m ∙ (ap (λ ns. ns ++ k.number ∷ []) was.numbers ∙ sym (map_push (λ (x : KeptView). x.number) ks k));
-      each_ended = All-push (λ (x : ReportModule). IsEnded plan x.file x.ended) was.modules m was.each_ended is;
-      views = map_push view vs v ∙ (ap (λ ds. ds ++ view v ∷ []) was.views ∙ (ap (λ d. map (module_data files) was.modules ++ d ∷ []) seen ∙ sym (map_push (module_data files) was.modules m)));
+      fulls = was.fulls ++ f ∷ [];
+      numbers = map_push (λ (x : Full). x.shown.file) was.fulls f ∙ (ap (λ ns. ns ++ k.number ∷ []) was.numbers ∙ sym (map_push (λ (x : KeptView). x.number) ks k));
+      each_ended = All-push (λ (x : Full). IsEnded plan x.shown.file x.shown.ended) was.fulls f was.each_ended is;
+      more = All-push (λ (x : Full). AreMore wanted plan x.shown.file x.more) was.fulls f was.more more;
+      data_are = ap (λ xs. xs ++ added ms d ∷ []) was.data_are ∙ (ap (λ x. map (full_data files) was.fulls ++ added ms x ∷ []) seen ∙ sym (map_push (full_data files) was.fulls f));
+      shown_are = ap (λ xs. xs ++ b ∷ []) was.shown_are ∙ (ap (λ x. map (is_shown wanted plan) was.fulls ++ x ∷ []) kept ∙ sym (map_push (is_shown wanted plan) was.fulls f));
     }
 
-pub shown_more : (files : List File) (plan : Plan) (nexts : Nexts) (ks : List KeptView) (i : ℕ) (vs : List Value) (it : Module) (v : Value) → i < length ks → ((d : KeptView) → (slice_index_or ks i d).known ≡ Some it) → IsShown files nexts it.number it.ended v
-    → IsPlanOf files plan → AreModules plan ks → AreNextsOf plan nexts → AreShown files plan (take i ks) vs → AreShown files plan (take (i + 1) ks) (vs ++ v ∷ [])
-shown_more files plan nexts ks i vs it v less known shown planned are nexts_are was =
+pub shown_more : (wanted : Wanted) (files : List File) (plan : Plan) (nexts : Nexts) (ks : List KeptView) (i : ℕ) (ds : List Data) (bs : List Bool) (it : Module) (v : Value) (b : Bool) → i < length ks → ((d : KeptView) → (slice_index_or ks i d).known ≡ Some it) → IsShown files nexts it.number it.ended v
+    → b ≡ is_shown_by wanted plan.roots (ended_well it.ended) it.number
+    → IsPlanOf files plan → AreModules plan ks → AreNextsOf plan nexts → AreShown wanted files plan (take i ks) ds bs → AreShown wanted files plan (take (i + 1) ks) (ds ++ added (more_of wanted (length files) it) (view v) ∷ []) (bs ++ b ∷ [])
+shown_more wanted files plan nexts ks i ds bs it v b less known shown kept planned are nexts_are was =
     let k : KeptView = slice_index_or ks i no_note in
+    let ms : Members = more_of wanted (length files) it in
     let is : IsModule plan k.number it = module_at plan ks i it less known are no_note in
     let own : IsShown files nexts k.number it.ended v = subst (λ n. IsShown files nexts n it.ended v) is.number shown in
     let one = one_shown files plan nexts k.number it.ended v planned nexts_are (reached_at plan ks i no_note less are) is.ended own in
-    subst (λ xs. AreShown files plan xs (vs ++ v ∷ [])) (sym (take_more ks i no_note less)) (shown_push files plan (take i ks) vs k v one.0 one.1 one.2 was)
+    let here : b ≡ is_shown_by wanted plan.roots (is_ok one.0) k.number =
+    kept ∙ (ap (λ n. is_shown_by wanted plan.roots (ended_well it.ended) n) is.number ∙ ap (λ x. is_shown_by wanted plan.roots x k.number) (sym one.3)) in
+    subst (λ xs. AreShown wanted files plan xs (ds ++ added ms (view v) ∷ []) (bs ++ b ∷ [])) (sym (take_more ks i no_note less))
+    (shown_push wanted files plan (take i ks) ds bs k (view v) b one.0 ms one.1 (more_is wanted files plan k.number it planned is) one.2 here was)
 
-pub shown_all : (files : List File) (plan : Plan) (ks : List KeptView) (i : ℕ) (vs : List Value) → i ≡ length ks → AreShown files plan (take i ks) vs → AreShown files plan ks vs
-shown_all files plan ks i vs end was = subst (λ xs. AreShown files plan xs vs) (take_all i ks (let e : i ≡ length ks = end in omega arith)) was
+pub shown_all : (wanted : Wanted) (files : List File) (plan : Plan) (ks : List KeptView) (i : ℕ) (ds : List Data) (bs : List Bool) → i ≡ length ks → AreShown wanted files plan (take i ks) ds bs → AreShown wanted files plan ks ds bs
+shown_all wanted files plan ks i ds bs end was = subst (λ xs. AreShown wanted files plan xs ds bs) (take_all i ks (let e : i ≡ length ks = end in omega arith)) was
 
 -- ---- the report
 
-pub report_shown : (files : List File) (plan : Plan) (ks : List KeptView) (vs : List Value) → AreModules plan ks → (shown : AreShown files plan ks vs) → IsReport plan (length ks) shown.modules
-report_shown files plan ks vs are shown =
-    let ms : List ReportModule = shown.modules in
-    let count : length ks ≡ length ms = sym (length-map ks (λ (k : KeptView). k.number)) ∙ (ap length (sym shown.numbers) ∙ length-map ms (λ (m : ReportModule). m.file)) in
+numbers_in : (fs : List Full) → map (λ (m : ReportModule). m.file) (map (λ (f : Full). f.shown) fs) ≡ map (λ (f : Full). f.shown.file) fs
+numbers_in [] = refl
+numbers_in (f ∷ fs) = ap (λ ns. f.shown.file ∷ ns) (numbers_in fs)
+
+ends_in : (plan : Plan) (fs : List Full) → All (λ (f : Full). IsEnded plan f.shown.file f.shown.ended) fs → All (λ (m : ReportModule). IsEnded plan m.file m.ended) (map (λ (f : Full). f.shown) fs)
+ends_in plan fs h = λ k d less. (
+    let count = length-map fs (λ (f : Full). f.shown) in
+    let f : Full = record { shown = d; more = no_members } in
+    let inside : k < length fs = omega (arith, less, count) in
+    subst (λ (m : ReportModule). IsEnded plan m.file m.ended) (sym (get_or-map (λ (x : Full). x.shown) fs k f d inside)) (h k f inside)
+    )
+
+pub report_shown : (wanted : Wanted) (files : List File) (plan : Plan) (ks : List KeptView) (ds : List Data) (bs : List Bool) → AreModules plan ks → (shown : AreShown wanted files plan ks ds bs) → IsReport plan (length ks) (map (λ (f : Full). f.shown) shown.fulls)
+report_shown wanted files plan ks ds bs are shown =
+    let fs : List Full = shown.fulls in
+    let ms : List ReportModule = map (λ (f : Full). f.shown) fs in
+    let numbers : map (λ (m : ReportModule). m.file) ms ≡ map (λ (k : KeptView). k.number) ks = numbers_in fs ∙ shown.numbers in
+    let count : length ks ≡ length ms = sym (length-map ks (λ (k : KeptView). k.number)) ∙ (ap length (sym numbers) ∙ length-map ms (λ (m : ReportModule). m.file)) in
     record {
       begun_are = count;
-      in_order = subst IsStrictlyIncreasing (sym shown.numbers) are.in_order;
-      all = λ n. (λ r. subst (λ ns. Contains ns n) (sym shown.numbers) ((are.reached n).0 r), λ h. (are.reached n).1 (subst (λ ns. Contains ns n) shown.numbers h));
-      each_ended = shown.each_ended;
+      in_order = subst IsStrictlyIncreasing (sym numbers) are.in_order;
+      all = λ n. (λ r. subst (λ ns. Contains ns n) (sym numbers) ((are.reached n).0 r), λ h. (are.reached n).1 (subst (λ ns. Contains ns n) numbers h));
+      each_ended = ends_in plan fs shown.each_ended;
     }
 
 -- where as many files were begun as are reached, the text is that of the report
-pub report_of : (files : List File) (roots : List ℕ) (prelude : Option ℕ) (steps : ℕ) (ks : List KeptView) (begun : ℕ) (text : List ℕ) → begun ≡ length ks → AreModulesOf files roots prelude steps ks
-    → ((plan : Plan) → IsPlanOf files plan → AreModules plan ks → IsReportBut files plan (length ks) begun text) → IsReportOf files roots prelude steps text
-report_of files roots prelude steps ks begun text count (plan, planned, of_roots, of_prelude, of_steps, are) writes =
-    let but = writes plan planned are in
-    (plan, planned, of_roots, of_prelude, of_steps, (begun, but.0, subst (λ b. IsReport plan b but.0) (sym count) but.1, but.2))
+pub report_of : (wanted : Wanted) (files : List File) (roots : List ℕ) (prelude : Option ℕ) (steps : ℕ) (ks : List KeptView) (begun : ℕ) (text : List ℕ) → begun ≡ length ks → AreModulesOf files roots prelude steps ks
+    → ((plan : Plan) → IsPlanOf files plan → plan.roots ≡ roots → AreModules plan ks → IsReportBut wanted files plan (length ks) begun text) → IsReportOf wanted files roots prelude steps text
+report_of wanted files roots prelude steps ks begun text count (plan, planned, of_roots, of_prelude, of_steps, are) writes =
+    let but = writes plan planned of_roots are in
+    (plan, planned, of_roots, of_prelude, of_steps, record { begun = begun; fulls = but.fulls; report = subst (λ b. IsReport plan b (map (λ (f : Full). f.shown) but.fulls)) (sym count) but.report; more = but.more; text_is = but.text_is })

@@ -1,32 +1,40 @@
 -- The pages of a report: modules, and their texts.
-use Rattle.std.specs.Prelude.{◌≡◌, ◌<◌, ℕ, List, [], ◌∷◌, ◌++◌, Bool, false, true, Option, Some, None, IfSome, String, codes, decimal, length, slice_index_or, string_bytes}
+use Rattle.std.specs.Prelude.{◌≡◌, ◌<◌, ℕ, List, [], ◌∷◌, ◌++◌, Bool, false, true, Option, Some, None, IfSome, String, codes, decimal, filter, length, map, nat_eq, slice_index_or, string_bytes}
+use Rattle.std.specs.List.{list_any}
 use Rattle.serde_json.specs.View.{view}
 use Rattle.serde_json.specs.Written.{comma_if, compact_text, has_float}
 use Rattle.serde_json.specs.declared.value.Value.{Value}
 use Rattle.star_label.specs.Files.{File}
 use Rattle.star_cause.specs.Ways.{Nexts}
+use Rattle.star_report.specs.Shelf.{more_of}
 use Rattle.star_report.specs.Shown.{IsShown}
+use Rattle.star_report.specs.Wanted.{added, is_shown_by}
+use Rattle.star_report.specs.declared.wanted.Wanted.{Wanted}
+use Rattle.star_outcome.specs.Views.{ended_well}
 use Rattle.star_outcome.specs.declared.module.Module.{Module}
 use Rattle.star_report.specs.declared.pages.Page.{Page}
 
--- a text is that of a value which shows a module
-abbrev pub IsTextOf : List File → Nexts → Module → List ℕ → Type 0
-IsTextOf files nexts m text =
-    (v : Value) × IsShown files nexts m.number m.ended v × (has_float (view v) ≡ false → text ≡ compact_text (view v))
+-- a text is that of a value which shows a module, with what is wanted more of it
+abbrev pub IsTextOf : Wanted → List File → Nexts → Module → List ℕ → Type 0
+IsTextOf wanted files nexts m text =
+    (v : Value) × IsShown files nexts m.number m.ended v
+    × (has_float (added (more_of wanted (length files) m) (view v)) ≡ false
+    → text ≡ compact_text (added (more_of wanted (length files) m) (view v)))
 
 -- the module that a page is about, as what a note of it knows
 abbrev pub known_of : Page → Option Module
 known_of p = Some p.about.now
 
 -- a page was written: where it has a text, that is its module's
-pub record IsWritten (files : List File) (nexts : Nexts) (old new : Page) : Type 0 where
+pub record IsWritten (wanted : Wanted) (files : List File) (nexts : Nexts) (old new : Page) : Type 0 where
   pub same : new.about ≡ old.about
-  pub text : IfSome new.text (λ s. IsTextOf files nexts new.about.now (string_bytes s))
+  pub shown : new.shown ≡ old.shown
+  pub text : IfSome new.text (λ s. IsTextOf wanted files nexts new.about.now (string_bytes s))
 
 -- each page of a row was written
-abbrev pub AreWritten : List File → Nexts → List Page → List Page → Type 0
-AreWritten files nexts old new =
-    (i : ℕ) (d : Page) → i < length old → IsWritten files nexts (slice_index_or old i d) (slice_index_or new i d)
+abbrev pub AreWritten : Wanted → List File → Nexts → List Page → List Page → Type 0
+AreWritten wanted files nexts old new =
+    (i : ℕ) (d : Page) → i < length old → IsWritten wanted files nexts (slice_index_or old i d) (slice_index_or new i d)
 
 abbrev pub text_in : {Z : Type 0} → Option (String Z) → List ℕ
 text_in None = []
@@ -34,6 +42,18 @@ text_in (Some s) = string_bytes s
 
 abbrev pub page_text : Page → List ℕ
 page_text p = text_in p.text
+
+-- the texts of the pages that are shown
+abbrev pub shown_texts_of : List Page → List (List ℕ)
+shown_texts_of ps = map page_text (filter (λ p. p.shown) ps)
+
+-- each file is marked that is a root, and no other
+abbrev pub AreMarked : List ℕ → List Bool → Type 0
+AreMarked roots marks = (n : ℕ) → n < length marks → slice_index_or marks n false ≡ list_any (nat_eq n) roots
+
+-- whether a page says right whether its module is shown
+abbrev pub SaysShown : Wanted → List ℕ → Page → Type 0
+SaysShown wanted roots p = p.shown ≡ is_shown_by wanted roots (ended_well p.about.now.ended) p.about.now.number
 
 -- texts with a comma before each but the first, where none stands before them
 abbrev pub listed : Bool → List (List ℕ) → List ℕ

@@ -1,20 +1,22 @@
 -- How modules are shown in the report.
-use Rattle.std.specs.Prelude.{◌≡◌, ℕ, List, [], map, codes, Option}
+use Rattle.std.specs.Prelude.{◌≡◌, ℕ, Bool, List, [], map, codes, Option}
 use Rattle.std.specs.List.{All}
-use Rattle.serde_json.specs.Data.{string}
+use Rattle.serde_json.specs.Data.{Data, string}
 use Rattle.serde_json.specs.View.{view}
 use Rattle.serde_json.specs.declared.value.Value.{Value}
 use Rattle.star_label.specs.Files.{File, label_at}
 use Rattle.star_plan.specs.Causes.{Cause}
 use Rattle.star_plan.specs.Plan.{Plan}
 use Rattle.star_plan.specs.Reading.{IsPlanOf}
-use Rattle.star_plan.specs.Report.{IsEnded, IsReport, Module}
-use Rattle.star_plan.specs.Text.{IsReportText, code_word, ill_data, load_data, module_data, report_text, static_line, static_word, well_data}
+use Rattle.star_plan.specs.Report.{IsEnded, IsReport}
+use Rattle.star_plan.specs.Text.{code_word, ill_data, load_data, static_line, static_word, well_data}
 use Rattle.star_cause.specs.Causes.{IsCauseBy}
 use Rattle.star_cause.specs.Ways.{Nexts}
 use Rattle.star_outcome.specs.Views.{shown_texts}
 use Rattle.star_reading.specs.Codes.{fault_of}
 use Rattle.star_outcome.specs.Kept.{KeptView}
+use Rattle.star_report.specs.Wanted.{AreMore, Full, IsFullText, full_data, full_text, is_shown}
+use Rattle.star_report.specs.declared.wanted.Wanted.{Wanted}
 use Rattle.star_outcome.specs.declared.module.Ended.{Ended}
 use Rattle.star_outcome.specs.declared.module.Ended.TheVariants.{Static, Load as Unloaded, Stopped, Good}
 
@@ -34,21 +36,29 @@ IsShown files nexts n (Stopped code line lines) v =
 IsShown files nexts n (Good body) v =
     view v ≡ well_data (label_at files n) (shown_texts body.shown.items) body.lines.items
 
--- these values are the modules of a plan of these files, each as it ended: of the files of these notes, in their order
-pub record AreShown (files : List File) (plan : Plan) (ks : List KeptView) (vs : List Value) : Type 0 where
-  pub modules : List Module
-  pub numbers : map (λ m. m.file) modules ≡ map (λ k. k.number) ks
-  pub each_ended : All (λ m. IsEnded plan m.file m.ended) modules
-  pub views : map view vs ≡ map (module_data files) modules
+-- these data are the modules of a plan of these files, each as it ended, with what is wanted more of it, and whether it
+-- is shown: of the files of these notes, in their order
+pub record AreShown (wanted : Wanted) (files : List File) (plan : Plan) (ks : List KeptView) (ds : List Data)
+    (shown : List Bool) : Type 0 where
+  pub fulls : List Full
+  pub numbers : map (λ f. f.shown.file) fulls ≡ map (λ k. k.number) ks
+  pub each_ended : All (λ f. IsEnded plan f.shown.file f.shown.ended) fulls
+  pub more : All (λ f. AreMore wanted plan f.shown.file f.more) fulls
+  pub data_are : ds ≡ map (full_data files) fulls
+  pub shown_are : shown ≡ map (is_shown wanted plan) fulls
 
 -- a text is that of the report of a plan, in which so many files are reached, but that it says how many were begun;
--- where as many are begun as are reached, it is that of the report (`IsReportText`)
-abbrev pub IsReportBut : List File → Plan → ℕ → ℕ → List ℕ → Type 0
-IsReportBut files plan reached begun text =
-    (modules : List Module) × IsReport plan reached modules × (text ≡ report_text files begun modules)
+-- where as many are begun as are reached, it is that of the report with what is wanted (`IsFullText`)
+pub record IsReportBut (wanted : Wanted) (files : List File) (plan : Plan) (reached begun : ℕ) (text : List ℕ) : Type 0
+  where
+    pub fulls : List Full
+    pub report : IsReport plan reached (map (λ f. f.shown) fulls)
+    pub more : All (λ f. AreMore wanted plan f.shown.file f.more) fulls
+    pub text_is : text ≡ full_text wanted files plan begun fulls
 
--- a text is that of the report of the plan that files have for roots, a prelude and a number of steps
-abbrev pub IsReportOf : List File → List ℕ → Option ℕ → ℕ → List ℕ → Type 0
-IsReportOf files roots prelude steps text =
+-- a text is that of the report of the plan that files have for roots, a prelude and a number of steps, with what is
+-- wanted
+abbrev pub IsReportOf : Wanted → List File → List ℕ → Option ℕ → ℕ → List ℕ → Type 0
+IsReportOf wanted files roots prelude steps text =
     (plan : Plan) × IsPlanOf files plan × (plan.roots ≡ roots) × (plan.prelude ≡ prelude) × (plan.steps ≡ steps)
-    × IsReportText files plan text
+    × IsFullText wanted files plan text

@@ -1,8 +1,9 @@
 use Rattle.std.proofs.Common.{◌≡◌, ◌∙◌, List, arith, ap, sym, subst, length, map, string_bytes}
 use Rattle.std.proofs.lemmas.Result.{IfOk-weaker}
+use Rattle.std.specs.Prelude.{All}
 use Rattle.star_cause.specs.Causes.{AreNextsOf}
-use Rattle.star_outcome.specs.Kept.{AreModules, KeptView}
-use Rattle.star_report.specs.Pages.{AreWritten}
+use Rattle.star_outcome.specs.Kept.{KeptView}
+use Rattle.star_report.specs.Pages.{AreMarked, AreWritten, SaysShown}
 use Rattle.star_report.specs.Shown.{IsReportBut}
 use Rattle.star_report.specs.declared.pages.Page.{Page}
 use Rattle.star_outcome.proofs.Lent.{written_back}
@@ -11,6 +12,7 @@ use Rattle.star_report.proofs.pages.report.Goals as goal
 
 pub returns-clause-text : goal.returns-clause-text
 returns-clause-text g c =
+    let wanted = c.args.wanted in
     let files = c.args.files.now in
     let ks = c.args.run.now.kept in
     let nexts = c.in_ok-causes.causes in
@@ -18,14 +20,15 @@ returns-clause-text g c =
     let new : List Page = c.as_slice.result.now in
     let same : c.kept.new.self ≡ c.args.run.now = c.in_ok-kept.ensures.same ∙ c.in_ok-nexts.ensures.same in
     let known = c.in_ok-pages.ensures.known ∙ ap (λ r. map (λ (k : KeptView). k.known) r.kept) same in
+    let marked : AreMarked c.args.roots.now c.deref.result.now = subst (AreMarked c.args.roots.now) (sym c.deref.ensures.value) c.in_ok-marks.ensures.marks in
     let lent = ap length c.as_mut_slice-2.ensures.value in
     let long : length c.write_pages.new.pages ≡ c.in_ok-pages.pages.len = omega (arith, c.write_pages.auto.pages, c.as_mut_slice-2.ensures.len) in
     let back : c.as_slice.result.now ≡ c.write_pages.new.pages = c.as_slice.ensures.value ∙ written_back c.in_ok-pages.pages.len c.write_pages.new.pages _ long in
-    let written : AreWritten files nexts old new =
-    subst (AreWritten files nexts old) (sym back) (subst (λ (o : List Page). AreWritten files nexts o c.write_pages.new.pages) c.as_mut_slice-2.ensures.value c.write_pages.ensures) in
+    let written : AreWritten wanted files nexts old new =
+    subst (AreWritten wanted files nexts old) (sym back) (subst (λ (o : List Page). AreWritten wanted files nexts o c.write_pages.new.pages) c.as_mut_slice-2.ensures.value c.write_pages.ensures) in
     let as_long : length new ≡ length old = omega (arith, ap length back, c.write_pages.auto.pages, lent) in
-    IfOk-weaker c.joined.result _ _ (λ s h plan planned are.
+    IfOk-weaker c.joined.result _ _ (λ s h plan planned of_roots are.
     let fails = c.in_ok-nexts.ensures.fails files plan planned are in
-    subst (λ b. IsReportBut files plan (length ks) b (string_bytes s)) (c.begun.ensures ∙ ap (λ r. r.begun) same)
-    (pages_text files plan nexts ks old new c.begun.result (string_bytes s) known written as_long h.0 h.1 planned are (subst (AreNextsOf plan) (sym c.in_ok-causes.ensures) fails)))
+    subst (λ b. IsReportBut wanted files plan (length ks) b (string_bytes s)) (c.begun.ensures ∙ ap (λ r. r.begun) same)
+    (pages_text wanted files plan nexts ks old new c.begun.result (string_bytes s) known (subst (λ rs. All (SaysShown wanted rs) old) (sym of_roots) (c.in_ok-pages.ensures.shown c.args.roots.now marked)) written as_long h.0 h.1 planned are (subst (AreNextsOf plan) (sym c.in_ok-causes.ensures) fails)))
     (both_ok c.joined.result _ _ c.joined.ensures.written c.joined.ensures.text)

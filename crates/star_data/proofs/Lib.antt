@@ -1,0 +1,4 @@
+pub mod Options
+pub mod Stays
+pub mod Parts
+pub mod Builds

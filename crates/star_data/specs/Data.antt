@@ -1,0 +1,58 @@
+-- Values as data: the JSON that stands for a value, where one does.
+use Rattle.std.specs.Prelude.{ℕ, zero, suc, List, [], ◌∷◌, Option, Some, None, slice_get}
+use Rattle.std.specs.Option.{option_and_then, option_map}
+use Rattle.serde_json.specs.Data.{Data, Items, Members, array, boolean, item, no_items, no_members, null, number, object, put, string}
+use Rattle.serde_json.specs.Find.{of_integer}
+use Rattle.star_store.specs.declared.values.Value.{Value}
+use Rattle.star_store.specs.declared.values.Value.TheVariants as value
+use Rattle.star_store.specs.declared.values.Cell.{Cell}
+use Rattle.star_store.specs.declared.values.Cell.TheVariants as cell
+use Rattle.star_store.specs.Store.{Shelf, published_cells}
+
+-- rows whose items are all data
+abbrev pub items_data : (Value → Option Data) → List Value → Option Items
+items_data f [] = Some no_items
+items_data f (x ∷ xs) = option_and_then (λ d. option_map (item d) (items_data f xs)) (f x)
+
+-- the cell of a value that has one
+abbrev pub cell_of : (Value → Option Cell) → Value → Option Cell
+cell_of look (value.Ref h a) = look (value.Ref h a)
+cell_of look _ = None
+
+-- the bytes of a string
+abbrev pub text_in : Option Cell → Option (List ℕ)
+text_in (Some (cell.Text t)) = Some t
+text_in _ = None
+
+-- entries whose keys are all strings and whose values are all data: each at its key, in byte order of the keys
+abbrev pub entries_data : (Value → Option Cell) → (Value → Option Data) → List (Value × Value) → Option Members
+entries_data look f [] = Some no_members
+entries_data look f (e ∷ es) =
+    option_and_then (λ k. option_and_then (λ d. option_map (put k d) (entries_data look f es)) (f e.1))
+    (text_in (cell_of look e.0))
+
+-- strings, lists and tuples of data, dictionaries; nothing else
+abbrev pub cell_data : (Value → Option Cell) → (Value → Option Data) → Option Cell → Option Data
+cell_data look f (Some (cell.Text t)) = Some (string t)
+cell_data look f (Some (cell.Tuple xs)) = option_map array (items_data f xs)
+cell_data look f (Some (cell.List xs)) = option_map array (items_data f xs)
+cell_data look f (Some (cell.Dict es)) = option_map object (entries_data look f es)
+cell_data look f _ = None
+
+-- None, bools, ints, and what has a cell that is data; a built-in function is none
+abbrev pub value_data : (Value → Option Cell) → (Value → Option Data) → Value → Option Data
+value_data look f value.NoneValue = Some null
+value_data look f (value.Bool b) = Some (boolean b)
+value_data look f (value.Int n) = Some (number (of_integer n))
+value_data look f (value.Ref h a) = cell_data look f (look (value.Ref h a))
+value_data look f _ = None
+
+-- the data of a value that nests less deep than this
+unfoldable pub data_of : (Value → Option Cell) → ℕ → Value → Option Data
+data_of look zero v = None
+data_of look (suc depth) v = value_data look (data_of look depth) v
+
+-- what a value leads to among published modules alone
+abbrev pub on_shelf : Shelf → Value → Option Cell
+on_shelf shelf (value.Ref home at) = option_map (λ e. e.cell) (slice_get (published_cells (slice_get shelf home)) at)
+on_shelf shelf _ = None

@@ -1,0 +1,33 @@
+-- Laws of values as data.
+use Rattle.std.specs.Prelude.{◌≡◌, ◌≤◌, ℕ, suc, Option, Some}
+use Rattle.serde_json.specs.Data.{Data}
+use Rattle.star_store.specs.declared.values.Value.{Value}
+use Rattle.star_store.specs.declared.values.Cell.{Cell}
+use Rattle.star_data.specs.Data.{data_of}
+use Rattle.star_data.specs.Parts.{IsOpaque, IsPart, StandsIn}
+
+-- data stays where cells stay, and at every greater depth
+abbrev pub DataStays : Type 0
+DataStays =
+    (look see : Value → Option Cell) → ((v : Value) (c : Cell) → look v ≡ Some c → see v ≡ Some c)
+    → (n m : ℕ) (v : Value) (d : Data) → n ≤ m → data_of look n v ≡ Some d → data_of see m v ≡ Some d
+
+-- a value has one data at all depths at which it has any
+abbrev pub OneData : Type 0
+OneData = (look : Value → Option Cell) (n m : ℕ) (v : Value) (d e : Data) → data_of look n v ≡ Some d
+    → data_of look m v ≡ Some e → d ≡ e
+
+-- the parts of what is data are data, at one depth less
+abbrev pub PartsAreData : Type 0
+PartsAreData = (look : Value → Option Cell) (n : ℕ) (v x : Value) (d : Data) → data_of look (suc n) v ≡ Some d
+    → IsPart look v x → (e : Data) × (data_of look n x ≡ Some e)
+
+-- nothing that stands in what is data is a function, a range, or a dictionary with a key that is no string
+abbrev pub DataIsPlain : Type 0
+DataIsPlain = (look : Value → Option Cell) (n k : ℕ) (v x : Value) (d : Data) → data_of look n v ≡ Some d
+    → StandsIn look k v x → IsOpaque look x → ⊥
+
+-- what stands in itself is no data
+abbrev pub NoCycleIsData : Type 0
+NoCycleIsData = (look : Value → Option Cell) (n k : ℕ) (v : Value) (d : Data) → StandsIn look (suc k) v v
+    → data_of look n v ≡ Some d → ⊥

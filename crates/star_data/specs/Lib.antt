@@ -1,0 +1,4 @@
+pub mod Data
+pub mod Parts
+pub mod Paths
+pub mod Laws

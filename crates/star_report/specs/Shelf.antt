@@ -1,0 +1,47 @@
+-- What is found of a module on the shelf of its stores.
+use Rattle.std.specs.Prelude.{ℕ, Bool, List, [], ◌∷◌, Option, Some, None, fold, map, slice_get, string_bytes, if◌then◌else◌}
+use Rattle.std.specs.Option.{option_flatten}
+use Rattle.serde_json.specs.Data.{Data, Members, no_members}
+use Rattle.star_store.specs.declared.values.Value.{Value}
+use Rattle.star_store.specs.Store.{Published, Shelf, Store, look}
+use Rattle.star_outcome.specs.Homes.{seated}
+use Rattle.star_outcome.specs.Reaches.{row_of}
+use Rattle.star_outcome.specs.declared.module.Body.{Body}
+use Rattle.star_report.specs.Values.{global_data, value_members_by}
+use Rattle.star_outcome.specs.declared.module.Ended.{Ended}
+use Rattle.star_outcome.specs.declared.module.Ended.TheVariants.{Good}
+use Rattle.star_outcome.specs.declared.module.Module.{Module}
+use Rattle.star_report.specs.declared.wanted.Wanted.{Wanted}
+
+-- the globals of a published module
+abbrev pub globals_in : Option Published → List (List ℕ × Value)
+globals_in None = []
+globals_in (Some p) = p.globals
+
+-- a name, where it is one of those sought
+abbrev pub name_if : Bool → List ℕ → List (List ℕ)
+name_if b name = if b then name ∷ [] else []
+
+-- the stores of a module as a shelf
+abbrev pub shelf_in : Body → Shelf
+shelf_in b = fold seated [] (row_of b.stores)
+
+-- the names of its globals
+abbrev pub names_of : Body → List (List ℕ)
+names_of b = map (λ g. string_bytes g.0) b.shown.items
+
+-- a global of the file n as data, by its name, where the file's store is on a shelf
+abbrev pub among_data : Store → Shelf → ℕ → List ℕ → Option Data
+among_data s shelf n = global_data (look s shelf) (globals_in (option_flatten (slice_get shelf n)))
+
+-- the same by the stores of a module: where there are so many files, none has that number
+abbrev pub stored_data : ℕ → ℕ → Body → List ℕ → Option Data
+stored_data files n b = among_data (record { home = files; cells = [] }) (shelf_in b) n
+
+abbrev pub values_in : ℕ → ℕ → Ended → Members
+values_in files n (Good b) = value_members_by (stored_data files n b) (names_of b)
+values_in files n e = no_members
+
+-- what is wanted more of a module, by its stores
+abbrev pub more_of : Wanted → ℕ → Module → Members
+more_of wanted files m = if wanted.values then values_in files m.number m.ended else no_members

@@ -1,0 +1,74 @@
+-- The report with what is wanted more of each module.
+use Rattle.std.specs.Prelude.{◌≡◌, ℕ, Bool, true, false, not, ◌||◌, nat_eq, List, ◌∷◌, ◌++◌, [], codes, map}
+use Rattle.std.specs.List.{All, filter, list_any}
+use Rattle.serde_json.specs.Data.{Data, Members, array, member, no_members, number, object, put, unsigned}
+use Rattle.serde_json.specs.View.{items_of}
+use Rattle.serde_json.specs.Written.{compact_text}
+use Rattle.star_label.specs.Files.{File}
+use Rattle.star_plan.specs.Plan.{Plan}
+use Rattle.star_plan.specs.Report.{Ended, IsReport, Module, WentWell}
+use Rattle.star_plan.specs.Results.{IsOutcome, Outcome}
+use Rattle.star_plan.specs.Text.{module_data}
+use Rattle.star_report.specs.Values.{value_members}
+use Rattle.star_report.specs.declared.wanted.Wanted.{Wanted}
+
+-- nothing more, of all modules
+abbrev pub nothing_more : Wanted
+nothing_more = record { values = false; only_roots = false }
+
+-- the values of a module, and the names of those that are no data
+abbrev pub HasValues : Plan → ℕ → Members → Type 0
+HasValues plan n ms = (o : Outcome) × IsOutcome plan n o × (ms ≡ value_members o)
+
+-- members of one kind: those that are wanted, or none
+abbrev pub AreWanted : Bool → (Members → Type 0) → Members → Type 0
+AreWanted true P ms = P ms
+AreWanted false P ms = ms ≡ no_members
+
+-- the further members of a file's module
+abbrev pub AreMore : Wanted → Plan → ℕ → Members → Type 0
+AreMore wanted plan n ms = AreWanted wanted.values (HasValues plan n) ms
+
+-- an object with one member more, in its place
+abbrev pub put_in : List ℕ → Data → Data → Data
+put_in k e (object ms) = object (put k e ms)
+put_in k e d = d
+
+-- an object with further members
+abbrev pub added : Members → Data → Data
+added no_members d = d
+added (member k e ms) d = added ms (put_in k e d)
+
+-- a module of the report with its further members
+pub record Full : Type 0 where
+  pub shown : Module
+  pub more : Members
+
+abbrev pub full_data : List File → Full → Data
+full_data files f = added f.more (module_data files f.shown)
+
+-- whether a module went well
+abbrev pub is_ok : Ended → Bool
+is_ok (WentWell texts lines) = true
+is_ok e = false
+
+-- whether a module of a file is shown: all are, or the roots and what is not ok
+abbrev pub is_shown_by : Wanted → List ℕ → Bool → ℕ → Bool
+is_shown_by wanted roots ok n = not wanted.only_roots || (not ok || list_any (nat_eq n) roots)
+
+abbrev pub is_shown : Wanted → Plan → Full → Bool
+is_shown wanted plan f = is_shown_by wanted plan.roots (is_ok f.shown.ended) f.shown.file
+
+unfoldable pub full_text : Wanted → List File → Plan → ℕ → List Full → List ℕ
+full_text wanted files plan begun fulls =
+    compact_text (object (member (codes "begun") (number (unsigned begun))
+    (member (codes "modules") (array (items_of (map (full_data files) (filter (is_shown wanted plan) fulls))))
+    no_members))) ++ 10 ∷ []
+
+-- a text is the report of a plan, with what is wanted
+pub record IsFullText (wanted : Wanted) (files : List File) (plan : Plan) (text : List ℕ) : Type 0 where
+  pub begun : ℕ
+  pub fulls : List Full
+  pub report : IsReport plan begun (map (λ f. f.shown) fulls)
+  pub more : All (λ f. AreMore wanted plan f.shown.file f.more) fulls
+  pub text_is : text ≡ full_text wanted files plan begun fulls
