@@ -6,6 +6,10 @@ mod cache;
 #[cfg(test)]
 mod flow;
 #[cfg(test)]
+mod held;
+#[cfg(test)]
+mod library;
+#[cfg(test)]
 mod meeting;
 #[cfg(test)]
 mod runs;
@@ -13,3 +17,9 @@ mod runs;
 mod tests;
 #[cfg(test)]
 mod together;
+#[cfg(test)]
+mod traces;
+#[cfg(test)]
+mod twice;
+#[cfg(test)]
+mod wanted;

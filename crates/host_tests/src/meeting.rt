@@ -46,6 +46,16 @@ impl Meeting {
         self.alone.load(Ordering::SeqCst)
     }
 
+    /// The body of a file comes, or another event by that number.
+    pub fn come(&self, n: usize) {
+        self.come.fetch_or(bit(n), Ordering::SeqCst);
+    }
+
+    /// Whether the body of a file has come, after some time.
+    pub fn has_come(&self, n: usize) -> bool {
+        self.have_come(bit(n))
+    }
+
     /// Whether all these have come, after some time.
     fn have_come(&self, awaited: u64) -> bool {
         for _ in 0..self.looks {
@@ -61,10 +71,47 @@ impl Meeting {
 impl Gate for Meeting {
     fn before_body(&self, _loader: usize, n: usize) {
         self.bodies.fetch_add(1, Ordering::SeqCst);
-        self.come.fetch_or(bit(n), Ordering::SeqCst);
+        self.come(n);
         let awaited = if n < 4 { self.awaited[n] } else { 0 };
         if !self.have_come(awaited) {
             self.alone.fetch_add(1, Ordering::SeqCst);
+        }
+    }
+}
+
+/// A gate that counts the bodies of each of the first files.
+#[derive(Drop)]
+pub struct Counting {
+    bodies: [AtomicU64; 4],
+}
+
+impl Counting {
+    /// No body has come yet.
+    pub fn new() -> Counting {
+        Counting {
+            bodies: [
+                AtomicU64::new(0),
+                AtomicU64::new(0),
+                AtomicU64::new(0),
+                AtomicU64::new(0),
+            ],
+        }
+    }
+
+    /// How many bodies of each file have come.
+    pub fn counts(&self) -> [u64; 4] {
+        let mut counts = [0; 4];
+        for n in 0..4 {
+            counts[n] = self.bodies[n].load(Ordering::SeqCst);
+        }
+        counts
+    }
+}
+
+impl Gate for Counting {
+    fn before_body(&self, _loader: usize, n: usize) {
+        if n < 4 {
+            self.bodies[n].fetch_add(1, Ordering::SeqCst);
         }
     }
 }

@@ -7,6 +7,7 @@ use star_host::{Run, run};
 use star_label::files::Files;
 use star_label::label::Label;
 use star_report::report::report;
+use star_report::wanted::Wanted;
 use std::alloc::{AllocError, Global};
 use std::collections::BTreeMap;
 use std::sync::Wait;
@@ -111,5 +112,5 @@ pub fn report_of<R: Threads + Wait + Sync>(
 {
     let files = files_of(alloc, bundle)?;
     let mut run = run_all(rt, alloc, &files, loaders, &Open)?;
-    Ok(report(rt, alloc, &files, &mut run, loaders)?)
+    Ok(report(rt, alloc, &files, &mut run, &[], Wanted::NOTHING, loaders)?)
 }

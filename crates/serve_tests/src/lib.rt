@@ -2,4 +2,6 @@
 #![tactic(auto)]
 
 #[cfg(test)]
+mod cut;
+#[cfg(test)]
 mod tests;

@@ -15,7 +15,7 @@ use star_folder::folder::{Folder, FolderError, Kind};
 use star_folder::memory::{MemoryFolder, Row};
 use star_label::label::Label;
 use star_serve::dir::serve_dir;
-use star_serve::serve::{Options, serve};
+use star_serve::serve::{Options, Wanted, serve};
 use star_serve::stream::{Failed, Sink, Source};
 use std::alloc::{AllocError, Global};
 use std::collections::BTreeMap;
@@ -38,7 +38,7 @@ struct Case {
 
 /// Gives bytes, at most so many at a time. The read with a given number fails, counted from 0.
 #[derive(Drop)]
-struct Script<'a> {
+pub(crate) struct Script<'a> {
     rest: &'a [u8],
     piece: usize,
     calls: usize,
@@ -89,8 +89,8 @@ impl Source for Spaces {
 
 /// Keeps what it takes. The write with a given number fails, counted from 0.
 #[derive(Drop)]
-struct Kept {
-    bytes: Vec<u8>,
+pub(crate) struct Kept {
+    pub bytes: Vec<u8>,
     calls: usize,
     fails_at: usize,
     failed: u64,
@@ -116,9 +116,9 @@ impl Sink for Kept {
 }
 
 /// More calls than are made: none fails.
-const NEVER: usize = 1_000_000;
+pub(crate) const NEVER: usize = 1_000_000;
 
-fn scripted(bytes: &[u8], piece: usize, fails_at: usize) -> Script<'_> {
+pub(crate) fn scripted(bytes: &[u8], piece: usize, fails_at: usize) -> Script<'_> {
     Script {
         rest: bytes,
         piece,
@@ -129,7 +129,7 @@ fn scripted(bytes: &[u8], piece: usize, fails_at: usize) -> Script<'_> {
     }
 }
 
-fn writer_of(alloc: Global, fails_at: usize) -> Kept {
+pub(crate) fn writer_of(alloc: Global, fails_at: usize) -> Kept {
     Kept {
         bytes: Vec::new(alloc),
         calls: 0,
@@ -150,6 +150,7 @@ fn options_of(alloc: Global, loaders: usize) -> Result<Options, AllocError>
         steps: 10_000,
         roots,
         prelude: None,
+        wanted: Wanted::NOTHING,
         trace: true,
         dir: None,
     })
@@ -200,6 +201,7 @@ fn asked_by(alloc: Global, case: &Case, loaders: usize) -> Result<Options, Alloc
         steps: case.steps.clamp(1, 100_000_000),
         roots,
         prelude,
+        wanted: Wanted::NOTHING,
         trace: case.trace.is_some(),
         dir: None,
     })

@@ -29,7 +29,7 @@ next_some files plan n i l a at fits = record {
   loads = place_loads plan n i l at;
   there = place_file plan n i l at;
   asked = asked_next files plan n l.file a (place_loads plan n i l at);
-  refused = λ c. (l.file, place_file plan n i l at, c);
+  refused = λ c. record { there = place_file plan n i l at; cycle = c };
 }
 
 pub next_is : (files : List File) (plan : Plan) (row : Row) (n m i j : ℕ) (o : Option Load) → readings row ≡ plan.reads → IsAsked files plan m → m ≡ n → j ≡ i → i ≤ length (loads_of plan n) → o ≡ slice_get (loads_at row m) j → IfSome o (λ l. j + 1 < 2 ^ 64)

@@ -23,7 +23,7 @@ use Rattle.star_reading.specs.contracts.reading.Read as read
 use Rattle.star_outcome.specs.contracts.told.Told as told
 use Rattle.star_outcome.specs.contracts.told.ToldProduct.TheImpl as product
 use Rattle.star_outcome.specs.contracts.trace.Trace as trace
-use Rattle.star_host.specs.contracts.work.Common as common
+use Rattle.star_host.specs.contracts.common.Common as common
 use Rattle.star_outcome.specs.declared.naming.Naming
 use Rattle.star_reading.proofs.Closures.{tuple_sync}
 use Rattle.star_reading.proofs.Crossing.{program_sync, statement_sync}
@@ -45,7 +45,7 @@ programs_sync κ ν = let p = placed_sync κ ν in search (sendable, crosses) de
 files_sync : (κ ν : NamedLft) → IsSync (files.the_row κ ν)
 files_sync κ ν = let p = programs_sync κ ν in let s = statement_sync in search (sendable, crosses) depth 40
 
-common_sync : (κ ν μ ξ : NamedLft) → IsSync (common.the_row κ ν μ ξ)
+pub common_sync : (κ ν μ ξ : NamedLft) → IsSync (common.the_row κ ν μ ξ)
 common_sync κ ν μ ξ =
     let r = read_sync ξ in
     let f = files_sync ν ξ in

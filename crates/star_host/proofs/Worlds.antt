@@ -1,6 +1,6 @@
 -- All reached files of a row that has all that it needs are files.
 use Rattle.std.proofs.Common.{◌≡◌, ◌<◌, ℕ, List, length, get_or, ap, ◌∙◌, subst, arith}
-use Rattle.std.specs.Prelude.{Contains}
+use Rattle.std.specs.Prelude.{All, Contains}
 use Rattle.std.specs.Option.{option_map}
 use Rattle.std.proofs.lemmas.List.{get_or_default}
 use Rattle.star_label.specs.Files.{File}
@@ -20,5 +20,9 @@ closed_within files plan row is fits c = record {
   read = λ n h. let r = some_of (read_at row n) (reached_read plan row n is c h) in (reading_of r.0, read_is plan row n is ∙ ap (option_map reading_of) r.1);
 }
 
+-- each root may be asked for
+pub roots_asked : (files : List File) (plan : Plan) (rs : List ℕ) → IsWithin files plan → rs ≡ plan.roots → All (IsAsked files plan) rs
+roots_asked files plan rs w same i d h = (w, root (subst (λ xs. Contains xs (get_or rs i d)) same (i, h, get_or_default rs i (get_or rs i d) d h)))
+
 pub root_asked : (files : List File) (plan : Plan) (rs : List ℕ) (i : ℕ) → IsWithin files plan → rs ≡ plan.roots → i < length rs → IsAsked files plan (get_or rs i 0)
-root_asked files plan rs i w same h = (w, root (subst (λ xs. Contains xs (get_or rs i 0)) same (i, h, get_or_default rs i (get_or rs i 0) 0 h)))
+root_asked files plan rs i w same h = roots_asked files plan rs w same i 0 h

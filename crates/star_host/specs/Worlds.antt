@@ -10,7 +10,7 @@ use Rattle.star_plan.specs.Runs.{ArePlaced}
 use Rattle.star_reading.specs.Readings.{readings, table_of}
 use Rattle.star_outcome.specs.Fits.{IsAsked}
 use Rattle.star_outcome.specs.Refusals.{IsRefusal}
-use Rattle.star_host.specs.declared.work.Common.{Common}
+use Rattle.star_host.specs.declared.common.Common.{Common}
 use Rattle.star_host.specs.declared.loading.Turn.{Turn}
 use Rattle.star_host.specs.declared.loading.Turn.TheVariants.{Again, Enter, Ended}
 
@@ -29,6 +29,10 @@ pub record IsWorld (files : List File) (plan : Plan) (shelf : List ℕ) (c : Com
   pub planned : IsPlanOf files plan
   pub placed : ArePlaced files plan c.programs.now
 
+-- the plan of what loaders share who load these roots
+abbrev pub plan_in : List ℕ → Common → Plan
+plan_in roots c = record { roots = roots; prelude = c.prelude; steps = c.steps; reads = readings c.reads.now }
+
 abbrev pub IsTurn : List File → Plan → Turn → Type 0
 IsTurn files plan Again = Unit {0}
 IsTurn files plan (Enter m) = IsAsked files plan m
@@ -41,4 +45,5 @@ pub record IsNextLoad (files : List File) (plan : Plan) (n i : ℕ) (l : Load) :
   pub loads : Loads (loaded plan) n l.file
   pub there : slice_get (loaded plan n) i ≡ Some l.file
   pub asked : IsAsked files plan l.file
-  pub refused : IsOnCycle (Loads (loaded plan)) n l.file → IsRefusal plan n i
+  pub refused : IsOnCycle (Loads (loaded plan)) n l.file
+      → IsRefusal plan (record { file = n; index = i; loaded = l.file })

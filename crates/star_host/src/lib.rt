@@ -1,6 +1,7 @@
 //! Loading by several loaders: the modules of all files that roots reach.
 #![tactic(auto)]
 
+mod common;
 pub mod gate;
 mod loading;
 mod order;
@@ -9,6 +10,7 @@ mod settle;
 mod table;
 mod work;
 
+pub use common::{Common, read_files};
 pub use loading::{LoadError, load};
 pub use running::{RunError, run, run_in};
 pub use star_outcome::naming::Naming;
@@ -17,4 +19,4 @@ pub use star_outcome::shelf::Shelf;
 pub use star_outcome::told::Told;
 pub use star_outcome::trace::{OnCycle, Refused, Token, Trace};
 pub use star_reading::reading::{Reads, Trees};
-pub use work::Common;
+pub use table::programs;

@@ -7,9 +7,10 @@ ghost use Rattle.star_host.specs.Worlds.{IsNextLoad, IsTurn, IsWorld};
 ghost use Rattle.star_reading.specs.Readings.{readings};
 ghost use Rattle.star_outcome.specs.Views.{IsEnd, IsModule, IsTold};
 
+use crate::common::Common;
 use crate::gate::Gate;
 use crate::table::{fault_at, program_at};
-use crate::work::{Common, run};
+use crate::work::run;
 use star_cache::{LoadCache, Reply, Seat};
 use star_outcome::frame::Frame;
 use star_outcome::module::{Ended, Module};
@@ -179,13 +180,21 @@ fn take_turn<'s, 'r, 'p, 't, J: Naming, R: Wait, G: Gate>(
     };
     match cache.ask(rt, seat, Some(file), load.file) {
         Ok(Reply::Begun) => return Ok(Turn::Enter(load.file)),
-        Ok(Reply::Ready(told)) => top.tell(told_module(common, load.file, told))?,
         Ok(Reply::Failed(_told)) => top.refuse(),
         Ok(Reply::Cycle) => {
             // A line of the trace that gets no memory is left out.
-            let _ = trace.push(rt, Refused { file, index });
+            let loaded = load.file;
+            let _ = trace.push(
+                rt,
+                Refused {
+                    file,
+                    index,
+                    loaded,
+                },
+            );
             top.refuse();
         }
+        Ok(Reply::Ready(told)) => top.tell(told_module(common, load.file, told))?,
         Ok(Reply::Spoiled) => return Err(LoadError::Spoiled),
         Ok(Reply::Wait) => unreachable!(),
         Err(_) => return Err(LoadError::Spoiled),

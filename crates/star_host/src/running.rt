@@ -1,23 +1,23 @@
 //! The run: each loader asks for all roots.
 
-ghost use Rattle.std.specs.Prelude.{◌≡◌, ◌<◌, ◌≤◌, ◌⊎◌, ℕ, None, Some, length, map, sum, vec_len, IfOk, IfSome};
-ghost use Rattle.std.specs.Option.{option_copied};
-ghost use Rattle.star_plan.specs.Reading.{IsPrelude};
+ghost use Rattle.std.specs.Prelude.{◌≡◌, ◌<◌, ◌≤◌, ◌⊎◌, ℕ, All, None, Some, length, map, sum, vec_len, IfOk, IfSome};
 ghost use Rattle.star_outcome.specs.Fits.{IsAsked, IsWithin};
 ghost use Rattle.star_reading.specs.Found.{IsReadOf, Within};
+ghost use Rattle.star_host.specs.Counts.{AreCounts};
 ghost use Rattle.star_host.specs.Worlds.{IsWorld};
 ghost use Rattle.star_outcome.specs.Kept.{AllKept, AreModules, AreModulesOf};
-ghost use Rattle.star_reading.specs.Readings.{table_of};
+ghost use Rattle.star_reading.specs.Readings.{IsPlaceable};
 ghost use Rattle.star_outcome.specs.Refusals.{AreRefusals, AreRefusalsOf};
+ghost use Rattle.star_cache.specs.Seats.{counts_of};
 ghost use Rattle.star_cache.specs.State.{HasEnded, begun_count};
 ghost use Rattle.star_plan.specs.Reached.{IsReached};
 
+use crate::common::{Common, read_files};
 use crate::gate::Gate;
 use crate::loading::{LoadError, load};
 use crate::order::{first_place, place};
 use crate::settle::{closed, kept_of, settle_one};
-use crate::table::{is_read, table};
-use crate::work::Common;
+use crate::table::{is_read, programs};
 use star_cache::{Book, LoadCache, Seat};
 use star_flow::{Flow, Graph};
 use star_label::files::Files as Labels;
@@ -27,11 +27,7 @@ use star_outcome::outcome::{Kept, Run};
 use star_outcome::shelf::Shelf;
 use star_outcome::told::Told;
 use star_outcome::trace::{Refused, Trace};
-use star_reading::reading::{Read, Reader, Reads, Trees, tree_of};
-use star_scope::error::ScopeFault;
-use star_scope::program::Prelude;
-use star_tree::tree::Tree;
-use star_world::files::Files;
+use star_reading::reading::{Reads, Trees};
 use std::alloc::{AllocError, Global};
 use std::marker::Brand;
 use std::sync::Wait;
@@ -51,12 +47,6 @@ pub enum RunError {
 
 impl From<AllocError> for RunError {
     fn from(_error: AllocError) -> RunError {
-        RunError::Memory
-    }
-}
-
-impl From<ScopeFault> for RunError {
-    fn from(_fault: ScopeFault) -> RunError {
         RunError::Memory
     }
 }
@@ -267,6 +257,7 @@ fn run_named<'s, 'r, 'p, 't, J: Naming + Send + Sync, R: Threads + Wait + Sync, 
     ensures modules { IfOk result (λ c. AreModules J.plan c.kept.items) }
     ensures begun { IfOk result (λ c. c.begun ≡ vec_len c.kept) }
     ensures sum { IfOk result (λ c. sum c.per_loader ≡ c.begun) }
+    ensures counts { IfOk result (λ c. AreCounts loaders c.begun c.per_loader) }
     ensures refused { IfOk result (λ c. AreRefusals J.plan c.refused.items) }
 {
     let alloc = common.alloc;
@@ -292,12 +283,15 @@ fn closed_of<J: Naming>(
 ) -> Result<Closed, RunError>
     requires cells { length J.shelf ≡ length J.files }
     requires within { IsWithin J.files J.plan }
+    requires loaders { length closed.0.loaders ≡ J.parts }
+    requires counts { closed.1 ≡ counts_of closed.0 }
     requires sum { sum closed.1 ≡ begun_count closed.0 }
     requires ended { (n : ℕ) → IsReached J.plan n → HasEnded closed.0 n }
     ensures kept { IfOk result (λ c. AllKept J.shelf c.kept.items) }
     ensures modules { IfOk result (λ c. AreModules J.plan c.kept.items) }
     ensures begun { IfOk result (λ c. c.begun ≡ vec_len c.kept) }
     ensures sum { IfOk result (λ c. sum c.per_loader ≡ c.begun) }
+    ensures counts { IfOk result (λ c. AreCounts J.parts c.begun c.per_loader) }
     ensures refused { IfOk result (λ c. AreRefusals J.plan c.refused.items) }
 {
     let (book, per_loader) = closed;
@@ -311,121 +305,36 @@ fn closed_of<J: Naming>(
     })
 }
 
-/// The prelude: its names are those of its tree, which is kept with the other trees; it has none where its text does
-/// not parse.
-fn prelude_of<'t, R: Wait>(
-    rt: &R,
-    alloc: Global,
-    files: &Labels,
-    trees: &'t boxcar::Vec<Tree>,
-    n: usize,
-) -> Result<Prelude<'t>, RunError>
-    requires { n < length files.now }
-    ensures prelude { IfOk result (λ p. IsPrelude files.now (Some n) (Some p)) }
-    ensures file { IfOk result (λ p. p.file ≡ n) }
-{
-    match tree_of(rt, alloc, trees, files.text(n))? {
-        Ok(tree) => Ok(Prelude::new(alloc, n, Some(tree))?),
-        Err(_) => Ok(Prelude::new(alloc, n, None)?),
-    }
-}
-
-/// The prelude, where there is one.
-fn block_of<'t, R: Wait>(
-    rt: &R,
-    alloc: Global,
-    files: &Labels,
-    trees: &'t boxcar::Vec<Tree>,
-    prelude: Option<usize>,
-) -> Result<Option<Prelude<'t>>, RunError>
-    requires { IfSome prelude (λ n. n < length files.now) }
-    ensures prelude { IfOk result (IsPrelude files.now prelude) }
-    ensures file { IfOk result (λ block. IfSome block (λ p. p.file < length files.now)) }
-{
-    match prelude {
-        Some(n) => Ok(Some(prelude_of(rt, alloc, files, trees, n)?)),
-        None => Ok(None),
-    }
-}
-
-/// The run over a shelf for the modules, a place for the trees, and one for what is read.
-fn run_over<'s, 't, R: Threads + Wait + Sync, G: Gate + Sync>(
+/// The run over what was read, with a shelf for the modules.
+fn run_over<'s, 'r, 't, R: Threads + Wait + Sync, G: Gate + Sync>(
     rt: &R,
     alloc: Global,
     files: &'s Labels,
-    trees: &'t boxcar::Vec<Tree>,
-    reads: &mut Vec<Option<Read<'t>>>,
-    modules: &'s Shelf<Module>,
-    roots: &'s [usize],
-    prelude: Option<usize>,
-    block: Option<&'s Prelude<'t>>,
-    loaders: usize,
-    steps: u32,
-    gate: &'s G,
-) -> Result<Closed, RunError>
-    requires roots { Within files.now roots.now }
-    requires prelude { IsPrelude files.now prelude (option_copied block) }
-    requires there { IfSome prelude (λ n. n < length files.now) }
-    requires file { IfSome block (λ p. p.now.file < length files.now) }
-    requires loaders { (1 ≤ loaders) × (loaders ≤ 64) }
-    requires steps { (1 ≤ steps) × (steps ≤ 100000000) }
-    requires cells { length modules.now ≡ length files.now }
-    ensures kept { IfOk result (λ c. AllKept modules.now c.kept.items) }
-    ensures modules { IfOk result (λ c. AreModulesOf files.now roots.now prelude steps c.kept.items) }
-    ensures begun { IfOk result (λ c. c.begun ≡ vec_len c.kept) }
-    ensures sum { IfOk result (λ c. sum c.per_loader ≡ c.begun) }
-    ensures refused { IfOk result (λ c. AreRefusalsOf files.now roots.now prelude steps c.refused.items) }
-{
-    let reader = Reader {
-        alloc,
-        files,
-        trees,
-        prelude: block,
-        roots,
-    };
-    *reads = reader.read_all(rt, loaders)?;
-    let reads = reads.as_slice();
-    let programs = table(alloc, reads)?;
-    run_read(
-        rt, alloc, files, reads, &programs, modules, roots, prelude, loaders, steps, gate,
-    )
-}
-
-/// The run over what was read.
-fn run_read<'s, 'r, 'p, 't, R: Threads + Wait + Sync, G: Gate + Sync>(
-    rt: &R,
-    alloc: Global,
-    files: &'s Labels,
-    reads: &'r [Option<Read<'t>>],
-    programs: &'p Files<'r, 't>,
+    reads: &'r Reads<'t>,
     modules: &'s Shelf<Module>,
     roots: &[usize],
     prelude: Option<usize>,
     loaders: usize,
     steps: u32,
-    gate: &'s G,
+    gate: &G,
 ) -> Result<Closed, RunError>
     requires prelude { IfSome prelude (λ p. p < length files.now) }
     requires loaders { (1 ≤ loaders) × (loaders ≤ 64) }
     requires steps { (1 ≤ steps) × (steps ≤ 100000000) }
     requires cells { length modules.now ≡ length files.now }
-    requires read { IsReadOf files.now roots.now prelude reads.now }
-    requires table { programs.now ≡ table_of reads.now }
+    requires read { IsReadOf files.now roots.now prelude reads.now.all.items }
+    requires placeable { All IsPlaceable reads.now.all.items }
     ensures kept { IfOk result (λ c. AllKept modules.now c.kept.items) }
     ensures modules { IfOk result (λ c. AreModulesOf files.now roots.now prelude steps c.kept.items) }
     ensures begun { IfOk result (λ c. c.begun ≡ vec_len c.kept) }
     ensures sum { IfOk result (λ c. sum c.per_loader ≡ c.begun) }
+    ensures counts { IfOk result (λ c. AreCounts loaders c.begun c.per_loader) }
     ensures refused { IfOk result (λ c. AreRefusalsOf files.now roots.now prelude steps c.refused.items) }
 {
-    let common = Common {
-        alloc,
-        files,
-        reads,
-        programs,
-        modules,
-        prelude,
-        steps,
-    };
+    let programs = programs(alloc, reads)?;
+    let common = Common::new(
+        alloc, files, reads, &programs, modules, roots, prelude, steps,
+    );
     let blank = Blank::new(loaders as u64);
     run_named::<Brand, R, G>(rt, &common, gate, roots, loaders, blank)
 }
@@ -452,6 +361,7 @@ pub fn run<R: Threads + Wait + Sync, G: Gate + Sync>(
     ensures modules { IfOk result (λ r. AreModulesOf files.now roots.now prelude steps r.kept) }
     ensures begun { IfOk result (λ r. r.begun ≡ length r.kept) }
     ensures sum { IfOk result (λ r. sum r.per_loader ≡ r.begun) }
+    ensures counts { IfOk result (λ r. AreCounts loaders r.begun r.per_loader) }
     ensures refused { IfOk result (λ r. AreRefusalsOf files.now roots.now prelude steps r.refused) }
 {
     let trees = Trees::new(alloc)?;
@@ -483,28 +393,18 @@ pub fn run_in<'t, R: Threads + Wait + Sync, G: Gate + Sync>(
     ensures modules { IfOk result (λ r. AreModulesOf files.now roots.now prelude steps r.kept) }
     ensures begun { IfOk result (λ r. r.begun ≡ length r.kept) }
     ensures sum { IfOk result (λ r. sum r.per_loader ≡ r.begun) }
+    ensures counts { IfOk result (λ r. AreCounts loaders r.begun r.per_loader) }
     ensures refused { IfOk result (λ r. AreRefusalsOf files.now roots.now prelude steps r.refused) }
 {
     let modules = Shelf::new(alloc, files.len())?;
-    let block = block_of(rt, alloc, files, &trees.all, prelude)?;
+    *reads = read_files(rt, alloc, files, trees, roots, prelude, loaders)?;
     let Closed {
         kept,
         begun,
         per_loader,
         refused,
     } = run_over(
-        rt,
-        alloc,
-        files,
-        &trees.all,
-        &mut reads.all,
-        &modules,
-        roots,
-        prelude,
-        block.as_ref(),
-        loaders,
-        steps,
-        gate,
+        rt, alloc, files, reads, &modules, roots, prelude, loaders, steps, gate,
     )?;
     Ok(Run::new(modules, kept, begun, per_loader, refused))
 }

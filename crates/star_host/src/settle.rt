@@ -1,7 +1,7 @@
 //! The modules of all reached files, once the loaders have ended.
 
 ghost use Rattle.std.specs.Prelude.{◌≡◌, ◌≢◌, ◌+◌, ◌<◌, ℕ, Contains, IfOk, IsSome, OnOk, cond, length, map, sum, vec_len};
-ghost use Rattle.star_cache.specs.Seats.{AreAll};
+ghost use Rattle.star_cache.specs.Seats.{AreAll, counts_of};
 ghost use Rattle.star_cache.specs.State.{HasEnded, begun_count, is_begun};
 ghost use Rattle.star_plan.specs.Reached.{IsReached};
 ghost use Rattle.star_outcome.specs.Fits.{IsWithin};
@@ -10,10 +10,11 @@ ghost use Rattle.star_outcome.specs.Kept.{AllKept, AreModules, AreModulesBelow};
 ghost use Rattle.star_reading.specs.Readings.{read_at};
 ghost use Rattle.star_outcome.specs.Views.{IsTold, ToldView};
 
+use crate::common::Common;
 use crate::gate::Gate;
 use crate::loading::{LoadError, load};
+use crate::running::RunError;
 use crate::table::is_read;
-use crate::work::Common;
 use star_cache::{Book, Entry, LoadCache, Seat};
 use star_outcome::naming::Naming;
 use star_outcome::outcome::Kept;
@@ -94,8 +95,9 @@ fn settle_first<'s, 'r, 'p, 't, J: Naming, R: Wait, G: Gate>(
     settle(rt, common, gate, cache, &mut seats[0], trace)
 }
 
-/// Closes the cache when all reached files have ended under one look at the book. They have when the loaders have;
-/// where one has not, each is asked for again.
+/// The book of a cache that is closed when all reached files have ended under one look at it, and the loaders' counts.
+/// They have when the loaders have; where one has not, each is asked for once more. `Unpublished` where one has not even
+/// then, and no loader says why.
 pub(crate) fn closed<'s, 'r, 'p, 't, J: Naming, R: Wait, G: Gate>(
     rt: &R,
     common: &Common<'s, 'r, 'p, 't>,
@@ -103,27 +105,26 @@ pub(crate) fn closed<'s, 'r, 'p, 't, J: Naming, R: Wait, G: Gate>(
     cache: LoadCache<Told<J>>,
     seats: Vec<Seat<Told<J>>>,
     trace: &Trace<J>,
-) -> Result<(Book<Told<J>>, [u32; 64]), LoadError>
+) -> Result<(Book<Told<J>>, [u32; 64]), RunError>
     requires world { IsWorld J.files J.plan J.shelf common.now }
     requires within { IsWithin J.files J.plan }
     requires seats { AreAll J.parts seats.items }
     requires some { 0 < J.parts }
+    ensures loaders { IfOk result (λ c. length c.0.loaders ≡ J.parts) }
+    ensures counts { IfOk result (λ c. c.1 ≡ counts_of c.0) }
     ensures sum { IfOk result (λ c. sum c.1 ≡ begun_count c.0) }
     ensures ended { IfOk result (λ c. (n : ℕ) → IsReached J.plan n → HasEnded c.0 n) }
 {
     let reached = reached(common.alloc, common.reads)?;
-    let mut open = (cache, seats);
-    for _ in rt.forever() {
-        let (cache, seats) = open;
-        match cache.close_ended(seats, &reached) {
-            Ok(closed) => return Ok(closed),
-            Err((cache, mut seats)) => {
-                settle_first(rt, common, gate, &cache, &mut seats, trace)?;
-                open = (cache, seats);
-            }
-        }
+    let (cache, mut seats) = match cache.close_ended(seats, &reached) {
+        Ok(closed) => return Ok(closed),
+        Err(open) => open,
+    };
+    settle_first(rt, common, gate, &cache, &mut seats, trace)?;
+    match cache.close_ended(seats, &reached) {
+        Ok(closed) => Ok(closed),
+        Err(_) => Err(RunError::Unpublished),
     }
-    unreachable!()
 }
 
 /// Keeps what an entry of a closed book tells of its file, after the modules of all reached files below it.

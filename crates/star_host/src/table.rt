@@ -9,7 +9,7 @@ ghost use Rattle.star_reading.specs.declared.reading.Read.TheVariants as read;
 ghost use Rattle.star_reading.specs.Readings.{IsPlaceable, loads_at, placed_in, read_at, table_of};
 
 use star_reading::code::StaticFault;
-use star_reading::reading::Read;
+use star_reading::reading::{Read, Reads};
 use star_scope::loads::Load;
 use star_scope::program::Program;
 use star_world::files::Files;
@@ -27,15 +27,13 @@ fn program_in<'s, 't>(read: &'s Option<Read<'t>>) -> Option<&'s Program<'t>>
     }
 }
 
-/// The programs of what was read, by the files' numbers.
-pub(crate) fn table<'s, 't>(
-    alloc: Global,
-    reads: &'s [Option<Read<'t>>],
-) -> Result<Files<'s, 't>, AllocError>
-    requires { All IsPlaceable reads.now }
-    ensures { IfOk result (λ table. table ≡ table_of reads.now) }
+/// The programs of what was read, by the files' numbers: none of a file that was not read or has a static fault.
+pub fn programs<'s, 't>(alloc: Global, reads: &'s Reads<'t>) -> Result<Files<'s, 't>, AllocError>
+    requires { All IsPlaceable reads.now.all.items }
+    ensures { IfOk result (λ table. table ≡ table_of reads.now.all.items) }
 {
     let mut table = Files::new(alloc);
+    let reads = reads.all.as_slice();
     for read in reads {
         table.push(program_in(read))?;
     }

@@ -1,6 +1,6 @@
 //! What is done for one file: its body runs over the stores of all files that it needs.
 
-ghost use Rattle.std.specs.Prelude.{◌≡◌, ◌+◌, ◌^◌, ◌<◌, ◌≤◌, Some, IfOk, IfSome, ℕ, Contains, length, map, slice_get};
+ghost use Rattle.std.specs.Prelude.{◌≡◌, ◌<◌, ◌≤◌, Some, IfOk, ℕ, Contains, length, map};
 ghost use Rattle.star_meaning.specs.Module.{local};
 ghost use Rattle.star_meaning.specs.Programs.{file_in, placed_file};
 ghost use Rattle.star_module.specs.Outcomes.{AreReady, meant};
@@ -10,48 +10,22 @@ ghost use Rattle.star_host.specs.Worlds.{IsWorld};
 ghost use Rattle.star_outcome.specs.Gathered.{AreNeeded};
 ghost use Rattle.star_host.specs.Bodies.{IsRan, world_over};
 ghost use Rattle.star_outcome.specs.Reaches.{row_of};
-ghost use Rattle.star_reading.specs.Readings.{loads_at, read_at};
+ghost use Rattle.star_reading.specs.Readings.{read_at};
 ghost use Rattle.star_outcome.specs.Views.{AreGoodLoads, IsEnd};
 ghost use Rattle.star_reading.specs.declared.reading.Read.TheVariants as read;
 
+use crate::common::{Common, file_number};
 use crate::gate::Gate;
-use crate::table::loads_in;
-use star_label::files::Files as Labels;
 use star_module::{Outcome, run_body};
 use star_outcome::given::{gathered, stores_of};
 use star_outcome::module::{Body, Ended, Module};
 use star_outcome::naming::Naming;
-use star_outcome::shelf::Shelf;
 use star_outcome::store_row::StoreRow;
-use star_reading::reading::Read;
-use star_scope::loads::Load;
 use star_scope::program::Program;
 use star_store::arena::Homes;
 use star_world::files::Files;
 use star_world::world::World;
 use std::alloc::{AllocError, Global};
-
-/// What all loaders share: what was read of each reached file, the programs of all files, a shelf for the module of
-/// each file, the prelude's file, and the steps that a body may take, which are 1 to 100,000,000.
-#[derive(Drop)]
-pub struct Common<'s, 'r, 'p, 't> {
-    pub alloc: Global,
-    pub files: &'s Labels,
-    pub reads: &'r [Option<Read<'t>>],
-    pub programs: &'p Files<'r, 't>,
-    pub modules: &'s Shelf<Module>,
-    pub prelude: Option<usize>,
-    pub steps: u32,
-}
-
-/// The number of a file: there are at most 10,000.
-fn file_number(files: &Labels, n: usize) -> u32
-    requires { n < length files.now }
-    ensures { result ≡ n }
-{
-    let count = files.len();
-    n.min(count) as u32
-}
 
 /// Runs the body of a file over these stores, with so many steps.
 fn outcome_in(
@@ -70,36 +44,6 @@ fn outcome_in(
 {
     let world = World::new(home, homes, files, program.loads(), prelude);
     run_body(alloc, &world, program, steps)
-}
-
-impl<'s, 'r, 'p, 't> Common<'s, 'r, 'p, 't> {
-    /// The loads of a file: none where it has a static fault.
-    pub(crate) fn loads(&self, n: usize) -> &'r [Load]
-        ensures { result.now ≡ loads_at self.now.reads.now n }
-    {
-        loads_in(self.reads, n)
-    }
-
-    /// The load of a file at a place.
-    pub(crate) fn load(&self, n: usize, i: usize) -> Option<Load>
-        ensures load { result ≡ slice_get (loads_at self.now.reads.now n) i }
-        ensures fits { IfSome result (λ _. i + 1 < 2 ^ 64) }
-    {
-        let loads = self.loads(n);
-        let count = loads.len();
-        if i < count { Some(loads[i]) } else { None }
-    }
-
-    /// The prelude's file.
-    pub(crate) fn prelude_file(&self) -> Option<u32>
-        requires { IfSome self.now.prelude (λ p. p < length self.now.files.now) }
-        ensures { result ≡ self.now.prelude }
-    {
-        match self.prelude {
-            Some(n) => Some(file_number(self.files, n)),
-            None => None,
-        }
-    }
 }
 
 /// How a file ends whose run has ended so.

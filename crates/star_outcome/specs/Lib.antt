@@ -6,3 +6,4 @@ pub mod Refusals
 pub mod Frames
 pub mod Kept
 pub mod Goods
+pub mod Homes

@@ -4,6 +4,7 @@
 
 pub mod frame;
 pub mod given;
+pub mod homes;
 pub mod module;
 pub mod naming;
 pub mod outcome;

@@ -56,4 +56,16 @@ impl<T: Drop> Shelf<T> {
         self.cells[n].set_as(there, &mut note)?;
         Ok(note)
     }
+
+    /// Two notes of one cell that both know, in any threads, know the same. It looks at nothing: what it says is in its
+    /// contract.
+    pub fn agree(&self, n: usize, one: &mut Note<T>, other: Note<T>)
+        requires number { n < length self.now }
+        requires one { one.old.cell ≡ slice_index self.now n }
+        requires other { other.cell ≡ slice_index self.now n }
+        ensures same { one.new ≡ one.old }
+        ensures known { IsSome one.old.known → IsSome other.known → other.known ≡ one.old.known }
+    {
+        one.compare(other);
+    }
 }

@@ -60,6 +60,16 @@ impl<J: Naming> Told<J> {
         self.note.again()
     }
 
+    /// What is told of one file, in any threads, is one module. It looks at nothing: what it says is in its contract.
+    pub fn agree(&mut self, other: Told<J>)
+        requires number { other.number ≡ self.old.number }
+        ensures same { self.new ≡ self.old }
+        ensures known { other.known ≡ self.old.known }
+    {
+        let Told { note, .. } = other;
+        self.note.compare(note);
+    }
+
     /// The number with the note, for those to whom the cache is closed.
     pub fn kept(&mut self) -> Kept
         requires { length J.shelf ≡ length J.files }

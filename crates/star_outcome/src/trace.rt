@@ -11,11 +11,13 @@ use std::alloc::{AllocError, Global};
 use std::marker::PhantomData;
 use std::sync::Wait;
 
-/// A load that was refused: a file, and the load's place among its loads.
+/// A load that was refused: a file, the load's place among its loads, and the file that it loads. Files stand by their
+/// numbers.
 #[derive(Clone, Copy, Debug, PartialEq, Eq)]
 pub struct Refused {
     pub file: usize,
     pub index: usize,
+    pub loaded: usize,
 }
 
 /// The rule of a trace: the load lies on a load cycle.
@@ -24,7 +26,7 @@ pub struct OnCycle<J>(PhantomData<J>);
 impl<J: Naming> Keeps<Refused> for OnCycle<J> {
     ghost use Rattle.star_outcome.specs.Refusals.{IsRefusal};
 
-    ghost holds = { λ _ _ r. IsRefusal J.plan r.file r.index };
+    ghost holds = { λ _ _ r. IsRefusal J.plan r };
 }
 
 /// What reads an item back.
@@ -46,7 +48,7 @@ impl<J: Naming> Trace<J> {
 
     /// One more. It is refused only for want of memory.
     pub fn push<R: Wait>(&self, rt: &R, refused: Refused) -> Result<Token<J>, AllocError>
-        requires { IsRefusal J.plan refused.file refused.index }
+        requires { IsRefusal J.plan refused }
         ensures { IfOk result (λ t. Shows self.now.items t × (t.value ≡ refused)) }
     {
         match self.items.push_shown(rt, refused) {
@@ -65,7 +67,7 @@ impl<J: Naming> Trace<J> {
 
     /// The item that has `i` items before it.
     pub fn nth(&self, i: usize) -> Option<Refused>
-        ensures { IfSome result (λ r. IsRefusal J.plan r.file r.index) }
+        ensures { IfSome result (IsRefusal J.plan) }
     {
         let mut left = i;
         let items = self.items.iter();

@@ -1,11 +1,12 @@
 -- What is found while files are read.
-use Rattle.std.proofs.Common.{◌≡◌, ◌+◌, ◌<◌, ◌≢◌, ◌⊎◌, inl, inr, ℕ, zero, suc, Bool, true, false, List, [], ◌∷◌, ◌++◌, map, length, replicate, get_or, Option, Some, None, refl, ap, sym, ◌∙◌, subst, arith}
+use Rattle.std.proofs.Common.{◌≡◌, ◌+◌, ◌<◌, ◌≢◌, ◌⊎◌, inl, inr, ℕ, zero, suc, Bool, true, false, List, [], ◌∷◌, ◌++◌, map, length, replicate, get_or, Option, Some, None, refl, ap, sym, ◌∙◌, subst, arith, length-append}
 use denote.Ref.{Bor}
-use Rattle.std.specs.Prelude.{All, Contains, IfSome, IsSome, slice_set}
+use Rattle.std.specs.Prelude.{All, Contains, IfSome, IsSome, cond, not, slice_set}
 use Rattle.std.specs.Option.{option_copied, option_flatten, option_map}
 use Rattle.std.proofs.lemmas.Bool.{cases_order}
-use Rattle.std.proofs.lemmas.List.{get_or-replicate, get_or-set_other, get_or-set_same, length-replicate, length-set}
+use Rattle.std.proofs.lemmas.List.{get_or_default, get_or-map, get_or-replicate, get_or-set_other, get_or-set_same, length-map, length-replicate, length-set}
 use Rattle.std.proofs.lemmas.List.Elements.{All-append, Contains-append_cases, Contains-append_left, Contains-append_right}
+use Rattle.std.proofs.lemmas.List.Sums.{sum_by-set}
 use Rattle.std.proofs.lemmas.Option.{slice_get_past}
 use Rattle.star_cache.specs.State.{Loads}
 use Rattle.star_label.specs.Files.{File}
@@ -14,7 +15,7 @@ use Rattle.star_scope.specs.declared.program.Prelude.{Prelude}
 use Rattle.star_plan.specs.Plan.{Plan, loaded, loads_in, loads_of}
 use Rattle.star_plan.specs.Reached.{IsReached, root, load}
 use Rattle.star_reading.specs.declared.reading.Read.{Read}
-use Rattle.star_reading.specs.Found.{AreFound, Grew, IsMarked, IsReachedBy, IsRowOf, Within, plan_by}
+use Rattle.star_reading.specs.Found.{AreFound, Grew, IsMarked, IsReachedBy, IsRowOf, Within, left_of, plan_by}
 use Rattle.star_reading.specs.Readings.{IsReadAs, Row, loads_at, loads_read, read_at, reading_of}
 use Rattle.star_reading.proofs.PlacesRead.{all_front, all_last, none_read, place_read, set_read}
 use Rattle.star_reading.proofs.Rows.{loads_are}
@@ -58,10 +59,20 @@ set_stays marks n k h = by_cases (same_or_not k n)
     (λ ne. get_or-set_other marks n k true false ne ∙ h)
 
 pub grew_none : (ns : List ℕ) (marks : List Bool) (todo : List ℕ) → Grew ns marks todo marks todo
-grew_none ns marks todo = record { size = refl; stay = λ k h. h; fresh = λ k h. inl h; waiting = λ k h. h; found = λ h. h }
+grew_none ns marks todo = record { size = refl; stay = λ k h. h; fresh = λ k h. inl h; waiting = λ k h. h; found = λ h. h; left = refl }
 
-pub grew_one : (n : ℕ) (marks : List Bool) (todo : List ℕ) → n < length marks → Grew (n ∷ []) marks todo (slice_set marks n true) (todo ++ n ∷ [])
-grew_one n marks todo inside = record {
+-- a file that is found waits to be read: as many are left
+pub left_one : (n : ℕ) (marks : List Bool) (todo : List ℕ) → n < length marks → get_or marks n false ≡ false → left_of (slice_set marks n true) (todo ++ n ∷ []) ≡ left_of marks todo
+left_one n marks todo inside clear =
+    let f : Bool → ℕ = λ m. cond (not m) 1 0 in
+    let s = sum_by-set f marks n true false inside in
+    let one : f (get_or marks n false) ≡ 1 = ap f clear in
+    let none : f true ≡ 0 = refl in
+    let more = length-append todo (n ∷ []) in
+    omega (arith, s, one, none, more)
+
+pub grew_one : (n : ℕ) (marks : List Bool) (todo : List ℕ) → n < length marks → get_or marks n false ≡ false → Grew (n ∷ []) marks todo (slice_set marks n true) (todo ++ n ∷ [])
+grew_one n marks todo inside clear = record {
   size = length-set marks n true;
   stay = set_stays marks n;
   fresh = λ k h. by_cases (same_or_not k n)
@@ -69,6 +80,7 @@ grew_one n marks todo inside = record {
       (λ ne. inl (sym (get_or-set_other marks n k true false ne) ∙ h));
   waiting = λ k h. Contains-append_left todo (n ∷ []) k h;
   found = λ all. All-append (IsMarked (slice_set marks n true)) todo (n ∷ []) (λ k d lt. set_stays marks n (get_or todo k d) (all k d lt)) (all_one (IsMarked (slice_set marks n true)) n (get_or-set_same marks n true false inside));
+  left = left_one n marks todo inside clear;
 }
 
 pub marked_here : (n : ℕ) (marks : List Bool) → n < length marks → IsMarked (slice_set marks n true) n
@@ -84,7 +96,23 @@ grew_more ns n a ta b tb c tc among first next = record {
       (λ x. inr (subst (Contains ns) (contains_one n k x.0) among, x.1));
   waiting = λ k h. next.waiting k (first.waiting k h);
   found = λ h. next.found (first.found h);
+  left = next.left ∙ first.left;
 }
+
+-- an item's file is among those of all items
+pub file_among : {A : Type 0} (f : A → ℕ) (xs : List A) (i : ℕ) (z : A) → i < length xs → Contains (map f xs) (f (get_or xs i z))
+file_among f xs i z inside = (i, omega (arith, inside, length-map xs f), get_or-map f xs i z (f (get_or xs i z)) inside)
+
+-- the files of the items so far are found, and that of one more
+pub there_more : {A : Type 0} (f : A → ℕ) (xs : List A) (i : ℕ) (z : A) (a b c : List Bool) → i < length xs → length b ≡ length a
+    → ((k : ℕ) (d : A) → k < i → f (get_or xs k d) < length a → IsMarked b (f (get_or xs k d)))
+    → ((k : ℕ) → IsMarked b k → IsMarked c k)
+    → (f (get_or xs i z) < length b → IsMarked c (f (get_or xs i z)))
+    → (k : ℕ) (d : A) → k < i + 1 → f (get_or xs k d) < length a → IsMarked c (f (get_or xs k d))
+there_more f xs i z a b c inside size earlier stay here k d lt low = by_cases (same_or_not k i)
+    (λ e. let same : f (get_or xs k d) ≡ f (get_or xs i z) = ap (λ j. f (get_or xs j d)) e ∙ ap f (get_or_default xs i d z inside) in
+    subst (IsMarked c) (sym same) (here (omega (arith, low, size, same))))
+    (λ ne. stay (f (get_or xs k d)) (earlier k d (omega (arith, ne, lt)) low))
 
 pub none_marked : (count k : ℕ) → IsMarked (replicate count false) k → ⊥
 none_marked count k h =

@@ -1,5 +1,5 @@
 -- What was found and read, while files are read, and of all files that roots reach.
-use Rattle.std.specs.Prelude.{◌≡◌, ◌<◌, ◌⊎◌, ℕ, Bool, true, false, List, None, Option, length, All, IsSome, Contains, slice_index_or}
+use Rattle.std.specs.Prelude.{◌≡◌, ◌+◌, ◌<◌, ◌⊎◌, ℕ, Bool, true, false, List, None, Option, length, All, IsSome, Contains, count_by, not, slice_index_or}
 use Rattle.star_label.specs.Files.{File}
 use Rattle.star_scope.specs.declared.program.Prelude.{Prelude}
 use Rattle.star_plan.specs.Plan.{Plan}
@@ -32,7 +32,11 @@ IsReachedBy roots row n = IsReached (plan_by roots row) n
 abbrev pub IsMarked : List Bool → ℕ → Type 0
 IsMarked marks n = slice_index_or marks n false ≡ true
 
--- some of these files are found as well, and wait to be read
+-- how many files are left: those that were not found, and those that wait to be read
+abbrev pub left_of : List Bool → List ℕ → ℕ
+left_of marks todo = count_by not marks + length todo
+
+-- some of these files are found as well, and wait to be read; as many are left
 pub record Grew (ns : List ℕ) (marks : List Bool) (todo : List ℕ) (marks_after : List Bool) (todo_after : List ℕ) : Type
     0 where
   pub size : length marks_after ≡ length marks
@@ -40,6 +44,7 @@ pub record Grew (ns : List ℕ) (marks : List Bool) (todo : List ℕ) (marks_aft
   pub fresh : (k : ℕ) → IsMarked marks_after k → IsMarked marks k ⊎ (Contains ns k × Contains todo_after k)
   pub waiting : (k : ℕ) → Contains todo k → Contains todo_after k
   pub found : All (IsMarked marks) todo → All (IsMarked marks_after) todo_after
+  pub left : left_of marks_after todo_after ≡ left_of marks todo
 
 -- of these files, what was found so far: the roots, and the loads of all that was read; all of it is reached, and is
 -- read or waits to be

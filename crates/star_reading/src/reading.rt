@@ -5,7 +5,7 @@ ghost use Rattle.std.specs.Prelude.{IsSome, MatchOption, MatchResult, OnOk, fals
 ghost use Rattle.std.specs.Prelude.{slice_set, vec_len};
 ghost use Rattle.std.specs.Option.{option_copied};
 ghost use Rattle.star_parser.specs.Sources.{Parses};
-ghost use Rattle.star_reading.specs.Found.{AreFound, Grew, IsMarked, IsRowOf, Within};
+ghost use Rattle.star_reading.specs.Found.{AreFound, Grew, IsMarked, IsRowOf, Within, left_of};
 ghost use Rattle.star_reading.specs.Readings.{AreReadAs, IsFaultOf, IsReadAs, loads_read, read_at};
 
 use crate::code::{StaticFault, of_scope, of_syntax};
@@ -129,6 +129,8 @@ impl<'s, 't> Reader<'s, 't> {
             found.old.reads.items found.old.marks.items (found.old.todo.items ++ n ∷ []) }
         ensures found { OnOk result (AreFound self.now.files.now (option_copied self.now.prelude) self.now.roots.now
             found.new.reads.items found.new.marks.items found.new.todo.items) }
+        ensures left { OnOk result (left_of found.new.marks.items found.new.todo.items
+            ≡ left_of found.old.marks.items found.old.todo.items) }
         ensures ahead { AreReadAs self.now.files.now (option_copied self.now.prelude) ahead.new.reads.items }
     {
         if found.is_read(n) {
@@ -151,7 +153,7 @@ impl<'s, 't> Reader<'s, 't> {
     }
 
     /// Reads all files that the roots reach, by so many threads: the roots, and the loads of all that is read. A file
-    /// with a static fault has no loads.
+    /// with a static fault has no loads. Each turn takes a file that was found, and each file is found at most once.
     pub fn read_all<R: Threads + Wait + Sync>(
         &self,
         rt: &R,
@@ -164,14 +166,11 @@ impl<'s, 't> Reader<'s, 't> {
     {
         let mut ahead = self.read_ahead(rt, threads)?;
         let mut found = self.start()?;
-        for _ in rt.forever() {
-            let Some(n) = found.next() else {
-                let Found { reads, .. } = found;
-                return Ok(reads);
-            };
+        while let Some(n) = found.next() {
             self.read_next(rt, &mut found, &mut ahead, n)?;
         }
-        unreachable!()
+        let Found { reads, .. } = found;
+        Ok(reads)
     }
 }
 

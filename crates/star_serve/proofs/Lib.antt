@@ -2,3 +2,4 @@ pub mod Streams
 pub mod Refusals
 pub mod FolderRefusals
 pub mod Spoken
+pub mod Traced

@@ -5,7 +5,7 @@ use Rattle.std.proofs.lemmas.Bool.{true≢false}
 use Rattle.std.specs.Io.KnownBytes.{Consumes}
 use Rattle.star_serve.specs.Stream.{Adds, Gives, Said}
 
-Adds-more : (a b c : Option (List ℕ)) (x y : List ℕ) → Adds a b x → Adds b c y → Adds a c (x ++ y)
+pub Adds-more : (a b c : Option (List ℕ)) (x y : List ℕ) → Adds a b x → Adds b c y → Adds a c (x ++ y)
 Adds-more None b c x y h g = tt
 Adds-more (Some s) b c x y h g =
     let after : Adds (Some (s ++ x)) c y = rw h at g in

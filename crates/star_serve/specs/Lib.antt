@@ -1,2 +1,3 @@
 pub mod Stream
+pub mod Trace
 pub mod Serve

@@ -4,6 +4,7 @@ use Rattle.star_serve.specs.Stream.{Adds, GivesAll, Said}
 use Rattle.star_bundle.specs.Bundle.{Asked}
 use Rattle.star_outcome.specs.Kept.{AllGood, AreModulesOf, KeptView}
 use Rattle.star_report.specs.Shown.{IsReportOf}
+use Rattle.star_report.specs.declared.wanted.Wanted.{Wanted}
 use Rattle.star_bundle.specs.declared.error.ServeError.{ServeError}
 use Rattle.star_bundle.specs.declared.error.ServeError.TheVariants.{Read, TooBig, BadBundle, BadKey, TooMany, TooLong, BadRoot, NoRoot, BadPrelude, NoPrelude, Memory, Write, Unpublished}
 
@@ -15,11 +16,11 @@ input_limit = 268435456
 abbrev pub ReadsAll : Said → Said → List ℕ → Type 0
 ReadsAll old new input = GivesAll old new input × (length input ≤ input_limit)
 
--- Between old and new the report of what is asked for was written, and nothing else; and the answer is whether each of
+-- Between old and new the report of what is asked for was written, with what is wanted, and nothing else; and the answer is whether each of
 -- the modules, which are those of exactly the reached files, each with its file's outcome, is good.
-abbrev pub Reports : Asked → ℕ → Option (List ℕ) → Option (List ℕ) → Bool → Type 0
-Reports asked steps old new all_ok =
-    (text : List ℕ) × Adds old new text × IsReportOf asked.files asked.roots asked.prelude steps text
+abbrev pub Reports : Wanted → Asked → ℕ → Option (List ℕ) → Option (List ℕ) → Bool → Type 0
+Reports wanted asked steps old new all_ok =
+    (text : List ℕ) × Adds old new text × IsReportOf wanted asked.files asked.roots asked.prelude steps text
     × (modules : List KeptView) × AreModulesOf asked.files asked.roots asked.prelude steps modules
     × (all_ok ≡ true → AllGood modules) × (all_ok ≡ false → AllGood modules → ⊥)
 

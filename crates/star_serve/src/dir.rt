@@ -1,12 +1,13 @@
 //! From the files of a folder to the report's bytes.
 
-ghost use Rattle.std.specs.Prelude.{◌≡◌, ◌+◌, ◌≤◌, List, map, option_map, string_bytes, IfOk, IfErr, Ok};
+ghost use Rattle.std.specs.Prelude.{false, ◌≡◌, ◌+◌, ◌≤◌, List, map, option_map, string_bytes, IfOk, IfErr, Ok};
 ghost use Rattle.star_label.specs.Files.{File};
 ghost use Rattle.star_bundle.specs.Bundle as bundle;
 ghost use Rattle.star_bundle.specs.Refusal.{writes_failed};
 ghost use Rattle.star_folder.specs.Refusal.{IsStopped, files_failed, listings_failed};
 ghost use Rattle.star_folder.specs.Walk.{AreFilesOf};
 ghost use Rattle.star_serve.specs.Serve.{IsRefusedDir, Reports};
+ghost use Rattle.star_serve.specs.Trace.{Traces};
 
 use crate::serve::{Options, reported};
 use crate::stream::Sink;
@@ -35,12 +36,18 @@ pub fn serve_dir<H: Threads + Wait + Sync, F: Folder, W: Sink, E: Sink>(
     requires steps { (1 ≤ options.now.steps) × (options.now.steps ≤ 100000000) }
 
     // The walk came to its end, its files have each root and the prelude, and their report was written, and nothing
-    // else.
+    // else; and to `errors` nothing but lines of loads that lie on cycles, unless a write to it failed.
     ensures ok { IfOk result (λ all_ok. (files : List File) × AreFilesOf (F.holds folder.old) files
         × (asked : bundle.Asked)
         × (bundle.asked_among (map string_bytes options.now.roots.items) (option_map string_bytes options.now.prelude) files
         ≡ Ok asked)
-        × Reports asked options.now.steps (W.taken writer.old) (W.taken writer.new) all_ok) }
+        × Reports options.now.wanted asked options.now.steps (W.taken writer.old) (W.taken writer.new) all_ok
+        × (E.failed errors.new ≡ E.failed errors.old
+        → Traces asked options.now.steps (E.taken errors.old) (E.taken errors.new))) }
+
+    // Without the trace, and where there is no answer, nothing was written to `errors`.
+    ensures untraced { options.now.trace ≡ false → errors.new ≡ errors.old }
+    ensures unsaid { IfErr result (λ _. errors.new ≡ errors.old) }
 
     // The walk stopped so, or what is asked for of its files is refused so, and nothing was written.
     ensures refused { IfErr result (IsRefusedDir (IsStopped (F.holds folder.old))

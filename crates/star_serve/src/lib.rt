@@ -6,3 +6,4 @@ pub mod ends;
 mod read;
 pub mod serve;
 pub mod stream;
+mod trace;

@@ -5,19 +5,21 @@ ghost use Rattle.star_bundle.specs.Bundle as bundle;
 ghost use Rattle.star_bundle.specs.View.{asked_view};
 ghost use Rattle.star_bundle.specs.Refusal.{reads_failed, writes_failed};
 ghost use Rattle.star_outcome.specs.Kept.{AllGood, AreModulesOf};
+ghost use Rattle.star_outcome.specs.Refusals.{AreRefusalsOf};
 ghost use Rattle.star_report.specs.Shown.{IsReportOf};
 ghost use Rattle.star_serve.specs.Serve.{IsRefused, IsRefusedRun, ReadsAll, Reports, input_limit};
 ghost use Rattle.star_serve.specs.Stream.{GaveFirst, Gives};
+ghost use Rattle.star_serve.specs.Trace.{Traces};
 
 use crate::read::read_all;
 use crate::stream::{Sink, Source};
+use crate::trace::write_trace;
 use star_bundle::bundle::{AskedFor, asked_for};
 use star_bundle::error::ServeError;
 use star_host::gate::Open;
-use star_host::{Reads, Refused, Run, RunError, Trees, run_in};
-use star_label::files::Files;
-use star_label::label::Label;
+use star_host::{Reads, Run, RunError, Trees, run_in};
 use star_report::report::{all_good, report};
+pub use star_report::wanted::Wanted;
 use std::alloc::Global;
 use std::mem;
 use std::sync::Wait;
@@ -34,6 +36,8 @@ pub struct Options {
     pub roots: Vec<String>,
     /// The label of the prelude: the file whose names every other file sees.
     pub prelude: Option<String>,
+    /// What is wanted of each module beside what the report always has.
+    pub wanted: Wanted,
     /// Whether the refused loads are written after the report.
     pub trace: bool,
     /// The folder that has the files: none where the bundle is read.
@@ -55,6 +59,7 @@ fn answered<'t, H: Threads + Wait + Sync>(
     asked: &AskedFor,
     trees: &'t Trees,
     reads: &mut Reads<'t>,
+    wanted: Wanted,
     loaders: usize,
     steps: u32,
 ) -> Result<Answer, ServeError>
@@ -63,13 +68,14 @@ fn answered<'t, H: Threads + Wait + Sync>(
     requires loaders { (1 ≤ loaders) × (loaders ≤ 64) }
     requires steps { (1 ≤ steps) × (steps ≤ 100000000) }
     ensures kinds { IfErr result (λ e. (e ≡ ServeError.Memory) ⊎ (e ≡ ServeError.Unpublished)) }
-    ensures cells { IfOk result (λ a. length a.run.cells ≡ length asked.now.files) }
     ensures modules { IfOk result (λ a.
         AreModulesOf asked.now.files asked.now.roots.items asked.now.prelude steps a.run.kept) }
     ensures text { IfOk result (λ a.
-        IsReportOf asked.now.files asked.now.roots.items asked.now.prelude steps (string_bytes a.text)) }
+        IsReportOf wanted asked.now.files asked.now.roots.items asked.now.prelude steps (string_bytes a.text)) }
     ensures good { IfOk result (λ a. a.all_ok ≡ true → AllGood a.run.kept) }
     ensures bad { IfOk result (λ a. a.all_ok ≡ false → AllGood a.run.kept → ⊥) }
+    ensures refused { IfOk result (λ a.
+        AreRefusalsOf asked.now.files asked.now.roots.items asked.now.prelude steps a.run.refused) }
 {
     let files = &asked.files;
     let roots = asked.roots.as_slice();
@@ -89,73 +95,9 @@ fn answered<'t, H: Threads + Wait + Sync>(
         Err(RunError::Memory) => return Err(ServeError::Memory),
         Err(RunError::Unpublished) => return Err(ServeError::Unpublished),
     };
-    let text = report(rt, alloc, files, &mut run, loaders)?;
+    let text = report(rt, alloc, files, &mut run, roots, wanted, loaders)?;
     let all_ok = all_good(&mut run);
     Ok(Answer { run, text, all_ok })
-}
-
-/// Where the module of a file stands among those of a run: none where the file was not reached.
-fn place_of(run: &mut Run, n: usize) -> Option<usize>
-    ensures same { run.new ≡ run.old }
-    ensures within { IfSome result (λ i. i < length run.old.kept) }
-{
-    let (mut low, mut high) = (0, run.len());
-    while low < high {
-        let middle = low + (high - low) / 2;
-        let note = run.note(middle);
-        let number = run.module(middle, note).number;
-        if number == n {
-            return Some(middle);
-        }
-        if number < n {
-            low = middle + 1;
-        } else {
-            high = middle;
-        }
-    }
-    None
-}
-
-/// The labels of a refused load's file and of the file that it loads.
-fn refused_labels<'a>(
-    files: &'a Files,
-    run: &mut Run,
-    refused: Refused,
-) -> Option<(&'a Label, &'a Label)>
-    requires { length run.old.cells ≡ length files.now }
-    ensures { run.new ≡ run.old }
-{
-    let place = place_of(run, refused.file)?;
-    let note = run.note(place);
-    let module = run.module(place, note);
-    let loads = module.loads.as_slice();
-    if refused.index < loads.len() {
-        let loaded = loads[refused.index];
-        Some((files.label(module.number), files.label(loaded)))
-    } else {
-        None
-    }
-}
-
-/// Writes a line for each refused load, up to the first that cannot be written.
-fn write_trace<W: Sink>(alloc: Global, writer: &mut W, files: &Files, run: &mut Run)
-    requires { length run.old.cells ≡ length files.now }
-{
-    for i in 0..run.refused().len() {
-        let Some(refused) = run.refused().get(i).copied() else {
-            return;
-        };
-        let Some((loader, loaded)) = refused_labels(files, run, refused) else {
-            continue;
-        };
-        let (loader, loaded) = (loader.text(), loaded.text());
-        let Ok(line) = format!(in alloc; "starload: cycle: {loader} loads {loaded}\n") else {
-            return;
-        };
-        if writer.write(line.as_bytes()).is_err() {
-            return;
-        }
-    }
 }
 
 /// Runs what is asked for and writes the report, and the trace to `errors` where that is wanted. It answers whether
@@ -172,19 +114,21 @@ pub(crate) fn reported<H: Threads + Wait + Sync, W: Sink, E: Sink>(
     requires prelude { IfSome asked.now.prelude (λ n. n < length asked.now.files) }
     requires loaders { (1 ≤ options.now.loaders) × (options.now.loaders ≤ 64) }
     requires steps { (1 ≤ options.now.steps) × (options.now.steps ≤ 100000000) }
-    ensures ok { IfOk result (Reports (asked_view asked.now) options.now.steps (W.taken writer.old)
+    ensures ok { IfOk result (Reports options.now.wanted (asked_view asked.now) options.now.steps (W.taken writer.old)
         (W.taken writer.new)) }
+    ensures traced { IfOk result (λ _. E.failed errors.new ≡ E.failed errors.old
+        → Traces (asked_view asked.now) options.now.steps (E.taken errors.old) (E.taken errors.new)) }
+    ensures untraced { options.now.trace ≡ false → errors.new ≡ errors.old }
     ensures refused { IfErr result (IsRefusedRun (writer.new ≡ writer.old)) }
+    ensures unsaid { IfErr result (λ _. errors.new ≡ errors.old) }
     ensures writes { W.failed writer.new ≡ W.failed writer.old + writes_failed result }
 {
     let trees = Trees::new(alloc)?;
     let mut reads = Reads::new(alloc);
-    let (loaders, steps) = (options.loaders, options.steps);
-    let Answer {
-        mut run,
-        text,
-        all_ok,
-    } = match answered(rt, alloc, asked, &trees, &mut reads, loaders, steps) {
+    let (wanted, loaders, steps) = (options.wanted, options.loaders, options.steps);
+    let Answer { run, text, all_ok } = match answered(
+        rt, alloc, asked, &trees, &mut reads, wanted, loaders, steps,
+    ) {
         Ok(answer) => answer,
         Err(error) => return Err(error),
     };
@@ -192,7 +136,7 @@ pub(crate) fn reported<H: Threads + Wait + Sync, W: Sink, E: Sink>(
         return Err(ServeError::Write);
     }
     if options.trace {
-        write_trace(alloc, errors, &asked.files, &mut run);
+        write_trace(alloc, errors, &asked.files, run.refused());
     }
     // The process ends next, and the system takes back all of its memory at once.
     mem::forget(run);
@@ -216,13 +160,20 @@ pub fn serve<H: Threads + Wait + Sync, R: Source, W: Sink, E: Sink>(
     requires loaders { (1 ≤ options.now.loaders) × (options.now.loaders ≤ 64) }
     requires steps { (1 ≤ options.now.steps) × (options.now.steps ≤ 100000000) }
 
-    // All was read, it is a bundle that has each root and the prelude, and its report was written, and nothing else.
+    // All was read, it is a bundle that has each root and the prelude, and its report was written, and nothing else;
+    // and to `errors` nothing but lines of loads that lie on cycles, unless a write to it failed.
     ensures ok { IfOk result (λ all_ok. (input : List ℕ)
         × ReadsAll (R.said reader.old) (R.said reader.new) input
         × (asked : bundle.Asked)
         × (bundle.asked_of (map string_bytes options.now.roots.items) (option_map string_bytes options.now.prelude) input
         ≡ Ok asked)
-        × Reports asked options.now.steps (W.taken writer.old) (W.taken writer.new) all_ok) }
+        × Reports options.now.wanted asked options.now.steps (W.taken writer.old) (W.taken writer.new) all_ok
+        × (E.failed errors.new ≡ E.failed errors.old
+        → Traces asked options.now.steps (E.taken errors.old) (E.taken errors.new))) }
+
+    // Without the trace, and where there is no answer, nothing was written to `errors`.
+    ensures untraced { options.now.trace ≡ false → errors.new ≡ errors.old }
+    ensures unsaid { IfErr result (λ _. errors.new ≡ errors.old) }
 
     // What was read is refused so, and nothing was written.
     ensures refused { IfErr result (IsRefused

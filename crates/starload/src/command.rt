@@ -5,8 +5,11 @@ ghost use Rattle.clap.specs.Matches.{first_value, found_of, one_text};
 ghost use Rattle.starload.specs.Options as spec;
 
 use clap::{Arg, ArgAction, ArgMatches, Command, value_parser};
-use star_serve::serve::Options;
+use star_serve::serve::{Options, Wanted};
 use std::alloc::{AllocError, Global};
+
+/// What `--version` says after the program's name: its version, and the kit that proved it.
+const VERSION: &str = "1.0.0 (rattle-kit-13f logic dac8208d650f15bf)";
 
 /// What stands after the options in the help.
 const EXAMPLE: &str =
@@ -18,6 +21,9 @@ const EXAMPLE: &str =
 
 The report is one line of JSON on standard output. The exit status is 0 where every file is ok, 1 where some
 file is not, and 2 where there is no report; then standard error says why.";
+
+/// What `--with` may name.
+const MORE: &[&str] = &["values"];
 
 fn loaders_arg<'a>(alloc: Global) -> Arg<'a> {
     Arg::new(alloc, "loaders")
@@ -57,11 +63,37 @@ fn dir_arg<'a>(alloc: Global) -> Arg<'a> {
     )
 }
 
-fn roots_arg<'a>(alloc: Global) -> Arg<'a> {
+fn code_arg<'a>(alloc: Global) -> Arg<'a> {
+    Arg::new(alloc, "explain-code")
+        .long("explain-code")
+        .value_name("CODE")
+        .help("Says what a code of a fault means, or `all` of them, and loads nothing")
+}
+
+fn with_arg<'a>(alloc: Global) -> Arg<'a> {
+    Arg::new(alloc, "with")
+        .long("with")
+        .value_name("WHAT")
+        .help(
+            "What the report says more of each file that is ok: values, which are its globals as JSON",
+        )
+        .value_parser(MORE)
+        .value_delimiter(',')
+        .action(ArgAction::Append)
+}
+
+fn only_roots_arg<'a>(alloc: Global) -> Arg<'a> {
+    Arg::new(alloc, "only-roots")
+        .long("only-roots")
+        .help("Of the files that are ok, reports the roots alone")
+        .action(ArgAction::SetTrue)
+}
+
+fn roots_arg<'a>(alloc: Global) -> Result<Arg<'a>, AllocError> {
     Arg::new(alloc, "ROOT")
         .help("The labels of the files to load, such as //app:main.star")
         .action(ArgAction::Append)
-        .required(true)
+        .required_unless_present("explain-code")
 }
 
 /// The command line.
@@ -71,13 +103,17 @@ pub fn command<'a>(alloc: Global) -> Result<Command<'a>, clap::Error> {
             .about(
                 "Loads Starlark files and reports the globals, the printed lines or the fault of each",
             )
+            .version(VERSION)
             .after_help(EXAMPLE)
             .arg(loaders_arg(alloc))?
             .arg(steps_arg(alloc))?
             .arg(prelude_arg(alloc))?
             .arg(trace_arg(alloc))?
             .arg(dir_arg(alloc))?
-            .arg(roots_arg(alloc))?,
+            .arg(with_arg(alloc))?
+            .arg(only_roots_arg(alloc))?
+            .arg(code_arg(alloc))?
+            .arg(roots_arg(alloc)?)?,
     )
 }
 
@@ -112,6 +148,28 @@ fn value_of(alloc: Global, matches: &ArgMatches<'_>, id: &str) -> Result<Option<
     }
 }
 
+/// Whether an argument has this value among its own.
+fn is_named(matches: &ArgMatches<'_>, id: &str, value: &str) -> bool
+    ensures { result ≡ spec.is_named matches.now id.now value.now }
+{
+    match matches.get_strs(id) {
+        Some(words) => has_word(words, value),
+        None => false,
+    }
+}
+
+/// Whether a word is one of these.
+fn has_word(words: &[&str], value: &str) -> bool
+    ensures { result ≡ spec.has_word value.now (map (λ w. w.now) words.now) }
+{
+    for word in words {
+        if *word == value {
+            return true;
+        }
+    }
+    false
+}
+
 /// The options that the words of the command line give: the roots in their order. `Memory` where a growth was refused.
 pub fn options(alloc: Global, matches: &ArgMatches<'_>) -> Result<Options, AllocError>
     ensures loaders { IfOk result (λ o. (1 ≤ o.loaders) × (o.loaders ≤ 64)) }
@@ -124,6 +182,11 @@ pub fn options(alloc: Global, matches: &ArgMatches<'_>) -> Result<Options, Alloc
     ensures prelude { IfOk result (λ o. option_map string_bytes o.prelude
         ≡ first_value (found_of matches.now) (codes "prelude")) }
     ensures dir { IfOk result (λ o. option_map string_bytes o.dir ≡ first_value (found_of matches.now) (codes "dir")) }
+    ensures wanted { IfOk result (λ o. o.wanted.values ≡ spec.is_named matches.now (codes "with") (codes "values")) }
+    ensures only_roots { IfOk result (λ o. (one_text (found_of matches.now) (codes "only-roots") ≡ Some (codes "true"))
+        → (o.wanted.only_roots ≡ true)) }
+    ensures all { IfOk result (λ o. (one_text (found_of matches.now) (codes "only-roots") ≡ Some (codes "false"))
+        → (o.wanted.only_roots ≡ false)) }
     ensures trace { IfOk result (λ o. (one_text (found_of matches.now) (codes "trace") ≡ Some (codes "true"))
         → (o.trace ≡ true)) }
     ensures no_trace { IfOk result (λ o. (one_text (found_of matches.now) (codes "trace") ≡ Some (codes "false"))
@@ -136,6 +199,10 @@ pub fn options(alloc: Global, matches: &ArgMatches<'_>) -> Result<Options, Alloc
         steps: steps.clamp(1, 100_000_000),
         roots: values_of(alloc, matches, "ROOT")?,
         prelude: value_of(alloc, matches, "prelude")?,
+        wanted: Wanted {
+            values: is_named(matches, "with", "values"),
+            only_roots: matches.get_flag("only-roots"),
+        },
         trace: matches.get_flag("trace"),
         dir: value_of(alloc, matches, "dir")?,
     })

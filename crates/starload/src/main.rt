@@ -7,6 +7,7 @@
 
 ghost use Rattle.std.specs.Prelude.{◌≤◌};
 
+mod codes;
 mod command;
 
 use clap::error::ErrorKind;
@@ -17,6 +18,7 @@ use star_serve::dir::serve_dir;
 use star_serve::ends::{CountedReader, CountedWriter};
 use star_serve::serve::{Options, serve};
 use std::alloc::Global;
+use std::io::IsTerminal;
 use std::process::ExitCode;
 use std::sync::Wait;
 use std::thread::Threads;
@@ -47,13 +49,37 @@ fn words(rt: &HostRuntime) -> Result<Vec<String>, &'static str> {
     }
 }
 
-/// Says what `clap` found in the command line, its help among that.
+/// Says what `clap` found in the command line, its help among that. The version goes to standard output.
 fn say(rt: &HostRuntime, error: &clap::Error) -> ExitCode {
-    if error.kind() == ErrorKind::OutOfMemory {
-        return refuse(rt, ServeError::Memory.text());
+    match error.kind() {
+        ErrorKind::OutOfMemory => refuse(rt, ServeError::Memory.text()),
+        ErrorKind::DisplayVersion => match rt.print(error) {
+            Ok(()) => ExitCode::SUCCESS,
+            Err(_) => ExitCode::from(2),
+        },
+        _ => {
+            let _ = rt.eprint(error);
+            ExitCode::from(2)
+        }
     }
-    let _ = rt.eprint(error);
-    ExitCode::from(2)
+}
+
+/// Says what a code of a fault means.
+fn explain_code(rt: &HostRuntime, code: &str) -> ExitCode {
+    match codes::explain(rt, code) {
+        Ok(true) => ExitCode::SUCCESS,
+        Ok(false) => refuse(rt, "no such code; --explain-code all lists them"),
+        Err(_) => refuse(rt, ServeError::Write.text()),
+    }
+}
+
+/// Says, where standard input is a terminal, that a bundle is waited for.
+fn say_what_is_read(rt: &HostRuntime) {
+    if rt.stdin().is_terminal() {
+        let _ = eprintln!(rt;
+            "starload: waiting for a bundle on standard input, a JSON object from labels to texts (see --help)"
+        );
+    }
 }
 
 /// Writes the report of what the options ask for. The loaders are threads of `threads`.
@@ -81,6 +107,7 @@ fn report<H: Threads + Wait + Sync>(
             )
         }
         None => {
+            say_what_is_read(rt);
             let mut reader = CountedReader::new(rt.stdin());
             serve(
                 threads,
@@ -108,6 +135,9 @@ fn main(rt: HostRuntime) -> ExitCode {
         Ok(matches) => matches,
         Err(error) => return say(&rt, &error),
     };
+    if let Some(code) = matches.get_str("explain-code") {
+        return explain_code(&rt, code);
+    }
     let options = match options(alloc, &matches) {
         Ok(options) => options,
         Err(_) => return refuse(&rt, ServeError::Memory.text()),

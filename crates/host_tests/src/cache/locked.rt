@@ -215,7 +215,45 @@ fn meet(stage: &AtomicU64, wanted: u64) {
     }
 }
 
-// The loader with seat 0 begins a file and gives it up; the other asks for it in between.
+// Seat 0 begins file 9, and gives it up.
+fn give_up<L: Ledger, R: Wait>(
+    rt: &R,
+    cache: &LoadCache<Kept<L>>,
+    seat: &mut Seat<Kept<L>>,
+    stage: &AtomicU64,
+) {
+    let begun = cache.ask(rt, seat, None, 9);
+    stage.store(1, Ordering::SeqCst);
+    meet(stage, 2);
+    for _ in 0..1000u32 {
+        thread::yield_now();
+    }
+    if matches!(begun, Ok(Reply::Begun)) {
+        let _ = cache.abandon(rt, seat);
+    }
+}
+
+// Seat 1 begins file 8, which loads file 9, waits for that, and gives up when it is told that it was given up.
+fn be_told<L: Ledger, R: Wait>(
+    rt: &R,
+    cache: &LoadCache<Kept<L>>,
+    seat: &mut Seat<Kept<L>>,
+    stage: &AtomicU64,
+    spoiled: &AtomicU64,
+) {
+    meet(stage, 1);
+    let begun = cache.ask(rt, seat, None, 8);
+    stage.store(2, Ordering::SeqCst);
+    if !matches!(begun, Ok(Reply::Begun)) {
+        return;
+    }
+    if matches!(cache.ask(rt, seat, Some(8), 9), Ok(Reply::Spoiled)) {
+        spoiled.fetch_add(1, Ordering::SeqCst);
+        let _ = cache.abandon(rt, seat);
+    }
+}
+
+// What each of two loaders does.
 fn give_up_or_wait<L: Ledger, R: Wait>(
     rt: &R,
     cache: &LoadCache<Kept<L>>,
@@ -225,23 +263,20 @@ fn give_up_or_wait<L: Ledger, R: Wait>(
 ) -> Seat<Kept<L>> {
     let mut seat = seat;
     if seat.number() == 0 {
-        let begun = cache.ask(rt, &mut seat, None, 9);
-        stage.store(1, Ordering::SeqCst);
-        meet(stage, 2);
-        for _ in 0..1000u32 {
-            thread::yield_now();
-        }
-        if matches!(begun, Ok(Reply::Begun)) {
-            let _ = cache.abandon(rt, &mut seat);
-        }
+        give_up(rt, cache, &mut seat, stage);
     } else {
-        meet(stage, 1);
-        stage.store(2, Ordering::SeqCst);
-        if matches!(cache.ask(rt, &mut seat, None, 9), Ok(Reply::Spoiled)) {
-            spoiled.fetch_add(1, Ordering::SeqCst);
-        }
+        be_told(rt, cache, &mut seat, stage, spoiled);
     }
     seat
+}
+
+// Whether both files are spoiled, and each of two loaders has begun one.
+fn both_spoiled<L: Ledger>(closed: (Book<Kept<L>>, [u32; 64])) -> bool {
+    let (book, counts) = closed;
+    let entries = book.into_entries();
+    let first = matches!(entries.get(8), Some(Entry::Spoiled));
+    let second = matches!(entries.get(9), Some(Entry::Spoiled));
+    first && second && (counts[0], counts[1], counts[2]) == (1, 1, 0)
 }
 
 // Whether a loader that waits is told that its file was given up.
@@ -263,7 +298,11 @@ fn spoils<L: Ledger + Send + Sync, R: Threads + Wait + Sync>(
             give_up_or_wait(rt, &cache, seat, &stage, &spoiled)
         },
     )?;
-    Ok(cache.close(back).is_ok() && spoiled.load(Ordering::SeqCst) == 1)
+    let told = spoiled.load(Ordering::SeqCst) == 1;
+    match cache.close(back) {
+        Ok(closed) => Ok(told && both_spoiled(closed)),
+        Err(_) => Ok(false),
+    }
 }
 
 fn spoiled_for_the_waiter<R: Threads + Wait + Sync>(

@@ -7,6 +7,7 @@ use Rattle.star_bundle.specs.View.{asked_view}
 use Rattle.star_folder.specs.Refusal.{IsStopped}
 use Rattle.star_folder.specs.Walk.{AreFilesOf}
 use Rattle.star_folder.proofs.StopKinds.{of_walk}
+use Rattle.star_serve.proofs.Traced.{if_ok_both}
 use Rattle.star_serve.proofs.Refusals.{IsOfWords, if_err, words_kind}
 use Rattle.star_serve.proofs.FolderRefusals.{run_counts, run_refused, stopped_refused, stopped_writes, words_failed, words_refused}
 use Rattle.star_serve.proofs.Spoken.{words_of}
@@ -90,4 +91,5 @@ returns-clause-ok g c =
     let same : asked_among (map string_bytes c.args.options.now.roots.items) (option_map string_bytes c.args.options.now.prelude) c.in-Ok.files ≡ asked_among roots prelude c.in-Ok.files =
     rw (c.as_slice.ensures.value, words) refl in
     let found = same ∙ c.in-Ok-asked_in.ensures.asked in
-    IfOk-weaker c.reported.result _ _ (λ all_ok h. (c.in-Ok.files, c.in-Ok.ensures.files, asked_view c.in-Ok-asked_in.asked, found, h)) c.reported.ensures.ok
+    IfOk-weaker c.reported.result _ _ (λ all_ok h. (c.in-Ok.files, c.in-Ok.ensures.files, asked_view c.in-Ok-asked_in.asked, found, h.0, h.1))
+    (if_ok_both c.reported.result _ _ c.reported.ensures.ok c.reported.ensures.traced)

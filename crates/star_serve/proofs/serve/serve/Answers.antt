@@ -5,6 +5,7 @@ use Rattle.star_bundle.specs.Bundle.{asked_of}
 use Rattle.star_serve.specs.Serve.{ReadsAll, input_limit}
 use Rattle.star_serve.specs.Stream.{GaveFirst, Gives}
 use Rattle.star_bundle.specs.View.{asked_view}
+use Rattle.star_serve.proofs.Traced.{if_ok_both}
 use Rattle.star_serve.proofs.Refusals.{asked_kind, refused_by, run_refused, run_reads, if_err, no_read_failed, no_write_failed}
 use Rattle.star_serve.proofs.Spoken.{words_of}
 use Rattle.star_serve.proofs.serve.serve.Goals as goal
@@ -72,5 +73,5 @@ returns-clause-ok g c =
     let asked = asked_view c.in-Ok-asked_for.asked in
     let found = same ∙ c.in-Ok-asked_for.ensures.asked in
     IfOk-weaker c.reported.result _ _
-    (λ all_ok h. (c.in-Ok.bytes.items, (c.in-Ok.ensures.ok, c.in-Ok.ensures.within), asked, found, h))
-    c.reported.ensures.ok
+    (λ all_ok h. (c.in-Ok.bytes.items, (c.in-Ok.ensures.ok, c.in-Ok.ensures.within), asked, found, h.0, h.1))
+    (if_ok_both c.reported.result _ _ c.reported.ensures.ok c.reported.ensures.traced)

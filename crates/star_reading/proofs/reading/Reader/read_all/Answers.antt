@@ -4,15 +4,15 @@ use Rattle.star_reading.specs.Found.{IsRowOf}
 use Rattle.star_reading.proofs.Finds.{all_found, waits_within}
 use Rattle.star_reading.proofs.reading.Reader.read_all.Goals as goal
 
-pub returns-in_default : goal.returns-in_default
-returns-in_default g c =
+pub returns : goal.returns
+returns g c =
     let r = c.args.self.now in
-    let f = c.loop.found in
+    let f = c.loop-n.found in
     subst (λ rs. IsRowOf r.files.now (option_copied r.prelude) r.roots.now rs.items) (sym c.in_default.ensures.reads)
-    (all_found r.files.now (option_copied r.prelude) r.roots.now f.reads.items f.marks.items f.todo.items c.in_default.ensures.todo c.loop.invariant.2)
+    (all_found r.files.now (option_copied r.prelude) r.roots.now f.reads.items f.marks.items f.todo.items c.in_default.ensures.todo c.loop-n.invariant.found)
 
 pub read_next-requires-clause-file : goal.read_next-requires-clause-file
 read_next-requires-clause-file g c =
     let r = c.args.self.now in
-    let f = c.loop.found in
-    waits_within r.files.now (option_copied r.prelude) r.roots.now f.reads.items f.marks.items f.todo.items c.next-in-loop.new.self.todo.items c.in-Some-next.n c.loop.invariant.2 c.in-Some-next.ensures.todo
+    let f = c.loop-n.found in
+    waits_within r.files.now (option_copied r.prelude) r.roots.now f.reads.items f.marks.items f.todo.items c.next.new.self.todo.items c.in-Some.n c.loop-n.invariant.found c.in-Some.ensures.todo

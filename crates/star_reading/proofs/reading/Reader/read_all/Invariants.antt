@@ -1,8 +1,14 @@
 use Rattle.std.specs.Option.{option_copied}
-use Rattle.star_reading.specs.Found.{AreFound}
+use Rattle.star_reading.specs.Found.{AreFound, left_of}
 use Rattle.star_reading.specs.Readings.{AreReadAs}
 use Rattle.star_reading.proofs.reading.Reader.read_all.Given as goal
 
-abbrev pub invariant-loop : goal.invariant-loop
-invariant-loop g l =
-    (goal.iterator-loop g).can_next l.iterator' × (goal.iterator-loop g).is_finite l.iterator' × AreFound l.self.files.now (option_copied l.self.prelude) l.self.roots.now l.found.reads.items l.found.marks.items l.found.todo.items × AreReadAs l.self.files.now (option_copied l.self.prelude) l.ahead.reads.items
+abbrev pub invariant-loop-n : goal.invariant-loop-n
+invariant-loop-n g l = record {
+  found : AreFound l.self.files.now (option_copied l.self.prelude) l.self.roots.now l.found.reads.items l.found.marks.items l.found.todo.items;
+  ahead : AreReadAs l.self.files.now (option_copied l.self.prelude) l.ahead.reads.items;
+}
+
+-- each turn takes a file that was found, and each is found at most once
+abbrev pub decreases-loop-n : goal.decreases-loop-n
+decreases-loop-n g l = left_of l.found.marks.items l.found.todo.items

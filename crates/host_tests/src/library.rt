@@ -1,0 +1,133 @@
+//! How another program loads a root by itself, and what it is told.
+
+ghost use Rattle.std.specs.Prelude.{◌≡◌, ◌<◌, All, length};
+ghost use Rattle.star_host.specs.Worlds.{IsWorld};
+ghost use Rattle.star_outcome.specs.Fits.{IsAsked};
+
+use crate::runs::files_of;
+use star_cache::{Book, LoadCache};
+use star_host::gate::Open;
+use star_host::{Common, LoadError, Naming, Shelf, Told, Trace, Trees, load, programs, read_files};
+use star_label::files::Files;
+use star_label::label::Label;
+use std::alloc::{AllocError, Global};
+use std::marker::Brand;
+use std::sync::Wait;
+use std::sync::ledger::Blank;
+use std::test::Fail;
+use std::thread::Threads;
+
+/// What came of a root: whether its module is good, how many files were begun, how many of them by the first loader,
+/// and the sum of all loaders' counts.
+#[derive(Clone, Copy, Debug, PartialEq, Eq)]
+struct Loaded {
+    good: bool,
+    begun: u32,
+    first: u32,
+    sum: u32,
+}
+
+/// What a closed cache tells.
+fn loaded_of<J: Naming>(good: bool, closed: (Book<Told<J>>, [u32; 64])) -> Loaded {
+    let (book, counts) = closed;
+    let sum = counts
+        .iter()
+        .fold(0, |sum: u32, &count| sum.saturating_add(count));
+    Loaded {
+        good,
+        begun: book.begun(),
+        first: counts[0],
+        sum,
+    }
+}
+
+/// One loader of two loads the first root, and the cache is closed with both seats.
+fn load_first<J: Naming, R: Wait>(
+    rt: &R,
+    common: &Common<'_, '_, '_, '_>,
+    roots: &[usize],
+    blank: Blank,
+) -> Result<Option<Loaded>, LoadError>
+    requires name { blank.name ≡ J.name }
+    requires parts { (blank.parts ≡ J.parts) × (blank.parts ≡ 2) }
+    requires world { IsWorld J.files J.plan J.shelf common.now }
+    requires roots { All (IsAsked J.files J.plan) roots.now }
+    requires some { 0 < length roots.now }
+{
+    let root = roots[0];
+    let trace = Trace::<J>::new(common.alloc)?;
+    let files = common.files.len();
+    let (cache, mut seats) = LoadCache::<Told<J>>::new(common.alloc, blank, files, 2)?;
+    let mut told = load(rt, common, &Open, &cache, &mut seats[0], root, &trace)?;
+    let note = told.note();
+    let good = common.modules.seen(root, note).is_good();
+    match cache.close(seats) {
+        Ok(closed) => Ok(Some(loaded_of(good, closed))),
+        Err(_) => Ok(None),
+    }
+}
+
+/// The file with this label is read, with all that it reaches, and loaded.
+fn load_label<R: Threads + Wait + Sync>(
+    rt: &R,
+    alloc: Global,
+    files: &Files,
+    label: &Label,
+) -> Result<Option<Loaded>, LoadError> {
+    let Some(root) = files.find(label) else {
+        return Ok(None);
+    };
+    let roots = [root];
+    let trees = Trees::new(alloc)?;
+    let shelf = Shelf::new(alloc, files.len())?;
+    let reads = read_files(rt, alloc, files, &trees, &roots, None, 2)?;
+    let programs = programs(alloc, &reads)?;
+    let common = Common::new(
+        alloc, files, &reads, &programs, &shelf, &roots, None, 100_000,
+    );
+    load_first::<Brand, R>(rt, &common, &roots, Blank::new(2))
+}
+
+#[test]
+fn a_root_is_loaded_with_all_that_it_loads(rt: HostRuntime) -> Result<(), Fail> {
+    let alloc = rt.alloc();
+    let bundle = [
+        (
+            "//:a.star",
+            "load(\"//:b.star\", \"y\")\nload(\"//:c.star\", \"k\")\nx = y + k",
+        ),
+        ("//:b.star", "load(\"//:c.star\", \"k\")\ny = k"),
+        ("//:c.star", "k = 1"),
+    ];
+    let files = files_of(alloc, &bundle)?;
+    let label = Label::read(alloc, "//:a.star", "")?;
+    let loaded = load_label(&rt, alloc, &files, &label)?;
+    let want = Loaded {
+        good: true,
+        begun: 3,
+        first: 3,
+        sum: 3,
+    };
+    assert!(rt; loaded == Some(want));
+    Ok(())
+}
+
+#[test]
+fn a_root_is_told_bad_where_a_name_is_missing(rt: HostRuntime) -> Result<(), Fail> {
+    let alloc = rt.alloc();
+    let bundle = [
+        ("//:a.star", "load(\"//:b.star\", \"y\")\nx = y"),
+        ("//:b.star", "y = missing"),
+    ];
+    let files = files_of(alloc, &bundle)?;
+    let label = Label::read(alloc, "//:a.star", "")?;
+    let loaded = load_label(&rt, alloc, &files, &label)?;
+    let want = Loaded {
+        good: false,
+        begun: 2,
+        first: 2,
+        sum: 2,
+    };
+    assert!(rt; loaded == Some(want));
+    Ok(())
+}

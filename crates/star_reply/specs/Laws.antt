@@ -1,0 +1,105 @@
+-- The one report of an input.
+use Rattle.std.specs.Prelude.{◌≡◌, ◌≢◌, ℕ, Bool, List, Option, Some, Ok}
+use Rattle.star_label.specs.Files.{File, IsOrdered}
+use Rattle.star_bundle.specs.Bundle.{Asked, asked_among, asked_of}
+use Rattle.star_folder.specs.Folder.{Contents, Entry}
+use Rattle.star_bundle.specs.declared.error.ServeError.{ServeError}
+use Rattle.star_bundle.specs.declared.error.ServeError.TheVariants.{BadDir, BadFile, Memory}
+use Rattle.star_folder.specs.Refusal.{IsStopped}
+use Rattle.star_folder.specs.Walk.{AreFilesOf}
+use Rattle.star_folder.specs.Memory.{contents_of}
+use Rattle.star_folder.specs.declared.memory.Row.{Row}
+use Rattle.star_report.specs.declared.wanted.Wanted.{Wanted}
+use Rattle.star_serve.specs.Serve.{ReadsAll, Reports}
+use Rattle.star_serve.specs.Stream.{Said}
+
+-- what is asked for of a bundle are ordered files
+abbrev pub AskedAreOrdered : Type 0
+AskedAreOrdered =
+    (roots : List (List ℕ)) (prelude : Option (List ℕ)) (input : List ℕ) (asked : Asked)
+    → asked_of roots prelude input ≡ Ok asked → IsOrdered asked.files
+
+-- so are those of a whole walk
+abbrev pub WalkedAreOrdered : Type 0
+WalkedAreOrdered = (held : Contents) (files : List File) → AreFilesOf held files → IsOrdered files
+
+-- the contents say of each path and each label what is there
+pub record SaysAll (held : Contents) : Type 0 where
+  pub folders : (path : List ℕ) → (entries : List Entry) × (held.entries path ≡ Some entries)
+  pub files : (label : List ℕ) → (bytes : List ℕ) × (held.bytes label ≡ Some bytes)
+
+-- a folder in memory says all
+abbrev pub MemorySaysAll : Type 0
+MemorySaysAll = (rows : List Row) → SaysAll (contents_of rows)
+
+-- whole walks through a folder that says all find the same files
+abbrev pub OneWalk : Type 0
+OneWalk =
+    (held : Contents) → SaysAll held → (files others : List File) → AreFilesOf held files → AreFilesOf held others
+    → files ≡ others
+
+-- what the words ask for of these files was written between `before` and `after`, and so answered
+abbrev pub Answers : Wanted → List File → List (List ℕ) → Option (List ℕ) → ℕ → List ℕ → Option (List ℕ) → Bool → Type 0
+Answers wanted files roots prelude steps before after ok =
+    (asked : Asked) × (asked_among roots prelude files ≡ Ok asked) × Reports wanted asked steps (Some before) after ok
+
+-- ordered files have one answer
+abbrev pub OneAnswer : Type 0
+OneAnswer =
+    (files : List File) → IsOrdered files
+    → (wanted : Wanted) (roots : List (List ℕ)) (prelude : Option (List ℕ)) (steps : ℕ) (before : List ℕ)
+    → (x y : Option (List ℕ)) (ok well : Bool) → Answers wanted files roots prelude steps before x ok
+    → Answers wanted files roots prelude steps before y well → (x ≡ y) × (ok ≡ well)
+
+-- what `serve` says where it answers: of the input, and of a writer that says what it took
+abbrev pub Replies : Wanted → List (List ℕ) → Option (List ℕ) → ℕ → List ℕ → List ℕ → Option (List ℕ) → Bool → Type 0
+Replies wanted roots prelude steps input before after ok =
+    (asked : Asked) × (asked_of roots prelude input ≡ Ok asked) × Reports wanted asked steps (Some before) after ok
+
+-- an input has one reply
+abbrev pub OneReply : Type 0
+OneReply =
+    (wanted : Wanted) (roots : List (List ℕ)) (prelude : Option (List ℕ)) (steps : ℕ) (input before : List ℕ)
+    → (x y : Option (List ℕ)) (ok well : Bool) → Replies wanted roots prelude steps input before x ok
+    → Replies wanted roots prelude steps input before y well → (x ≡ y) × (ok ≡ well)
+
+-- what `serve` says of its reader too: all of what that gave was the input
+abbrev pub Serves : Wanted → List (List ℕ) → Option (List ℕ) → ℕ → Said → Said → List ℕ → Option (List ℕ) → Bool → Type 0
+Serves wanted roots prelude steps old new before after ok =
+    (input : List ℕ) × ReadsAll old new input × Replies wanted roots prelude steps input before after ok
+
+-- a reader that says what it will give has one reply
+abbrev pub OneServed : Type 0
+OneServed =
+    (wanted : Wanted) (roots : List (List ℕ)) (prelude : Option (List ℕ)) (steps : ℕ) (old new other : Said) (all before : List ℕ)
+    → old.left ≡ Some all
+    → (x y : Option (List ℕ)) (ok well : Bool) → Serves wanted roots prelude steps old new before x ok
+    → Serves wanted roots prelude steps old other before y well → (x ≡ y) × (ok ≡ well)
+
+-- what `serve_dir` says where it answers
+abbrev pub RepliesDir : Wanted → List (List ℕ) → Option (List ℕ) → ℕ → Contents → List ℕ → Option (List ℕ) → Bool → Type 0
+RepliesDir wanted roots prelude steps held before after ok =
+    (files : List File) × AreFilesOf held files × Answers wanted files roots prelude steps before after ok
+
+-- a folder that says all has one reply
+abbrev pub OneReplyDir : Type 0
+OneReplyDir =
+    (wanted : Wanted) (roots : List (List ℕ)) (prelude : Option (List ℕ)) (steps : ℕ) (held : Contents) → SaysAll held
+    → (before : List ℕ) (x y : Option (List ℕ)) (ok well : Bool) → RepliesDir wanted roots prelude steps held before x ok
+    → RepliesDir wanted roots prelude steps held before y well → (x ≡ y) × (ok ≡ well)
+
+-- a refusal that the contents decide: no listing or read failed, and no growth was refused
+abbrev pub IsDecided : ServeError → Type 0
+IsDecided e = (e ≢ BadDir) × (e ≢ BadFile) × (e ≢ Memory)
+
+-- walks through a folder that says all stop in one way
+abbrev pub OneStop : Type 0
+OneStop =
+    (held : Contents) → SaysAll held → (e f : ServeError) → IsStopped held e → IsStopped held f → IsDecided e
+    → IsDecided f → e ≡ f
+
+-- or come to their end
+abbrev pub StopsOrEnds : Type 0
+StopsOrEnds =
+    (held : Contents) → SaysAll held → (files : List File) (e : ServeError) → AreFilesOf held files → IsStopped held e
+    → IsDecided e → ⊥
