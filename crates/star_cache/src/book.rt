@@ -1,3 +1,5 @@
+//! The book: which file was begun by which loader, who waits for which, and what has come of it.
+
 ghost use Rattle.std.specs.Prelude.{◌≡◌, ◌≢◌, ℕ, true, false, ◌<◌, ◌≤◌, ◌↔◌, All, length, vec_len, IfOk, MatchResult, MatchOption, IsTrue, Option, Some, None};
 ghost use Rattle.star_cache.specs.Tells.{Tells, IsCyclic};
 

@@ -1,3 +1,5 @@
+//! The cache: the book under its lock, with the ledger of what the seats have begun.
+
 ghost use Rattle.std.specs.Prelude.{◌≡◌, ◌≢◌, ◌+◌, ◌-◌, ◌<◌, ◌≤◌, ◌↔◌, ◌⊎◌, true, false, All, List, length, sum_by, vec_len, IfOk, IfErr, IsTrue, MatchOption, MatchResult, Option, Some};
 ghost use Rattle.std.specs.List.{Any};
 ghost use Rattle.star_cache.specs.declared.entry.Entry.{Entry};

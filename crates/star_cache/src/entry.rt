@@ -1,3 +1,5 @@
+//! The entry of a file in the book.
+
 ghost use Rattle.std.specs.Prelude.{◌≡◌, ◌≢◌, true, MatchResult};
 ghost use Rattle.star_cache.specs.Step.{IsStanding};
 

@@ -1,3 +1,5 @@
+//! Laws of the cache: its headline, and that no file on a cycle of loads is good.
+
 ghost use Rattle.std.specs.Prelude.{ℕ, suc, List};
 ghost use Rattle.star_cache.specs.State.{BookState, IsLawful, Loads};
 ghost use Rattle.star_cache.specs.Headline.{Headline};

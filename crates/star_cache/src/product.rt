@@ -1,3 +1,5 @@
+//! What a file leaves in its entry when it has ended.
+
 ghost use Rattle.std.specs.Prelude.{◌≡◌, ◌<◌, ◌↔◌, ℕ, Bool, true, List, IfOk, IsOk};
 ghost use Rattle.star_cache.specs.State.{Loads};
 

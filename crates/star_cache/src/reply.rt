@@ -1,3 +1,5 @@
+//! The answers of the book, and its refusals.
+
 use thiserror::Error;
 
 /// What the book answers to a seat that asks for a file.

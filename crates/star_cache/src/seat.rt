@@ -1,3 +1,5 @@
+//! A loader's token for the cache.
+
 ghost use Rattle.std.specs.Prelude.{◌≡◌, ◌<◌};
 ghost use Rattle.star_cache.specs.Seats.{SeatState};
 

@@ -1,6 +1,6 @@
 //! Expressions and calls.
 
-ghost use Rattle.std.specs.Prelude.{List};
+ghost use Rattle.std.specs.Prelude.{◌≡◌, List};
 ghost use Rattle.star_machine.specs.Gives.{Gives, GivesBy};
 ghost use Rattle.star_meaning.specs.Calls as calls;
 ghost use Rattle.star_meaning.specs.Expressions.{defaults, entry_of, maybe, new_function, node};
@@ -48,8 +48,9 @@ use star_world::parts::{answer_of, new_closure, new_string};
 use star_world::variables::read;
 use star_world::world::World;
 
-/// The value of an expression. `Deep` where no level is left; a node pays 1 as it begins. A name is read apart from
-/// other nodes, so that its value is not copied through memory.
+/// The value of an expression. `Deep` where no level is left; a node pays 1 as it begins. A name and an int have their
+/// values at once, where the node stands, so that these are not copied through memory.
+#[inline(always)]
 #[cycle(run)]
 #[tactic(auto, using(star_meaning::proofs::Levels::expr_at, star_meaning::proofs::Levels::expr_at_none))]
 pub fn evaluate(
@@ -64,14 +65,11 @@ pub fn evaluate(
     if levels == 0 {
         return Err(faulted(Code::Deep, place.line));
     }
-    machine.pay(place.line, 1)?;
-    if let Expression::Name(_) = expression {
-        return evaluate_node(machine, world, levels - 1, place, expression);
-    }
+    machine.pay_one(place.line)?;
     evaluate_node(machine, world, levels - 1, place, expression)
 }
 
-/// The value of a node, whose parts may open so many levels: of a name, an int or a string at once.
+/// The value of a node, whose parts may open so many levels: of a name or an int at once.
 #[inline(always)]
 #[cycle(run)]
 fn evaluate_node(
@@ -87,7 +85,6 @@ fn evaluate_node(
     match expression {
         Expression::Name(name) => read(machine, world, place, name),
         Expression::Int(int) => Ok(Value::Int(*int)),
-        Expression::Text(text) => new_string(machine, place.line, text),
         _ => evaluate_any(machine, world, levels, place, expression),
     }
 }
@@ -420,6 +417,16 @@ fn pass_each<'t>(
     Ok(values)
 }
 
+/// A fault leaves a call of what this expression names.
+#[inline(never)]
+fn leave_call(machine: &mut Machine, place: &Place, function: &Expression)
+    ensures { machine.new ≡ machine.old }
+{
+    if let Expression::Name(name) | Expression::Attribute { name, .. } = function {
+        machine.leave_call(place.file, name.position.token);
+    }
+}
+
 /// A call: the callee, the arguments in source order, then the checks in order, then the work.
 #[cycle(run)]
 fn call(
@@ -435,18 +442,20 @@ fn call(
 {
     let value = evaluate(machine, world, levels, place, function)?;
     if are_positional(arguments) {
-        return call_by_place(machine, world, levels, place, value, arguments);
+        return call_by_place(machine, world, levels, place, function, value, arguments);
     }
-    call_with(machine, world, levels, place, value, arguments)
+    call_with(machine, world, levels, place, function, value, arguments)
 }
 
-/// A call of a value whose arguments all stand by place: they are what is given, as they are.
+/// A call of a value, which a function names, whose arguments all stand by place: they are what is given, as they are. A
+/// fault leaves it.
 #[cycle(run)]
 fn call_by_place(
     machine: &mut Machine,
     world: &World,
     levels: u32,
     place: &Place,
+    function: &Expression,
     value: Value,
     arguments: &[Argument],
 ) -> Result<Value, Stop>
@@ -458,10 +467,14 @@ fn call_by_place(
         plain,
         named: Items::new(machine.alloc()),
     };
-    call_on(machine, world, levels, place, callee, &given)
+    let answer = call_on(machine, world, levels, place, callee, &given);
+    if answer.is_err() {
+        leave_call(machine, place, function);
+    }
+    answer
 }
 
-/// A call of a value with arguments of any kind.
+/// A call of a value, which a function names, with arguments of any kind. A fault leaves it.
 #[cycle(run)]
 #[tactic(auto, using(star_enter::proofs::Called::callee_kept))]
 fn call_with(
@@ -469,6 +482,7 @@ fn call_with(
     world: &World,
     levels: u32,
     place: &Place,
+    function: &Expression,
     value: Value,
     arguments: &[Argument],
 ) -> Result<Value, Stop>
@@ -478,7 +492,11 @@ fn call_with(
     let passed = pass_each(machine, world, levels, place, arguments)?;
     let callee = callee_of(machine, world, line, value)?;
     let given = given(machine, world.setting(), line, &passed)?;
-    call_on(machine, world, levels, place, callee, &given)
+    let answer = call_on(machine, world, levels, place, callee, &given);
+    if answer.is_err() {
+        leave_call(machine, place, function);
+    }
+    answer
 }
 
 /// A call on what is given: a function's arguments are bound, or `Args`; then it runs, at a level of its own.
@@ -619,7 +637,7 @@ fn run_function(
     run_left(machine, world, levels - 1, &place, called.definition)
 }
 
-/// What is left of a call: the body runs, and its definition ceases to be active.
+/// What is left of a call: the body runs, and its definition ceases to be active; or a fault leaves it.
 #[cycle(run)]
 fn run_left(
     machine: &mut Machine,
@@ -631,9 +649,13 @@ fn run_left(
     ensures { Gives (left (meant world.now levels) (definition_of definition.entry) place.now machine.old)
         result machine.new }
 {
-    let answer = run_body(machine, world, levels, place, definition.body)?;
-    machine.deactivate();
-    Ok(answer)
+    let answer = run_body(machine, world, levels, place, definition.body);
+    if answer.is_err() {
+        machine.leave_body(place.file, definition.number);
+    } else {
+        machine.deactivate();
+    }
+    answer
 }
 
 /// What a body answers: its statements return a value, or the None of a body that ends; a lambda's expression is the

@@ -145,6 +145,7 @@ fn execute_any(
 }
 
 /// An expression that stands alone: its value is dropped.
+#[inline(always)]
 #[cycle(run)]
 fn execute_expression(
     machine: &mut Machine,
@@ -160,6 +161,7 @@ fn execute_expression(
 }
 
 /// `target = value`: the value first.
+#[inline(always)]
 #[cycle(run)]
 fn execute_assign(
     machine: &mut Machine,
@@ -260,7 +262,7 @@ fn execute_def(
     Ok(Flow::Next)
 }
 
-/// Statements in order, up to the first after which the next one does not follow.
+/// Statements in order, up to the first after which the next one does not follow. A fault leaves its statement.
 #[cycle(run)]
 pub fn execute_each(
     machine: &mut Machine,
@@ -272,9 +274,14 @@ pub fn execute_each(
     ensures { Gives (block ((meant world.now levels).stmt place.now) statements.now machine.old) result machine.new }
 {
     for statement in statements {
-        let flow = execute(machine, world, levels, place, statement)?;
-        if flow != Flow::Next {
-            return Ok(flow);
+        match execute(machine, world, levels, place, statement) {
+            Ok(Flow::Next) => {}
+            Ok(flow) => return Ok(flow),
+            Err(stop) => {
+                let position = statement.position;
+                machine.leave_statement(place.file, position.line, position.token);
+                return Err(stop);
+            }
         }
     }
     Ok(Flow::Next)
@@ -349,6 +356,7 @@ fn execute_turns(
 }
 
 /// A turn of a loop: the next item is taken and assigned, and the body runs.
+#[inline(always)]
 #[cycle(run)]
 fn execute_turn(
     machine: &mut Machine,
@@ -410,6 +418,7 @@ fn augment_target(
 }
 
 /// A value to a target: a plain name is bound, and is no node.
+#[inline(always)]
 #[cycle(run)]
 pub(crate) fn assign_to(
     machine: &mut Machine,

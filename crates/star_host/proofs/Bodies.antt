@@ -1,5 +1,5 @@
 -- The run of a body over the stores of all files that it needs is the file's outcome.
-use Rattle.std.proofs.Common.{◌≡◌, ◌<◌, ℕ, List, length, Result, Ok, Err, IfOk, Option, Some, ap, sym, ◌∙◌, subst, arith}
+use Rattle.std.proofs.Common.{◌≡◌, ◌<◌, ◌-◌, ℕ, List, length, Result, Ok, Err, IfOk, Option, Some, refl, ap, sym, ◌∙◌, subst, arith}
 use Rattle.std.specs.Prelude.{slice_get}
 use Rattle.std.specs.Option.{option_map}
 use Rattle.std.specs.declared.alloc.AllocError.{AllocError}
@@ -10,21 +10,25 @@ use Rattle.star_scope.specs.declared.loads.Load.{Load}
 use Rattle.star_scope.specs.declared.program.Program.{Program}
 use Rattle.star_store.specs.Store.{Published, Shelf, put_up}
 use Rattle.star_tree.specs.declared.tree.Statement.{Statement}
-use Rattle.star_meaning.specs.Module.{local, start}
+use Rattle.star_meaning.specs.Local.{Trees, outlines}
+use Rattle.star_meaning.specs.Module.{Ended, Local, local, start}
+use Rattle.star_meaning.specs.Run as run
 use Rattle.star_meaning.specs.Places.{AllFit}
 use Rattle.star_meaning.specs.Program.{Setting}
-use Rattle.star_meaning.specs.Programs.{ArePrograms, Files, trees_of}
+use Rattle.star_meaning.specs.Programs.{ArePrograms, Files, load_files, trees_of}
 use Rattle.star_module.specs.declared.module.Outcome.{Outcome}
 use Rattle.star_module.specs.declared.module.Outcome.TheVariants as outcome
 use Rattle.star_module.specs.Globals.{owned}
-use Rattle.star_module.specs.Outcomes.{AreReady, meant}
-use Rattle.star_plan.specs.Plan.{Plan, loaded, loads_in, loads_of, tree_in}
+use Rattle.star_module.specs.Outcomes.{AreReady, IsOutcome as IsRun, meant, run_by_names}
+use Rattle.star_plan.specs.Plan.{Plan, loaded, loads_in, loads_of, read_of, tree_in, trees}
 use Rattle.star_plan.specs.Reading.{IsPlanOf}
-use Rattle.star_plan.specs.Results.{IsGood, IsOutcome, Ran}
-use Rattle.star_plan.specs.Runs.{ArePlaced, MayRun, given_over}
+use Rattle.star_plan.specs.Results.{AreGood, IsGood, IsOutcome, Ran}
+use Rattle.star_plan.specs.Runs.{ArePlaced, MayRun, given, given_over, run_by_names as plan_run}
 use Rattle.star_plan.specs.Shelves.{HoldsNeeds, IsTight}
+use Rattle.star_plan.proofs.Needs.{good_files_have_outcomes, the_one_shelf}
 use Rattle.star_plan.proofs.Ready.{files_may_run}
-use Rattle.star_host.specs.Bodies.{IsOwnIn, IsRan, world_over}
+use Rattle.star_host.specs.Bodies.{IsOwnIn, IsPaidIn, IsRan, world_over}
+use Rattle.star_outcome.specs.Paid.{HasPaid}
 use Rattle.star_outcome.specs.Reaches.{row_of}
 use Rattle.star_reading.specs.Readings.{Row, read_at, reading_of, readings}
 use Rattle.star_outcome.specs.Views.{AreGoodLoads, AreStores, IsBody}
@@ -55,24 +59,56 @@ same_setting plan table n home shelf ls prelude e f g =
     ∙ ap (λ o. (world_over n shelf table (loads_of plan n) o).setting) g
 
 own_in : (plan : Plan) (table : Files) (n : ℕ) (ss : List Statement) (shelf : Shelf) (o : Outcome) → MayRun plan table n ss shelf → meant (given_over table plan n shelf) o ≡ local (given_over table plan n shelf) plan.steps ss → IsOwnIn plan n o
-own_in plan table n ss shelf (outcome.Good frozen texts lines) may e = may.own frozen frozen.globals (owned texts.items) lines.items (sym e)
-own_in plan table n ss shelf (outcome.Fault code line lines) may e = tt
+own_in plan table n ss shelf (outcome.Good frozen texts lines left) may e = may.own frozen frozen.globals (owned texts.items) lines.items (sym e)
+own_in plan table n ss shelf (outcome.Fault code line lines trail) may e = tt
 
-ran_is : (plan : Plan) (table : Files) (n : ℕ) (ss : List Statement) (shelf : Shelf) (w : Setting) (steps : ℕ) (o : Outcome) → MayRun plan table n ss shelf → w ≡ given_over table plan n shelf → steps ≡ plan.steps → meant w o ≡ local w steps ss → IsRan plan n o
-ran_is plan table n ss shelf w steps o may same count e =
+same_given : (plan : Plan) (table : Files) (n : ℕ) (ms : List Local) (shelf : Shelf) → trees_of table ≡ trees plan → shelf ≡ (given plan n ms).shelf → given_over table plan n shelf ≡ given plan n ms
+same_given plan table n ms shelf trees_are shelf_is =
+    ap (λ (t : Trees). let w : Setting = record { home = n; outlines = outlines t; shelf = shelf; loads = load_files (loads_of plan n); prelude = plan.prelude } in w) trees_are
+    ∙ ap (λ (s : Shelf). let w : Setting = record { home = n; outlines = outlines (trees plan); shelf = s; loads = load_files (loads_of plan n); prelude = plan.prelude } in w) shelf_is
+
+paid_by : (plan : Plan) (n : ℕ) (ss : List Statement) (ms : List Local) (r : run.Outcome Ended) (o : Outcome) → tree_in (read_of plan n) ≡ Some ss → AreGood plan (loaded plan n) ms → plan_run plan n ss ms ≡ r → IsRun r o → IsPaidIn plan n o
+paid_by plan n ss ms (run.Done e s) (outcome.Good frozen texts lines left) sound good ran so =
+    record { statements = ss; outcomes = ms; ended = e; state = s; sound = sound; good = good; run = ran; steps = ap (λ k. plan.steps - k) so.3 }
+paid_by plan n ss ms (run.Done e s) (outcome.Fault code line lines trail) sound good ran so = tt
+paid_by plan n ss ms (run.Failed f printed) (outcome.Good frozen texts lines left) sound good ran so = absurd so
+paid_by plan n ss ms (run.Failed f printed) (outcome.Fault code line lines trail) sound good ran so = tt
+
+-- a good run over what was gathered has paid the steps that were given but those that are left
+paid_in : (plan : Plan) (table : Files) (n : ℕ) (ss : List Statement) (shelf : Shelf) (o : Outcome) → trees_of table ≡ trees plan → tree_in (read_of plan n) ≡ Some ss → ((i m : ℕ) → slice_get (loaded plan n) i ≡ Some m → IsGood plan m) → IsTight shelf → HoldsNeeds plan n shelf
+    → IsRun (run_by_names (given_over table plan n shelf) plan.steps ss) o → IsPaidIn plan n o
+paid_in plan table n ss shelf o trees_are sound good tight holds is =
+    let outcomes = good_files_have_outcomes plan (loaded plan n) good in
+    let same : given_over table plan n shelf ≡ given plan n outcomes.0 = same_given plan table n outcomes.0 shelf trees_are (the_one_shelf plan n outcomes.0 outcomes.1 shelf tight holds) in
+    paid_by plan n ss outcomes.0 (plan_run plan n ss outcomes.0) o sound outcomes.1 refl
+    (subst (λ (v : Setting). IsRun (run_by_names v plan.steps ss) o) same is)
+
+-- what a run of the file n that ended so has paid
+abbrev pub Pays : Plan → Files → ℕ → List Statement → Shelf → Type 0
+Pays plan table n ss shelf = (o : Outcome) → IsRun (run_by_names (given_over table plan n shelf) plan.steps ss) o → IsPaidIn plan n o
+
+pub body_pays : (files : List File) (plan : Plan) (table : Files) (row : Row) (n : ℕ) (p : Program) (shelf : Shelf) (ms : List Module) → ArePlaced files plan table → readings row ≡ plan.reads
+    → read_at row n ≡ Some (read.Program p) → AreGoodLoads plan n (length (loads_of plan n)) ms → IsTight shelf → HoldsNeeds plan n shelf → Pays plan table n p.statements.now shelf
+body_pays files plan table row n p shelf ms placed is e loads tight holds o h =
+    paid_in plan table n p.statements.now shelf o placed.statements (ap tree_in (read_is plan row n is ∙ ap (option_map reading_of) e)) (loads_good plan n ms loads) tight holds h
+
+ran_is : (plan : Plan) (table : Files) (n : ℕ) (ss : List Statement) (shelf : Shelf) (w : Setting) (steps : ℕ) (o : Outcome) → MayRun plan table n ss shelf → Pays plan table n ss shelf → w ≡ given_over table plan n shelf → steps ≡ plan.steps → meant w o ≡ local w steps ss → IsRun (run_by_names w steps ss) o → IsRan plan n o
+ran_is plan table n ss shelf w steps o may pays same count e named =
     let f : meant w o ≡ local w plan.steps ss = e ∙ ap (λ k. local w k ss) count in
     let g : meant (given_over table plan n shelf) o ≡ local (given_over table plan n shelf) plan.steps ss = subst (λ (v : Setting). meant v o ≡ local v plan.steps ss) same f in
     record {
       over = given_over table plan n shelf;
       outcome = subst (λ m. IsOutcome plan n (Ran m)) (sym g) may.outcome;
       own = own_in plan table n ss shelf o may g;
+      paid = pays o (subst (λ (v : Setting). IsRun (run_by_names v plan.steps ss) o) same (subst (λ k. IsRun (run_by_names w k ss) o) count named));
     }
 
 -- what the run of a body answers is the file's outcome
-pub ran_so : (plan : Plan) (table : Files) (n home : ℕ) (ss : List Statement) (shelf : Shelf) (ls : List Load) (prelude : Option ℕ) (steps : ℕ) (r : Result Outcome AllocError) → MayRun plan table n ss shelf
+pub ran_so : (plan : Plan) (table : Files) (n home : ℕ) (ss : List Statement) (shelf : Shelf) (ls : List Load) (prelude : Option ℕ) (steps : ℕ) (r : Result Outcome AllocError) → MayRun plan table n ss shelf → Pays plan table n ss shelf
     → home ≡ n → ls ≡ loads_of plan n → prelude ≡ plan.prelude → steps ≡ plan.steps
-    → (AreReady (world_over home shelf table ls prelude) steps → IfOk r (λ o. meant (world_over home shelf table ls prelude).setting o ≡ local (world_over home shelf table ls prelude).setting steps ss)) → IfOk r (IsRan plan n)
-ran_so plan table n home ss shelf ls prelude steps r may at loads is count names = by_result r (names ready)
+    → (AreReady (world_over home shelf table ls prelude) steps → IfOk r (λ o. meant (world_over home shelf table ls prelude).setting o ≡ local (world_over home shelf table ls prelude).setting steps ss))
+    → (AreReady (world_over home shelf table ls prelude) steps → IfOk r (λ o. IsRun (run_by_names (world_over home shelf table ls prelude).setting steps ss) o)) → IfOk r (IsRan plan n)
+ran_so plan table n home ss shelf ls prelude steps r may pays at loads is count names named = by_result r (names ready) (named ready)
   where
     w : Setting
     w = (world_over home shelf table ls prelude).setting
@@ -86,15 +122,15 @@ ran_so plan table n home ss shelf ls prelude steps r may at loads is count names
       functions = subst (λ k. AllFit (trees_of table) w (start w k)) (sym count) (subst (λ (v : Setting). AllFit (trees_of table) v (start v plan.steps)) (sym same) may.functions);
     }
 
-    by_result : (q : Result Outcome AllocError) → IfOk q (λ o. meant w o ≡ local w steps ss) → IfOk q (IsRan plan n)
-    by_result (Ok o) e = ran_is plan table n ss shelf w steps o may same count e
-    by_result (Err x) e = tt
+    by_result : (q : Result Outcome AllocError) → IfOk q (λ o. meant w o ≡ local w steps ss) → IfOk q (λ o. IsRun (run_by_names w steps ss) o) → IfOk q (IsRan plan n)
+    by_result (Ok o) e h = ran_is plan table n ss shelf w steps o may pays same count e h
+    by_result (Err x) e h = tt
 
 pub loads_in_row : (plan : Plan) (row : Row) (n : ℕ) (p : Program) → readings row ≡ plan.reads → read_at row n ≡ Some (read.Program p) → p.loads.items ≡ loads_of plan n
 loads_in_row plan row n p is e = sym (loads_are plan row n is ∙ ap (λ o. loads_in (option_map reading_of o)) e)
 
 -- what a good run left
-pub body_is : (plan : Plan) (n : ℕ) (o : Outcome) (frozen : Published) (b : Body) → o ≡ outcome.Good frozen b.shown b.lines → IsRan plan n o → AreStores plan n (row_of b.stores) → IsBody plan n b
-body_is plan n o frozen b e ran stores =
-    let r : IsRan plan n (outcome.Good frozen b.shown b.lines) = subst (IsRan plan n) e ran in
-    record { shelf = put_up r.over.home frozen r.over.shelf; globals = frozen.globals; outcome = r.outcome; stores = stores }
+pub body_is : (plan : Plan) (n : ℕ) (o : Outcome) (frozen : Published) (left : ℕ) (b : Body) → o ≡ outcome.Good frozen b.shown b.lines left → b.paid ≡ plan.steps - left → IsRan plan n o → AreStores plan n (row_of b.stores) → IsBody plan n b
+body_is plan n o frozen left b e paid ran stores =
+    let r : IsRan plan n (outcome.Good frozen b.shown b.lines left) = subst (IsRan plan n) e ran in
+    record { shelf = put_up r.over.home frozen r.over.shelf; globals = frozen.globals; outcome = r.outcome; stores = stores; paid = subst (HasPaid plan n) (sym paid) r.paid }

@@ -5,3 +5,4 @@ pub mod Bodies
 pub mod NextLoads
 pub mod Settled
 pub mod Sharing
+pub mod Fewer

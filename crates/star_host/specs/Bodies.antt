@@ -1,5 +1,5 @@
 -- What a body is given of other files, and what it left.
-use Rattle.std.specs.Prelude.{◌≡◌, ℕ, List, Option}
+use Rattle.std.specs.Prelude.{◌≡◌, ◌-◌, ℕ, List, Option}
 use Rattle.star_scope.specs.declared.loads.Load.{Load}
 use Rattle.star_store.specs.Store.{Shelf}
 use Rattle.star_meaning.specs.Local.{outlines}
@@ -9,6 +9,7 @@ use Rattle.star_world.specs.World.{World}
 use Rattle.star_module.specs.declared.module.Outcome.{Outcome}
 use Rattle.star_module.specs.declared.module.Outcome.TheVariants as outcome
 use Rattle.star_module.specs.Outcomes.{meant}
+use Rattle.star_outcome.specs.Paid.{HasPaid}
 use Rattle.star_plan.specs.Plan.{Plan}
 use Rattle.star_plan.specs.Results.{IsOutcome, Ran}
 use Rattle.star_plan.specs.Shelves.{IsOwn}
@@ -29,11 +30,17 @@ world_over home shelf files loads prelude =
 
 -- the module that a good run left is the file's own
 abbrev pub IsOwnIn : Plan → ℕ → Outcome → Type 0
-IsOwnIn plan n (outcome.Good frozen texts lines) = IsOwn plan n frozen
-IsOwnIn plan n (outcome.Fault code line lines) = Unit {0}
+IsOwnIn plan n (outcome.Good frozen texts lines left) = IsOwn plan n frozen
+IsOwnIn plan n (outcome.Fault code line lines trail) = Unit {0}
+
+-- a good run has paid the steps that were given but those that are left
+abbrev pub IsPaidIn : Plan → ℕ → Outcome → Type 0
+IsPaidIn plan n (outcome.Good frozen texts lines left) = HasPaid plan n (plan.steps - left)
+IsPaidIn plan n (outcome.Fault code line lines trail) = Unit {0}
 
 -- a run of the file n ended so: with its outcome
 pub record IsRan (plan : Plan) (n : ℕ) (o : Outcome) : Type 0 where
   pub over : Setting
   pub outcome : IsOutcome plan n (Ran (meant over o))
   pub own : IsOwnIn plan n o
+  pub paid : IsPaidIn plan n o

@@ -1,23 +1,24 @@
 //! The run: each loader asks for all roots.
 
-ghost use Rattle.std.specs.Prelude.{◌≡◌, ◌<◌, ◌≤◌, ◌⊎◌, ℕ, All, None, Some, length, map, sum, vec_len, IfOk, IfSome};
+ghost use Rattle.std.specs.Prelude.{◌≡◌, ◌<◌, ◌≤◌, ◌⊎◌, ℕ, All, None, Some, count_by, is_some, length, map, max, sum, vec_len, IfOk, IfSome};
 ghost use Rattle.star_outcome.specs.Fits.{IsAsked, IsWithin};
 ghost use Rattle.star_reading.specs.Found.{IsReadOf, Within};
 ghost use Rattle.star_host.specs.Counts.{AreCounts};
 ghost use Rattle.star_host.specs.Worlds.{IsWorld};
 ghost use Rattle.star_outcome.specs.Kept.{AllKept, AreModules, AreModulesOf};
+ghost use Rattle.star_reading.specs.Parsed.{AreParsesOf};
 ghost use Rattle.star_reading.specs.Readings.{IsPlaceable};
 ghost use Rattle.star_outcome.specs.Refusals.{AreRefusals, AreRefusalsOf};
 ghost use Rattle.star_cache.specs.Seats.{counts_of};
 ghost use Rattle.star_cache.specs.State.{HasEnded, begun_count};
 ghost use Rattle.star_plan.specs.Reached.{IsReached};
 
-use crate::common::{Common, read_files};
+use crate::common::Common;
 use crate::gate::Gate;
 use crate::loading::{LoadError, load};
 use crate::order::{first_place, place};
 use crate::settle::{closed, kept_of, settle_one};
-use crate::table::{is_read, programs};
+use crate::table::{is_read, programs, read_count};
 use star_cache::{Book, LoadCache, Seat};
 use star_flow::{Flow, Graph};
 use star_label::files::Files as Labels;
@@ -27,6 +28,8 @@ use star_outcome::outcome::{Kept, Run};
 use star_outcome::shelf::Shelf;
 use star_outcome::told::Told;
 use star_outcome::trace::{Refused, Trace};
+use star_reading::files::read_parsed;
+use star_reading::parses::Parsed;
 use star_reading::reading::{Reads, Trees};
 use std::alloc::{AllocError, Global};
 use std::marker::Brand;
@@ -365,19 +368,42 @@ pub fn run<R: Threads + Wait + Sync, G: Gate + Sync>(
     ensures refused { IfOk result (λ r. AreRefusalsOf files.now roots.now prelude steps r.refused) }
 {
     let trees = Trees::new(alloc)?;
+    let parses = Vec::new(alloc);
     let mut reads = Reads::new(alloc);
     run_in(
-        rt, alloc, files, &trees, &mut reads, roots, prelude, loaders, steps, gate,
+        rt,
+        alloc,
+        files,
+        &trees,
+        parses.as_slice(),
+        &mut reads,
+        roots,
+        prelude,
+        loaders,
+        steps,
+        gate,
     )
 }
 
-/// As `run`. The trees and what was read of the files stay with the caller, who may leave them to the end of the
-/// process: to free them takes a tenth of the time of a run of many small files.
+/// At most as many loaders as there are files to run: one more would find none to begin.
+fn enough(loaders: usize, reads: &Reads) -> usize
+    requires { (1 ≤ loaders) × (loaders ≤ 64) }
+    ensures some { 1 ≤ result }
+    ensures given { result ≤ loaders }
+    ensures files { result ≤ max (count_by is_some reads.now.all.items) 1 }
+{
+    loaders.min(read_count(reads)).max(1)
+}
+
+/// As `run`. What the parser has made of the first files is given: their texts are not parsed again. The trees and what
+/// was read of the files stay with the caller, who may leave them to the end of the process: to free them takes a tenth
+/// of the time of a run of many small files.
 pub fn run_in<'t, R: Threads + Wait + Sync, G: Gate + Sync>(
     rt: &R,
     alloc: Global,
     files: &Labels,
     trees: &'t Trees,
+    parses: &[Parsed<'t>],
     reads: &mut Reads<'t>,
     roots: &[usize],
     prelude: Option<usize>,
@@ -385,10 +411,12 @@ pub fn run_in<'t, R: Threads + Wait + Sync, G: Gate + Sync>(
     steps: u32,
     gate: &G,
 ) -> Result<Run, RunError>
+    requires parses { AreParsesOf files.now parses.now }
     requires roots { Within files.now roots.now }
     requires prelude { IfSome prelude (λ n. n < length files.now) }
     requires loaders { (1 ≤ loaders) × (loaders ≤ 64) }
     requires steps { (1 ≤ steps) × (steps ≤ 100000000) }
+    ensures read { IfOk result (λ _. IsReadOf files.now roots.now prelude reads.new.all.items) }
     ensures files { IfOk result (λ r. length r.cells ≡ length files.now) }
     ensures modules { IfOk result (λ r. AreModulesOf files.now roots.now prelude steps r.kept) }
     ensures begun { IfOk result (λ r. r.begun ≡ length r.kept) }
@@ -397,7 +425,8 @@ pub fn run_in<'t, R: Threads + Wait + Sync, G: Gate + Sync>(
     ensures refused { IfOk result (λ r. AreRefusalsOf files.now roots.now prelude steps r.refused) }
 {
     let modules = Shelf::new(alloc, files.len())?;
-    *reads = read_files(rt, alloc, files, trees, roots, prelude, loaders)?;
+    *reads = read_parsed(rt, alloc, files, trees, parses, roots, prelude, loaders)?;
+    let loaders = enough(loaders, reads);
     let Closed {
         kept,
         begun,

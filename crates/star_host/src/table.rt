@@ -1,6 +1,6 @@
 //! The rows of what was read: the programs of all files, and the loads of each.
 
-ghost use Rattle.std.specs.Prelude.{◌≡◌, All, IfOk, IsFalse, IsSome, IsTrue, MatchOption, None, Some, ⊤};
+ghost use Rattle.std.specs.Prelude.{◌≡◌, All, IfOk, IsFalse, IsSome, IsTrue, MatchOption, None, Some, count_by, is_some, ⊤};
 ghost use Rattle.std.specs.Option.{option_map};
 ghost use Rattle.star_meaning.specs.Programs.{IsOfFile, placed_file};
 ghost use Rattle.star_scope.specs.declared.program.Program.{Program as ProgramView};
@@ -83,4 +83,11 @@ pub(crate) fn is_read(reads: &[Option<Read>], n: usize) -> bool
         Some(Some(_)) => true,
         _ => false,
     }
+}
+
+/// How many files were read.
+pub(crate) fn read_count(reads: &Reads) -> usize
+    ensures { result ≡ count_by is_some reads.now.all.items }
+{
+    reads.all.iter().filter(|read| read.is_some()).count()
 }

@@ -3,7 +3,7 @@
 ghost use Rattle.std.specs.Prelude.{◌≡◌, ◌<◌, ◌≤◌, Some, IfOk, ℕ, Contains, length, map};
 ghost use Rattle.star_meaning.specs.Module.{local};
 ghost use Rattle.star_meaning.specs.Programs.{file_in, placed_file};
-ghost use Rattle.star_module.specs.Outcomes.{AreReady, meant};
+ghost use Rattle.star_module.specs.Outcomes.{AreReady, IsOutcome, meant, run_by_names};
 ghost use Rattle.star_plan.specs.Plan.{loads_of};
 ghost use Rattle.star_plan.specs.Shelves.{Needs};
 ghost use Rattle.star_host.specs.Worlds.{IsWorld};
@@ -39,8 +39,10 @@ fn outcome_in(
 ) -> Result<Outcome, AllocError>
     requires stands { file_in files.now home ≡ Some (placed_file program.now) }
     requires steps { (1 ≤ steps) × (steps ≤ 100000000) }
-    ensures { let w = world_over home homes.now files.now program.now.loads.items prelude in
+    ensures names { let w = world_over home homes.now files.now program.now.loads.items prelude in
         AreReady w steps → IfOk result (λ o. meant w.setting o ≡ local w.setting steps program.now.statements.now) }
+    ensures named { let w = world_over home homes.now files.now program.now.loads.items prelude in AreReady w steps
+        → IfOk result (λ o. IsOutcome (run_by_names w.setting steps program.now.statements.now) o) }
 {
     let world = World::new(home, homes, files, program.loads(), prelude);
     run_body(alloc, &world, program, steps)
@@ -51,9 +53,11 @@ fn ended_of<J: Naming>(
     alloc: Global,
     home: u32,
     outcome: Outcome,
+    steps: u32,
     reaches: StoreRow,
 ) -> Result<Ended, AllocError>
     requires ran { IsRan J.plan home outcome }
+    requires steps { steps ≡ J.plan.steps }
     requires needed { AreNeeded J.plan home (row_of reaches) }
     requires all { (k : ℕ) → Needs J.plan home k → Contains (map (λ r. r.number) (row_of reaches)) k }
     ensures { IfOk result (IsEnd J.plan home) }
@@ -63,15 +67,27 @@ fn ended_of<J: Naming>(
             frozen,
             shown,
             lines,
+            left,
         } => {
             let stores = stores_of::<J>(alloc, home, frozen, reaches)?;
             Ok(Ended::Good(Body {
                 stores,
                 shown,
                 lines,
+                paid: steps.saturating_sub(left),
             }))
         }
-        Outcome::Fault { code, line, lines } => Ok(Ended::Stopped { code, line, lines }),
+        Outcome::Fault {
+            code,
+            line,
+            lines,
+            trail,
+        } => Ok(Ended::Stopped {
+            code,
+            line,
+            lines,
+            trail,
+        }),
     }
 }
 
@@ -105,5 +121,5 @@ pub(crate) fn run<'s, 'r, 'p, 't, J: Naming, G: Gate>(
         prelude,
         common.steps,
     )?;
-    ended_of::<J>(common.alloc, home, outcome, reaches)
+    ended_of::<J>(common.alloc, home, outcome, common.steps, reaches)
 }

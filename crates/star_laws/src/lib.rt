@@ -1,4 +1,9 @@
 //! Laws of arithmetic, ranges, keys, calls and open iterations, in the subject's own words (`docs/LANGUAGE.md`).
+//!
+//! The definitions that the evaluator is proved against are written as one computes. The laws here say what they
+//! mean: the quotient and the remainder make up the int again, a range has just the ints that its steps reach, equal
+//! keys are the same key, a call binds just when each parameter gets one value. Each law is an empty function in
+//! `law` whose contract is the statement; no code calls it.
 #![tactic(auto)]
 
 mod law;

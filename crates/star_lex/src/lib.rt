@@ -1,4 +1,15 @@
-//! The tokens of a Starlark file.
+//! The lexer: the tokens of a Starlark file (`docs/LANGUAGE.md`, "Tokens").
+//!
+//! It works in two passes, each linear in the text, and neither copies it:
+//!
+//! 1. `cut::pieces` goes over the bytes and cuts them into pieces: names, numbers, strings, signs, blanks, comments,
+//!    line ends.
+//! 2. `lay::lay` goes over the pieces: it joins logical lines, judges their indentation, and answers the tokens or
+//!    the first fault, with its line.
+//!
+//! A `Token` has its kind, its line, and its `Span` in the text; `value` says what the text of an int or of a string
+//! means. The contract of `lex` is the definition `lexed` of `specs/Lines`: exactly these tokens, or exactly this
+//! fault.
 #![tactic(auto)]
 
 pub mod cut;

@@ -5,7 +5,7 @@ ghost use Rattle.std.specs.List.{list_any};
 ghost use Rattle.std.specs.Option.{option_copied};
 ghost use Rattle.star_store.specs.Content.{content as key_content};
 ghost use Rattle.star_store.specs.Key.{key_levels};
-ghost use Rattle.star_store.specs.Store.{bound, look};
+ghost use Rattle.star_store.specs.Store.{Shelf, bound, look, slot_value};
 ghost use Rattle.star_meaning.specs.Calls.{deactivate, is_active};
 ghost use Rattle.star_meaning.specs.Run.{Done, add_line, agreed, and_then, build, give, make, pay, storing, visiting};
 ghost use Rattle.star_meaning.specs.Program.{seen};
@@ -21,6 +21,7 @@ use crate::fault::{Stop, faulted, refused};
 use crate::search::equal_place;
 use crate::setting::Setting;
 use star_meaning::fault::Code;
+use star_meaning::story::Story;
 use star_store::arena::Arena;
 use star_store::arena::write::Change;
 use star_store::budget::Budget;
@@ -38,7 +39,7 @@ use std::cmp::Ordering;
 use std::marker::Model;
 
 /// What a run changes: the running module's store, the definitions that are active (file and number, the innermost
-/// first), the steps left, and the lines printed.
+/// first), the steps left, and the lines printed. Beside them stands what a fault has left on its way out.
 #[derive(Drop)]
 pub struct Machine {
     alloc: Global,
@@ -46,6 +47,7 @@ pub struct Machine {
     active: Vec<(u32, u32)>,
     steps: u64,
     lines: Vec<Text>,
+    pub(crate) left: Story,
 }
 
 impl Model for Machine {
@@ -77,6 +79,10 @@ impl Machine {
             active: Vec::new(alloc),
             steps: steps as u64,
             lines: Vec::new(alloc),
+            left: Story {
+                about: None,
+                trail: Vec::new(alloc),
+            },
         }
     }
 
@@ -91,6 +97,28 @@ impl Machine {
         }
         self.steps -= steps as u64;
         Ok(())
+    }
+
+    /// Pays 1, as each node of a tree does. `Steps` where none is left.
+    #[inline(always)]
+    #[tactic(auto, unfolding(star_meaning::specs::Run::pay))]
+    pub fn pay_one(&mut self, line: usize) -> Result<(), Stop>
+        ensures answer { Gives (pay line 1 self.old) result self.new }
+        ensures kept { self.new.store ≡ self.old.store }
+    {
+        if self.steps == 0 {
+            return Err(faulted(Code::Steps, line));
+        }
+        self.steps -= 1;
+        Ok(())
+    }
+
+    /// The value of a slot of a frame of this module, if it has room in the frame's row. None says nothing.
+    #[inline(always)]
+    pub fn near(&self, frame: Value, slot: usize) -> Option<Value>
+        ensures { IfSome result (λ v. (shelf : Shelf) → slot_value (look self.now.store shelf frame) slot ≡ Some v) }
+    {
+        self.arena.near(frame, slot)
     }
 
     /// What a value leads to: none for what is no `Ref` or leads nowhere.
@@ -195,6 +223,13 @@ impl Machine {
         }
     }
 
+    /// How many steps are left.
+    pub fn steps_left(&self) -> u32
+        ensures { result ≡ self.now.steps }
+    {
+        self.steps as u32
+    }
+
     /// Whether so many steps are left. `Steps` where they are not.
     pub fn afford(&self, line: usize, steps: u128) -> Result<(), Stop>
         ensures enough { OnOk result (steps ≤ self.now.steps) }
@@ -283,10 +318,14 @@ impl Machine {
     }
 
     /// Whether a value counts as true.
+    #[inline(always)]
     #[tactic(auto, unfolding(star_meaning::specs::Values::is_true))]
     pub fn is_true(&self, setting: &Setting, value: Value) -> bool
         ensures { is_true setting.now value self.now ≡ Done result self.now }
     {
+        if let Value::Bool(truth) = value {
+            return truth;
+        }
         is_true(&self.arena, setting.homes(), value)
     }
 
@@ -418,8 +457,8 @@ impl Machine {
         self.arena.close_iter(value);
     }
 
-    /// What stays of a run that has ended: its store, and the lines printed.
-    pub fn into_parts(self) -> (Arena, Vec<Text>)
+    /// What stays of a run that has ended: its store, the lines printed, and what a fault has left.
+    pub fn into_parts(self) -> (Arena, Vec<Text>, Story)
         ensures store { result.0 ≡ self.store }
         ensures lines { result.1.items ≡ self.lines }
     {
@@ -429,8 +468,9 @@ impl Machine {
             active: _,
             steps: _,
             lines,
+            left,
         } = self;
-        (arena, lines)
+        (arena, lines, left)
     }
 
     /// The allocator of this run.
@@ -439,6 +479,7 @@ impl Machine {
     }
 
     /// An int as a value, or the refusal of its arithmetic.
+    #[inline(always)]
     pub fn new_int(&self, line: usize, int: Result<i64, StoreFault>) -> Result<Value, Stop>
         ensures { Gives (and_then (agreed line int self.now) (λ n. give (Value.Int n))) result self.now }
     {

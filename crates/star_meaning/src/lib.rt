@@ -8,3 +8,4 @@ pub mod fault;
 pub mod given;
 pub mod law;
 pub mod place;
+pub mod story;

@@ -25,22 +25,22 @@ run_by_names w steps ss = run_file (by_names w) w most_levels ss (start w steps)
 abbrev pub shown : HeldEnded → Ended
 shown e = record { globals = owned e.globals.items; texts = owned e.texts.items }
 
--- an outcome is that of a run: the cells, globals, texts and lines of one that ran to its end, or the fault with the
--- lines printed before it
+-- an outcome is that of a run: the cells, globals, texts and lines of one that ran to its end, and the steps that are
+-- left; or the fault with the lines printed before it
 abbrev pub IsOutcome : run.Outcome Ended → Outcome → Type 0
-IsOutcome (run.Done e s) (outcome.Good frozen texts lines) =
+IsOutcome (run.Done e s) (outcome.Good frozen texts lines left) =
     (frozen ≡ record { cells = s.store.cells; globals = e.globals }) × (owned texts.items ≡ e.texts)
-    × (lines.items ≡ s.lines)
-IsOutcome (run.Done e s) (outcome.Fault code line lines) = ⊥
-IsOutcome (run.Failed f printed) (outcome.Good frozen texts lines) = ⊥
-IsOutcome (run.Failed f printed) (outcome.Fault code line lines) =
+    × (lines.items ≡ s.lines) × (left ≡ s.steps)
+IsOutcome (run.Done e s) (outcome.Fault code line lines trail) = ⊥
+IsOutcome (run.Failed f printed) (outcome.Good frozen texts lines left) = ⊥
+IsOutcome (run.Failed f printed) (outcome.Fault code line lines trail) =
     (f ≡ record { code = code; line = line }) × (lines.items ≡ printed)
 
 -- an outcome as the local meaning of a file
 abbrev pub meant : Setting → Outcome → Local
-meant w (outcome.Good frozen texts lines) =
+meant w (outcome.Good frozen texts lines left) =
     Good (put_up w.home frozen w.shelf) frozen.globals (owned texts.items) lines.items
-meant w (outcome.Fault code line lines) = Stopped (record { code = code; line = line }) lines.items
+meant w (outcome.Fault code line lines trail) = Stopped (record { code = code; line = line }) lines.items
 
 -- a file is ready to run: each file that has statements has the program that `resolve` answers for it, and each
 -- function of a published module is one of its file's definitions, in frames that fit the blocks around it

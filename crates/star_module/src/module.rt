@@ -16,6 +16,7 @@ use star_machine::fault::Stop;
 use star_machine::machine::Machine;
 use star_meaning::fault::Code;
 use star_meaning::place::Place;
+use star_meaning::story::{Step, Story};
 use star_scope::program::Program;
 use star_store::arena::{Frozen, freeze};
 use star_store::values::Value;
@@ -46,12 +47,16 @@ pub enum Outcome {
         frozen: Frozen,
         shown: Vec<(String, Text)>,
         lines: Vec<Text>,
+        /// How many steps are left.
+        left: u32,
     },
     /// It stopped, for this reason, at this line.
     Fault {
         code: Code,
         line: usize,
         lines: Vec<Text>,
+        /// What the fault has left on its way out, the innermost first.
+        trail: Vec<Step>,
     },
 }
 
@@ -143,14 +148,21 @@ fn run_file(
 fn outcome_of(machine: Machine, ended: Result<Ended, Stop>) -> Result<Outcome, AllocError>
     ensures { (o : run.Outcome spec.Ended) → GivesBy shown o ended machine → IfOk result (λ out. IsOutcome o out) }
 {
-    let (arena, lines) = machine.into_parts();
+    let left = machine.steps_left();
+    let (arena, lines, Story { trail, .. }) = machine.into_parts();
     match ended {
         Ok(Ended { globals, texts }) => Ok(Outcome::Good {
             frozen: freeze(arena, globals),
             shown: texts,
             lines,
+            left,
         }),
-        Err(Stop::Faulted { code, line }) => Ok(Outcome::Fault { code, line, lines }),
+        Err(Stop::Faulted { code, line }) => Ok(Outcome::Fault {
+            code,
+            line,
+            lines,
+            trail,
+        }),
         Err(Stop::Memory) => Err(AllocError),
     }
 }
@@ -172,6 +184,8 @@ pub fn run_body(
         result (λ o. meant w.setting o ≡ spec.local_of w.setting (run_by_places w steps program.now.statements.now)) }
     ensures names { let w = world.now in AreReady w steps
         → IfOk result (λ o. meant w.setting o ≡ spec.local w.setting steps program.now.statements.now) }
+    ensures named { let w = world.now in AreReady w steps
+        → IfOk result (λ o. IsOutcome (run_by_names w.setting steps program.now.statements.now) o) }
     ensures fit { let w = world.now in AreReady w steps
         → FitAfter (trees_of w.files) w.setting (run_by_names w.setting steps program.now.statements.now) }
 {

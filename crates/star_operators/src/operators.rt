@@ -28,6 +28,7 @@ fn whole(int: i64) -> Result<i64, StoreFault>
 }
 
 /// An operator on two ints. `Zero` for a divisor of 0, `BadValue` for a count below 0, `Overflow` outside 64 bits.
+#[inline(always)]
 fn on_ints(
     machine: &Machine,
     line: usize,
@@ -51,6 +52,7 @@ fn on_ints(
     }
 }
 
+#[inline(always)]
 fn divide(machine: &Machine, line: usize, x: i64, y: i64) -> Result<Value, Stop>
     ensures { Gives (spec.divide line x y machine.now) result machine.now }
 {
@@ -60,6 +62,7 @@ fn divide(machine: &Machine, line: usize, x: i64, y: i64) -> Result<Value, Stop>
     machine.new_int(line, floor_div(x, y))
 }
 
+#[inline(always)]
 fn remainder(machine: &Machine, line: usize, x: i64, y: i64) -> Result<Value, Stop>
     ensures { Gives (spec.remainder line x y machine.now) result machine.now }
 {
@@ -346,6 +349,7 @@ fn on_others(
 }
 
 /// What an operator makes of two values. `BadType` where it makes nothing of their types.
+#[inline(always)]
 #[tactic(auto, unfolding(star_meaning::specs::Operators::operate))]
 pub fn operate(
     machine: &mut Machine,

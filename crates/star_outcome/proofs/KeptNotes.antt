@@ -15,7 +15,7 @@ use Rattle.star_outcome.specs.Views.{IsEnd, IsModule, IsTold, ToldView}
 
 ends_below : (plan : Plan) (n : ℕ) (ls : List ℕ) (e : Ended) → ls ≡ loaded plan n → IsEnd plan n e → IsLoadBelow (length ls) e
 ends_below plan n ls (Static f) same is = tt
-ends_below plan n ls (Stopped code line lines) same is = tt
+ends_below plan n ls (Stopped code line lines trail) same is = tt
 ends_below plan n ls (Good body) same is = tt
 ends_below plan n ls (Unloaded index line) same is =
     let inside : index < length (loads_of plan n) = slice_get_within (loads_of plan n) index is.1.0 is.1.1 in

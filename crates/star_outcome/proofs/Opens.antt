@@ -24,13 +24,13 @@ use Rattle.star_outcome.specs.declared.module.Module.{Module}
 end_good : (plan : Plan) (n : ℕ) (e : Ended) → IsEnd plan n e → ended_well e ≡ true → IsGood plan n
 end_good plan n (Static f) is well = absurd (let no : ⊥ = cc in no)
 end_good plan n (Unloaded index line) is well = absurd (let no : ⊥ = cc in no)
-end_good plan n (Stopped code line lines) is well = absurd (let no : ⊥ = cc in no)
+end_good plan n (Stopped code line lines trail) is well = absurd (let no : ⊥ = cc in no)
 end_good plan n (Good b) is well = to_good plan n (Ran (WentWell is.shelf is.globals (shown_texts b.shown.items) b.lines.items)) is.outcome refl
 
 end_bad : (plan : Plan) (n : ℕ) (e : Ended) → IsEnd plan n e → ended_well e ≡ false → IsGood plan n → ⊥
 end_bad plan n (Static f) is ill g = let both : false ≡ true = from_good plan n (StaticOutcome (fault_of f)) is g in let no : ⊥ = cc in no
 end_bad plan n (Unloaded index line) is ill g = let both : false ≡ true = from_good plan n (UnloadedOutcome index) is.0 g in let no : ⊥ = cc in no
-end_bad plan n (Stopped code line lines) is ill g = let both : false ≡ true = from_good plan n (Ran (HadFault (record { code = code; line = line }) lines.items)) is g in let no : ⊥ = cc in no
+end_bad plan n (Stopped code line lines trail) is ill g = let both : false ≡ true = from_good plan n (Ran (HadFault (record { code = code; line = line }) lines.items)) is g in let no : ⊥ = cc in no
 end_bad plan n (Good b) is ill g = let no : ⊥ = cc in no
 
 -- the module of a file tells whether the file is good

@@ -16,7 +16,7 @@ use Rattle.std.proofs.Common.{refl}
 pub end_good : (plan : Plan) (n : ℕ) (e : Ended) → IsEnd plan n e → (ended_well e ≡ true) ↔ IsGood plan n
 end_good plan n (Static f) is = good plan n (StaticOutcome (fault_of f)) _ refl is
 end_good plan n (Unloaded index line) is = good plan n (UnloadedOutcome index) _ refl is.0
-end_good plan n (Stopped code line lines) is =
+end_good plan n (Stopped code line lines trail) is =
     good plan n (Ran (HadFault (record { code = code; line = line }) lines.items)) _ refl is
 end_good plan n (Good b) is =
     good plan n (Ran (WentWell is.shelf is.globals (shown_texts b.shown.items) b.lines.items)) _ refl is.outcome

@@ -27,7 +27,7 @@ pub record RunView : Type 0 where
 abbrev pub IsLoadBelow : ℕ → Ended → Type 0
 IsLoadBelow count (Static f) = Unit {0}
 IsLoadBelow count (Unloaded index line) = index < count
-IsLoadBelow count (Stopped code line lines) = Unit {0}
+IsLoadBelow count (Stopped code line lines trail) = Unit {0}
 IsLoadBelow count (Good body) = Unit {0}
 
 -- a module of the file n, whose loads are among so many files

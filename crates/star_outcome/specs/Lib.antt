@@ -1,5 +1,6 @@
 pub mod Fits
 pub mod Reaches
+pub mod Paid
 pub mod Views
 pub mod Gathered
 pub mod Refusals

@@ -12,6 +12,7 @@ use Rattle.star_plan.specs.Results.{IsGood, IsOutcome, Ran, Static as StaticOutc
 use Rattle.star_plan.specs.Shelves.{IsOwn}
 use Rattle.star_reading.specs.Codes.{fault_of}
 use Rattle.star_outcome.specs.Fits.{IsAsked}
+use Rattle.star_outcome.specs.Paid.{HasPaid}
 use Rattle.star_outcome.specs.Reaches.{ReachView, row_of}
 use Rattle.star_outcome.specs.declared.module.Body.{Body}
 use Rattle.star_outcome.specs.declared.module.Ended.{Ended}
@@ -25,7 +26,7 @@ shown_texts gs = map (λ g. (string_bytes g.0, g.1)) gs
 abbrev pub ended_well : Ended → Bool
 ended_well (Static f) = false
 ended_well (Unloaded index line) = false
-ended_well (Stopped code line lines) = false
+ended_well (Stopped code line lines trail) = false
 ended_well (Good body) = true
 
 -- these are the stores of the file n and of all files to which its loads lead: each file's own
@@ -33,13 +34,14 @@ pub record AreStores (plan : Plan) (n : ℕ) (rs : List ReachView) : Type 0 wher
   pub own : All (λ r. LeadsTo (Loads (loaded plan)) n r.number × IsOwn plan r.number r.store) rs
   pub all : (k : ℕ) → LeadsTo (Loads (loaded plan)) n k → Contains (map (λ r. r.number) rs) k
 
--- what is left of the file n, whose outcome is a run that went well: the texts of its globals, its lines, and the
--- stores
+-- what is left of the file n, whose outcome is a run that went well: the texts of its globals, its lines, the stores, and
+-- the steps that it has paid
 pub record IsBody (plan : Plan) (n : ℕ) (b : Body) : Type 0 where
   pub shelf : Shelf
   pub globals : List (List ℕ × Value)
   pub outcome : IsOutcome plan n (Ran (WentWell shelf globals (shown_texts b.shown.items) b.lines.items))
   pub stores : AreStores plan n (row_of b.stores)
+  pub paid : HasPaid plan n b.paid
 
 -- the file n ended so: with its outcome
 abbrev pub IsEnd : Plan → ℕ → Ended → Type 0
@@ -47,7 +49,7 @@ IsEnd plan n (Static f) = IsOutcome plan n (StaticOutcome (fault_of f))
 IsEnd plan n (Unloaded index line) =
     IsOutcome plan n (UnloadedOutcome index) × ((l : Load) × (slice_get (loads_of plan n) index ≡ Some l)
     × (l.line ≡ line))
-IsEnd plan n (Stopped code line lines) =
+IsEnd plan n (Stopped code line lines trail) =
     IsOutcome plan n (Ran (HadFault (record { code = code; line = line }) lines.items))
 IsEnd plan n (Good body) = IsBody plan n body
 

@@ -5,6 +5,7 @@ ghost use Rattle.star_outcome.specs.Views.{ended_well};
 
 use crate::store_row::StoreRow;
 use star_meaning::fault::Code;
+use star_meaning::story::Step;
 use star_reading::code::StaticFault;
 use star_text::Text;
 
@@ -16,6 +17,8 @@ pub struct Body {
     /// Each global with its text, in byte order of the names.
     pub shown: Vec<(String, Text)>,
     pub lines: Vec<Text>,
+    /// The steps that its run has paid.
+    pub paid: u32,
 }
 
 /// How a file has ended.
@@ -33,6 +36,8 @@ pub enum Ended {
         code: Code,
         line: usize,
         lines: Vec<Text>,
+        /// What the fault has left on its way out, the innermost first.
+        trail: Vec<Step>,
     },
     /// Its run went well.
     Good(Body),

@@ -1,3 +1,5 @@
+//! The identity of one run, which only contracts see.
+
 ghost use Rattle.std.specs.Prelude.{ℕ, List, [], None};
 ghost use Rattle.star_label.specs.Files.{File};
 ghost use Rattle.star_plan.specs.Plan.{Plan};

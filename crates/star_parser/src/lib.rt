@@ -1,4 +1,11 @@
 //! The parser: the tree of a text, or why there is none.
+//!
+//! `parse` lexes the text, weighs how deep it nests (`nest`), makes leaves of the tokens and reads the file. `simple`
+//! has the readers of the statements on one line, `block` those of statements that hold others, and of the file. The
+//! grammar and the readers of expressions are in `star_syntax`.
+//!
+//! Faults come in this order: the first bad token or indentation, then nesting deeper than 100, then bad syntax. A
+//! text has one answer (law `one_answer`), want of memory aside.
 #![tactic(auto)]
 
 mod block;

@@ -1,4 +1,10 @@
-//! Which files are loaded, how each ends, and which report stands for them: definitions and laws (`docs/OUTCOMES.md`).
+//! Which files are loaded, how each ends, and which report stands for them: definitions and laws, no code
+//! (`docs/OUTCOMES.md`).
+//!
+//! A plan is what was read of each file, with the roots, the prelude and the steps. `specs/Reached` says which files
+//! are reached, `specs/Results` how each ends, by depth, `specs/Causes` why a file fails by its loads, `specs/Text`
+//! the report. The laws say that files have one plan, a plan gives each file one outcome and one cause, and one text
+//! is its report.
 #![tactic(auto)]
 
 mod law;

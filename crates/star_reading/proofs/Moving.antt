@@ -14,6 +14,7 @@ use Rattle.star_flow.specs.contracts.flow.Flow as flow
 use Rattle.star_flow.proofs.flow.Flow.TheSendSync as of_flow
 use Rattle.boxcar.proofs.vec.Vec.TheSendSync as of_trees
 use Rattle.star_label.proofs.files.Files.TheSendSync as of_labels
+use Rattle.star_lex.proofs.token.SyntaxFault.TheSendSync as of_syntax
 use Rattle.star_reading.proofs.Closures.{tuple_sync}
 use denote.Param.Send.{AllSync, IsSend, IsSync, sendable}
 use denote.Param.SendFields.{variants_send}
@@ -110,6 +111,7 @@ reader_sync : (κ ν : NamedLft) → IsSync (reader.the_row κ ν)
 reader_sync κ ν =
     let l = of_labels.the_sync in
     let p = of_prelude.the_sync ν in
+    let f = of_syntax.the_sync in
     let s = tree_send in
     let y = tree_sync in
     search (of_trees.the_sync, sendable, crosses) depth 40

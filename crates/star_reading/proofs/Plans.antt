@@ -1,11 +1,12 @@
 -- A row that has all that it needs: all reached files are read; and it is the plan of its files.
-use Rattle.std.proofs.Common.{◌≡◌, ◌<◌, ℕ, List, [], ◌∷◌, map, length, get_or, Option, Some, None, Ok, Err, refl, ap, sym, ◌∙◌, subst, arith}
+use Rattle.std.proofs.Common.{◌≡◌, ◌≢◌, ◌<◌, ℕ, List, [], ◌∷◌, map, length, get_or, Option, Some, None, Ok, Err, refl, ap, sym, ◌∙◌, subst, arith}
 use Rattle.std.specs.Prelude.{Contains, IsSome, slice_get}
 use Rattle.std.specs.Option.{option_flatten, option_map}
 use Rattle.std.proofs.lemmas.List.{get_or-map, length-map}
 use Rattle.std.proofs.lemmas.Option.{slice_get-map, slice_get_within}
 use Rattle.star_cache.specs.State.{Loads}
 use Rattle.star_label.specs.Files.{File, text_at}
+use Rattle.star_lex.specs.declared.token.SyntaxFault.{SyntaxFault}
 use Rattle.star_lex.specs.declared.token.SyntaxFault.TheVariants as syntax
 use Rattle.star_tree.specs.declared.tree.Tree.{Tree}
 use Rattle.star_parser.specs.Sources.{Parses}
@@ -19,10 +20,9 @@ use Rattle.star_plan.specs.Reached.{IsReached, root, load}
 use Rattle.star_plan.specs.Reading.{IsPlanOf, IsPrelude, IsRead}
 use Rattle.star_plan.specs.Runs.{ArePlaced}
 use Rattle.star_plan.proofs.Walks.{readings_make_plans}
-use Rattle.star_reading.specs.declared.code.StaticFault.{StaticFault}
 use Rattle.star_reading.specs.declared.reading.Read.{Read}
 use Rattle.star_reading.specs.declared.reading.Read.TheVariants as read
-use Rattle.star_reading.specs.Readings.{AreReadAs, IsFaultOf, IsPlaceOf, IsReadAs, Row, loads_at, placed_in, read_at, reading_of, readings, table_of}
+use Rattle.star_reading.specs.Readings.{AreReadAs, IsPlaceOf, IsReadAs, Row, loads_at, placed_in, read_at, reading_of, readings, table_of}
 use Rattle.star_reading.specs.Found.{IsClosed, IsRowOf}
 use Rattle.star_reading.proofs.Rows.{loads_are, read_is}
 use Rattle.star_reading.proofs.PlacesRead.{place_read, some_of}
@@ -125,10 +125,10 @@ prelude_sound files n tree p parses file names = (
   ap (λ k. Some (record { file = k; names = p.names })) file ∙ ap (λ ns. Some (record { file = n; names = ns })) names,
 )
 
-pub prelude_faulty : (files : List File) (n : ℕ) (f : StaticFault) (p : Prelude) → IsFaultOf (text_at files n) f → p.file ≡ n → p.names ≡ prelude_names None → IsPrelude files (Some n) (Some p)
-prelude_faulty files n f p is file names = (
-  Err is.0,
-  is.1,
-  λ e. is.3 (let same : is.0 ≡ syntax.Memory = cc in same),
+pub prelude_faulty : (files : List File) (n : ℕ) (e : SyntaxFault) (p : Prelude) → Parses (text_at files n) (Err e) × (e ≢ syntax.Memory) → p.file ≡ n → p.names ≡ prelude_names None → IsPrelude files (Some n) (Some p)
+prelude_faulty files n e p is file names = (
+  Err e,
+  is.0,
+  λ h. is.1 (let same : e ≡ syntax.Memory = cc in same),
   ap (λ k. Some (record { file = k; names = p.names })) file ∙ ap (λ ns. Some (record { file = n; names = ns })) names,
 )

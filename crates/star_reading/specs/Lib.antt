@@ -1,3 +1,4 @@
 pub mod Codes
+pub mod Parsed
 pub mod Readings
 pub mod Found

@@ -1,19 +1,16 @@
 -- What was read of files, by what the program has of it.
-use Rattle.std.specs.Prelude.{◌≡◌, ◌≢◌, ◌<◌, ℕ, All, List, map, length, Option, Some, None, Ok, Err, slice_get, slice_index_or}
+use Rattle.std.specs.Prelude.{◌≡◌, ◌<◌, ℕ, All, List, map, length, Option, Some, None, Ok, slice_get, slice_index_or}
 use Rattle.std.specs.Option.{option_map, option_flatten}
 use Rattle.star_label.specs.Files.{File, text_at}
-use Rattle.star_lex.specs.declared.token.SyntaxFault.{SyntaxFault}
-use Rattle.star_lex.specs.declared.token.SyntaxFault.TheVariants as syntax
 use Rattle.star_tree.specs.declared.tree.Tree.{Tree}
 use Rattle.star_parser.specs.Sources.{Parses}
 use Rattle.star_scope.specs.declared.loads.Load.{Load}
 use Rattle.star_scope.specs.declared.program.Prelude.{Prelude}
 use Rattle.star_scope.specs.Resolve.{Resolves}
 use Rattle.star_meaning.specs.Programs.{Files, IsOfFile, PlacedFile, placed_file}
-use Rattle.star_plan.specs.Plan.{Reading, Sound, Faulty, OfText, loads_in}
+use Rattle.star_plan.specs.Plan.{Reading, Sound, Faulty, loads_in}
 use Rattle.star_plan.specs.Reading.{IsRead}
 use Rattle.star_reading.specs.Codes.{fault_of}
-use Rattle.star_reading.specs.declared.code.StaticFault.{StaticFault}
 use Rattle.star_reading.specs.declared.reading.Read.{Read}
 use Rattle.star_reading.specs.declared.reading.Read.TheVariants as read
 
@@ -48,10 +45,6 @@ placed_in (Some (read.Fault f)) = None
 
 abbrev pub table_of : Row → Files
 table_of row = map placed_in row
-
--- the static fault of a text that does not parse
-abbrev pub IsFaultOf : List ℕ → StaticFault → Type 0
-IsFaultOf text f = (e : SyntaxFault) × Parses text (Err e) × (fault_of f ≡ OfText e) × (e ≢ syntax.Memory)
 
 -- this is read of the file n: its program, by its text and the prelude that it sees; or its static fault
 abbrev pub IsReadAs : List File → Option Prelude → ℕ → Read → Type 0

@@ -4,6 +4,7 @@ ghost use Rattle.std.specs.Prelude.{◌<◌, All, IfOk, IfSome, List, OnOk, Opti
 ghost use Rattle.std.specs.Option.{option_copied};
 ghost use Rattle.star_label.specs.Files.{File};
 ghost use Rattle.star_scope.specs.declared.program.Prelude.{Prelude as PreludeView};
+ghost use Rattle.star_reading.specs.Parsed.{AreParsesOf};
 ghost use Rattle.star_reading.specs.Readings.{AreReadAs, AreAllReadAs, IsReadAs};
 
 use crate::reading::{Found, Read, Reader, loads_of, numbers};
@@ -31,6 +32,7 @@ impl<'s, 't> Reader<'s, 't> {
         reads: &mut Vec<(usize, Read<'t>)>,
         n: usize,
     ) -> Result<Vec<usize>, AllocError>
+        requires parses { AreParsesOf self.now.files.now self.now.parses.now }
         ensures { OnOk result (
             AreAllReadAs self.now.files.now (option_copied self.now.prelude) reads.old.items
             → AreAllReadAs self.now.files.now (option_copied self.now.prelude) reads.new.items) }
@@ -46,6 +48,7 @@ impl<'s, 't> Reader<'s, 't> {
 
     /// Reads one file after another, as they are handed out.
     fn read_found<R: Wait>(&self, rt: &R, flow: &Flow) -> Result<Vec<(usize, Read<'t>)>, AllocError>
+        requires parses { AreParsesOf self.now.files.now self.now.parses.now }
         ensures { IfOk result (λ reads.
             AreAllReadAs self.now.files.now (option_copied self.now.prelude) reads.items) }
     {
@@ -62,6 +65,7 @@ impl<'s, 't> Reader<'s, 't> {
 
     /// The same for one of several threads, none of which waits for one that could not go on.
     fn read_share<R: Wait>(&self, rt: &R, flow: &Flow) -> Result<Vec<(usize, Read<'t>)>, AllocError>
+        requires parses { AreParsesOf self.now.files.now self.now.parses.now }
         ensures { IfOk result (λ reads.
             AreAllReadAs self.now.files.now (option_copied self.now.prelude) reads.items) }
     {
@@ -79,6 +83,7 @@ impl<'s, 't> Reader<'s, 't> {
         flow: &Flow,
         threads: usize,
     ) -> Result<Vec<Result<Vec<(usize, Read<'t>)>, AllocError>>, AllocError>
+        requires parses { AreParsesOf self.now.files.now self.now.parses.now }
         ensures { IfOk result (λ shares. All (λ r. IfOk r (λ reads.
             AreAllReadAs self.now.files.now (option_copied self.now.prelude) reads.items)) shares.items) }
     {
@@ -87,6 +92,7 @@ impl<'s, 't> Reader<'s, 't> {
             self.alloc,
             threads,
             &|_thread: usize| -> Result<Vec<(usize, Read)>, AllocError>
+                requires { AreParsesOf self.now.files.now self.now.parses.now }
                 ensures { IfOk result (λ reads.
                     AreAllReadAs self.entry.now.files.now (option_copied self.entry.now.prelude) reads.items) }
             { self.read_share(rt, flow) },
@@ -99,6 +105,7 @@ impl<'s, 't> Reader<'s, 't> {
         rt: &R,
         threads: usize,
     ) -> Result<Found<'t>, AllocError>
+        requires parses { AreParsesOf self.now.files.now self.now.parses.now }
         ensures { IfOk result (λ ahead.
             AreReadAs self.now.files.now (option_copied self.now.prelude) ahead.reads.items) }
     {
@@ -121,6 +128,7 @@ impl<'s, 't> Reader<'s, 't> {
         ahead: &mut Found<'t>,
         n: usize,
     ) -> Result<Read<'t>, AllocError>
+        requires parses { AreParsesOf self.now.files.now self.now.parses.now }
         requires file { n < length self.now.files.now }
         requires ahead { AreReadAs self.now.files.now (option_copied self.now.prelude) ahead.old.reads.items }
         ensures read { IfOk result (IsReadAs self.now.files.now (option_copied self.now.prelude) n) }

@@ -4,13 +4,15 @@ ghost use Rattle.std.specs.Prelude.{◌≡◌, ◌<◌, ◌∷◌, ◌++◌, Non
 ghost use Rattle.std.specs.Prelude.{IsSome, MatchOption, MatchResult, OnOk, false, length, map, replicate};
 ghost use Rattle.std.specs.Prelude.{slice_set, vec_len};
 ghost use Rattle.std.specs.Option.{option_copied};
+ghost use Rattle.star_label.specs.Files.{text_at};
 ghost use Rattle.star_parser.specs.Sources.{Parses};
 ghost use Rattle.star_reading.specs.Found.{AreFound, Grew, IsMarked, IsRowOf, Within, left_of};
-ghost use Rattle.star_reading.specs.Readings.{AreReadAs, IsFaultOf, IsReadAs, loads_read, read_at};
+ghost use Rattle.star_reading.specs.Parsed.{AreParsesOf};
+ghost use Rattle.star_reading.specs.Readings.{AreReadAs, IsReadAs, loads_read, read_at};
 
 use crate::code::{StaticFault, of_scope, of_syntax};
+use crate::parses::{Parsed, parsed_once};
 use star_label::files::Files as Labels;
-use star_parser::parse;
 use star_scope::loads::Load;
 use star_scope::program::{Prelude, Program, resolve};
 use star_tree::tree::Tree;
@@ -59,57 +61,46 @@ impl<'t> Reads<'t> {
     }
 }
 
-/// What files are read by: their texts, the place of their trees, the prelude, and the roots.
+/// What files are read by: their texts, the place of their trees, what the parser has made of the texts so far, the
+/// prelude, and the roots.
 #[derive(Drop)]
 pub struct Reader<'s, 't> {
     pub alloc: Global,
     pub files: &'s Labels,
     pub trees: &'t boxcar::Vec<Tree>,
+    /// Of the first files, by their numbers: their texts are not parsed again.
+    pub parses: &'s [Parsed<'t>],
     pub prelude: Option<&'s Prelude<'t>>,
     pub roots: &'s [usize],
 }
 
-/// The tree of a text, which is kept with the other trees: its static fault where it does not parse.
-pub fn tree_of<'t, R: Wait>(
-    rt: &R,
-    alloc: Global,
-    trees: &'t boxcar::Vec<Tree>,
-    text: &str,
-) -> Result<Result<&'t Tree, StaticFault>, AllocError>
-    ensures { IfOk result (λ tree. MatchResult tree
-        (λ t. Parses text.now (Ok t.now))
-        (IsFaultOf text.now)) }
-{
-    let tree = match parse(alloc, text) {
-        Ok(tree) => tree,
-        Err(fault) => {
-            return match of_syntax(fault) {
-                Some(fault) => Ok(Err(fault)),
-                None => Err(AllocError),
-            };
-        }
-    };
-    match trees.push_shown(rt, tree) {
-        Ok(pushed) => Ok(Ok(trees.value(&pushed))),
-        Err(_) => Err(AllocError),
-    }
-}
-
 impl<'s, 't> Reader<'s, 't> {
-    /// Reads and resolves a file.
-    pub(crate) fn read<R: Wait>(&self, rt: &R, n: usize) -> Result<Read<'t>, AllocError>
-        requires { n < length self.now.files.now }
+    /// Resolves the tree of a file.
+    fn resolved(&self, n: usize, tree: &'t Tree) -> Result<Read<'t>, AllocError>
+        requires file { n < length self.now.files.now }
+        requires tree { Parses (text_at self.now.files.now n) (Ok tree.now) }
         ensures { IfOk result (IsReadAs self.now.files.now (option_copied self.now.prelude) n) }
     {
-        let tree = match tree_of(rt, self.alloc, self.trees, self.files.text(n))? {
-            Ok(tree) => tree,
-            Err(fault) => return Ok(Read::Fault(fault)),
-        };
         match resolve(self.alloc, self.files, n, tree, self.prelude) {
             Ok(program) => Ok(Read::Program(program)),
             Err(fault) => match of_scope(fault) {
                 Some(fault) => Ok(Read::Fault(fault)),
                 None => Err(AllocError),
+            },
+        }
+    }
+
+    /// Reads and resolves a file.
+    pub(crate) fn read<R: Wait>(&self, rt: &R, n: usize) -> Result<Read<'t>, AllocError>
+        requires parses { AreParsesOf self.now.files.now self.now.parses.now }
+        requires file { n < length self.now.files.now }
+        ensures { IfOk result (IsReadAs self.now.files.now (option_copied self.now.prelude) n) }
+    {
+        match parsed_once(rt, self.alloc, self.files, self.trees, self.parses, n)? {
+            Ok(tree) => self.resolved(n, tree),
+            Err(fault) => match of_syntax(fault) {
+                Some(fault) => Ok(Read::Fault(fault)),
+                None => unreachable!(),
             },
         }
     }
@@ -122,6 +113,7 @@ impl<'s, 't> Reader<'s, 't> {
         ahead: &mut Found<'t>,
         n: usize,
     ) -> Result<(), AllocError>
+        requires parses { AreParsesOf self.now.files.now self.now.parses.now }
         requires ahead { AreReadAs self.now.files.now (option_copied self.now.prelude) ahead.old.reads.items }
         requires file { n < length self.now.files.now }
         requires prelude { IfSome self.now.prelude (λ p. p.now.file < length self.now.files.now) }
@@ -159,6 +151,7 @@ impl<'s, 't> Reader<'s, 't> {
         rt: &R,
         threads: usize,
     ) -> Result<Vec<Option<Read<'t>>>, AllocError>
+        requires parses { AreParsesOf self.now.files.now self.now.parses.now }
         requires roots { Within self.now.files.now self.now.roots.now }
         requires prelude { IfSome self.now.prelude (λ p. p.now.file < length self.now.files.now) }
         ensures { IfOk result (λ row. IsRowOf self.now.files.now (option_copied self.now.prelude)

@@ -46,6 +46,14 @@ row_length f (suc n) = ap suc (row_length (λ i. f (suc i)) n)
 pub row_beyond : {A : Type 0} (f : ℕ → A) (n at : ℕ) (x : A) → n ≤ at → row f n ≡ set (row f n) at x
 row_beyond f n at x h = sym (set_past (row f n) at x (omega (arith, row_length f n)))
 
+-- a slot has the value that the row has for it
+pub row_near : (near : List (Option Value)) (far : Option (Box (BTreeMap ℕ Value))) (under : Option (Box Under)) (n at : ℕ) (v : Value)
+    → at < n → option_flatten (slice_get near at) ≡ Some v
+    → option_flatten (slice_get (row (slot_at near far under) n) at) ≡ Some v
+row_near near far under n at v h e =
+    ap option_flatten (row_at (slot_at near far under) n at h)
+    ∙ ap (λ x. option_or x (option_or (far_at far at) (under_at under at))) e
+
 -- ---- lists of which one place has changed
 
 set_at : {A : Type 0} (xs : List A) (at : ℕ) (x : A) → at < length xs → slice_get (set xs at x) at ≡ Some x

@@ -38,9 +38,3 @@ all_places f (suc n) i = λ left. spend_then (f i left) (λ b. if b then all_pla
 abbrev pub Spends : {A : Type 0} → Spent A → Result A StoreFault → ℕ → Type 0
 Spends o (Ok x) left = o ≡ Enough x left
 Spends o (Err f) left = o ≡ Lacks f left
-
--- What a function answered is what was to be answered, unless memory ran out.
-abbrev pub Answers : {A : Type 0} → Result A StoreFault → Result A StoreFault → Type 0
-Answers o (Ok x) = o ≡ Ok x
-Answers o (Err Memory) = Unit {0}
-Answers o (Err f) = o ≡ Err f

@@ -1,6 +1,6 @@
 -- The stores: the cells that a running module has made, those of the published modules, and what a value leads to.
 use Rattle.std.specs.Prelude.{ℕ, zero, suc, ◌+◌, ◌-◌, nat_eq, Bool, true, false, List, [], ◌∷◌, ◌++◌, Option, Some, None, length, replicate, slice_get, slice_set, if◌then◌else◌}
-use Rattle.std.specs.Option.{option_map}
+use Rattle.std.specs.Option.{option_map, option_flatten}
 use Rattle.std.specs.Cmp.Lexicographic.{pointwise, slice_cmp}
 use Rattle.std.specs.List.Sorted.{IsStrictlySortedBy}
 use Rattle.std.specs.Ordering.{nat_cmp}
@@ -66,6 +66,11 @@ changed f _ s = s
 abbrev pub bound_cell : ℕ → Value → Cell → Cell
 bound_cell slot v (cell.Frame f) = cell.Frame (record f { slots = slice_set f.slots slot (Some v) })
 bound_cell slot v c = c
+
+-- the value of a slot of a frame: none where it is unbound or there is no such slot, and in no other cell
+abbrev pub slot_value : Option Cell → ℕ → Option Value
+slot_value (Some (cell.Frame f)) slot = option_flatten (slice_get f.slots slot)
+slot_value _ slot = None
 
 -- gives a slot of a frame a value
 abbrev pub bound : Value → ℕ → Value → Store → Store

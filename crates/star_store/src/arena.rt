@@ -1,8 +1,8 @@
-// The store of a module while it runs, and the published stores that it reaches.
+//! The store of a module while it runs, and the published stores that it reaches.
 
-ghost use Rattle.std.specs.Prelude.{◌≡◌, List, [], ◌++◌, ◌+◌, ◌<◌, ◌^◌, length, OnOk, OnErr, IfOk, IfErr, slice_get, map, replicate, string_bytes, ◌-◌};
+ghost use Rattle.std.specs.Prelude.{◌≡◌, List, [], ◌++◌, ◌+◌, ◌<◌, ◌^◌, length, OnOk, OnErr, IfOk, IfErr, IfSome, Some, slice_get, map, replicate, string_bytes, ◌-◌};
 ghost use Rattle.std.specs.Option.{option_copied, option_flatten};
-ghost use Rattle.star_store.specs.Store.{bound, bound_cell, changed_at, closed, closed_in, counted_at, global_of, is_container, is_taken, iterations_in, iterations_of, look, made, next_value, opened, opened_in, published_cells, put_up};
+ghost use Rattle.star_store.specs.Store.{bound, bound_cell, changed_at, closed, closed_in, counted_at, global_of, is_container, is_taken, iterations_in, iterations_of, look, made, next_value, opened, opened_in, published_cells, put_up, slot_value, Shelf};
 ghost use Rattle.star_store.specs.declared.fault.StoreFault.TheVariants.{Memory};
 
 mod places;
@@ -180,6 +180,24 @@ impl Arena {
         }
     }
 
+    /// The value of a slot of a frame of this arena, if the slot has room in the frame's row. None says nothing: the
+    /// value may be found by `read`.
+    #[inline(always)]
+    pub fn near(&self, frame: Value, slot: usize) -> Option<Value>
+        ensures { IfSome result (λ v. (shelf : Shelf) → slot_value (look self.now shelf frame) slot ≡ Some v) }
+    {
+        let Value::Ref { home, at } = frame else {
+            return None;
+        };
+        if home != self.home {
+            return None;
+        }
+        match self.cells.get(at as usize) {
+            Some(counted) => near_in(&counted.cell, slot),
+            None => None,
+        }
+    }
+
     /// Gives a slot of a frame of this arena a value. Where there is no such slot, nothing changes. `Memory` where a
     /// growth is refused: then nothing has changed.
     pub fn bind(&mut self, frame: Value, slot: usize, value: Value) -> Result<(), StoreFault>
@@ -291,6 +309,17 @@ impl Frozen {
             return global_among(&self.globals, name);
         }
         global_in(&self.globals, name)
+    }
+}
+
+/// The value of a slot of a frame, if the slot has room in the row.
+#[inline(always)]
+fn near_in(cell: &Cell, slot: usize) -> Option<Value>
+    ensures { IfSome result (λ v. slot_value (Some cell.now) slot ≡ Some v) }
+{
+    match cell {
+        Cell::Frame(frame) => frame.get().slots.near(slot),
+        _ => None,
     }
 }
 

@@ -1,4 +1,4 @@
-// The arithmetic of ints.
+//! The arithmetic of ints.
 
 ghost use Rattle.std.specs.Prelude.{◌≡◌, ◌≢◌, ◌<◌, ◌^◌, ◌+ℤ◌, ◌-ℤ◌, ◌*ℤ◌, ◌≤ℤ◌, ◌<ℤ◌, neg_ℤ, pos, unsigned_abs};
 ghost use Rattle.star_store.specs.Arithmetic.{checked, floored, left_by, left_over};
@@ -6,6 +6,7 @@ ghost use Rattle.star_store.specs.Arithmetic.{checked, floored, left_by, left_ov
 use crate::fault::StoreFault;
 
 /// The sum. `Overflow` where it is outside 64 bits.
+#[inline(always)]
 pub fn add(x: i64, y: i64) -> Result<i64, StoreFault>
     ensures { result ≡ checked (x +ℤ y) }
 {
@@ -13,6 +14,7 @@ pub fn add(x: i64, y: i64) -> Result<i64, StoreFault>
 }
 
 /// The difference. `Overflow` where it is outside 64 bits.
+#[inline(always)]
 pub fn sub(x: i64, y: i64) -> Result<i64, StoreFault>
     ensures { result ≡ checked (x -ℤ y) }
 {
@@ -20,6 +22,7 @@ pub fn sub(x: i64, y: i64) -> Result<i64, StoreFault>
 }
 
 /// The product. `Overflow` where it is outside 64 bits.
+#[inline(always)]
 pub fn mul(x: i64, y: i64) -> Result<i64, StoreFault>
     ensures { result ≡ checked (x *ℤ y) }
 {
@@ -34,23 +37,33 @@ pub fn neg(x: i64) -> Result<i64, StoreFault>
 }
 
 /// The quotient, rounded down. `Overflow` for the least int by -1.
+#[inline(always)]
+#[tactic(auto, using(crate::proofs::Ints::floored_up))]
 pub fn floor_div(x: i64, y: i64) -> Result<i64, StoreFault>
     requires { y ≢ pos 0 }
     ensures { result ≡ checked (floored x y) }
 {
-    narrow(quotient(x, y))
+    if y > 0 {
+        return whole(x.div_euclid(y));
+    }
+    narrow(quotient_turned(x, y))
 }
 
-#[tactic(auto, using(crate::proofs::Ints::floored_up, crate::proofs::Ints::floored_down))]
-fn quotient(x: i64, y: i64) -> i128
-    requires { y ≢ pos 0 }
+/// The quotient by a divisor below 0, rounded down: that of both with their signs turned.
+#[tactic(auto, using(crate::proofs::Ints::floored_down))]
+fn quotient_turned(x: i64, y: i64) -> i128
+    requires { y <ℤ pos 0 }
     ensures { result ≡ floored x y }
 {
-    let (x, y) = (x as i128, y as i128);
-    if y > 0 {
-        return x.div_euclid(y);
-    }
-    (-x).div_euclid(-y)
+    let (x, y) = (-(x as i128), -(y as i128));
+    x.div_euclid(y)
+}
+
+/// An int of 64 bits fits.
+fn whole(x: i64) -> Result<i64, StoreFault>
+    ensures { result ≡ checked x }
+{
+    Ok(x)
 }
 
 fn narrow(x: i128) -> Result<i64, StoreFault>
@@ -64,22 +77,16 @@ fn narrow(x: i128) -> Result<i64, StoreFault>
 
 /// What the quotient, rounded down, leaves over: it has the sign of the divisor. `Overflow` where it is outside 64
 /// bits.
+#[inline(always)]
+#[tactic(auto, using(crate::proofs::Ints::left_up, crate::proofs::Ints::left_below))]
 pub fn floor_mod(x: i64, y: i64) -> Result<i64, StoreFault>
     requires { y ≢ pos 0 }
     ensures { result ≡ checked (left_over x y) }
 {
-    narrow(remainder(x, y))
-}
-
-#[tactic(auto, using(crate::proofs::Ints::left_up, crate::proofs::Ints::left_below))]
-fn remainder(x: i64, y: i64) -> i128
-    requires { y ≢ pos 0 }
-    ensures { result ≡ left_over x y }
-{
     if y > 0 {
-        return (x as i128).rem_euclid(y as i128);
+        return whole(x.rem_euclid(y));
     }
-    -(remainder_turned(x, y) as i128)
+    narrow(-(remainder_turned(x, y) as i128))
 }
 
 /// What the quotient by a divisor below 0 leaves over, with both signs turned.

@@ -1,4 +1,4 @@
-// What keys hold: their contents, which may be hashed and compared with no store beside them.
+//! What keys hold: their contents, which may be hashed and compared with no store beside them.
 
 ghost use Rattle.std.specs.Prelude.{◌≡◌, ◌∷◌, [], Some, None, if◌then◌else◌, IfOk};
 ghost use Rattle.std.specs.Cmp.{partial_equiv_from_equiv};

@@ -1,4 +1,4 @@
-// The defaults of a function.
+//! The defaults of a function.
 
 ghost use Rattle.std.specs.Prelude.{◌≡◌, length, slice_get, IfOk};
 ghost use Rattle.star_store.specs.Defaults.{shared_row};

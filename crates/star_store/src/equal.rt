@@ -1,4 +1,4 @@
-// Equality of values, which pays a step for each pair that it visits.
+//! Equality of values, which pays a step for each pair that it visits.
 
 ghost use Rattle.std.specs.Prelude.{◌≡◌, List, ◌≤◌, ◌&&◌, ◌-◌};
 ghost use Rattle.star_store.specs.Index.{entries_of};

@@ -1,4 +1,4 @@
-// Why a call on a store refuses.
+//! Why a call on a store refuses.
 
 ghost use Rattle.std.specs.Prelude.{◌≡◌};
 ghost use Rattle.star_store.specs.declared.fault.StoreFault.TheVariants.{Memory};

@@ -1,4 +1,4 @@
-// The globals of a published module, by their names.
+//! The globals of a published module, by their names.
 
 ghost use Rattle.std.specs.Prelude.{◌≡◌, ◌∷◌, map, string_bytes, true};
 ghost use Rattle.star_store.specs.Store.{ascend, global_of};

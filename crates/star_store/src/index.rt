@@ -1,4 +1,4 @@
-// The contents of a dictionary's keys, by which the place of a key is found at once.
+//! The contents of a dictionary's keys, by which the place of a key is found at once.
 
 ghost use Rattle.std.specs.Prelude.{◌≡◌, ◌≤◌, ◌++◌, ◌∷◌, [], if◌then◌else◌, drop, length, slice_get, IfOk};
 ghost use Rattle.std.specs.Option.{option_copied};

@@ -1,4 +1,4 @@
-// Keys: which values may be one, and which two are the same one.
+//! Keys: which values may be one, and which two are the same one.
 
 ghost use Rattle.std.specs.Prelude.{◌≡◌, ◌≤◌, position};
 ghost use Rattle.std.specs.List.{list_all};

@@ -1,4 +1,4 @@
-// The built-in functions and the methods, by their names.
+//! The built-in functions and the methods, by their names.
 
 ghost use Rattle.std.specs.Prelude.{◌≡◌};
 ghost use Rattle.star_store.specs.Names.{built_in_name, built_in_number, method_name, receiver_type};

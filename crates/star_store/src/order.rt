@@ -1,4 +1,4 @@
-// The order of values, which pays a step for each pair that it visits.
+//! The order of values, which pays a step for each pair that it visits.
 
 ghost use Rattle.std.specs.Prelude.{◌≡◌, List, ◌≤◌};
 ghost use Rattle.std.specs.Option.{option_copied};

@@ -1,5 +1,5 @@
-// Rows of items that can have free places at the front, so that the first item is taken out, and another put before
-// it, without a move of all others.
+//! Rows of items that can have free places at the front, so that the first item is taken out, and another put before
+//! it, without a move of all others.
 
 ghost use Rattle.std.specs.Prelude.{◌≡◌, ◌<◌, ◌≤◌, ◌++◌, ◌∷◌, [], List, length, drop, replicate, slice_get, slice_set, OnOk, OnErr, IfOk};
 ghost use Rattle.std.specs.List.{insert, remove};

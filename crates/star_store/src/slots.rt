@@ -1,6 +1,7 @@
-// The variables of a frame.
+//! The variables of a frame.
 
-ghost use Rattle.std.specs.Prelude.{◌≡◌, ◌+◌, ◌^◌, ◌<◌, ◌≤◌, ℕ, None, Some, if◌then◌else◌, length, nat_eq, replicate, slice_get, slice_set, IfOk, OnErr, OnOk};
+ghost use Rattle.std.specs.Prelude.{◌≡◌, ◌+◌, ◌^◌, ◌<◌, ◌≤◌, ℕ, None, Some, if◌then◌else◌, length, nat_eq, replicate, slice_get, slice_set, IfOk, IfSome, OnErr, OnOk};
+ghost use Rattle.std.specs.Option.{option_flatten};
 ghost use Rattle.std.specs.Arc.{arc_slice_items};
 ghost use Rattle.star_store.specs.Slots.{default_at, far_at, row, slot_at, under_at, widened};
 
@@ -82,6 +83,18 @@ impl Slots {
         })
     }
 
+    /// The value of a slot that has room in the row. None says nothing: the slot's value may stand elsewhere.
+    #[inline(always)]
+    #[tactic(auto, using(crate::proofs::Rows::row_near))]
+    pub fn near(&self, at: usize) -> Option<Value>
+        ensures { IfSome result (λ v. option_flatten (slice_get self.now at) ≡ Some v) }
+    {
+        if at < self.count {
+            return near_at(&self.near, at);
+        }
+        None
+    }
+
     /// What a slot has: none where there is no such slot, and none inside where its variable is unbound.
     #[tactic(auto, using(crate::proofs::Rows::row_at, crate::proofs::Rows::row_past))]
     pub fn get(&self, at: usize) -> Option<Option<Value>>
@@ -114,6 +127,17 @@ impl Slots {
     }
 }
 
+/// The value that the row has for a slot.
+#[inline(always)]
+fn near_at(near: &[Option<Value>], at: usize) -> Option<Value>
+    ensures { result ≡ option_flatten (slice_get near.now at) }
+{
+    match near.get(at) {
+        Some(Some(value)) => Some(*value),
+        _ => None,
+    }
+}
+
 /// What a slot has.
 fn slot_at(
     near: &[Option<Value>],
@@ -123,8 +147,8 @@ fn slot_at(
 ) -> Option<Value>
     ensures { result ≡ slot_at near.now far.now under.now at }
 {
-    if let Some(Some(value)) = near.get(at) {
-        return Some(*value);
+    if let Some(value) = near_at(near, at) {
+        return Some(value);
     }
     if let Some(value) = far_at(far, at) {
         return Some(value);

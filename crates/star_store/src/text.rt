@@ -1,4 +1,4 @@
-// The texts of values, which pay a step for each value that they show.
+//! The texts of values, which pay a step for each value that they show.
 
 ghost use Rattle.std.specs.Prelude.{◌≡◌, ◌≤◌, ◌<◌, ◌++◌, ◌∷◌, ◌-◌, [], OnOk, codes, string_bytes, take, vec_len};
 ghost use Rattle.std.specs.Char.{digit_char};

@@ -1,4 +1,4 @@
-// Which values count as true.
+//! Which values count as true.
 
 ghost use Rattle.std.specs.Prelude.{◌≡◌};
 ghost use Rattle.star_store.specs.Store.{look};

@@ -1,4 +1,4 @@
-// Values, and the cells that they lead to.
+//! Values, and the cells that they lead to.
 
 ghost use Rattle.std.specs.Prelude.{◌≡◌, ◌<◌, ◌≤◌, List, Some, [], ◌∷◌, ◌++◌, length, slice_get, slice_set, IfOk, OnOk, OnErr};
 ghost use Rattle.std.specs.List.{insert, remove};

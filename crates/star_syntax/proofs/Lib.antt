@@ -1,3 +1,4 @@
+pub mod Alone
 pub mod ExpressionTable
 pub mod ExpressionsInOrder
 pub mod Forms
@@ -17,6 +18,7 @@ pub mod Rounds
 pub mod Soundness
 pub mod StatementTable
 pub mod StatementsInOrder
+pub mod Strings
 pub mod Targets
 pub mod TargetsInOrder
 pub mod Writing

@@ -82,7 +82,7 @@ pub record QuietWord (w : Word) : Type 0 where
   pub or' : is_keyword k.Or w ≡ None
   pub if' : is_keyword k.If w ≡ None
 
-quiet-word : (w : Word) → EndsBefore w → QuietWord w
+pub quiet-word : (w : Word) → EndsBefore w → QuietWord w
 unfolding same_sign same_keyword
 quiet-word w right-paren = record { suffix' = record { dot = refl; paren = refl; bracket = refl }; binary' = λ n. refl; comparator' = record { sign = refl; denial = refl }; and' = refl; or' = refl; if' = refl }
 quiet-word w right-bracket = record { suffix' = record { dot = refl; paren = refl; bracket = refl }; binary' = λ n. refl; comparator' = record { sign = refl; denial = refl }; and' = refl; or' = refl; if' = refl }

@@ -7,7 +7,7 @@ round : {A B : Type 0} (f : A → B → A) (h : List Leaf → Answer B) (n : ℕ
 unfolding rounds
 round f h n x ts p e = rw (e, rounds) refl
 
-rest : {A B : Type 0} (f : A → B → A) (h : List Leaf → Answer B) (n : ℕ) (x : A) (ts : List Leaf) → h ts ≡ None → rounds f h n x ts ≡ Some (x, ts)
+pub rest : {A B : Type 0} (f : A → B → A) (h : List Leaf → Answer B) (n : ℕ) (x : A) (ts : List Leaf) → h ts ≡ None → rounds f h n x ts ≡ Some (x, ts)
 unfolding rounds
 rest f h zero x ts e = refl
 rest f h (suc n) x ts e = rw (e, rounds) refl

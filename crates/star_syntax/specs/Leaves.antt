@@ -1,9 +1,9 @@
 -- The leaves of a file: its tokens with their values and places.
-use Rattle.std.specs.Prelude.{ℕ, ◌+◌, List, [], ◌∷◌, pos}
+use Rattle.std.specs.Prelude.{ℕ, ◌+◌, ◌==◌, Bool, true, not, ◌&&◌, ◌||◌, List, [], ◌∷◌, pos}
 use Rattle.star_lex.specs.declared.token.Kind.{Kind}
 use Rattle.star_lex.specs.declared.token.Kind.TheVariants as k
 use Rattle.star_lex.specs.declared.token.Token.{Token}
-use Rattle.star_lex.specs.Values.{Text, text_at, int_value, string_value}
+use Rattle.star_lex.specs.Values.{Text, is_line_end, text_at, int_value, string_value}
 use Rattle.star_syntax.specs.declared.leaf.Leaf.{Leaf}
 use Rattle.star_syntax.specs.declared.leaf.Word.{Word}
 use Rattle.star_syntax.specs.declared.leaf.Word.TheVariants as w
@@ -32,3 +32,8 @@ leaves_from source n (t ∷ ts) = leaf_of source n t ∷ leaves_from source (n +
 
 abbrev pub leaves_of : Text → List Token → List Leaf
 leaves_of source ts = leaves_from source 0 ts
+
+-- no byte inside of a string is a backslash or ends a line
+abbrev pub means_itself : Text → Bool
+means_itself [] = true
+means_itself (b ∷ z) = not (b == 92 || is_line_end b) && means_itself z

@@ -4,6 +4,7 @@ pub mod Keeps
 pub mod Expressions
 pub mod Statements
 pub mod Language
+pub mod Alone
 pub mod Leaves
 pub mod Names
 pub mod Laws

@@ -115,6 +115,10 @@ impl<F: Fn(Global, u128, Level, &[Leaf]) -> Read<'_, Boxed<Expression>>> Grammar
         requires { Nests self.now.depth (F.pre self.now.expression) (F.post self.now.expression) }
         ensures { Gives (reads self.now.depth spec.named leaves.now) result }
     {
+        match leaves {
+            [_, rest @ ..] if sign(Sign::Assign, rest).is_some() => {}
+            _ => return Ok(None),
+        }
         let Some((name, rest)) = name(leaves)? else {
             return Ok(None);
         };

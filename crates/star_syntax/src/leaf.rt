@@ -1,11 +1,12 @@
 //! Leaves: the tokens of a file with their values and places, as the grammar reads them.
 
-ghost use Rattle.std.specs.Prelude.{◌≡◌, IfOk};
+ghost use Rattle.std.specs.Prelude.{◌≡◌, ◌≤◌, length, IfOk, IfSome};
+ghost use Rattle.star_lex.specs.Values as values;
 ghost use Rattle.star_syntax.specs.Leaves as spec;
 
 use sqlite_items::Items;
 use star_lex::token::{Keyword, Kind, Sign, Token};
-use star_lex::value::{int_value, string_value, text_at};
+use star_lex::value::{Quoting, int_value, opening, quoting_of, string_value, text_at};
 use star_text::Text;
 use star_tree::tree::Position;
 use std::alloc::{AllocError, Global};
@@ -43,13 +44,127 @@ fn text_of(bytes: Vec<u8>) -> Result<Text, AllocError>
     }
 }
 
-fn word_of(alloc: Global, kind: Kind, text: &[u8]) -> Result<Word, AllocError>
+/// Whether each byte of the inside of a string means itself.
+fn means_itself(inside: &[u8]) -> bool
+    ensures { result ≡ spec.means_itself inside.now }
+{
+    let mut rest = inside;
+    while let [byte, more @ ..] = rest {
+        if *byte == b'\\' || *byte == b'\n' || *byte == b'\r' {
+            return false;
+        }
+        rest = more;
+    }
+    true
+}
+
+/// How many bytes the quotes take that open or close a string.
+fn quotes_size(quoting: Quoting) -> usize
+    ensures value { result ≡ length (values.quotes quoting) }
+    ensures within { result ≤ 3 }
+{
+    if quoting.triple { 3 } else { 1 }
+}
+
+/// The inside of a string, where that is its value.
+#[tactic(auto, using(crate::proofs::Strings::decoded_itself))]
+fn bare(text: &[u8]) -> Option<&[u8]>
+    ensures { IfSome result (λ inside. inside.now ≡ values.string_value text.now) }
+{
+    let quoting = quoting_of(text)?;
+    let start = opening(quoting);
+    let quotes = quotes_size(quoting);
+    if text.len() < start + quotes {
+        return None;
+    }
+    let inside = &text[start..text.len() - quotes];
+    if means_itself(inside) {
+        Some(inside)
+    } else {
+        None
+    }
+}
+
+/// Texts that were made lately, each at the place of its bytes: a text that comes again is shared.
+#[derive(Drop)]
+struct Recent {
+    texts: Vec<Option<Text>>,
+}
+
+/// Longer texts are not kept.
+const LONGEST: usize = 48;
+
+/// A number of at most 32 bits that depends on all the bytes.
+fn hash(bytes: &[u8]) -> u32 {
+    let mut hash: u32 = 0;
+    for byte in bytes {
+        hash = hash.wrapping_mul(31) ^ u32::from(*byte);
+    }
+    hash ^ (hash >> 10)
+}
+
+fn place(bytes: &[u8], places: usize) -> usize {
+    if places == 0 {
+        return 0;
+    }
+    hash(bytes) as usize % places
+}
+
+fn new_text(alloc: Global, bytes: &[u8]) -> Result<Text, AllocError>
+    ensures { IfOk result (λ text. text ≡ bytes.now) }
+{
+    text_of(Vec::from_slice(alloc, bytes)?)
+}
+
+impl Recent {
+    /// With as many places as suit a file of so many tokens.
+    fn new(alloc: Global, tokens: usize) -> Result<Recent, AllocError> {
+        let places = if tokens < 1024 { 128 } else { 1024 };
+        let mut texts = Vec::with_capacity(alloc, places)?;
+        for _place in 0..places {
+            texts.push(None)?;
+        }
+        Ok(Recent { texts })
+    }
+
+    /// The text with these bytes, shared where it was made lately.
+    fn text(&mut self, alloc: Global, bytes: &[u8]) -> Result<Text, AllocError>
+        ensures { IfOk result (λ text. text ≡ bytes.now) }
+    {
+        if bytes.len() > LONGEST {
+            return new_text(alloc, bytes);
+        }
+        let place = place(bytes, self.texts.len());
+        let Some(entry) = self.texts.get_mut(place) else {
+            return new_text(alloc, bytes);
+        };
+        if let Some(there) = entry {
+            if there.as_str().as_bytes() == bytes {
+                return there.share();
+            }
+        }
+        let made = new_text(alloc, bytes)?;
+        *entry = Some(made.share()?);
+        Ok(made)
+    }
+}
+
+fn string_of(alloc: Global, recent: &mut Recent, text: &[u8]) -> Result<Text, AllocError>
+    ensures { IfOk result (λ made. made ≡ values.string_value text.now) }
+{
+    match bare(text) {
+        Some(inside) => recent.text(alloc, inside),
+        None => text_of(string_value(alloc, text)?),
+    }
+}
+
+fn word_of(alloc: Global, recent: &mut Recent, kind: Kind, text: &[u8]) -> Result<Word, AllocError>
     ensures { IfOk result (λ word. word ≡ spec.word_of kind text.now) }
 {
     Ok(match kind {
-        Kind::Name => Word::Name(text_of(Vec::from_slice(alloc, text)?)?),
+        Kind::Name => Word::Name(recent.text(alloc, text)?),
         Kind::Int => Word::Int(int_value(text)),
-        Kind::Text => Word::Text(text_of(string_value(alloc, text)?)?),
+        Kind::Text => Word::Text(string_of(alloc, recent, text)?),
         Kind::Keyword(keyword) => Word::Keyword(keyword),
         Kind::Sign(sign) => Word::Sign(sign),
         Kind::Newline => Word::Newline,
@@ -65,7 +180,8 @@ pub fn leaves(alloc: Global, source: &str, tokens: &[Token]) -> Result<Items<Lea
     ensures { IfOk result (λ all. all ≡ spec.leaves_of source.now tokens.now) }
 {
     let source = source.as_bytes();
-    let mut all = Items::new(alloc);
+    let mut all = Items::from_vec(Vec::with_capacity(alloc, tokens.len())?);
+    let mut recent = Recent::new(alloc, tokens.len())?;
     let mut rest = tokens;
     let mut number = 0;
     while let [token, more @ ..] = rest {
@@ -73,7 +189,7 @@ pub fn leaves(alloc: Global, source: &str, tokens: &[Token]) -> Result<Items<Lea
             line: token.line,
             token: number,
         };
-        let word = word_of(alloc, token.kind, text_at(source, token.span))?;
+        let word = word_of(alloc, &mut recent, token.kind, text_at(source, token.span))?;
         all.push(Leaf { word, position })?;
         number += 1;
         rest = more;

@@ -1,10 +1,12 @@
 //! What every reader uses: the answers, the leaves that stand for themselves, and the grammar of expressions to a
 //! depth.
 
-ghost use Rattle.std.specs.Prelude.{◌≡◌, ◌∷◌, IfOk};
+ghost use Rattle.std.specs.Prelude.{◌≡◌, ◌∷◌, true, IfOk};
+ghost use Rattle.star_syntax.specs.Alone.{ReadAlone};
 ghost use Rattle.star_syntax.specs.Grammar.{first, level as at_level, run};
 ghost use Rattle.star_syntax.specs.Expressions as spec;
 ghost use Rattle.star_syntax.specs.Language.{Finds, Gives, Nests, reads, rule};
+ghost use Rattle.star_syntax.specs.Written.{EndsBefore};
 
 use crate::leaf::{Leaf, Word};
 use crate::level::Level;
@@ -140,6 +142,42 @@ pub fn atom(alloc: Global, leaves: &[Leaf]) -> Read<'_, Boxed<Expression>>
     }
 }
 
+fn closes(sign: Sign) -> bool
+    ensures { result ≡ true → EndsBefore (Word.Sign sign) }
+{
+    match sign {
+        Sign::Comma
+        | Sign::RightParen
+        | Sign::RightBracket
+        | Sign::RightBrace
+        | Sign::Colon
+        | Sign::Assign
+        | Sign::Semicolon => true,
+        _ => false,
+    }
+}
+
+/// Whether no expression goes on with the word.
+fn ends(word: &Word) -> bool
+    ensures { result ≡ true → EndsBefore word.now }
+{
+    match word {
+        Word::Newline => true,
+        Word::Sign(sign) => closes(*sign),
+        _ => false,
+    }
+}
+
+/// The name, int or string at the front of the leaves, where the leaf after it ends the expression.
+fn alone(alloc: Global, leaves: &[Leaf]) -> Read<'_, Boxed<Expression>>
+    ensures { ReadAlone leaves.now result }
+{
+    match leaves {
+        [_, next, ..] if ends(&next.word) => atom(alloc, leaves),
+        _ => Ok(None),
+    }
+}
+
 /// The first, and after it the others.
 pub fn onto<T: Drop>(alloc: Global, first: T, more: Items<T>) -> Result<Items<T>, AllocError>
     ensures { IfOk result (λ all. all ≡ first ∷ more) }
@@ -167,6 +205,11 @@ impl<F: Fn(Global, u128, Level, &[Leaf]) -> Read<'_, Boxed<Expression>>> Grammar
         requires { Nests self.now.depth (F.pre self.now.expression) (F.post self.now.expression) }
         ensures { Gives (run rule self.now.depth (at_level level) leaves.now) result }
     {
+        if self.depth > 0 {
+            if let Some(found) = alone(self.alloc, leaves)? {
+                return Ok(Some(found));
+            }
+        }
         (self.expression)(self.alloc, self.depth, level, leaves)
     }
 

@@ -1,4 +1,8 @@
 //! The text of a name or of a string.
+//!
+//! `Text` is a string that is UTF-8 by its type and that contracts see as its bytes. Its copies share the bytes
+//! (`Text::share` takes no memory), so a name of a tree, the string of a cell and the key of a dictionary may be one
+//! text. Trees (`star_tree`) and cells (`star_store`) are made of it.
 #![tactic(auto)]
 
 ghost use Rattle.std.specs.Prelude.{◌≡◌, IfOk, nat_eq, string_bytes};

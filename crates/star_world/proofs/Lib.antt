@@ -1,4 +1,5 @@
 pub mod Frames
+pub mod Near
 pub mod InOrder
 pub mod ProgramRows
 pub mod Rows

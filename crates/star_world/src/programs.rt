@@ -67,7 +67,7 @@ impl<'a, 't> Programs<'a, 't> {
     }
 
     /// The program of a file.
-    fn program(&self, file: usize) -> Option<&'a Program<'t>>
+    pub(crate) fn program(&self, file: usize) -> Option<&'a Program<'t>>
         ensures placed { option_map (λ p. placed_file p.now) result ≡ file_in self.now file }
         ensures of_file { MatchOption result ⊤ (λ p. IsOfFile p.now) }
     {

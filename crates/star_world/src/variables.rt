@@ -8,7 +8,8 @@ ghost use Rattle.star_machine.specs.Gives.{Gives};
 ghost use Rattle.star_meaning.specs.Places.{at_spot, bind_spot, frame_above, joined, new_slots, own_spot, read_spot, slot_in};
 ghost use Rattle.star_meaning.specs.Program.{published_of, seen};
 ghost use Rattle.star_meaning.specs.Programs.{tables_of};
-ghost use Rattle.star_meaning.specs.Run.{and_then, build, pay};
+ghost use Rattle.star_meaning.specs.Run.{and_then, build, found, pay};
+ghost use Rattle.star_meaning.specs.declared.fault.Code.TheVariants.{Unbound};
 ghost use Rattle.star_meaning.specs.Variables.{built_ins, frame_of, outermost};
 
 use crate::world::World;
@@ -191,12 +192,32 @@ fn at_spot(
 
 /// The value of a name. `Unbound` where it has none.
 #[inline(always)]
-#[tactic(auto, unfolding(star_meaning::specs::Places::read_spot))]
+#[tactic(auto, unfolding(star_meaning::specs::Places::read_spot), using(crate::proofs::Near::near_spot))]
 pub fn read(machine: &Machine, world: &World, place: &Place, name: &Name) -> Result<Value, Stop>
     ensures { Gives (read_spot (tables_of world.now.files) world.now.setting place.now name.now machine.now)
         result machine.now }
 {
     let spot = world.spot(place.file, name.position.token);
+    if let Some(slot) = own_spot(spot) {
+        if let Some(value) = machine.near(place.frame, slot) {
+            return Ok(value);
+        }
+    }
+    read_far(machine, world, place, name, spot)
+}
+
+/// The value of a name at its spot. `Unbound` where it has none.
+#[inline(never)]
+fn read_far(
+    machine: &Machine,
+    world: &World,
+    place: &Place,
+    name: &Name,
+    spot: Option<Spot>,
+) -> Result<Value, Stop>
+    ensures { Gives (found Unbound place.now.line
+        (at_spot world.now.setting machine.now place.now name.now.text spot) machine.now) result machine.now }
+{
     match at_spot(machine, world.setting(), place, name.text.as_str(), spot) {
         Some(value) => Ok(value),
         None => Err(faulted(Code::Unbound, place.line)),
@@ -204,6 +225,7 @@ pub fn read(machine: &Machine, world: &World, place: &Place, name: &Name) -> Res
 }
 
 /// The slot of a name in the innermost frame: none for a name that stands elsewhere.
+#[inline(always)]
 pub(crate) fn own_spot(spot: Option<Spot>) -> Option<usize>
     ensures { result ≡ own_spot spot }
 {

@@ -16,19 +16,25 @@ use star_machine::setting::Setting;
 use star_scope::blocks::BlockNames;
 use star_scope::loads::Load;
 use star_scope::outline::Definition;
+use star_scope::program::Program;
 use star_scope::spot::Spot;
 use star_store::arena::Homes;
 use std::marker::Model;
 
-/// What a run is given: its setting, and the programs of all files.
+/// What a run is given: its setting, and the programs of all files. The program of the running file is at hand, since
+/// most names that are read stand in it.
 #[derive(Drop)]
 pub struct World<'a, 't> {
     setting: Setting<'a>,
     files: &'a Files<'a, 't>,
+    here: Option<&'a Program<'t>>,
 }
 
 impl<'a, 't> Model for World<'a, 't> {
     ghost use Rattle.star_world.specs.World.{AreOutlined, World as Given};
+    ghost use Rattle.std.specs.Prelude.{◌≡◌};
+    ghost use Rattle.std.specs.Option.{option_map};
+    ghost use Rattle.star_meaning.specs.Programs.{file_in, placed_file};
 
     ghost Value = { Given };
 
@@ -41,7 +47,10 @@ impl<'a, 't> Model for World<'a, 't> {
 
     ghost view = { λ w. record { setting = w.setting; files = w.files.now } };
 
-    ghost invariant = { λ w. AreOutlined w.setting w.files.now };
+    ghost invariant = { λ w. record {
+      outlined : AreOutlined w.setting w.files.now;
+      at_hand : option_map (λ p. placed_file p.now) w.here ≡ file_in w.files.now w.setting.home;
+    } };
 }
 
 impl<'a, 't> World<'a, 't> {
@@ -67,7 +76,12 @@ impl<'a, 't> World<'a, 't> {
     {
         let statements = files.statements();
         let setting = Setting::over(home, homes, statements, loads, prelude);
-        World { setting, files }
+        let here = files.programs().program(home as usize);
+        World {
+            setting,
+            files,
+            here,
+        }
     }
 
     /// The setting.
@@ -85,7 +99,22 @@ impl<'a, 't> World<'a, 't> {
     }
 
     /// The spot of the name at a token of a file, in constant time.
+    #[inline(always)]
     pub fn spot(&self, file: u32, token: usize) -> Option<Spot>
+        ensures { result ≡ (tables_of self.now.files).spots file token }
+    {
+        if file != self.setting.home() {
+            return self.spot_elsewhere(file, token);
+        }
+        match self.here {
+            Some(program) => program.spot(token),
+            None => None,
+        }
+    }
+
+    /// The spot of the name at a token of any file.
+    #[inline(never)]
+    fn spot_elsewhere(&self, file: u32, token: usize) -> Option<Spot>
         ensures { result ≡ (tables_of self.now.files).spots file token }
     {
         self.files.programs().spot(file as usize, token)

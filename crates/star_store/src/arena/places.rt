@@ -1,4 +1,4 @@
-// The places at which dictionaries have their keys: by an index where there is one, else by a walk.
+//! The places at which dictionaries have their keys: by an index where there is one, else by a walk.
 
 ghost use Rattle.std.specs.Prelude.{◌≡◌, IfSome, Some, length, option_and_then, slice_get};
 ghost use Rattle.std.specs.Option.{option_copied, option_map};

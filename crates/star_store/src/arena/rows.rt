@@ -1,4 +1,4 @@
-// The indexes of an arena's dictionaries, and how they follow what is written.
+//! The indexes of an arena's dictionaries, and how they follow what is written.
 
 ghost use Rattle.std.specs.Prelude.{◌≡◌, ◌≤◌, ◌+◌, ℕ, List, Some, None, map, max, length, IfSome, OnOk, ◌⊎◌, option_and_then};
 ghost use Rattle.std.specs.Bool.{OnTrue};

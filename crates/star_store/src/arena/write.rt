@@ -1,9 +1,8 @@
-// Reading dictionaries, and writing lists and dictionaries.
+//! Reading dictionaries, and writing lists and dictionaries.
 
 ghost use Rattle.std.specs.Prelude.{◌≡◌, ◌<◌};
 ghost use Rattle.std.specs.Option.{option_copied};
 ghost use Rattle.star_store.specs.Key.{find_in};
-ghost use Rattle.star_store.specs.Spend.{Answers};
 ghost use Rattle.star_store.specs.Store.{iterations_of, look};
 ghost use Rattle.star_store.specs.Write.{Writes, allowed, cell_at, change_cell, change_entries, change_items, delete, in_cells, is_good_key, is_own, key_of, may_change, may_write, place_in, put, suits, write};
 
@@ -58,7 +57,7 @@ impl Change {
 impl Arena {
     /// The value that a dictionary has for a key. `BadType` where the value is no dictionary or the key is none.
     pub fn find(&self, homes: &Homes, dict: Value, key: Value) -> Result<Option<Value>, StoreFault>
-        ensures { Answers (find_in (look self.now homes.now) (look self.now homes.now dict) key) result }
+        ensures { result ≡ find_in (look self.now homes.now) (look self.now homes.now dict) key }
     {
         let Some(Cell::Dict(_)) = self.read(homes, dict) else {
             return Err(StoreFault::BadType);

@@ -7,7 +7,7 @@ use Rattle.star_outcome.specs.Gathered.{AreNeeded, IsGathered}
 use Rattle.star_host.specs.Bodies.{IsRan}
 use Rattle.star_outcome.specs.Reaches.{ReachView, row_of}
 use Rattle.star_outcome.specs.declared.module.Module.{Module}
-use Rattle.star_host.proofs.Bodies.{body_may_run, loads_in_row, ran_so}
+use Rattle.star_host.proofs.Bodies.{body_may_run, body_pays, loads_in_row, ran_so}
 use Rattle.star_host.proofs.work.run.Goals as goal
 
 pub ended_of-requires-clause-ran : goal.ended_of-requires-clause-ran
@@ -21,8 +21,9 @@ ended_of-requires-clause-ran g c =
     let mine : IsGathered g.J.Naming.plan c.args.n shelf rows = subst (λ k. IsGathered g.J.Naming.plan k shelf rows) c.in_ok-given.ensures.file c.parts-homes.ensures.gathered in
     let holds : HoldsNeeds g.J.Naming.plan c.args.n shelf = subst (HoldsNeeds g.J.Naming.plan c.args.n) (sym c.parts-homes.ensures.shelf) c.in_ok-given.ensures.holds in
     let may = body_may_run g.J.Naming.files g.J.Naming.plan common.programs.now common.reads.now c.args.n program shelf (map (λ (m : Bor Module). m.now) c.args.modules.now) world.planned world.placed world.row_is c.requires.read c.requires.loads mine.tight holds in
-    let ran : IsRan g.J.Naming.plan c.args.n c.in_ok-outcome.outcome = ran_so g.J.Naming.plan common.programs.now c.args.n c.file_number-home.result program.statements.now shelf program.loads.items c.prelude_file-prelude.result common.steps (Ok c.in_ok-outcome.outcome) may at
-    (loads_in_row g.J.Naming.plan common.reads.now c.args.n program world.row_is c.requires.read) (c.prelude_file-prelude.ensures ∙ world.prelude_is) world.steps_are c.in_ok-outcome.ensures in
+    let pays = body_pays g.J.Naming.files g.J.Naming.plan common.programs.now common.reads.now c.args.n program shelf (map (λ (m : Bor Module). m.now) c.args.modules.now) world.placed world.row_is c.requires.read c.requires.loads mine.tight holds in
+    let ran : IsRan g.J.Naming.plan c.args.n c.in_ok-outcome.outcome = ran_so g.J.Naming.plan common.programs.now c.args.n c.file_number-home.result program.statements.now shelf program.loads.items c.prelude_file-prelude.result common.steps (Ok c.in_ok-outcome.outcome) may pays at
+    (loads_in_row g.J.Naming.plan common.reads.now c.args.n program world.row_is c.requires.read) (c.prelude_file-prelude.ensures ∙ world.prelude_is) world.steps_are c.in_ok-outcome.ensures.names c.in_ok-outcome.ensures.named in
     subst (λ k. IsRan g.J.Naming.plan k c.in_ok-outcome.outcome) (sym at) ran
 
 pub ended_of-requires-clause-needed : goal.ended_of-requires-clause-needed

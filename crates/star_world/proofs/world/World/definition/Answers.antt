@@ -11,5 +11,5 @@ pub returns : goal.returns
 returns c =
     c.definition.ensures
     ∙ ap (λ fs. option_and_then (λ o. definition_in o.definitions c.args.number) (outline_at fs c.args.file)) c.programs.ensures
-    ∙ definition_there c.self.inside.setting c.self.inside.files.now c.args.file c.args.number c.self.invariant
+    ∙ definition_there c.self.inside.setting c.self.inside.files.now c.args.file c.args.number c.self.invariant.outlined
     ∙ ap (λ w. program.definition_of w.setting c.args.file c.args.number) c.self.view_is

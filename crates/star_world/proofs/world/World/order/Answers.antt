@@ -15,6 +15,6 @@ returns-clause-in_order c =
     let number = c.args.number in
     subst (λ (w : World). IfSome c.order.result (λ r. (d : Definition) → definition_of w.setting file number ≡ Some d → AreLaidOut ((tables_of w.files).spots file) r.names.now r.layout.now d.parameters))
     c.self.view_is
-    (order_given c.self.inside.setting c.self.inside.files.now file number c.order.result c.self.invariant
+    (order_given c.self.inside.setting c.self.inside.files.now file number c.order.result c.self.invariant.outlined
     (subst (λ (fs : Files). IfSome c.order.result (λ r. (d : Definition) → option_and_then (λ t. definition_in t.definitions number) (outline_at fs file) ≡ Some d → AreLaidOut ((tables_of fs).spots file) r.names.now r.layout.now d.parameters))
     c.programs.ensures c.order.ensures.in_order))

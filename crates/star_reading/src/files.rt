@@ -1,0 +1,163 @@
+//! All files that roots reach are read, with the prelude that each of them sees.
+
+ghost use Rattle.std.specs.Prelude.{◌≡◌, ◌<◌, All, IfOk, IfSome, Some, length};
+ghost use Rattle.std.specs.Option.{option_copied, option_map};
+ghost use Rattle.star_scope.specs.Resolve.{prelude_names};
+ghost use Rattle.star_plan.specs.Reading.{IsPrelude};
+ghost use Rattle.star_reading.specs.Found.{IsReadOf, IsRowOf, Within};
+ghost use Rattle.star_reading.specs.Parsed.{AreParsesOf};
+ghost use Rattle.star_reading.specs.Readings.{IsPlaceable};
+
+use crate::parses::{Parsed, parsed_once};
+use crate::reading::{Read, Reader, Reads, Trees};
+use star_label::files::Files as Labels;
+use star_scope::error::ScopeFault;
+use star_scope::program::Prelude;
+use star_tree::tree::Tree;
+use std::alloc::{AllocError, Global};
+use std::sync::Wait;
+use std::thread::Threads;
+
+/// The file as the prelude, which has the names of this tree.
+fn prelude_over<'t>(
+    alloc: Global,
+    n: usize,
+    tree: Option<&'t Tree>,
+) -> Result<Prelude<'t>, AllocError>
+    ensures file { IfOk result (λ p. p.file ≡ n) }
+    ensures names { IfOk result (λ p. p.names ≡ prelude_names (option_map (λ t. t.now.statements) tree.entry)) }
+{
+    match Prelude::new(alloc, n, tree) {
+        Ok(prelude) => Ok(prelude),
+        Err(ScopeFault::Memory) => Err(AllocError),
+        Err(_) => unreachable!(),
+    }
+}
+
+/// The prelude: its names are those of its tree, which is kept with the other trees; it has none where its text does
+/// not parse.
+fn prelude_of<'t, R: Wait>(
+    rt: &R,
+    alloc: Global,
+    files: &Labels,
+    trees: &'t boxcar::Vec<Tree>,
+    parses: &[Parsed<'t>],
+    n: usize,
+) -> Result<Prelude<'t>, AllocError>
+    requires file { n < length files.now }
+    requires parses { AreParsesOf files.now parses.now }
+    ensures prelude { IfOk result (λ p. IsPrelude files.now (Some n) (Some p)) }
+    ensures file { IfOk result (λ p. p.file ≡ n) }
+{
+    match parsed_once(rt, alloc, files, trees, parses, n)? {
+        Ok(tree) => Ok(prelude_over(alloc, n, Some(tree))?),
+        Err(_) => Ok(prelude_over(alloc, n, None)?),
+    }
+}
+
+/// The prelude, where there is one.
+fn block_of<'t, R: Wait>(
+    rt: &R,
+    alloc: Global,
+    files: &Labels,
+    trees: &'t boxcar::Vec<Tree>,
+    parses: &[Parsed<'t>],
+    prelude: Option<usize>,
+) -> Result<Option<Prelude<'t>>, AllocError>
+    requires prelude { IfSome prelude (λ n. n < length files.now) }
+    requires parses { AreParsesOf files.now parses.now }
+    ensures prelude { IfOk result (IsPrelude files.now prelude) }
+    ensures file { IfOk result (λ block. IfSome block (λ p. p.file < length files.now)) }
+{
+    match prelude {
+        Some(n) => Ok(Some(prelude_of(rt, alloc, files, trees, parses, n)?)),
+        None => Ok(None),
+    }
+}
+
+/// Reads the files by this prelude.
+fn read_by<'s, 't, R: Threads + Wait + Sync>(
+    rt: &R,
+    alloc: Global,
+    files: &'s Labels,
+    trees: &'t boxcar::Vec<Tree>,
+    parses: &'s [Parsed<'t>],
+    prelude: Option<&'s Prelude<'t>>,
+    roots: &'s [usize],
+    threads: usize,
+) -> Result<Vec<Option<Read<'t>>>, AllocError>
+    requires parses { AreParsesOf files.now parses.now }
+    requires roots { Within files.now roots.now }
+    requires prelude { IfSome prelude (λ p. p.now.file < length files.now) }
+    ensures { IfOk result (λ row. IsRowOf files.now (option_copied prelude.entry) roots.now row.items) }
+{
+    let reader = Reader {
+        alloc,
+        files,
+        trees,
+        parses,
+        prelude,
+        roots,
+    };
+    reader.read_all(rt, threads)
+}
+
+/// Reads all files that the roots reach, by so many threads: of each its program, or its static fault. The trees have a
+/// place of their own.
+pub fn read_files<'t, R: Threads + Wait + Sync>(
+    rt: &R,
+    alloc: Global,
+    files: &Labels,
+    trees: &'t Trees,
+    roots: &[usize],
+    prelude: Option<usize>,
+    threads: usize,
+) -> Result<Reads<'t>, AllocError>
+    requires roots { Within files.now roots.now }
+    requires prelude { IfSome prelude (λ n. n < length files.now) }
+    ensures read { IfOk result (λ reads. IsReadOf files.now roots.now prelude reads.all.items) }
+    ensures placeable { IfOk result (λ reads. All IsPlaceable reads.all.items) }
+{
+    let none = Vec::new(alloc);
+    read_parsed(
+        rt,
+        alloc,
+        files,
+        trees,
+        none.as_slice(),
+        roots,
+        prelude,
+        threads,
+    )
+}
+
+/// As `read_files`, where the texts of the first files were parsed: they are not parsed again.
+pub fn read_parsed<'t, R: Threads + Wait + Sync>(
+    rt: &R,
+    alloc: Global,
+    files: &Labels,
+    trees: &'t Trees,
+    parses: &[Parsed<'t>],
+    roots: &[usize],
+    prelude: Option<usize>,
+    threads: usize,
+) -> Result<Reads<'t>, AllocError>
+    requires parses { AreParsesOf files.now parses.now }
+    requires roots { Within files.now roots.now }
+    requires prelude { IfSome prelude (λ n. n < length files.now) }
+    ensures read { IfOk result (λ reads. IsReadOf files.now roots.now prelude reads.all.items) }
+    ensures placeable { IfOk result (λ reads. All IsPlaceable reads.all.items) }
+{
+    let block = block_of(rt, alloc, files, &trees.all, parses, prelude)?;
+    let all = read_by(
+        rt,
+        alloc,
+        files,
+        &trees.all,
+        parses,
+        block.as_ref(),
+        roots,
+        threads,
+    )?;
+    Ok(Reads { all })
+}

@@ -1,0 +1,54 @@
+//! What the parser makes of texts, each of which is parsed once.
+
+ghost use Rattle.std.specs.Prelude.{◌<◌, IfOk, length};
+ghost use Rattle.star_label.specs.Files.{text_at};
+ghost use Rattle.star_reading.specs.Parsed.{AreParsesOf, IsParsed};
+
+use star_label::files::Files as Labels;
+use star_lex::token::SyntaxFault;
+use star_parser::parse;
+use star_tree::tree::Tree;
+use std::alloc::{AllocError, Global};
+use std::sync::Wait;
+
+/// What the parser has made of a text: its tree, or its fault, which is not want of memory.
+pub type Parsed<'t> = Result<&'t Tree, SyntaxFault>;
+
+/// Parses a text, and keeps its tree with the other trees.
+pub fn parsed<'t, R: Wait>(
+    rt: &R,
+    alloc: Global,
+    trees: &'t boxcar::Vec<Tree>,
+    text: &str,
+) -> Result<Parsed<'t>, AllocError>
+    ensures { IfOk result (IsParsed text.now) }
+{
+    let tree = match parse(alloc, text) {
+        Ok(tree) => tree,
+        Err(SyntaxFault::Memory) => return Err(AllocError),
+        Err(fault) => return Ok(Err(fault)),
+    };
+    match trees.push_shown(rt, tree) {
+        Ok(pushed) => Ok(Ok(trees.value(&pushed))),
+        Err(_) => Err(AllocError),
+    }
+}
+
+/// What the parser makes of the text of a file: what it has made of it, or the text is parsed now.
+pub fn parsed_once<'t, R: Wait>(
+    rt: &R,
+    alloc: Global,
+    files: &Labels,
+    trees: &'t boxcar::Vec<Tree>,
+    parses: &[Parsed<'t>],
+    n: usize,
+) -> Result<Parsed<'t>, AllocError>
+    requires file { n < length files.now }
+    requires parses { AreParsesOf files.now parses.now }
+    ensures { IfOk result (IsParsed (text_at files.now n)) }
+{
+    if n < parses.len() {
+        return Ok(parses[n]);
+    }
+    parsed(rt, alloc, trees, files.text(n))
+}

@@ -1,0 +1,15 @@
+-- What is read at each level alike.
+use Rattle.std.specs.Prelude.{◌≡◌, ◌<◌, ℕ, List, Option, Some, None, Result, Ok, Err}
+use Rattle.std.specs.Borrow.{Bor}
+use Rattle.std.specs.declared.alloc.AllocError.{AllocError}
+use Rattle.star_syntax.specs.declared.leaf.Leaf.{Leaf}
+use Rattle.star_syntax.specs.declared.level.Level.{Level}
+use Rattle.star_tree.specs.declared.tree.Expression.{Expression}
+use Rattle.star_syntax.specs.Grammar.{level, run}
+use Rattle.star_syntax.specs.Language.{rule}
+
+-- what is found is what each level reads, to any depth but 0
+abbrev pub ReadAlone : List Leaf → Result (Option (Expression × Bor (List Leaf))) AllocError → Type 0
+ReadAlone ts (Ok (Some p)) = (depth : ℕ) (l : Level) → 0 < depth → run rule depth (level l) ts ≡ Some (p.0, p.1.now)
+ReadAlone ts (Ok None) = Unit {0}
+ReadAlone ts (Err e) = Unit {0}
