@@ -1,9 +1,10 @@
 -- How the data of a value comes from that of its parts, and that a value on its own path has none.
-use Rattle.std.proofs.Common.{arith, ◌≡◌, ◌<◌, ◌-◌, ℕ, zero, suc, Bool, true, false, nat_eq, ◌&&◌, ◌||◌, List, [], ◌∷◌, ◌++◌, length, get_or, map, Option, Some, None, refl, ap, sym, subst, ◌∙◌, ◌⊎◌, inl, inr, eqb-true}
+use Rattle.std.proofs.Common.{arith, ◌≡◌, ◌<◌, ◌-◌, ◌+◌, drop, ℕ, zero, suc, Bool, true, false, nat_eq, ◌&&◌, ◌||◌, List, [], ◌∷◌, ◌++◌, length, get_or, map, Option, Some, None, refl, ap, sym, subst, ◌∙◌, ◌⊎◌, inl, inr, eqb-true}
 use Rattle.std.specs.Prelude.{slice_get}
+use Rattle.std.proofs.lemmas.List.{drop_more}
 use Rattle.std.specs.List.{list_any}
 use Rattle.std.specs.Option.{option_and_then, option_map}
-use Rattle.serde_json.specs.Data.{Data, Members, item, no_items, put}
+use Rattle.serde_json.specs.Data.{Data, item, no_items, put}
 use Rattle.serde_json.specs.View.{items_of}
 use Rattle.star_store.specs.declared.values.Value.{Value}
 use Rattle.star_store.specs.declared.values.Value.TheVariants as value
@@ -81,21 +82,18 @@ entry_no_key look f (x ∷ es) (suc i) e at n =
     then_none (text_in (cell_of look x.0)) (λ k. option_and_then (λ d. option_map (put k d) (entries_data look f es)) (f x.1))
     (λ k. then_none (f x.1) (λ d. option_map (put k d) (entries_data look f es)) (λ d. ap (option_map (put k d)) rest))
 
-pub entry_none : (look : Value → Option Cell) (f : Value → Option Data) (es : List (Value × Value)) (i : ℕ) (e : Value × Value) → slice_get es i ≡ Some e → f e.1 ≡ None → entries_data look f es ≡ None
-entry_none look f [] i e at n = absurd (let no : ⊥ = cc in no)
-entry_none look f (x ∷ es) zero e at n =
-    let same : x ≡ e = cc in
-    then_none (text_in (cell_of look x.0)) (λ k. option_and_then (λ d. option_map (put k d) (entries_data look f es)) (f x.1))
-    (λ k. none_then (f x.1) (λ d. option_map (put k d) (entries_data look f es)) (ap (λ (z : Value × Value). f z.1) same ∙ n))
-entry_none look f (x ∷ es) (suc i) e at n =
-    let rest : entries_data look f es ≡ None = entry_none look f es i e at n in
+-- where the entries from some place on are none, all are
+pub rest_none : (look : Value → Option Cell) (f : Value → Option Data) (es : List (Value × Value)) (i : ℕ) → entries_data look f (drop i es) ≡ None → entries_data look f es ≡ None
+rest_none look f es zero e = e
+rest_none look f [] (suc i) e = e
+rest_none look f (x ∷ es) (suc i) e =
+    let rest : entries_data look f es ≡ None = rest_none look f es i e in
     then_none (text_in (cell_of look x.0)) (λ k. option_and_then (λ d. option_map (put k d) (entries_data look f es)) (f x.1))
     (λ k. then_none (f x.1) (λ d. option_map (put k d) (entries_data look f es)) (λ d. ap (option_map (put k d)) rest))
 
-pub entries_put : (look : Value → Option Cell) (f : Value → Option Data) (e : Value × Value) (es : List (Value × Value)) (k : List ℕ) (d : Data) (ms : Members) → text_in (cell_of look e.0) ≡ Some k → f e.1 ≡ Some d → entries_data look f es ≡ Some ms → entries_data look f (e ∷ es) ≡ Some (put k d ms)
-entries_put look f e es k d ms key v rest =
-    ap (option_and_then (λ z. option_and_then (λ c. option_map (put z c) (entries_data look f es)) (f e.1))) key
-    ∙ (ap (option_and_then (λ c. option_map (put k c) (entries_data look f es))) v ∙ ap (option_map (put k d)) rest)
+-- the entries from the place before
+pub one_back : (es : List (Value × Value)) (i : ℕ) → 0 < i → i - 1 < length es → drop (i - 1) es ≡ get_or es (i - 1) (value.NoneValue, value.NoneValue) ∷ drop i es
+one_back es i some less = drop_more es (i - 1) (value.NoneValue, value.NoneValue) less ∙ ap (λ k. get_or es (i - 1) (value.NoneValue, value.NoneValue) ∷ drop k es) (let e : i - 1 + 1 ≡ i = omega (arith, some) in e)
 
 -- ---- what stands in itself
 

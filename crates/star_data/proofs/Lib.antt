@@ -2,3 +2,6 @@ pub mod Options
 pub mod Stays
 pub mod Parts
 pub mod Builds
+pub mod Sent
+mod Rising
+mod Equal

@@ -1,9 +1,12 @@
 -- Laws of values as data.
-use Rattle.std.specs.Prelude.{◌≡◌, ◌≤◌, ℕ, suc, Option, Some}
+use Rattle.std.specs.Prelude.{◌≡◌, ◌≤◌, ℕ, suc, true, List, Option, Some, slice_get}
 use Rattle.serde_json.specs.Data.{Data}
 use Rattle.star_store.specs.declared.values.Value.{Value}
 use Rattle.star_store.specs.declared.values.Cell.{Cell}
-use Rattle.star_data.specs.Data.{data_of}
+use Rattle.star_store.specs.declared.values.Cell.TheVariants as cell
+use Rattle.star_store.specs.Equal.{same}
+use Rattle.star_store.specs.Spend.{Enough}
+use Rattle.star_data.specs.Data.{cell_of, data_of, text_in}
 use Rattle.star_data.specs.Parts.{IsOpaque, IsPart, StandsIn}
 
 -- data stays where cells stay, and at every greater depth
@@ -31,3 +34,16 @@ DataIsPlain = (look : Value → Option Cell) (n k : ℕ) (v x : Value) (d : Data
 abbrev pub NoCycleIsData : Type 0
 NoCycleIsData = (look : Value → Option Cell) (n k : ℕ) (v : Value) (d : Data) → StandsIn look (suc k) v v
     → data_of look n v ≡ Some d → ⊥
+
+-- no dictionary has a string twice as a key
+abbrev pub KeysStandOnce : (Value → Option Cell) → Type 0
+KeysStandOnce look =
+    (v : Value) (es : List (Value × Value)) → look v ≡ Some (cell.Dict es) → (i j : ℕ) (x y : Value × Value) (t : List ℕ)
+    → slice_get es i ≡ Some x → slice_get es j ≡ Some y → text_in (cell_of look x.0) ≡ Some t
+    → text_in (cell_of look y.0) ≡ Some t → i ≡ j
+
+-- values of which equality answers true, and which are data, have the same JSON
+abbrev pub EqualAreSame : Type 0
+EqualAreSame =
+    (look : Value → Option Cell) → KeysStandOnce look → (levels steps left n m : ℕ) (x y : Value) (d e : Data)
+    → same look levels x y steps ≡ Enough true left → data_of look n x ≡ Some d → data_of look m y ≡ Some e → d ≡ e

@@ -1,4 +1,5 @@
 pub mod Data
 pub mod Parts
 pub mod Paths
+pub mod Texts
 pub mod Laws

@@ -1,68 +1,114 @@
-//! The JSON of a value.
+//! The JSON of a value, written after a text.
 
-ghost use Rattle.std.specs.Prelude.{◌≡◌, ◌++◌, ◌∷◌, IfOk, OnOk, map, option_map, take, vec_len, ◌-◌, Some};
-ghost use Rattle.std.specs.Option.{option_copied};
-ghost use Rattle.serde_json.specs.Data.{array, number, object};
-ghost use Rattle.serde_json.specs.Find.{of_integer};
-ghost use Rattle.serde_json.specs.View.{view};
+ghost use Rattle.std.specs.Prelude.{◌≡◌, ◌-◌, IfOk, OnOk, Some, map, take, vec_len};
+ghost use Rattle.std.specs.Option.{option_copied, option_map};
+ghost use Rattle.serde_json.specs.Data.{array, object};
 ghost use Rattle.star_store.specs.Store.{look};
 ghost use Rattle.star_store.specs.Text.{on_path, same_address};
 ghost use Rattle.star_data.specs.Data.{cell_data, cell_of, data_of, entries_data, items_data, text_in};
+ghost use Rattle.star_data.specs.Texts.{IsJson, Says, Sends, row_data};
 ghost use Rattle.star_store.specs.declared.values.Cell.TheVariants as cell;
 ghost use Rattle.star_data.specs.Paths.{AllStandInEach, StandsInEach};
 
-use serde_json::{Map, Value as Json};
+use json::Writer;
 use star_store::arena::{Arena, Homes};
 use star_store::values::{Cell, Value};
 use std::alloc::{AllocError, Global};
+use std::collections::BTreeMap;
 
-/// The JSON of a value that nests less deep than so many levels: None, bools, ints and strings, lists and tuples as
-/// arrays, dictionaries whose keys are all strings as objects. None for what has anything else in it, or itself.
+/// A text, and whether the JSON of a value was written after it.
+#[derive(Drop)]
+pub struct Written {
+    pub text: Vec<u8>,
+    pub is_data: bool,
+}
+
+/// The text with the JSON of a value that nests less deep than so many levels after it: None, bools, ints and strings,
+/// lists and tuples as arrays, dictionaries whose keys are all strings as objects, with their members in byte order. The
+/// text alone for what has anything else in it, or itself.
 ///
 /// It visits no more than the text of the value does.
-pub fn data_of<'a>(
+pub fn write_data<'a>(
     alloc: Global,
     arena: &'a Arena,
     homes: &'a Homes<'a>,
     levels: u32,
     value: Value,
-) -> Result<Option<Json>, AllocError>
-    ensures { IfOk result (λ o. option_map view o ≡ data_of (look arena.now homes.now) levels value) }
+    text: Vec<u8>,
+) -> Result<Written, AllocError>
+    ensures { IfOk result (λ w. IsJson (data_of (look arena.now homes.now) levels value) text.items
+        w.is_data w.text.items) }
 {
+    let before = text.len();
     let mut path = Vec::new(alloc);
-    value_data(alloc, arena, homes, levels, &mut path, value)
+    let mut out = Writer::new(text);
+    let is_data = write_value(alloc, arena, homes, levels, &mut path, value, &mut out)?;
+    let mut text = out.into_inner();
+    if !is_data {
+        text.truncate(before);
+    }
+    Ok(Written { text, is_data })
 }
 
-#[cycle(data)]
-fn value_data<'a>(
+/// Whether a value is data.
+#[cycle(write)]
+fn is_data<'a>(
     alloc: Global,
     arena: &'a Arena,
     homes: &'a Homes<'a>,
     levels: u32,
     path: &mut Vec<Value>,
     value: Value,
-) -> Result<Option<Json>, AllocError>
+) -> Result<bool, AllocError>
     requires { StandsInEach (look arena.now homes.now) path.old.items value }
-    ensures data { IfOk result (λ o. option_map view o ≡ data_of (look arena.now homes.now) levels value) }
+    ensures data { IfOk result (Says (data_of (look arena.now homes.now) levels value)) }
     ensures path { OnOk result (path.new.items ≡ path.old.items) }
 {
+    let mut out = Writer::new(Vec::new(alloc));
+    write_value(alloc, arena, homes, levels, path, value, &mut out)
+}
+
+#[cycle(write)]
+fn write_value<'a>(
+    alloc: Global,
+    arena: &'a Arena,
+    homes: &'a Homes<'a>,
+    levels: u32,
+    path: &mut Vec<Value>,
+    value: Value,
+    out: &mut Writer,
+) -> Result<bool, AllocError>
+    requires { StandsInEach (look arena.now homes.now) path.old.items value }
+    ensures data { IfOk result (λ b. Sends (data_of (look arena.now homes.now) levels value) b out.old.tokens out.new.tokens) }
+    ensures path { OnOk result (path.new.items ≡ path.old.items) }
+    ensures before { out.new.before ≡ out.old.before }
+{
     if levels == 0 {
-        return Ok(None);
+        return Ok(false);
     }
     match value {
-        Value::NoneValue => Ok(Some(Json::Null)),
-        Value::Bool(b) => Ok(Some(Json::Bool(b))),
-        Value::Int(n) => Ok(Some(int_data(n))),
-        Value::Builtin(_) => Ok(None),
+        Value::NoneValue => {
+            out.null()?;
+            Ok(true)
+        }
+        Value::Bool(truth) => {
+            out.boolean(truth)?;
+            Ok(true)
+        }
+        Value::Int(number) => {
+            out.i64(number)?;
+            Ok(true)
+        }
+        Value::Builtin(_) => Ok(false),
         Value::Ref { .. } => {
             let cell = arena.read(homes, value);
-            cell_data(alloc, arena, homes, levels - 1, path, value, cell)
+            write_cell(alloc, arena, homes, levels - 1, path, value, cell, out)
         }
     }
 }
 
-#[cycle(data)]
-fn cell_data<'a>(
+#[cycle(write)]
+fn write_cell<'a>(
     alloc: Global,
     arena: &'a Arena,
     homes: &'a Homes<'a>,
@@ -70,31 +116,55 @@ fn cell_data<'a>(
     path: &mut Vec<Value>,
     value: Value,
     cell: Option<&'a Cell>,
-) -> Result<Option<Json>, AllocError>
+    out: &mut Writer,
+) -> Result<bool, AllocError>
     requires path { StandsInEach (look arena.now homes.now) path.old.items value }
     requires cell { option_copied cell ≡ cell_of (look arena.now homes.now) value }
-    ensures data { IfOk result (λ o. option_map view o
-        ≡ cell_data (look arena.now homes.now) (data_of (look arena.now homes.now) levels) (option_copied cell.entry)) }
+    ensures data { IfOk result (λ b. Sends
+        (cell_data (look arena.now homes.now) (data_of (look arena.now homes.now) levels) (option_copied cell.entry)) b
+        out.old.tokens out.new.tokens) }
     ensures path { OnOk result (path.new.items ≡ path.old.items) }
+    ensures before { out.new.before ≡ out.old.before }
 {
     match cell {
-        Some(Cell::Text(text)) => Ok(Some(Json::try_from_str(alloc, text.as_str())?)),
+        Some(Cell::Text(text)) => {
+            out.string(text.as_str())?;
+            Ok(true)
+        }
         Some(Cell::Tuple(items)) => {
-            items_data(alloc, arena, homes, levels, path, items.as_slice())
+            write_items(alloc, arena, homes, levels, path, items.as_slice(), out)
         }
         Some(Cell::List(items)) => {
-            list_data(alloc, arena, homes, levels, path, value, items.as_slice())
+            write_list(
+                alloc,
+                arena,
+                homes,
+                levels,
+                path,
+                value,
+                items.as_slice(),
+                out,
+            )
         }
         Some(Cell::Dict(entries)) => {
-            dict_data(alloc, arena, homes, levels, path, value, entries.as_slice())
+            write_dict(
+                alloc,
+                arena,
+                homes,
+                levels,
+                path,
+                value,
+                entries.as_slice(),
+                out,
+            )
         }
-        _ => Ok(None),
+        _ => Ok(false),
     }
 }
 
 /// A list that stands in itself is no data.
-#[cycle(data)]
-fn list_data<'a>(
+#[cycle(write)]
+fn write_list<'a>(
     alloc: Global,
     arena: &'a Arena,
     homes: &'a Homes<'a>,
@@ -102,25 +172,27 @@ fn list_data<'a>(
     path: &mut Vec<Value>,
     value: Value,
     items: &'a [Value],
-) -> Result<Option<Json>, AllocError>
+    out: &mut Writer,
+) -> Result<bool, AllocError>
     requires path { StandsInEach (look arena.now homes.now) path.old.items value }
     requires cell { cell_of (look arena.now homes.now) value ≡ Some (cell.List items.now) }
-    ensures data { IfOk result (λ o. option_map view o
-        ≡ option_map array (items_data (data_of (look arena.now homes.now) levels) items.now)) }
+    ensures data { IfOk result (λ b. Sends
+        (option_map array (items_data (data_of (look arena.now homes.now) levels) items.now)) b out.old.tokens out.new.tokens) }
     ensures path { OnOk result (path.new.items ≡ path.old.items) }
+    ensures before { out.new.before ≡ out.old.before }
 {
     if is_within(path, value) {
-        return Ok(None);
+        return Ok(false);
     }
     path.push(value)?;
-    let json = items_data(alloc, arena, homes, levels, path, items)?;
+    let is_data = write_items(alloc, arena, homes, levels, path, items, out)?;
     leave(path);
-    Ok(json)
+    Ok(is_data)
 }
 
 /// Nor is a dictionary.
-#[cycle(data)]
-fn dict_data<'a>(
+#[cycle(write)]
+fn write_dict<'a>(
     alloc: Global,
     arena: &'a Arena,
     homes: &'a Homes<'a>,
@@ -128,80 +200,109 @@ fn dict_data<'a>(
     path: &mut Vec<Value>,
     value: Value,
     entries: &'a [(Value, Value)],
-) -> Result<Option<Json>, AllocError>
+    out: &mut Writer,
+) -> Result<bool, AllocError>
     requires path { StandsInEach (look arena.now homes.now) path.old.items value }
     requires cell { cell_of (look arena.now homes.now) value ≡ Some (cell.Dict entries.now) }
-    ensures data { IfOk result (λ o. option_map view o
-        ≡ option_map object (entries_data (look arena.now homes.now) (data_of (look arena.now homes.now) levels)
-        entries.now)) }
+    ensures data { IfOk result (λ b. Sends
+        (option_map object (entries_data (look arena.now homes.now) (data_of (look arena.now homes.now) levels) entries.now)) b
+        out.old.tokens out.new.tokens) }
     ensures path { OnOk result (path.new.items ≡ path.old.items) }
+    ensures before { out.new.before ≡ out.old.before }
 {
     if is_within(path, value) {
-        return Ok(None);
+        return Ok(false);
     }
     path.push(value)?;
-    let json = entries_data(alloc, arena, homes, levels, path, entries)?;
+    let is_data = write_entries(alloc, arena, homes, levels, path, entries, out)?;
     leave(path);
-    Ok(json)
+    Ok(is_data)
 }
 
-#[cycle(data)]
-fn items_data<'a>(
+#[cycle(write)]
+fn write_items<'a>(
     alloc: Global,
     arena: &'a Arena,
     homes: &'a Homes<'a>,
     levels: u32,
     path: &mut Vec<Value>,
     items: &'a [Value],
-) -> Result<Option<Json>, AllocError>
+    out: &mut Writer,
+) -> Result<bool, AllocError>
     requires { AllStandInEach (look arena.now homes.now) path.old.items items.now }
-    ensures data { IfOk result (λ o. option_map view o
-        ≡ option_map array (items_data (data_of (look arena.now homes.now) levels) items.now)) }
+    ensures data { IfOk result (λ b. Sends
+        (option_map array (items_data (data_of (look arena.now homes.now) levels) items.now)) b out.old.tokens out.new.tokens) }
     ensures path { OnOk result (path.new.items ≡ path.old.items) }
+    ensures before { out.new.before ≡ out.old.before }
 {
-    let mut all = Vec::with_capacity(alloc, items.len())?;
+    out.begin_array()?;
     for item in items {
-        let Some(json) = value_data(alloc, arena, homes, levels, path, *item)? else {
-            return Ok(None);
-        };
-        all.push(json)?;
+        if !write_value(alloc, arena, homes, levels, path, *item, out)? {
+            return Ok(false);
+        }
     }
-    Ok(Some(Json::Array(all)))
+    out.end_array()?;
+    Ok(true)
 }
 
-#[cycle(data)]
-fn entries_data<'a>(
+#[cycle(write)]
+fn write_entries<'a>(
     alloc: Global,
     arena: &'a Arena,
     homes: &'a Homes<'a>,
     levels: u32,
     path: &mut Vec<Value>,
     entries: &'a [(Value, Value)],
-) -> Result<Option<Json>, AllocError>
+    out: &mut Writer,
+) -> Result<bool, AllocError>
     requires { AllStandInEach (look arena.now homes.now) path.old.items (map (λ e. e.1) entries.now) }
-    ensures data { IfOk result (λ o. option_map view o
-        ≡ option_map object (entries_data (look arena.now homes.now) (data_of (look arena.now homes.now) levels)
-        entries.now)) }
+    ensures data { IfOk result (λ b. Sends
+        (option_map object (entries_data (look arena.now homes.now) (data_of (look arena.now homes.now) levels) entries.now)) b
+        out.old.tokens out.new.tokens) }
     ensures path { OnOk result (path.new.items ≡ path.old.items) }
+    ensures before { out.new.before ≡ out.old.before }
 {
-    let mut members = Map::new(alloc);
+    let mut members = BTreeMap::new(alloc);
     for i in (0..entries.len()).rev() {
         let Some(key) = text_at(arena, homes, entries[i].0) else {
-            return Ok(None);
+            return Ok(false);
         };
-        let Some(json) = value_data(alloc, arena, homes, levels, path, entries[i].1)? else {
-            return Ok(None);
-        };
-        serde_json::put(&mut members, alloc, key, json)?;
+        let hidden = members.insert(key, entries[i].1)?;
+        if let Some(hidden) = hidden {
+            if !is_data(alloc, arena, homes, levels, path, hidden)? {
+                return Ok(false);
+            }
+        }
     }
-    Ok(Some(Json::Object(members)))
+    write_members(alloc, arena, homes, levels, path, &members, out)
 }
 
-/// An int, exactly.
-fn int_data(n: i64) -> Json
-    ensures { view result ≡ number (of_integer n) }
+#[cycle(write)]
+fn write_members<'a>(
+    alloc: Global,
+    arena: &'a Arena,
+    homes: &'a Homes<'a>,
+    levels: u32,
+    path: &mut Vec<Value>,
+    members: &BTreeMap<&'a str, Value>,
+    out: &mut Writer,
+) -> Result<bool, AllocError>
+    requires { AllStandInEach (look arena.now homes.now) path.old.items (map (λ e. e.1) members.now.entries) }
+    ensures data { IfOk result (λ b. Sends
+        (option_map object (row_data (data_of (look arena.now homes.now) levels) members.now.entries)) b
+        out.old.tokens out.new.tokens) }
+    ensures path { OnOk result (path.new.items ≡ path.old.items) }
+    ensures before { out.new.before ≡ out.old.before }
 {
-    Json::from(n)
+    out.begin_object()?;
+    for (key, value) in members.iter() {
+        out.key(*key)?;
+        if !write_value(alloc, arena, homes, levels, path, *value, out)? {
+            return Ok(false);
+        }
+    }
+    out.end_object()?;
+    Ok(true)
 }
 
 /// The text of a string.

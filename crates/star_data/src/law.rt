@@ -1,6 +1,6 @@
 //! Laws of values as data.
 
-ghost use Rattle.star_data.specs.Laws.{DataIsPlain, DataStays, NoCycleIsData, OneData, PartsAreData};
+ghost use Rattle.star_data.specs.Laws.{DataIsPlain, DataStays, EqualAreSame, NoCycleIsData, OneData, PartsAreData};
 
 /// Data stays where cells stay, and at every greater depth.
 pub fn data_stays()
@@ -25,4 +25,9 @@ pub fn data_is_plain()
 /// What stands in itself is no data.
 pub fn no_cycle_is_data()
     ensures { NoCycleIsData }
+{}
+
+/// Values of which equality answers true, and which are data, have the same JSON.
+pub fn equal_are_same()
+    ensures { EqualAreSame }
 {}

@@ -28,7 +28,7 @@ use Rattle.star_outcome.specs.declared.module.Module.{Module}
 no_load : (plan : Plan) (n m : ℕ) (e : Ended) → IsEnd plan n e → ((index line : ℕ) → e ≡ Unloaded index line → ⊥) → FailsBy plan n m → ⊥
 no_load plan n m (Static f) is other fails = stops plan n m (inl (fault_of f, is)) fails
 no_load plan n m (Unloaded index line) is other fails = other index line refl
-no_load plan n m (Stopped code line lines) is other fails = stops plan n m (inr (record { code = code; line = line }, lines.items, is)) fails
+no_load plan n m (Stopped code line lines trail) is other fails = stops plan n m (inr (record { code = code; line = line }, lines.items, is)) fails
 no_load plan n m (Good body) is other fails = no_bad plan is.outcome.0 n (WentWell is.shelf is.globals (shown_texts body.shown.items) body.lines.items) fails.0 is.outcome.1 fails.1
 
 -- a module that ended otherwise fails by no file

@@ -3,6 +3,14 @@ pub mod Fails
 pub mod NoFloat
 pub mod Stores
 pub mod Shows
+pub mod Members
 pub mod Sheets
+pub mod Planned
 pub mod Nothing
 pub mod OneText
+pub mod Tables
+pub mod Gets
+pub mod Led
+pub mod Drawings
+pub mod Edges
+pub mod Lines

@@ -1,6 +1,6 @@
 -- The values of modules have no float, so their texts are exact.
 use Rattle.std.proofs.Common.{arith, ◌≡◌, ℕ, zero, suc, ℤ, pos, negsuc, List, [], ◌∷◌, Bool, true, false, ◌||◌, Option, Some, None, fold, map, codes, refl, ap, sym, ◌∙◌, if◌then◌else◌}
-use Rattle.std.specs.Prelude.{All, filter, option_and_then}
+use Rattle.std.specs.Prelude.{All, filter, is_some, option_and_then}
 use Rattle.std.specs.Option.{option_map}
 use Rattle.std.specs.declared.cmp.Ordering.{Ordering}
 use Rattle.std.specs.declared.cmp.Ordering.TheVariants.{Less, Equal, Greater}
@@ -20,10 +20,11 @@ use Rattle.star_data.specs.Data.{cell_data, cell_of, data_of, entries_data, item
 use Rattle.star_data.proofs.Options.{chained, mapped}
 use Rattle.star_scope.specs.Loads.{is_private}
 use Rattle.star_meaning.specs.Module.{Good, Stopped, most_levels}
-use Rattle.star_plan.specs.Plan.{Plan}
+use Rattle.star_scope.specs.declared.loads.Load.{Load}
+use Rattle.star_plan.specs.Plan.{Plan, loads_of}
 use Rattle.star_plan.specs.Results.{Outcome, Ran, Static, Unloaded}
 use Rattle.star_report.specs.Values.{global_data, is_opaque, put_some, value_members, with_value}
-use Rattle.star_report.specs.Wanted.{AreMore, AreWanted, Full, HasValues, added, full_data, put_in}
+use Rattle.star_report.specs.Wanted.{AreMore, AreWanted, Full, HasLoads, HasSteps, HasStepsAs, HasValues, added, followed, full_data, load_member, put_in}
 use Rattle.star_report.specs.declared.wanted.Wanted.{Wanted}
 use Rattle.star_plan.specs.Causes.{Cause, Culprit, Cycle}
 use Rattle.star_plan.specs.Report.{Ended, HadFault, HadLoad, HadStatic, Module, WentWell}
@@ -150,9 +151,35 @@ outcome_plain (Ran (Good shelf globals texts lines)) =
     let names : List (List ℕ) = map (λ (g : List ℕ × List ℕ). g.0) texts in
     rw (texts_none (filter (is_opaque f) names), values_plain f (global_plain (on_shelf shelf) globals) names no_members refl) refl
 
-more_plain : (b : Bool) (plan : Plan) (n : ℕ) (ms : Members) → AreWanted b (HasValues plan n) ms → members_have_float ms ≡ false
-more_plain true plan n ms (o, is, e) = ap members_have_float e ∙ outcome_plain o
-more_plain false plan n ms e = ap members_have_float e
+if_plain : (b : Bool) (P : Members → Type 0) (ms : Members) → ((ns : Members) → P ns → members_have_float ns ≡ false) → AreWanted b P ms → members_have_float ms ≡ false
+if_plain true P ms h is = h ms is
+if_plain false P ms h e = ap members_have_float e
+
+values_are_plain : (plan : Plan) (n : ℕ) (ms : Members) → HasValues plan n ms → members_have_float ms ≡ false
+values_are_plain plan n ms (o, is, e) = ap members_have_float e ∙ outcome_plain o
+
+loads_plain : (files : List File) (ls : List Load) → items_have_float (items_of (map (load_member files) ls)) ≡ false
+loads_plain files [] = refl
+loads_plain files (l ∷ ls) = loads_plain files ls
+
+loads_are_plain : (files : List File) (plan : Plan) (n : ℕ) (ms : Members) → HasLoads files plan n ms → members_have_float ms ≡ false
+loads_are_plain files plan n ms e = ap members_have_float e ∙ rw (loads_plain files (filter (λ (l : Load). is_some l.token) (loads_of plan n))) refl
+
+steps_as_plain : (plan : Plan) (n : ℕ) (o : Outcome) (ms : Members) → HasStepsAs plan n o ms → members_have_float ms ≡ false
+steps_as_plain plan n (Ran (Good shelf globals texts lines)) ms (paid, has, e) = ap members_have_float e
+steps_as_plain plan n (Ran (Stopped f lines)) ms e = ap members_have_float e
+steps_as_plain plan n (Static f) ms e = ap members_have_float e
+steps_as_plain plan n (Unloaded i) ms e = ap members_have_float e
+
+followed_plain : (ms ns : Members) → members_have_float ms ≡ false → members_have_float ns ≡ false → members_have_float (followed ms ns) ≡ false
+followed_plain no_members ns g h = h
+followed_plain (member k e ms) ns g h = rw (left_false (has_float e) (members_have_float ms) g) (followed_plain ms ns (right_false (has_float e) (members_have_float ms) g) h)
+
+more_plain : (wanted : Wanted) (files : List File) (plan : Plan) (n : ℕ) (ms : Members) → AreMore wanted files plan n ms → members_have_float ms ≡ false
+more_plain wanted files plan n ms (l, s, v, a, b, c, e) =
+    ap members_have_float e
+    ∙ followed_plain l (followed s v) (if_plain wanted.loads (HasLoads files plan n) l (loads_are_plain files plan n) a)
+    (followed_plain s v (if_plain wanted.steps (HasSteps plan n) s (λ ns h. steps_as_plain plan n h.0 ns h.2) b) (if_plain wanted.values (HasValues plan n) v (values_are_plain plan n) c))
 
 put_in_none : (k : List ℕ) (e d : Data) → has_float e ≡ false → has_float d ≡ false → has_float (put_in k e d) ≡ false
 put_in_none k e (object ms) g h = put_none k e ms g h
@@ -170,8 +197,8 @@ added_none (member k e ms) d g h =
 module_none : (files : List File) (m : Module) → has_float (module_data files m) ≡ false
 module_none files m = ended_none files (label_at files m.file) m.ended
 
-pub fulls_none : (wanted : Wanted) (files : List File) (plan : Plan) (fs : List Full) → All (λ (f : Full). AreMore wanted plan f.shown.file f.more) fs → items_have_float (items_of (map (full_data files) fs)) ≡ false
+pub fulls_none : (wanted : Wanted) (files : List File) (plan : Plan) (fs : List Full) → All (λ (f : Full). AreMore wanted files plan f.shown.file f.more) fs → items_have_float (items_of (map (full_data files) fs)) ≡ false
 fulls_none wanted files plan [] h = refl
 fulls_none wanted files plan (f ∷ fs) h =
-    rw (added_none f.more (module_data files f.shown) (more_plain wanted.values plan f.shown.file f.more (h zero f (omega arith))) (module_none files f.shown))
+    rw (added_none f.more (module_data files f.shown) (more_plain wanted files plan f.shown.file f.more (h zero f (omega arith))) (module_none files f.shown))
     (fulls_none wanted files plan fs (λ k d less. h (suc k) d (omega (arith, less))))

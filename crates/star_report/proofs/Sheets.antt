@@ -1,6 +1,6 @@
 -- The text of a report is what the texts of its modules make.
-use Rattle.std.proofs.Common.{arith, ◌≡◌, ◌<◌, ◌+◌, ◌≤◌, ℕ, zero, suc, Bool, true, false, ◌||◌, List, [], ◌∷◌, ◌++◌, map, take, length, get_or, Option, Some, None, IfOk, IfSome, IsSome, Result, Ok, Err, refl, ap, sym, subst, ◌∙◌, codes, string_bytes}
-use Rattle.std.specs.Prelude.{All, String, decimal, filter, slice_index_or, if◌then◌else◌}
+use Rattle.std.proofs.Common.{arith, ◌≡◌, ◌<◌, ◌+◌, ◌≤◌, ℕ, zero, suc, Bool, true, false, ◌||◌, List, [], ◌∷◌, ◌++◌, map, take, length, get_or, Option, Some, None, IfOk, IfSome, IsSome, Result, Ok, Err, refl, ap, sym, subst, ◌∙◌, codes, Vec}
+use Rattle.std.specs.Prelude.{All, decimal, filter, slice_index_or, if◌then◌else◌}
 use Rattle.std.proofs.lemmas.Simd.{map-map}
 use Rattle.std.proofs.lemmas.Bool.{true≢false}
 use Rattle.std.proofs.lemmas.List.{append-nil, append_assoc, length-map, length_push, get_or-map, map_push, take_all, take_more}
@@ -10,11 +10,13 @@ use Rattle.serde_json.specs.View.{items_of, view}
 use Rattle.serde_json.specs.Written.{comma_if, compact_text, has_float, items_have_float, items_text}
 use Rattle.star_cause.specs.Causes.{AreNextsOf}
 use Rattle.star_cause.specs.Ways.{Nexts}
+use Rattle.star_reading.specs.Readings.{Row, loads_at, readings}
+use Rattle.star_scope.specs.declared.loads.Load.{Load}
 use Rattle.star_label.specs.Files.{File}
 use Rattle.star_plan.specs.Plan.{Plan}
 use Rattle.star_plan.specs.Reading.{IsPlanOf}
 use Rattle.star_outcome.specs.Kept.{AreModules, KeptView}
-use Rattle.star_report.specs.Pages.{AreWritten, IsTextOf, SaysShown, joined_text, known_of, listed, page_text, shown_texts_of, text_in}
+use Rattle.star_report.specs.Pages.{AreWritten, HasItsLoads, IsTextOf, SaysShown, joined_text, known_of, listed, page_text, shown_texts_of, text_in}
 use Rattle.star_report.specs.Shown.{AreShown, IsReportBut}
 use Rattle.star_outcome.specs.declared.module.Module.{Module}
 use Rattle.star_report.specs.declared.pages.Page.{Page}
@@ -144,14 +146,14 @@ texts_are (t ∷ ts) (d ∷ ds) are none =
 
 -- a page that has the text of its module
 abbrev pub HasText : Wanted → List File → Nexts → Page → Type 0
-HasText wanted files nexts p = IfSome p.text (λ s. IsTextOf wanted files nexts p.about.now (string_bytes s)) × IsSome p.text
+HasText wanted files nexts p = IfSome p.text (λ s. IsTextOf wanted files nexts p.loads.now p.about.now s.items) × IsSome p.text
 
-in_page : {Z : Type 0} (wanted : Wanted) (files : List File) (nexts : Nexts) (m : Module) (o : Option (String Z)) → IfSome o (λ s. IsTextOf wanted files nexts m (string_bytes s)) → IsSome o → IsTextOf wanted files nexts m (text_in o)
-in_page wanted files nexts m None is some = absurd (true≢false (sym some))
-in_page wanted files nexts m (Some s) is some = is
+in_page : {Z : Type 0} (wanted : Wanted) (files : List File) (nexts : Nexts) (loads : List Load) (m : Module) (o : Option (Vec ℕ Z)) → IfSome o (λ s. IsTextOf wanted files nexts loads m s.items) → IsSome o → IsTextOf wanted files nexts loads m (text_in o)
+in_page wanted files nexts loads m None is some = absurd (true≢false (sym some))
+in_page wanted files nexts loads m (Some s) is some = is
 
-text_of_page : (wanted : Wanted) (files : List File) (nexts : Nexts) (p : Page) → HasText wanted files nexts p → IsTextOf wanted files nexts p.about.now (page_text p)
-text_of_page wanted files nexts p h = in_page wanted files nexts p.about.now p.text h.0 h.1
+text_of_page : (wanted : Wanted) (files : List File) (nexts : Nexts) (p : Page) → HasText wanted files nexts p → IsTextOf wanted files nexts p.loads.now p.about.now (page_text p)
+text_of_page wanted files nexts p h = in_page wanted files nexts p.loads.now p.about.now p.text h.0 h.1
 
 element : {X : Type 0} (xs : List X) (i : ℕ) → i < length xs → (x : X) × ((d : X) → get_or xs i d ≡ x)
 element [] i less = absurd (let no : ⊥ = omega (arith, less) in no)
@@ -180,6 +182,14 @@ written_says wanted files plan nexts old new says written long = λ i d less. (
     w.shown ∙ (was ∙ ap (λ m. is_shown_by wanted plan.roots (ended_well m.now.ended) m.now.number) (sym w.same))
     )
 
+-- pages that were written have the loads that they had
+written_loads : (wanted : Wanted) (files : List File) (row : Row) (nexts : Nexts) (old new : List Page) → All (HasItsLoads row) old → AreWritten wanted files nexts old new → length new ≡ length old → All (HasItsLoads row) new
+written_loads wanted files row nexts old new has written long = λ i d less. (
+    let inside : i < length old = omega (arith, less, long) in
+    let w = written i d inside in
+    ap (λ l. l.now) w.loads ∙ (has i d inside ∙ ap (λ m. loads_at row m.now.number) (sym w.same))
+    )
+
 -- those of two rows that are kept are as alike as the rows are, where the same are kept
 both_kept : {X Y Z : Type 0} (f : X → Z) (g : Y → Z) (x : X) (y : Y) (xs : List X) (ys : List Y) (b c : Bool) → b ≡ c → f x ≡ g y → map f xs ≡ map g ys → map f (if b then x ∷ xs else xs) ≡ map g (if c then y ∷ ys else ys)
 both_kept f g x y xs ys true true e one rest = ap (λ z. z ∷ map f xs) one ∙ ap (λ zs. g y ∷ zs) rest
@@ -198,13 +208,13 @@ filtered f p g q (x ∷ xs) (y ∷ ys) same kept =
     let kept_tails : map p xs ≡ map q ys = cc in
     both_kept f g x y (filter p xs) (filter q ys) (p x) (q y) keeps one (filtered f p g q xs ys tails kept_tails)
 
-module _ (wanted : Wanted) (files : List File) (plan : Plan) (nexts : Nexts) (ks : List KeptView) (ps : List Page) where
+module _ (wanted : Wanted) (files : List File) (row : Row) (plan : Plan) (nexts : Nexts) (ks : List KeptView) (ps : List Page) where
   -- the modules of the first pages are shown, with their texts
   abbrev Shown : ℕ → Type 0
   Shown i = (ds : List Data) × AreShown wanted files plan (take i ks) ds (map (λ (p : Page). p.shown) (take i ps)) × AreTextsOf (map page_text (take i ps)) ds
 
-  shown_next : map known_of ps ≡ map (λ (k : KeptView). k.known) ks → All (HasText wanted files nexts) ps → All (SaysShown wanted plan.roots) ps → IsPlanOf files plan → AreModules plan ks → AreNextsOf plan nexts → (i : ℕ) → i < length ks → i < length ps → Shown i → Shown (i + 1)
-  shown_next same has says planned are nexts_are i less inside before =
+  shown_next : map known_of ps ≡ map (λ (k : KeptView). k.known) ks → All (HasText wanted files nexts) ps → All (SaysShown wanted plan.roots) ps → All (HasItsLoads row) ps → IsPlanOf files plan → readings row ≡ plan.reads → AreModules plan ks → AreNextsOf plan nexts → (i : ℕ) → i < length ks → i < length ps → Shown i → Shown (i + 1)
+  shown_next same has says loaded planned read are nexts_are i less inside before =
       let found = element ps i inside in
       let p : Page = found.0 in
       let it : Module = p.about.now in
@@ -214,23 +224,23 @@ module _ (wanted : Wanted) (files : List File) (plan : Plan) (nexts : Nexts) (ks
       let own : HasText wanted files nexts p = subst (HasText wanted files nexts) (found.1 p) (has i p inside) in
       let text = text_of_page wanted files nexts p own in
       let first : take (i + 1) ps ≡ take i ps ++ p ∷ [] = take_more ps i p inside ∙ ap (λ x. take i ps ++ x ∷ []) (found.1 p) in (
-        before.0 ++ added (more_of wanted (length files) it) (view text.0) ∷ [],
-        subst (AreShown wanted files plan (take (i + 1) ks) (before.0 ++ added (more_of wanted (length files) it) (view text.0) ∷ [])) (sym (ap (map (λ (q : Page). q.shown)) first ∙ map_push (λ (q : Page). q.shown) (take i ps) p))
-            (shown_more wanted files plan nexts ks i before.0 (map (λ (q : Page). q.shown) (take i ps)) it text.0 p.shown less known text.1 (subst (SaysShown wanted plan.roots) (found.1 p) (says i p inside)) planned are nexts_are before.1),
-        subst (λ ts. AreTextsOf ts (before.0 ++ added (more_of wanted (length files) it) (view text.0) ∷ [])) (sym (ap (map page_text) first ∙ map_push page_text (take i ps) p)) (texts_push (map page_text (take i ps)) before.0 (page_text p) (added (more_of wanted (length files) it) (view text.0)) before.2 text.2),
+        before.0 ++ added (more_of wanted files p.loads.now it) (view text.0) ∷ [],
+        subst (AreShown wanted files plan (take (i + 1) ks) (before.0 ++ added (more_of wanted files p.loads.now it) (view text.0) ∷ [])) (sym (ap (map (λ (q : Page). q.shown)) first ∙ map_push (λ (q : Page). q.shown) (take i ps) p))
+            (shown_more wanted files row plan nexts ks i before.0 (map (λ (q : Page). q.shown) (take i ps)) it p.loads.now text.0 p.shown less known text.1 (subst (SaysShown wanted plan.roots) (found.1 p) (says i p inside)) planned read (subst (HasItsLoads row) (found.1 p) (loaded i p inside)) are nexts_are before.1),
+        subst (λ ts. AreTextsOf ts (before.0 ++ added (more_of wanted files p.loads.now it) (view text.0) ∷ [])) (sym (ap (map page_text) first ∙ map_push page_text (take i ps) p)) (texts_push (map page_text (take i ps)) before.0 (page_text p) (added (more_of wanted files p.loads.now it) (view text.0)) before.2 text.2),
       )
 
-  shown_to : map known_of ps ≡ map (λ (k : KeptView). k.known) ks → All (HasText wanted files nexts) ps → All (SaysShown wanted plan.roots) ps → IsPlanOf files plan → AreModules plan ks → AreNextsOf plan nexts → (i : ℕ) → i ≤ length ks → i ≤ length ps → Shown i
-  shown_to same has says planned are nexts_are zero le small = ([], shown_none wanted files plan ks, tt)
-  shown_to same has says planned are nexts_are (suc i) le small =
+  shown_to : map known_of ps ≡ map (λ (k : KeptView). k.known) ks → All (HasText wanted files nexts) ps → All (SaysShown wanted plan.roots) ps → All (HasItsLoads row) ps → IsPlanOf files plan → readings row ≡ plan.reads → AreModules plan ks → AreNextsOf plan nexts → (i : ℕ) → i ≤ length ks → i ≤ length ps → Shown i
+  shown_to same has says loaded planned read are nexts_are zero le small = ([], shown_none wanted files plan ks, tt)
+  shown_to same has says loaded planned read are nexts_are (suc i) le small =
       subst Shown (let on : i + 1 ≡ suc i = omega arith in on)
-      (shown_next same has says planned are nexts_are i (omega (arith, le)) (omega (arith, small)) (shown_to same has says planned are nexts_are i (omega (arith, le)) (omega (arith, small))))
+      (shown_next same has says loaded planned read are nexts_are i (omega (arith, le)) (omega (arith, small)) (shown_to same has says loaded planned read are nexts_are i (omega (arith, le)) (omega (arith, small))))
 
   -- what the texts of all pages make is the text of the report
-  pub pages_report : map known_of ps ≡ map (λ (k : KeptView). k.known) ks → All (HasText wanted files nexts) ps → All (SaysShown wanted plan.roots) ps → IsPlanOf files plan → AreModules plan ks → AreNextsOf plan nexts → (begun : ℕ) → IsReportBut wanted files plan (length ks) begun (joined_text begun (shown_texts_of ps))
-  pages_report same has says planned are nexts_are begun =
+  pub pages_report : map known_of ps ≡ map (λ (k : KeptView). k.known) ks → All (HasText wanted files nexts) ps → All (SaysShown wanted plan.roots) ps → All (HasItsLoads row) ps → IsPlanOf files plan → readings row ≡ plan.reads → AreModules plan ks → AreNextsOf plan nexts → (begun : ℕ) → IsReportBut wanted files plan (length ks) begun (joined_text begun (shown_texts_of ps))
+  pages_report same has says loaded planned read are nexts_are begun =
       let long : length ps ≡ length ks = sym (length-map ps known_of) ∙ (ap length same ∙ length-map ks (λ (k : KeptView). k.known)) in
-      let all = shown_to same has says planned are nexts_are (length ks) (omega arith) (omega (arith, long)) in
+      let all = shown_to same has says loaded planned read are nexts_are (length ks) (omega arith) (omega (arith, long)) in
       let whole : take (length ks) ps ≡ ps = take_all (length ks) ps (omega (arith, long)) in
       let shown : AreShown wanted files plan ks all.0 (map (λ (p : Page). p.shown) ps) =
       subst (λ qs. AreShown wanted files plan ks all.0 (map (λ (p : Page). p.shown) qs)) whole (shown_all wanted files plan ks (length ks) all.0 (map (λ (p : Page). p.shown) (take (length ks) ps)) refl all.1) in
@@ -243,12 +253,12 @@ module _ (wanted : Wanted) (files : List File) (plan : Plan) (nexts : Nexts) (ks
       record { fulls = fs; report = report_shown wanted files plan ks all.0 (map (λ (p : Page). p.shown) ps) are shown; more = shown.more; text_is = ap (joined_text begun) kept ∙ sym (report_joined wanted files plan begun fs) }
 
 -- what is written for the pages of a run's modules is the text of its report
-pub pages_text : (wanted : Wanted) (files : List File) (plan : Plan) (nexts : Nexts) (ks : List KeptView) (old new : List Page) (begun : ℕ) (text : List ℕ) → map known_of old ≡ map (λ (k : KeptView). k.known) ks → All (SaysShown wanted plan.roots) old → AreWritten wanted files nexts old new → length new ≡ length old
-    → All (λ (p : Page). IsSome p.text) new → text ≡ joined_text begun (shown_texts_of new) → IsPlanOf files plan → AreModules plan ks → AreNextsOf plan nexts → IsReportBut wanted files plan (length ks) begun text
-pages_text wanted files plan nexts ks old new begun text known says written long some is planned are nexts_are =
+pub pages_text : (wanted : Wanted) (files : List File) (row : Row) (plan : Plan) (nexts : Nexts) (ks : List KeptView) (old new : List Page) (begun : ℕ) (text : List ℕ) → map known_of old ≡ map (λ (k : KeptView). k.known) ks → All (SaysShown wanted plan.roots) old → All (HasItsLoads row) old → AreWritten wanted files nexts old new → length new ≡ length old
+    → All (λ (p : Page). IsSome p.text) new → text ≡ joined_text begun (shown_texts_of new) → IsPlanOf files plan → readings row ≡ plan.reads → AreModules plan ks → AreNextsOf plan nexts → IsReportBut wanted files plan (length ks) begun text
+pages_text wanted files row plan nexts ks old new begun text known says loaded written long some is planned read are nexts_are =
     let same : map known_of new ≡ map (λ (k : KeptView). k.known) ks = written_known wanted files nexts old new written long ∙ known in
     subst (IsReportBut wanted files plan (length ks) begun) (sym is)
-    (pages_report wanted files plan nexts ks new same (written_have wanted files nexts old new written long some) (written_says wanted files plan nexts old new says written long) planned are nexts_are begun)
+    (pages_report wanted files row plan nexts ks new same (written_have wanted files nexts old new written long some) (written_says wanted files plan nexts old new says written long) (written_loads wanted files row nexts old new loaded written long) planned read are nexts_are begun)
 
 pub both_ok : {X E : Type 0} (r : Result X E) (P Q : X → Type 0) → IfOk r P → IfOk r Q → IfOk r (λ x. P x × Q x)
 both_ok (Ok x) P Q p q = (p, q)

@@ -1,5 +1,5 @@
 -- The values that show modules, and the report of them.
-use Rattle.std.proofs.Common.{arith, ◌≡◌, ◌<◌, ◌+◌, ℕ, Bool, List, [], ◌∷◌, ◌++◌, map, take, length, get_or, Option, Some, None, refl, ap, sym, subst, ◌∙◌}
+use Rattle.std.proofs.Common.{arith, ◌≡◌, ◌<◌, ◌+◌, ℕ, Bool, List, [], ◌∷◌, ◌++◌, map, take, length, get_or, Some, None, refl, ap, sym, subst, ◌∙◌}
 use Rattle.std.specs.Prelude.{All, Contains, slice_index_or}
 use Rattle.serde_json.specs.Data.{Data, Members, no_members}
 use Rattle.std.specs.List.Sorted.{IsStrictlyIncreasing}
@@ -20,9 +20,11 @@ use Rattle.star_plan.proofs.Stay.{good_is}
 use Rattle.star_cause.specs.Causes.{AreNextsOf}
 use Rattle.star_cause.specs.Ways.{Nexts}
 use Rattle.star_reading.specs.Codes.{fault_of}
-use Rattle.star_outcome.specs.Kept.{AreModules, AreModulesOf, KeptView}
+use Rattle.star_reading.specs.Readings.{Row, loads_at, readings}
+use Rattle.star_scope.specs.declared.loads.Load.{Load}
+use Rattle.star_outcome.specs.Kept.{AreModules, KeptView}
 use Rattle.star_report.specs.Shelf.{more_of}
-use Rattle.star_report.specs.Shown.{AreShown, IsReportBut, IsReportOf, IsShown}
+use Rattle.star_report.specs.Shown.{AreShown, IsShown}
 use Rattle.star_report.specs.Wanted.{AreMore, Full, added, full_data, is_ok, is_shown, is_shown_by}
 use Rattle.star_report.specs.declared.wanted.Wanted.{Wanted}
 use Rattle.star_report.proofs.Stores.{more_is}
@@ -43,7 +45,7 @@ pub one_shown : (files : List File) (plan : Plan) (nexts : Nexts) (n : ℕ) (e :
 one_shown files plan nexts n (Static f) v planned are reached is shown = (HadStatic (fault_of f), is, shown, refl)
 one_shown files plan nexts n (Unloaded index line) v planned are reached is shown =
     (HadLoad shown.0 line, (shown.1 files plan planned are reached (bad_load plan n index is.0), (index, is.1.0, is.0, is.1.1, is.1.2)), shown.2, refl)
-one_shown files plan nexts n (Stopped code line lines) v planned are reached is shown = (HadFault (record { code = code; line = line }) lines.items, is, shown, refl)
+one_shown files plan nexts n (Stopped code line lines trail) v planned are reached is shown = (HadFault (record { code = code; line = line }) lines.items, is, shown, refl)
 one_shown files plan nexts n (Good body) v planned are reached is shown = (WentWell (shown_texts body.shown.items) body.lines.items, (is.shelf, is.globals, is.outcome), shown, refl)
 
 -- ---- the modules that are kept
@@ -71,6 +73,9 @@ reached_at plan ks i d less are =
     let is : get_or (map (λ (k : KeptView). k.number) ks) i n ≡ n = get_or-map (λ (k : KeptView). k.number) ks i d n less in
     (are.reached n).1 (i, omega (arith, less, long), is)
 
+pub own_reached : (plan : Plan) (ks : List KeptView) (i : ℕ) (it : Module) → i < length ks → ((d : KeptView) → (slice_index_or ks i d).known ≡ Some it) → AreModules plan ks → IsReached plan it.number
+own_reached plan ks i it less known are = subst (IsReached plan) (number_at plan ks i it less known are no_note) (reached_at plan ks i no_note less are)
+
 -- ---- their values
 
 pub shown_none : (wanted : Wanted) (files : List File) (plan : Plan) (ks : List KeptView) → AreShown wanted files plan (take 0 ks) [] []
@@ -78,12 +83,12 @@ shown_none wanted files plan ks = record {
   fulls = [];
   numbers = refl;
   each_ended = All-nil (λ (f : Full). IsEnded plan f.shown.file f.shown.ended);
-  more = All-nil (λ (f : Full). AreMore wanted plan f.shown.file f.more);
+  more = All-nil (λ (f : Full). AreMore wanted files plan f.shown.file f.more);
   data_are = refl;
   shown_are = refl;
 }
 
-pub shown_push : (wanted : Wanted) (files : List File) (plan : Plan) (ks : List KeptView) (ds : List Data) (bs : List Bool) (k : KeptView) (d : Data) (b : Bool) (r : ReportEnded) (ms : Members) → IsEnded plan k.number r → AreMore wanted plan k.number ms → d ≡ ended_data files (label_at files k.number) r
+pub shown_push : (wanted : Wanted) (files : List File) (plan : Plan) (ks : List KeptView) (ds : List Data) (bs : List Bool) (k : KeptView) (d : Data) (b : Bool) (r : ReportEnded) (ms : Members) → IsEnded plan k.number r → AreMore wanted files plan k.number ms → d ≡ ended_data files (label_at files k.number) r
     → b ≡ is_shown_by wanted plan.roots (is_ok r) k.number → AreShown wanted files plan ks ds bs → AreShown wanted files plan (ks ++ k ∷ []) (ds ++ added ms d ∷ []) (bs ++ b ∷ [])
 shown_push wanted files plan ks ds bs k d b r ms is more seen kept was =
     let f : Full = record { shown = record { file = k.number; ended = r }; more = ms } in
@@ -91,24 +96,24 @@ shown_push wanted files plan ks ds bs k d b r ms is more seen kept was =
       fulls = was.fulls ++ f ∷ [];
       numbers = map_push (λ (x : Full). x.shown.file) was.fulls f ∙ (ap (λ ns. ns ++ k.number ∷ []) was.numbers ∙ sym (map_push (λ (x : KeptView). x.number) ks k));
       each_ended = All-push (λ (x : Full). IsEnded plan x.shown.file x.shown.ended) was.fulls f was.each_ended is;
-      more = All-push (λ (x : Full). AreMore wanted plan x.shown.file x.more) was.fulls f was.more more;
+      more = All-push (λ (x : Full). AreMore wanted files plan x.shown.file x.more) was.fulls f was.more more;
       data_are = ap (λ xs. xs ++ added ms d ∷ []) was.data_are ∙ (ap (λ x. map (full_data files) was.fulls ++ added ms x ∷ []) seen ∙ sym (map_push (full_data files) was.fulls f));
       shown_are = ap (λ xs. xs ++ b ∷ []) was.shown_are ∙ (ap (λ x. map (is_shown wanted plan) was.fulls ++ x ∷ []) kept ∙ sym (map_push (is_shown wanted plan) was.fulls f));
     }
 
-pub shown_more : (wanted : Wanted) (files : List File) (plan : Plan) (nexts : Nexts) (ks : List KeptView) (i : ℕ) (ds : List Data) (bs : List Bool) (it : Module) (v : Value) (b : Bool) → i < length ks → ((d : KeptView) → (slice_index_or ks i d).known ≡ Some it) → IsShown files nexts it.number it.ended v
+pub shown_more : (wanted : Wanted) (files : List File) (row : Row) (plan : Plan) (nexts : Nexts) (ks : List KeptView) (i : ℕ) (ds : List Data) (bs : List Bool) (it : Module) (loads : List Load) (v : Value) (b : Bool) → i < length ks → ((d : KeptView) → (slice_index_or ks i d).known ≡ Some it) → IsShown files nexts it.number it.ended v
     → b ≡ is_shown_by wanted plan.roots (ended_well it.ended) it.number
-    → IsPlanOf files plan → AreModules plan ks → AreNextsOf plan nexts → AreShown wanted files plan (take i ks) ds bs → AreShown wanted files plan (take (i + 1) ks) (ds ++ added (more_of wanted (length files) it) (view v) ∷ []) (bs ++ b ∷ [])
-shown_more wanted files plan nexts ks i ds bs it v b less known shown kept planned are nexts_are was =
+    → IsPlanOf files plan → readings row ≡ plan.reads → loads ≡ loads_at row it.number → AreModules plan ks → AreNextsOf plan nexts → AreShown wanted files plan (take i ks) ds bs → AreShown wanted files plan (take (i + 1) ks) (ds ++ added (more_of wanted files loads it) (view v) ∷ []) (bs ++ b ∷ [])
+shown_more wanted files row plan nexts ks i ds bs it loads v b less known shown kept planned read own_loads are nexts_are was =
     let k : KeptView = slice_index_or ks i no_note in
-    let ms : Members = more_of wanted (length files) it in
+    let ms : Members = more_of wanted files loads it in
     let is : IsModule plan k.number it = module_at plan ks i it less known are no_note in
     let own : IsShown files nexts k.number it.ended v = subst (λ n. IsShown files nexts n it.ended v) is.number shown in
     let one = one_shown files plan nexts k.number it.ended v planned nexts_are (reached_at plan ks i no_note less are) is.ended own in
     let here : b ≡ is_shown_by wanted plan.roots (is_ok one.0) k.number =
     kept ∙ (ap (λ n. is_shown_by wanted plan.roots (ended_well it.ended) n) is.number ∙ ap (λ x. is_shown_by wanted plan.roots x k.number) (sym one.3)) in
     subst (λ xs. AreShown wanted files plan xs (ds ++ added ms (view v) ∷ []) (bs ++ b ∷ [])) (sym (take_more ks i no_note less))
-    (shown_push wanted files plan (take i ks) ds bs k (view v) b one.0 ms one.1 (more_is wanted files plan k.number it planned is) one.2 here was)
+    (shown_push wanted files plan (take i ks) ds bs k (view v) b one.0 ms one.1 (more_is wanted files row plan k.number it loads planned read own_loads is) one.2 here was)
 
 pub shown_all : (wanted : Wanted) (files : List File) (plan : Plan) (ks : List KeptView) (i : ℕ) (ds : List Data) (bs : List Bool) → i ≡ length ks → AreShown wanted files plan (take i ks) ds bs → AreShown wanted files plan ks ds bs
 shown_all wanted files plan ks i ds bs end was = subst (λ xs. AreShown wanted files plan xs ds bs) (take_all i ks (let e : i ≡ length ks = end in omega arith)) was
@@ -139,10 +144,3 @@ report_shown wanted files plan ks ds bs are shown =
       all = λ n. (λ r. subst (λ ns. Contains ns n) (sym numbers) ((are.reached n).0 r), λ h. (are.reached n).1 (subst (λ ns. Contains ns n) numbers h));
       each_ended = ends_in plan fs shown.each_ended;
     }
-
--- where as many files were begun as are reached, the text is that of the report
-pub report_of : (wanted : Wanted) (files : List File) (roots : List ℕ) (prelude : Option ℕ) (steps : ℕ) (ks : List KeptView) (begun : ℕ) (text : List ℕ) → begun ≡ length ks → AreModulesOf files roots prelude steps ks
-    → ((plan : Plan) → IsPlanOf files plan → plan.roots ≡ roots → AreModules plan ks → IsReportBut wanted files plan (length ks) begun text) → IsReportOf wanted files roots prelude steps text
-report_of wanted files roots prelude steps ks begun text count (plan, planned, of_roots, of_prelude, of_steps, are) writes =
-    let but = writes plan planned of_roots are in
-    (plan, planned, of_roots, of_prelude, of_steps, record { begun = begun; fulls = but.fulls; report = subst (λ b. IsReport plan b (map (λ (f : Full). f.shown) but.fulls)) (sym count) but.report; more = but.more; text_is = but.text_is })

@@ -15,6 +15,7 @@ use Rattle.star_store.specs.Store.{Published, Shelf, global_of, is_taken, look, 
 use Rattle.star_data.specs.Data.{data_of, on_shelf}
 use Rattle.star_data.proofs.Stays.{data_stays}
 use Rattle.star_scope.specs.Loads.{is_private}
+use Rattle.star_scope.specs.declared.loads.Load.{Load}
 use Rattle.star_meaning.specs.Local.{reached}
 use Rattle.star_meaning.specs.Module.{Good, Local, Stopped as HadFault, local_of, most_levels}
 use Rattle.star_tree.specs.declared.tree.Statement.{Statement}
@@ -38,9 +39,11 @@ use Rattle.star_outcome.specs.declared.module.Ended.{Ended}
 use Rattle.star_outcome.specs.declared.module.Ended.TheVariants.{Static, Load as Unloaded, Stopped, Good as Well}
 use Rattle.star_outcome.specs.declared.module.Module.{Module}
 use Rattle.star_reading.specs.Codes.{fault_of}
-use Rattle.star_report.specs.Shelf.{globals_in, more_of, names_of, shelf_in, stored_data, values_in}
+use Rattle.star_reading.specs.Readings.{Row, loads_at, readings}
+use Rattle.star_reading.proofs.Rows.{loads_are}
+use Rattle.star_report.specs.Shelf.{globals_in, loads_part, more_of, names_of, shelf_in, steps_in, steps_part, stored_data, values_in, values_part}
 use Rattle.star_report.specs.Values.{global_data, is_opaque, put_some, value_members_by, with_value}
-use Rattle.star_report.specs.Wanted.{AreMore, AreWanted, HasValues}
+use Rattle.star_report.specs.Wanted.{AreMore, AreWanted, HasLoads, HasSteps, HasValues, loads_member}
 use Rattle.star_report.specs.declared.wanted.Wanted.{Wanted}
 
 -- ---- stores that are put up
@@ -232,7 +235,7 @@ data_by look see same n v (Some d) u is at = sym (data_stays look see (λ x c h.
 data_by look see same n v None (Some d) is at = sym is ∙ data_stays see look (λ x c h. same x ∙ h) n n v d (omega arith) at
 data_by look see same n v None None is at = refl
 
-same_data : (look see : Value → Option Cell) → ((v : Value) → look v ≡ see v) → (n : ℕ) (v : Value) → data_of look n v ≡ data_of see n v
+pub same_data : (look see : Value → Option Cell) → ((v : Value) → look v ≡ see v) → (n : ℕ) (v : Value) → data_of look n v ≡ data_of see n v
 same_data look see same n v = data_by look see same n v (data_of look n v) (data_of see n v) refl refl
 
 found_data : (look see : Value → Option Cell) → ((v : Value) → look v ≡ see v) → (o : Option Value) → option_and_then (data_of look most_levels) o ≡ option_and_then (data_of see most_levels) o
@@ -250,16 +253,20 @@ own_globals plan d n shelf globals texts lines e rs are =
     let same : stored.0 ≡ own_module r.run.ended r.run.state = one-own plan n stored.0 (own_module r.run.ended r.run.state) from.1 (holds plan d n m e n (own_module r.run.ended r.run.state) at) in
     ap (λ o. globals_in (option_flatten o)) stored.1 ∙ (ap (λ (q : Published). q.globals) same ∙ done_globals plan n shelf globals texts lines r)
 
-stored_is : (files : List File) (plan : Plan) (n : ℕ) (b : Body) → IsPlanOf files plan → (is : IsBody plan n b) → (name : List ℕ) → stored_data (length files) n b name ≡ global_data (on_shelf is.shelf) is.globals name
-stored_is files plan n b planned is name =
+-- the stores of a module lead where its own shelf leads, and have its globals
+pub stores_say : (files : List File) (plan : Plan) (n : ℕ) (b : Body) → IsPlanOf files plan → (is : IsBody plan n b) → ((v : Value) → look (record { home = length files; cells = [] }) (shelf_in b) v ≡ on_shelf is.shelf v) × (globals_in (option_flatten (slice_get (shelf_in b) n)) ≡ is.globals)
+stores_say files plan n b planned is =
     let m : Local = Good is.shelf is.globals (shown_texts b.shown.items) b.lines.items in
     let d = is.outcome.0 in
     let e = is.outcome.1 in
     let rs = row_of b.stores in
+    (same_look plan d n m e (run_of plan d n m e refl) rs is.stores files planned, own_globals plan d n is.shelf is.globals (shown_texts b.shown.items) b.lines.items e rs is.stores)
+
+stored_is : (files : List File) (plan : Plan) (n : ℕ) (b : Body) → IsPlanOf files plan → (is : IsBody plan n b) → (name : List ℕ) → stored_data (length files) n b name ≡ global_data (on_shelf is.shelf) is.globals name
+stored_is files plan n b planned is name =
     let see = look (record { home = length files; cells = [] }) (shelf_in b) in
-    let same : (v : Value) → see v ≡ on_shelf is.shelf v = same_look plan d n m e (run_of plan d n m e refl) rs is.stores files planned in
-    let globals = own_globals plan d n is.shelf is.globals (shown_texts b.shown.items) b.lines.items e rs is.stores in
-    ap (λ gs. global_data see gs name) globals ∙ found_data see (on_shelf is.shelf) same (global_of name is.globals)
+    let say = stores_say files plan n b planned is in
+    ap (λ gs. global_data see gs name) say.1 ∙ found_data see (on_shelf is.shelf) say.0 (global_of name is.globals)
 
 -- ---- the members
 
@@ -286,7 +293,7 @@ names_are (g ∷ gs) = ap (λ ns. string_bytes g.0 ∷ ns) (names_are gs)
 values_has : (files : List File) (plan : Plan) (n : ℕ) (x : Ended) → IsPlanOf files plan → IsEnd plan n x → HasValues plan n (values_in (length files) n x)
 values_has files plan n (Static f) planned is = (StaticOutcome (fault_of f), is, refl)
 values_has files plan n (Unloaded index line) planned is = (UnloadedOutcome index, is.0, refl)
-values_has files plan n (Stopped code line lines) planned is = (Ran (HadFault (record { code = code; line = line }) lines.items), is, refl)
+values_has files plan n (Stopped code line lines trail) planned is = (Ran (HadFault (record { code = code; line = line }) lines.items), is, refl)
 values_has files plan n (Well b) planned is =
     let f = stored_data (length files) n b in
     let g = global_data (on_shelf is.shelf) is.globals in (
@@ -299,8 +306,22 @@ if_wanted : (b : Bool) (P : Members → Type 0) (ms : Members) → P ms → AreW
 if_wanted true P ms h = h
 if_wanted false P ms h = refl
 
--- what is wanted more of a module, by its stores, is that of its file
-pub more_is : (wanted : Wanted) (files : List File) (plan : Plan) (n : ℕ) (m : Module) → IsPlanOf files plan → IsModule plan n m → AreMore wanted plan n (more_of wanted (length files) m)
-more_is wanted files plan n m planned is =
-    if_wanted wanted.values (HasValues plan n) (values_in (length files) m.number m.ended)
-    (subst (λ k. HasValues plan n (values_in (length files) k m.ended)) (sym is.number) (values_has files plan n m.ended planned is.ended))
+steps_has : (plan : Plan) (n : ℕ) (x : Ended) → IsEnd plan n x → HasSteps plan n (steps_in x)
+steps_has plan n (Static f) is = (StaticOutcome (fault_of f), is, refl)
+steps_has plan n (Unloaded index line) is = (UnloadedOutcome index, is.0, refl)
+steps_has plan n (Stopped code line lines trail) is = (Ran (HadFault (record { code = code; line = line }) lines.items), is, refl)
+steps_has plan n (Well b) is = (Ran (Good is.shelf is.globals (shown_texts b.shown.items) b.lines.items), is.outcome, (b.paid, is.paid, refl))
+
+-- what is wanted more of a module, by what was read and by its stores, is that of its file
+pub more_is : (wanted : Wanted) (files : List File) (row : Row) (plan : Plan) (n : ℕ) (m : Module) (loads : List Load) → IsPlanOf files plan → readings row ≡ plan.reads → loads ≡ loads_at row m.number → IsModule plan n m → AreMore wanted files plan n (more_of wanted files loads m)
+more_is wanted files row plan n m loads planned read own is = (
+  loads_part wanted files loads,
+  steps_part wanted m.ended,
+  values_part wanted (length files) m.number m.ended,
+  if_wanted wanted.loads (HasLoads files plan n) (loads_member files loads)
+      (ap (loads_member files) own ∙ ap (λ k. loads_member files (loads_at row k)) is.number ∙ ap (loads_member files) (sym (loads_are plan row n read))),
+  if_wanted wanted.steps (HasSteps plan n) (steps_in m.ended) (steps_has plan n m.ended is.ended),
+  if_wanted wanted.values (HasValues plan n) (values_in (length files) m.number m.ended)
+      (subst (λ k. HasValues plan n (values_in (length files) k m.ended)) (sym is.number) (values_has files plan n m.ended planned is.ended)),
+  refl,
+)

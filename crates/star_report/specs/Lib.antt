@@ -4,4 +4,12 @@ pub mod Pages
 pub mod Values
 pub mod Wanted
 pub mod Shelf
+pub mod Texts
+pub mod Table
+pub mod Got
+pub mod Gets
+pub mod Leads
+pub mod Graph
+pub mod Drawn
+pub mod Output
 pub mod Laws

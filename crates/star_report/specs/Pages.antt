@@ -1,11 +1,13 @@
 -- The pages of a report: modules, and their texts.
-use Rattle.std.specs.Prelude.{◌≡◌, ◌<◌, ℕ, List, [], ◌∷◌, ◌++◌, Bool, false, true, Option, Some, None, IfSome, String, codes, decimal, filter, length, map, nat_eq, slice_index_or, string_bytes}
+use Rattle.std.specs.Prelude.{◌≡◌, ◌<◌, ℕ, List, [], ◌∷◌, ◌++◌, Bool, false, true, Option, Some, None, IfSome, Vec, codes, decimal, filter, length, map, nat_eq, slice_index_or}
 use Rattle.std.specs.List.{list_any}
 use Rattle.serde_json.specs.View.{view}
 use Rattle.serde_json.specs.Written.{comma_if, compact_text, has_float}
 use Rattle.serde_json.specs.declared.value.Value.{Value}
 use Rattle.star_label.specs.Files.{File}
 use Rattle.star_cause.specs.Ways.{Nexts}
+use Rattle.star_scope.specs.declared.loads.Load.{Load}
+use Rattle.star_reading.specs.Readings.{Row, loads_at}
 use Rattle.star_report.specs.Shelf.{more_of}
 use Rattle.star_report.specs.Shown.{IsShown}
 use Rattle.star_report.specs.Wanted.{added, is_shown_by}
@@ -15,11 +17,11 @@ use Rattle.star_outcome.specs.declared.module.Module.{Module}
 use Rattle.star_report.specs.declared.pages.Page.{Page}
 
 -- a text is that of a value which shows a module, with what is wanted more of it
-abbrev pub IsTextOf : Wanted → List File → Nexts → Module → List ℕ → Type 0
-IsTextOf wanted files nexts m text =
+abbrev pub IsTextOf : Wanted → List File → Nexts → List Load → Module → List ℕ → Type 0
+IsTextOf wanted files nexts loads m text =
     (v : Value) × IsShown files nexts m.number m.ended v
-    × (has_float (added (more_of wanted (length files) m) (view v)) ≡ false
-    → text ≡ compact_text (added (more_of wanted (length files) m) (view v)))
+    × (has_float (added (more_of wanted files loads m) (view v)) ≡ false
+    → text ≡ compact_text (added (more_of wanted files loads m) (view v)))
 
 -- the module that a page is about, as what a note of it knows
 abbrev pub known_of : Page → Option Module
@@ -28,17 +30,22 @@ known_of p = Some p.about.now
 -- a page was written: where it has a text, that is its module's
 pub record IsWritten (wanted : Wanted) (files : List File) (nexts : Nexts) (old new : Page) : Type 0 where
   pub same : new.about ≡ old.about
+  pub loads : new.loads ≡ old.loads
   pub shown : new.shown ≡ old.shown
-  pub text : IfSome new.text (λ s. IsTextOf wanted files nexts new.about.now (string_bytes s))
+  pub text : IfSome new.text (λ s. IsTextOf wanted files nexts new.loads.now new.about.now s.items)
+
+-- a page has the loads of its module's file
+abbrev pub HasItsLoads : Row → Page → Type 0
+HasItsLoads row p = p.loads.now ≡ loads_at row p.about.now.number
 
 -- each page of a row was written
 abbrev pub AreWritten : Wanted → List File → Nexts → List Page → List Page → Type 0
 AreWritten wanted files nexts old new =
     (i : ℕ) (d : Page) → i < length old → IsWritten wanted files nexts (slice_index_or old i d) (slice_index_or new i d)
 
-abbrev pub text_in : {Z : Type 0} → Option (String Z) → List ℕ
+abbrev pub text_in : {Z : Type 0} → Option (Vec ℕ Z) → List ℕ
 text_in None = []
-text_in (Some s) = string_bytes s
+text_in (Some s) = s.items
 
 abbrev pub page_text : Page → List ℕ
 page_text p = text_in p.text

@@ -1,7 +1,11 @@
 -- What is found of a module on the shelf of its stores.
-use Rattle.std.specs.Prelude.{ℕ, Bool, List, [], ◌∷◌, Option, Some, None, fold, map, slice_get, string_bytes, if◌then◌else◌}
+use Rattle.std.specs.Prelude.{ℕ, ◌<◌, Bool, List, [], ◌∷◌, All, Option, Some, None, codes, fold, length, map, slice_get, string_bytes, if◌then◌else◌}
 use Rattle.std.specs.Option.{option_flatten}
-use Rattle.serde_json.specs.Data.{Data, Members, no_members}
+use Rattle.serde_json.specs.Data.{Data, Members, member, no_members, number, unsigned}
+use Rattle.star_label.specs.Files.{File}
+use Rattle.star_scope.specs.declared.loads.Load.{Load}
+use Rattle.star_reading.specs.Readings.{Row, loads_at}
+use Rattle.star_report.specs.Wanted.{followed, loads_member}
 use Rattle.star_store.specs.declared.values.Value.{Value}
 use Rattle.star_store.specs.Store.{Published, Shelf, Store, look}
 use Rattle.star_outcome.specs.Homes.{seated}
@@ -42,6 +46,25 @@ abbrev pub values_in : ℕ → ℕ → Ended → Members
 values_in files n (Good b) = value_members_by (stored_data files n b) (names_of b)
 values_in files n e = no_members
 
--- what is wanted more of a module, by its stores
-abbrev pub more_of : Wanted → ℕ → Module → Members
-more_of wanted files m = if wanted.values then values_in files m.number m.ended else no_members
+abbrev pub steps_in : Ended → Members
+steps_in (Good b) = member (codes "steps") (number (unsigned b.paid)) no_members
+steps_in e = no_members
+
+abbrev pub loads_part : Wanted → List File → List Load → Members
+loads_part wanted files loads = if wanted.loads then loads_member files loads else no_members
+
+abbrev pub steps_part : Wanted → Ended → Members
+steps_part wanted e = if wanted.steps then steps_in e else no_members
+
+abbrev pub values_part : Wanted → ℕ → ℕ → Ended → Members
+values_part wanted files n e = if wanted.values then values_in files n e else no_members
+
+-- what is wanted more of a module, by its loads and by its stores
+abbrev pub more_of : Wanted → List File → List Load → Module → Members
+more_of wanted files loads m =
+    followed (loads_part wanted files loads)
+    (followed (steps_part wanted m.ended) (values_part wanted (length files) m.number m.ended))
+
+-- the loads of all that was read lead to files
+abbrev pub LeadToFiles : List File → Row → Type 0
+LeadToFiles files row = (n : ℕ) → All (λ l. l.file < length files) (loads_at row n)

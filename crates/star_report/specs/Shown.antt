@@ -31,7 +31,7 @@ IsShown files nexts n (Static f) v =
     view v ≡ ill_data (codes "fault") (string (static_word (fault_of f))) (label_at files n) (static_line (fault_of f))
     [] (codes "static")
 IsShown files nexts n (Unloaded index line) v = IsLoadShown files nexts n line v
-IsShown files nexts n (Stopped code line lines) v =
+IsShown files nexts n (Stopped code line lines trail) v =
     view v ≡ ill_data (codes "fault") (string (code_word code)) (label_at files n) line lines.items (codes "fault")
 IsShown files nexts n (Good body) v =
     view v ≡ well_data (label_at files n) (shown_texts body.shown.items) body.lines.items
@@ -43,7 +43,7 @@ pub record AreShown (wanted : Wanted) (files : List File) (plan : Plan) (ks : Li
   pub fulls : List Full
   pub numbers : map (λ f. f.shown.file) fulls ≡ map (λ k. k.number) ks
   pub each_ended : All (λ f. IsEnded plan f.shown.file f.shown.ended) fulls
-  pub more : All (λ f. AreMore wanted plan f.shown.file f.more) fulls
+  pub more : All (λ f. AreMore wanted files plan f.shown.file f.more) fulls
   pub data_are : ds ≡ map (full_data files) fulls
   pub shown_are : shown ≡ map (is_shown wanted plan) fulls
 
@@ -53,7 +53,7 @@ pub record IsReportBut (wanted : Wanted) (files : List File) (plan : Plan) (reac
   where
     pub fulls : List Full
     pub report : IsReport plan reached (map (λ f. f.shown) fulls)
-    pub more : All (λ f. AreMore wanted plan f.shown.file f.more) fulls
+    pub more : All (λ f. AreMore wanted files plan f.shown.file f.more) fulls
     pub text_is : text ≡ full_text wanted files plan begun fulls
 
 -- a text is that of the report of the plan that files have for roots, a prelude and a number of steps, with what is

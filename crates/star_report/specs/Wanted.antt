@@ -1,33 +1,67 @@
 -- The report with what is wanted more of each module.
-use Rattle.std.specs.Prelude.{◌≡◌, ℕ, Bool, true, false, not, ◌||◌, nat_eq, List, ◌∷◌, ◌++◌, [], codes, map}
+use Rattle.std.specs.Prelude.{◌≡◌, ℕ, Bool, true, false, not, ◌||◌, nat_eq, List, ◌∷◌, ◌++◌, [], codes, is_some, map}
 use Rattle.std.specs.List.{All, filter, list_any}
-use Rattle.serde_json.specs.Data.{Data, Members, array, member, no_members, number, object, put, unsigned}
+use Rattle.serde_json.specs.Data.{Data, Members, array, member, no_members, number, object, put, string, unsigned}
 use Rattle.serde_json.specs.View.{items_of}
 use Rattle.serde_json.specs.Written.{compact_text}
-use Rattle.star_label.specs.Files.{File}
-use Rattle.star_plan.specs.Plan.{Plan}
+use Rattle.star_label.specs.Files.{File, label_at}
+use Rattle.star_scope.specs.declared.loads.Load.{Load}
+use Rattle.star_meaning.specs.Module.{Good}
+use Rattle.star_plan.specs.Plan.{Plan, loads_of}
 use Rattle.star_plan.specs.Report.{Ended, IsReport, Module, WentWell}
-use Rattle.star_plan.specs.Results.{IsOutcome, Outcome}
+use Rattle.star_plan.specs.Results.{IsOutcome, Outcome, Ran}
 use Rattle.star_plan.specs.Text.{module_data}
+use Rattle.star_outcome.specs.Paid.{HasPaid}
 use Rattle.star_report.specs.Values.{value_members}
 use Rattle.star_report.specs.declared.wanted.Wanted.{Wanted}
 
 -- nothing more, of all modules
 abbrev pub nothing_more : Wanted
-nothing_more = record { values = false; only_roots = false }
-
--- the values of a module, and the names of those that are no data
-abbrev pub HasValues : Plan → ℕ → Members → Type 0
-HasValues plan n ms = (o : Outcome) × IsOutcome plan n o × (ms ≡ value_members o)
+nothing_more = record { values = false; loads = false; steps = false; only_roots = false }
 
 -- members of one kind: those that are wanted, or none
 abbrev pub AreWanted : Bool → (Members → Type 0) → Members → Type 0
 AreWanted true P ms = P ms
 AreWanted false P ms = ms ≡ no_members
 
--- the further members of a file's module
-abbrev pub AreMore : Wanted → Plan → ℕ → Members → Type 0
-AreMore wanted plan n ms = AreWanted wanted.values (HasValues plan n) ms
+-- a load, by the label of its file and its line
+abbrev pub load_member : List File → Load → Data
+load_member files l =
+    object (member (codes "label") (string (label_at files l.file))
+    (member (codes "line") (number (unsigned l.line)) no_members))
+
+-- the loads of load statements, in order: the prelude's has none
+abbrev pub loads_member : List File → List Load → Members
+loads_member files loads =
+    member (codes "loads") (array (items_of (map (load_member files) (filter (λ l. is_some l.token) loads)))) no_members
+
+-- the loads of a module
+abbrev pub HasLoads : List File → Plan → ℕ → Members → Type 0
+HasLoads files plan n ms = ms ≡ loads_member files (loads_of plan n)
+
+-- the steps of a module that ended well; of another there are none
+abbrev pub HasStepsAs : Plan → ℕ → Outcome → Members → Type 0
+HasStepsAs plan n (Ran (Good shelf globals texts lines)) ms =
+    (paid : ℕ) × HasPaid plan n paid × (ms ≡ member (codes "steps") (number (unsigned paid)) no_members)
+HasStepsAs plan n o ms = ms ≡ no_members
+
+abbrev pub HasSteps : Plan → ℕ → Members → Type 0
+HasSteps plan n ms = (o : Outcome) × IsOutcome plan n o × HasStepsAs plan n o ms
+
+-- the values of a module, and the names of those that are no data
+abbrev pub HasValues : Plan → ℕ → Members → Type 0
+HasValues plan n ms = (o : Outcome) × IsOutcome plan n o × (ms ≡ value_members o)
+
+-- members and then others
+abbrev pub followed : Members → Members → Members
+followed no_members others = others
+followed (member k d ms) others = member k d (followed ms others)
+
+-- the further members of a file's module: its loads, its steps and its values, where they are wanted
+abbrev pub AreMore : Wanted → List File → Plan → ℕ → Members → Type 0
+AreMore wanted files plan n ms =
+    (l s v : Members) × AreWanted wanted.loads (HasLoads files plan n) l × AreWanted wanted.steps (HasSteps plan n) s
+    × AreWanted wanted.values (HasValues plan n) v × (ms ≡ followed l (followed s v))
 
 -- an object with one member more, in its place
 abbrev pub put_in : List ℕ → Data → Data → Data
@@ -70,5 +104,5 @@ pub record IsFullText (wanted : Wanted) (files : List File) (plan : Plan) (text 
   pub begun : ℕ
   pub fulls : List Full
   pub report : IsReport plan begun (map (λ f. f.shown) fulls)
-  pub more : All (λ f. AreMore wanted plan f.shown.file f.more) fulls
+  pub more : All (λ f. AreMore wanted files plan f.shown.file f.more) fulls
   pub text_is : text ≡ full_text wanted files plan begun fulls

@@ -1,20 +1,25 @@
 //! The text of the report: a page for each module, which several threads write.
 
-ghost use Rattle.std.specs.Prelude.{◌≡◌, ◌<◌, ◌++◌, ◌||◌, [], ℕ, if◌then◌else◌, All, IfOk, IsSome, List, OnOk, length, map, string_bytes, vec_len};
+ghost use Rattle.std.specs.Prelude.{◌≡◌, ◌<◌, ◌++◌, ◌||◌, [], ℕ, if◌then◌else◌, All, IfOk, IsSome, List, OnOk, length, map, vec_len};
 ghost use Rattle.serde_json.specs.Written.{comma_if};
 ghost use Rattle.star_plan.specs.Plan.{Plan};
 ghost use Rattle.star_plan.specs.Reading.{IsPlanOf};
 ghost use Rattle.star_outcome.specs.Kept.{AreModules};
-ghost use Rattle.star_report.specs.Pages.{AreMarked, AreWritten, IsTextOf, IsWritten, SaysShown, joined_text, known_of, page_text, shown_texts_of};
+ghost use Rattle.star_reading.specs.Found.{IsReadOf};
+ghost use Rattle.star_reading.specs.Readings.{loads_at};
+ghost use Rattle.star_report.specs.Shelf.{LeadToFiles};
+ghost use Rattle.star_report.specs.Pages.{AreMarked, AreWritten, HasItsLoads, IsTextOf, IsWritten, SaysShown, joined_text, known_of, page_text, shown_texts_of};
 ghost use Rattle.star_report.specs.Shown.{IsReportBut};
 
+use crate::more::{loads_in, text_with_more};
 use crate::report::{module_value, nexts_of};
-use crate::values::with_more;
 use crate::wanted::Wanted;
 use star_cause::Causes;
 use star_label::files::Files as Labels;
 use star_outcome::module::Module;
 use star_outcome::outcome::{Kept, Run};
+use star_reading::reading::Reads;
+use star_scope::loads::Load;
 use std::alloc::{AllocError, Global};
 use std::thread;
 use std::thread::Threads;
@@ -22,22 +27,24 @@ use std::thread::Threads;
 /// For so many modules a thread more writes.
 const SHARE: usize = 16;
 
-/// A module, whether it is shown, and its text once it is written: none where a growth was refused.
+/// A module with the loads of its file, whether it is shown, and its text once it is written: none where a growth was refused.
 #[derive(Drop)]
 pub(crate) struct Page<'a> {
     pub about: &'a Module,
+    pub loads: &'a [Load],
     pub shown: bool,
-    pub text: Option<String>,
+    pub text: Option<Vec<u8>>,
 }
 
 impl<'a> Page<'a> {
     /// Writes the text of the module.
     fn write(&mut self, alloc: Global, files: &Labels, causes: &Causes, wanted: Wanted)
         requires files { length causes.now ≡ length files.now }
+        requires loads { All (λ l. l.file < length files.now) self.old.loads.now }
         requires there { self.old.about.now.number < length files.now }
         ensures { IsWritten wanted files.now causes.now self.old self.new }
     {
-        self.text = match module_text(alloc, files, causes, wanted, self.about) {
+        self.text = match module_text(alloc, files, causes, self.loads, wanted, self.about) {
             Ok(text) => Some(text),
             Err(_) => None,
         };
@@ -49,16 +56,17 @@ fn module_text(
     alloc: Global,
     files: &Labels,
     causes: &Causes,
+    loads: &[Load],
     wanted: Wanted,
     it: &Module,
-) -> Result<String, AllocError>
+) -> Result<Vec<u8>, AllocError>
     requires files { length causes.now ≡ length files.now }
+    requires loads { All (λ l. l.file < length files.now) loads.now }
     requires there { it.now.number < length files.now }
-    ensures { IfOk result (λ s. IsTextOf wanted files.now causes.now it.now (string_bytes s)) }
+    ensures { IfOk result (λ s. IsTextOf wanted files.now causes.now loads.now it.now s.items) }
 {
     let shown = module_value(alloc, files, causes, it)?;
-    let shown = with_more(alloc, files, wanted, it, shown)?;
-    shown.to_string(alloc)
+    text_with_more(alloc, files, loads, wanted, it, shown)
 }
 
 /// For each file whether it is a root.
@@ -76,13 +84,15 @@ fn roots_marked(alloc: Global, files: usize, roots: &[usize]) -> Result<Vec<bool
 }
 
 /// A page of a module, on which nothing is written yet.
-fn page_of<'a>(wanted: Wanted, marks: &[bool], it: &'a Module) -> Page<'a>
+fn page_of<'a>(wanted: Wanted, marks: &[bool], it: &'a Module, loads: &'a [Load]) -> Page<'a>
     requires { it.now.number < length marks.now }
     ensures known { result.about.now ≡ it.now }
+    ensures loads { result.loads.now ≡ loads.now }
     ensures shown { (roots : List ℕ) → AreMarked roots marks.now → SaysShown wanted roots result }
 {
     Page {
         about: it,
+        loads,
         shown: !wanted.only_roots || !it.is_good() || marks[it.number],
         text: None,
     }
@@ -92,20 +102,25 @@ fn page_of<'a>(wanted: Wanted, marks: &[bool], it: &'a Module) -> Page<'a>
 fn pages_of<'a>(
     alloc: Global,
     run: &'a Run,
+    reads: &'a Reads,
     kept: &mut [Kept],
     wanted: Wanted,
     marks: &[bool],
 ) -> Result<Vec<Page<'a>>, AllocError>
     requires kept { kept.old ≡ run.now.kept }
     requires marks { length marks.now ≡ length run.now.cells }
+    requires lead { (n : ℕ) → All (λ l. l.file < length run.now.cells) (loads_at reads.now.all.items n) }
     ensures known { IfOk result (λ ps. map known_of ps.items ≡ map (λ k. k.known) run.now.kept) }
     ensures files { IfOk result (λ ps. All (λ p. p.about.now.number < length run.now.cells) ps.items) }
+    ensures loads { IfOk result (λ ps. All (HasItsLoads reads.now.all.items) ps.items) }
+    ensures lead { IfOk result (λ ps. All (λ p. All (λ l. l.file < length run.now.cells) p.loads.now) ps.items) }
     ensures shown { IfOk result (λ ps. (roots : List ℕ) → AreMarked roots marks.now
         → All (SaysShown wanted roots) ps.items) }
 {
     let mut pages = Vec::with_capacity(alloc, run.len())?;
     for i in 0..run.len() {
-        pages.push(page_of(wanted, marks, run.module(i, kept[i].note())))?;
+        let it = run.module(i, kept[i].note());
+        pages.push(page_of(wanted, marks, it, loads_in(reads, it.number)))?;
     }
     Ok(pages)
 }
@@ -121,6 +136,7 @@ fn write_pages<R: Threads + Sync>(
     threads: usize,
 )
     requires files { length causes.now ≡ length files.now }
+    requires loads { All (λ p. All (λ l. l.file < length files.now) p.loads.now) pages.old }
     requires there { All (λ p. p.about.now.number < length files.now) pages.old }
     ensures { AreWritten wanted files.now causes.now pages.old pages.new }
 {
@@ -130,28 +146,29 @@ fn write_pages<R: Threads + Sync>(
         pages,
         threads,
         &|_place: usize, page: &mut Page|
-            requires { (length causes.now ≡ length files.now) × (page.old.about.now.number < length files.now) }
+            requires { (length causes.now ≡ length files.now) × All (λ l. l.file < length files.now) page.old.loads.now
+                × (page.old.about.now.number < length files.now) }
             ensures { IsWritten wanted files.entry.now causes.entry.now page.old page.new }
         { page.write(alloc, files, causes, wanted) },
     );
 }
 
 /// One text more, after a comma where others stand before it.
-fn push_text(all: &mut String, later: bool, text: &str) -> Result<(), AllocError>
-    ensures { OnOk result (string_bytes all.new ≡ string_bytes all.old ++ (comma_if later ++ text.now)) }
+fn push_text(all: &mut Vec<u8>, later: bool, text: &[u8]) -> Result<(), AllocError>
+    ensures { OnOk result (all.new.items ≡ all.old.items ++ (comma_if later ++ text.now)) }
 {
     if later {
-        all.push(',')?;
+        all.push(b',')?;
     }
-    all.push_str(text)
+    all.extend_from_slice(text)
 }
 
 /// The text of a page more, where it is shown: whether some text stands there now. `Memory` where it was not written.
-fn push_page(all: &mut String, later: bool, page: &Page) -> Result<bool, AllocError>
+fn push_page(all: &mut Vec<u8>, later: bool, page: &Page) -> Result<bool, AllocError>
     ensures written { IfOk result (λ _. IsSome page.now.text) }
     ensures later { IfOk result (λ stands. stands ≡ (later || page.now.shown)) }
-    ensures text { IfOk result (λ _. string_bytes all.new
-        ≡ string_bytes all.old ++ (if page.now.shown then comma_if later ++ page_text page.now else [])) }
+    ensures text { IfOk result (λ _. all.new.items
+        ≡ all.old.items ++ (if page.now.shown then comma_if later ++ page_text page.now else [])) }
 {
     let Some(text) = &page.text else {
         return Err(AllocError);
@@ -159,7 +176,7 @@ fn push_page(all: &mut String, later: bool, page: &Page) -> Result<bool, AllocEr
     if !page.shown {
         return Ok(later);
     }
-    push_text(all, later, text.as_str())?;
+    push_text(all, later, text.as_slice())?;
     Ok(true)
 }
 
@@ -175,18 +192,18 @@ fn room_of(pages: &[Page]) -> usize {
 }
 
 /// The text of a report, by those of the pages that are shown. `Memory` where one was not written.
-fn joined(alloc: Global, begun: u32, pages: &[Page]) -> Result<String, AllocError>
+fn joined(alloc: Global, begun: u32, pages: &[Page]) -> Result<Vec<u8>, AllocError>
     ensures written { IfOk result (λ _. All (λ p. IsSome p.text) pages.now) }
-    ensures text { IfOk result (λ s. string_bytes s ≡ joined_text begun (shown_texts_of pages.now)) }
+    ensures text { IfOk result (λ s. s.items ≡ joined_text begun (shown_texts_of pages.now)) }
 {
-    let mut all = format!(in alloc; "{{\"begun\":{begun},\"modules\":[")?;
+    let mut all = format!(in alloc; "{{\"begun\":{begun},\"modules\":[")?.into_bytes();
     // A text that grew while other threads live would be moved, and each processor told of it.
     all.reserve(room_of(pages))?;
     let mut later = false;
     for i in 0..pages.len() {
         later = push_page(&mut all, later, &pages[i])?;
     }
-    all.push_str("]}\n")?;
+    all.extend_from_slice(b"]}\n")?;
     Ok(all)
 }
 
@@ -196,21 +213,24 @@ pub fn report<R: Threads + Sync>(
     rt: &R,
     alloc: Global,
     files: &Labels,
+    reads: &Reads,
     run: &mut Run,
     roots: &[usize],
     wanted: Wanted,
     threads: usize,
-) -> Result<String, AllocError>
-    requires { length run.old.cells ≡ length files.now }
+) -> Result<Vec<u8>, AllocError>
+    requires files { length run.old.cells ≡ length files.now }
+    requires loads { LeadToFiles files.now reads.now.all.items }
     ensures same { run.new ≡ run.old }
     ensures text { IfOk result (λ s. (plan : Plan) → IsPlanOf files.now plan → plan.roots ≡ roots.now
-        → AreModules plan run.old.kept → IsReportBut wanted files.now plan (length run.old.kept) run.old.begun (string_bytes s)) }
+        → IsReadOf files.now roots.now plan.prelude reads.now.all.items → AreModules plan run.old.kept
+        → IsReportBut wanted files.now plan (length run.old.kept) run.old.begun s.items) }
 {
     let nexts = nexts_of(alloc, files.len(), run)?;
     let causes = Causes::new(alloc, nexts)?;
     let mut kept = run.kept(alloc)?;
     let marks = roots_marked(alloc, files.len(), roots)?;
-    let mut pages = pages_of(alloc, run, kept.as_mut_slice(), wanted, &marks)?;
+    let mut pages = pages_of(alloc, run, reads, kept.as_mut_slice(), wanted, &marks)?;
     write_pages(
         rt,
         alloc,

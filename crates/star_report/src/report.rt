@@ -220,9 +220,12 @@ pub(crate) fn module_value(
     match &it.ended {
         Ended::Static(fault) => static_module(alloc, label, *fault),
         Ended::Load { line, .. } => load_module(alloc, files, causes, it.number, *line),
-        Ended::Stopped { code, line, lines } => {
-            failed_module(alloc, label, code_text(*code), *line, &lines, "fault")
-        }
+        Ended::Stopped {
+            code,
+            line,
+            lines,
+            ..
+        } => { failed_module(alloc, label, code_text(*code), *line, &lines, "fault") }
         Ended::Good(body) => good_module(alloc, label, &body.shown, &body.lines),
     }
 }

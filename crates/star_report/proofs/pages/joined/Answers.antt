@@ -1,4 +1,4 @@
-use Rattle.std.proofs.Common.{rules, ◌≡◌, ◌<◌, ◌+◌, ◌∙◌, ◌++◌, ◌∷◌, [], arith, ap, sym, subst, length, take, string_bytes, IsSome}
+use Rattle.std.proofs.Common.{rules, ◌≡◌, ◌<◌, ◌+◌, ◌∙◌, ◌++◌, ◌∷◌, [], arith, ap, sym, subst, length, take, IsSome}
 use Rattle.std.specs.Prelude.{slice_index_or}
 use Rattle.std.proofs.lemmas.List.{take_more}
 use Rattle.std.proofs.lemmas.List.Elements.{All-more}
@@ -17,6 +17,6 @@ loop-i-preserved c =
     let first : take (i + 1) ps ≡ take i ps ++ p ∷ [] = take_more ps i p less ∙ ap (λ x. take i ps ++ x ∷ []) at in
     record {
       written = All-more (λ (q : Page). IsSome q.text) ps i p less c.loop-i.invariant.written (subst (λ (q : Page). IsSome q.text) (sym at) c.in_ok-later.ensures.written);
-      so_far = subst (λ ts. SoFar (string_bytes c.reserve.new.self) ts c.in_ok-later.later (string_bytes c.push_page.new.all)) (sym (ap shown_texts_of first ∙ shown_push (take i ps) p))
-          (page_more (string_bytes c.reserve.new.self) (shown_texts_of (take i ps)) (page_text p) (string_bytes c.loop-i.all) (string_bytes c.push_page.new.all) c.loop-i.later c.in_ok-later.later p.shown c.loop-i.invariant.so_far c.in_ok-later.ensures.later c.in_ok-later.ensures.text);
+      so_far = subst (λ ts. SoFar c.reserve.new.self.items ts c.in_ok-later.later c.push_page.new.all.items) (sym (ap shown_texts_of first ∙ shown_push (take i ps) p))
+          (page_more c.reserve.new.self.items (shown_texts_of (take i ps)) (page_text p) c.loop-i.all.items c.push_page.new.all.items c.loop-i.later c.in_ok-later.later p.shown c.loop-i.invariant.so_far c.in_ok-later.ensures.later c.in_ok-later.ensures.text);
     }

@@ -1,4 +1,4 @@
-use Rattle.std.proofs.Common.{◌≡◌, ◌∙◌, List, arith, ap, sym, subst, length, map, string_bytes}
+use Rattle.std.proofs.Common.{◌≡◌, ◌∙◌, List, arith, ap, sym, subst, length, map}
 use Rattle.std.proofs.lemmas.Result.{IfOk-weaker}
 use Rattle.std.specs.Prelude.{All}
 use Rattle.star_cause.specs.Causes.{AreNextsOf}
@@ -7,6 +7,9 @@ use Rattle.star_report.specs.Pages.{AreMarked, AreWritten, SaysShown}
 use Rattle.star_report.specs.Shown.{IsReportBut}
 use Rattle.star_report.specs.declared.pages.Page.{Page}
 use Rattle.star_outcome.proofs.Lent.{written_back}
+use Rattle.star_reading.specs.Found.{IsReadOf}
+use Rattle.star_reading.specs.Readings.{readings}
+use Rattle.star_report.proofs.Planned.{read_plan}
 use Rattle.star_report.proofs.Sheets.{both_ok, pages_text}
 use Rattle.star_report.proofs.pages.report.Goals as goal
 
@@ -15,6 +18,7 @@ returns-clause-text g c =
     let wanted = c.args.wanted in
     let files = c.args.files.now in
     let ks = c.args.run.now.kept in
+    let row = c.args.reads.now.all.items in
     let nexts = c.in_ok-causes.causes in
     let old : List Page = c.in_ok-pages.pages.items in
     let new : List Page = c.as_slice.result.now in
@@ -27,8 +31,9 @@ returns-clause-text g c =
     let written : AreWritten wanted files nexts old new =
     subst (AreWritten wanted files nexts old) (sym back) (subst (λ (o : List Page). AreWritten wanted files nexts o c.write_pages.new.pages) c.as_mut_slice-2.ensures.value c.write_pages.ensures) in
     let as_long : length new ≡ length old = omega (arith, ap length back, c.write_pages.auto.pages, lent) in
-    IfOk-weaker c.joined.result _ _ (λ s h plan planned of_roots are.
+    IfOk-weaker c.joined.result _ _ (λ s h plan planned of_roots was_read are.
+    let read : readings row ≡ plan.reads = read_plan files row plan c.len.ensures.ordered planned (subst (λ rs. IsReadOf files rs plan.prelude row) (sym of_roots) was_read) in
     let fails = c.in_ok-nexts.ensures.fails files plan planned are in
-    subst (λ b. IsReportBut wanted files plan (length ks) b (string_bytes s)) (c.begun.ensures ∙ ap (λ r. r.begun) same)
-    (pages_text wanted files plan nexts ks old new c.begun.result (string_bytes s) known (subst (λ rs. All (SaysShown wanted rs) old) (sym of_roots) (c.in_ok-pages.ensures.shown c.args.roots.now marked)) written as_long h.0 h.1 planned are (subst (AreNextsOf plan) (sym c.in_ok-causes.ensures) fails)))
+    subst (λ b. IsReportBut wanted files plan (length ks) b s.items) (c.begun.ensures ∙ ap (λ r. r.begun) same)
+    (pages_text wanted files row plan nexts ks old new c.begun.result s.items known (subst (λ rs. All (SaysShown wanted rs) old) (sym of_roots) (c.in_ok-pages.ensures.shown c.args.roots.now marked)) c.in_ok-pages.ensures.loads written as_long h.0 h.1 planned read are (subst (AreNextsOf plan) (sym c.in_ok-causes.ensures) fails)))
     (both_ok c.joined.result _ _ c.joined.ensures.written c.joined.ensures.text)

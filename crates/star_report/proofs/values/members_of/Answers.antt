@@ -1,8 +1,9 @@
-use Rattle.std.proofs.Common.{rules, ◌≡◌, ◌∙◌, ℕ, List, Option, [], ap, filter, fold, map, string_bytes}
+use Rattle.std.proofs.Common.{rules, ◌≡◌, ◌∙◌, ℕ, List, Option, [], ap, filter, fold, map, string_bytes, subst}
 use Rattle.std.proofs.lemmas.Result.{IfOk-weaker}
 use Rattle.serde_json.specs.Data.{Data, no_members, string}
 use Rattle.star_store.specs.Store.{Store}
 use Rattle.star_report.specs.Shelf.{among_data, stored_data}
+use Rattle.star_report.specs.Texts.{AreTexts}
 use Rattle.star_report.specs.Values.{is_opaque, with_value}
 use Rattle.star_report.proofs.values.members_of.Goals as goal
 
@@ -14,11 +15,10 @@ returns-clause-values c =
     let shown = c.deref.result.now in
     let blank : arena ≡ record { home = c.args.files; cells = [] } = search rules in
     let names = λ (f : List ℕ → Option Data). ap (λ gs. fold (with_value f) no_members (map (λ g. string_bytes g.0) gs)) c.deref.ensures.value in
-    IfOk-weaker c.values_among.result _ _ (λ v h.
-    h
-    ∙ (ap (λ s. fold (with_value (among_data s homes n)) no_members (map (λ g. string_bytes g.0) shown)) blank
+    IfOk-weaker c.values_among.result _ _ (λ v h. subst (λ ms. AreTexts v.values.entries ms)
+    (ap (λ s. fold (with_value (among_data s homes n)) no_members (map (λ g. string_bytes g.0) shown)) blank
     ∙ (ap (λ s. fold (with_value (among_data (record { home = c.args.files; cells = [] }) s n)) no_members (map (λ g. string_bytes g.0) shown)) c.in_ok-homes.ensures
-    ∙ names (stored_data c.args.files n c.args.body.now)))) c.values_among.ensures.values
+    ∙ names (stored_data c.args.files n c.args.body.now))) h) c.values_among.ensures.values
 
 pub returns-clause-opaque : goal.returns-clause-opaque
 returns-clause-opaque c =

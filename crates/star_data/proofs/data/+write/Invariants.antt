@@ -1,0 +1,54 @@
+use Rattle.std.proofs.Common.{◌≡◌, ◌+◌, ◌*◌, drop, map, take}
+use Rattle.star_store.specs.Store.{look}
+use Rattle.star_data.specs.Data.{data_of, entries_data}
+use Rattle.star_data.specs.Paths.{AllStandInEach}
+use Rattle.star_data.specs.Texts.{row_data}
+use Rattle.star_data.proofs.Sent.{LeftMembers, SentItems}
+use Rattle.star_data.proofs.data.+write.Given as goal
+
+abbrev pub decreases-is_data : goal.decreases-is_data
+decreases-is_data l = 6 * l.levels + 1
+
+abbrev pub decreases-write_cell : goal.decreases-write_cell
+decreases-write_cell l = 6 * l.levels + 5
+
+abbrev pub decreases-write_dict : goal.decreases-write_dict
+decreases-write_dict l = 6 * l.levels + 4
+
+abbrev pub decreases-write_entries : goal.decreases-write_entries
+decreases-write_entries l = 6 * l.levels + 3
+
+abbrev pub decreases-write_items : goal.decreases-write_items
+decreases-write_items l = 6 * l.levels + 3
+
+abbrev pub decreases-write_list : goal.decreases-write_list
+decreases-write_list l = 6 * l.levels + 4
+
+abbrev pub decreases-write_members : goal.decreases-write_members
+decreases-write_members l = 6 * l.levels + 2
+
+abbrev pub decreases-write_value : goal.decreases-write_value
+decreases-write_value l = 6 * l.levels
+
+abbrev pub invariant-write_entries-loop-i : goal.invariant-write_entries-loop-i
+invariant-write_entries-loop-i l = record {
+  path : l.path.items ≡ l.fn.path.items;
+  out : l.out ≡ l.fn.out;
+  row : entries_data (look l.arena l.homes) (data_of (look l.arena l.homes) l.levels) (drop l.i l.entries) ≡ row_data (data_of (look l.arena l.homes) l.levels) l.members.entries;
+  stand : AllStandInEach (look l.arena l.homes) l.fn.path.items (map (λ e. e.1) l.members.entries);
+}
+
+abbrev pub invariant-write_items-loop-item : goal.invariant-write_items-loop-item
+invariant-write_items-loop-item l = record {
+  path : l.path.items ≡ l.fn.path.items;
+  before : l.out.before ≡ l.fn.out.before;
+  sent : SentItems (data_of (look l.arena l.homes) l.levels) (take l.item-index l.items) l.fn.out.tokens l.out.tokens;
+}
+
+abbrev pub invariant-write_members-loop-key : goal.invariant-write_members-loop-key
+invariant-write_members-loop-key l = record {
+  path : l.path.items ≡ l.fn.path.items;
+  before : l.out.before ≡ l.fn.out.before;
+  sent : LeftMembers (data_of (look l.arena l.homes) l.levels) l.members.entries l.key-iterator l.fn.out.tokens l.out.tokens;
+  stand : AllStandInEach (look l.arena l.homes) l.fn.path.items (map (λ e. e.1) l.key-iterator);
+}

@@ -1,0 +1,8 @@
+use Rattle.std.proofs.Common.{◌≡◌, ◌++◌, map, take}
+use Rattle.std.specs.Prelude.{flat_map}
+use Rattle.star_report.specs.Drawn.{node_view}
+use Rattle.star_report.specs.Graph.{edge_lines}
+use Rattle.star_report.proofs.graph.with_all_edges.Given as goal
+
+abbrev pub invariant-loop-node : goal.invariant-loop-node
+invariant-loop-node l = l.text.items ≡ l.fn.text.items ++ flat_map (edge_lines l.files) (map node_view (take l.node-index l.nodes))

@@ -1,0 +1,269 @@
+//! The graph of loads, as DOT.
+
+ghost use Rattle.std.specs.Prelude.{◌≡◌, ◌<◌, ◌++◌, IfOk, IfSome, OnOk, codes, flat_map, if◌then◌else◌, length, map};
+ghost use Rattle.json.specs.Print.{quoted};
+ghost use Rattle.star_cache.specs.State.{Loads};
+ghost use Rattle.star_label.specs.Files.{label_at};
+ghost use Rattle.star_outcome.specs.Kept.{AreModules};
+ghost use Rattle.star_outcome.specs.Views.{IsModule};
+ghost use Rattle.star_plan.specs.Plan.{Plan, loaded};
+ghost use Rattle.star_plan.specs.Reading.{IsPlanOf};
+ghost use Rattle.star_reading.specs.Found.{IsReadOf};
+ghost use Rattle.star_reading.specs.Readings.{loads_at};
+ghost use Rattle.star_report.specs.Graph as spec;
+ghost use Rattle.star_report.specs.Drawn.{AreNodesWithin, EndWithin, InReadPlans, IsNextNode, IsTableWithin, LeadWithin, SayCycles, SaysCycle, node_view};
+ghost use Rattle.star_report.specs.Table.{IsTable};
+
+use crate::leads::leads;
+use crate::modules::modules_by_number;
+use crate::more::loads_in;
+use indexmap::IndexSet;
+use json::Writer;
+use star_label::files::Files as Labels;
+use star_outcome::module::Module;
+use star_outcome::outcome::Run;
+use star_reading::reading::Reads;
+use star_scope::loads::Load;
+use std::alloc::{AllocError, Global};
+
+/// A file that is loaded, and whether the load lies on a cycle of loads.
+#[derive(Clone, Copy, Debug, PartialEq, Eq)]
+pub(crate) struct Edge {
+    pub to: usize,
+    pub on_cycle: bool,
+}
+
+/// A file, whether it is ok, and the files that it loads.
+#[derive(Drop)]
+pub(crate) struct Node {
+    pub file: usize,
+    pub is_ok: bool,
+    pub edges: Vec<Edge>,
+}
+
+/// The files that load statements load, in source order, each once.
+fn targets(alloc: Global, loads: &[Load]) -> Result<IndexSet<usize>, AllocError>
+    ensures { IfOk result (λ s. s.keys ≡ spec.targets loads.now) }
+{
+    let mut files = IndexSet::new(alloc);
+    for load in loads {
+        if load.token.is_some() {
+            files.insert(load.file)?;
+        }
+    }
+    Ok(files)
+}
+
+/// Whether the load of a file by a module lies on a cycle of loads. A file on a cycle is not ok.
+fn is_on_cycle(alloc: Global, reads: &Reads, it: &Module, to: usize) -> Result<bool, AllocError>
+    requires to { to < length reads.now.all.items }
+    requires loads { LeadWithin reads.now.all.items }
+    ensures { IfOk result (λ on. InReadPlans reads.now.all.items (λ plan. IsModule plan it.now.number it.now
+        → Loads (loaded plan) it.now.number to → SaysCycle plan it.now.number to on)) }
+{
+    if it.is_good() {
+        return Ok(false);
+    }
+    leads(alloc, reads, to, it.number)
+}
+
+/// The edges of a module.
+fn edges_of(alloc: Global, reads: &Reads, it: &Module) -> Result<Vec<Edge>, AllocError>
+    requires { LeadWithin reads.now.all.items }
+    ensures targets { IfOk result (λ es. map (λ e. e.to) es.items
+        ≡ spec.targets (loads_at reads.now.all.items it.now.number)) }
+    ensures cycles { IfOk result (λ es. SayCycles reads.now.all.items it.now es.items) }
+    ensures within { IfOk result (λ es. EndWithin (length reads.now.all.items) es.items) }
+{
+    let files = targets(alloc, loads_in(reads, it.number))?;
+    let mut edges = Vec::with_capacity(alloc, files.len())?;
+    for to in files.as_slice() {
+        let on_cycle = is_on_cycle(alloc, reads, it, *to)?;
+        edges.push(Edge { to: *to, on_cycle })?;
+    }
+    Ok(edges)
+}
+
+/// The node of a module.
+fn node_of(alloc: Global, reads: &Reads, it: &Module) -> Result<Node, AllocError>
+    requires { LeadWithin reads.now.all.items }
+    ensures file { IfOk result (λ v. v.file ≡ it.now.number) }
+    ensures node { IfOk result (λ v. InReadPlans reads.now.all.items (λ plan. IsModule plan it.now.number it.now
+        → spec.IsNode plan (node_view v))) }
+    ensures within { IfOk result (λ v. EndWithin (length reads.now.all.items) v.edges.items) }
+{
+    Ok(Node {
+        file: it.number,
+        is_ok: it.is_good(),
+        edges: edges_of(alloc, reads, it)?,
+    })
+}
+
+/// The node of a module, where there is one, after those of the files before it.
+fn push_node(
+    alloc: Global,
+    reads: &Reads,
+    entry: Option<&Module>,
+    nodes: &mut Vec<Node>,
+) -> Result<(), AllocError>
+    requires loads { LeadWithin reads.now.all.items }
+    requires within { IfSome entry (λ it. it.now.number < length reads.now.all.items) }
+    ensures graph { OnOk result (InReadPlans reads.now.all.items (λ plan. IsNextNode plan entry.entry nodes.old.items
+        nodes.new.items)) }
+    ensures within { OnOk result (AreNodesWithin (length reads.now.all.items) nodes.old.items
+        → AreNodesWithin (length reads.now.all.items) nodes.new.items) }
+{
+    match entry {
+        Some(it) => {
+            let node = node_of(alloc, reads, it)?;
+            nodes.push(node)?;
+            Ok(())
+        }
+        None => Ok(()),
+    }
+}
+
+/// The nodes of all files that have a module.
+fn nodes_of(
+    alloc: Global,
+    reads: &Reads,
+    table: &[Option<&Module>],
+) -> Result<Vec<Node>, AllocError>
+    requires loads { LeadWithin reads.now.all.items }
+    requires within { IsTableWithin (length reads.now.all.items) table.now }
+    ensures graph { IfOk result (λ vs. InReadPlans reads.now.all.items (λ plan. IsTable plan table.now
+        → spec.IsGraph plan (map node_view vs.items))) }
+    ensures within { IfOk result (λ vs. AreNodesWithin (length reads.now.all.items) vs.items) }
+{
+    let mut nodes = Vec::new(alloc);
+    for entry in table {
+        push_node(alloc, reads, *entry, &mut nodes)?;
+    }
+    Ok(nodes)
+}
+
+/// A text, and a label in double quotes.
+fn with_label(text: Vec<u8>, files: &Labels, n: usize) -> Result<Vec<u8>, AllocError>
+    requires { n < length files.now }
+    ensures { IfOk result (λ t. t.items ≡ text.items ++ quoted (label_at files.now n)) }
+{
+    let mut out = Writer::new(text);
+    out.string(files.label(n).text())?;
+    Ok(out.into_inner())
+}
+
+/// A text, and the line of a node.
+fn with_node(text: Vec<u8>, files: &Labels, node: &Node) -> Result<Vec<u8>, AllocError>
+    requires { node.now.file < length files.now }
+    ensures { IfOk result (λ t. t.items ≡ text.items ++ spec.node_line files.now (node_view node.now)) }
+{
+    let mut text = text;
+    text.extend_from_slice(b"  ")?;
+    let mut text = with_label(text, files, node.file)?;
+    if node.is_ok {
+        text.extend_from_slice(b";\n")?;
+    } else {
+        text.extend_from_slice(b" [style=filled];\n")?;
+    }
+    Ok(text)
+}
+
+/// What ends the line of an edge.
+fn edge_end(edge: &Edge) -> &'static str
+    ensures { result.now ≡ (if edge.now.on_cycle then codes " [color=red];\n" else codes ";\n") }
+{
+    if edge.on_cycle {
+        " [color=red];\n"
+    } else {
+        ";\n"
+    }
+}
+
+/// A text, and the line of an edge.
+fn with_edge(text: Vec<u8>, files: &Labels, n: usize, edge: &Edge) -> Result<Vec<u8>, AllocError>
+    requires from { n < length files.now }
+    requires to { edge.now.to < length files.now }
+    ensures { IfOk result (λ t. t.items ≡ text.items ++ spec.edge_line files.now n edge.now) }
+{
+    let mut text = text;
+    text.extend_from_slice(b"  ")?;
+    let mut text = with_label(text, files, n)?;
+    text.extend_from_slice(b" -> ")?;
+    let mut text = with_label(text, files, edge.to)?;
+    text.extend_from_slice(edge_end(edge).as_bytes())?;
+    Ok(text)
+}
+
+/// A text, and the lines of the edges of a node.
+fn with_edges(text: Vec<u8>, files: &Labels, node: &Node) -> Result<Vec<u8>, AllocError>
+    requires from { node.now.file < length files.now }
+    requires to { EndWithin (length files.now) node.now.edges.items }
+    ensures { IfOk result (λ t. t.items ≡ text.items ++ spec.edge_lines files.now (node_view node.now)) }
+{
+    let mut text = text;
+    for edge in node.edges.as_slice() {
+        text = with_edge(text, files, node.file, edge)?;
+    }
+    Ok(text)
+}
+
+/// A text, and the lines of all nodes.
+fn with_nodes(text: Vec<u8>, files: &Labels, nodes: &[Node]) -> Result<Vec<u8>, AllocError>
+    requires { AreNodesWithin (length files.now) nodes.now }
+    ensures { IfOk result (λ t. t.items
+        ≡ text.items ++ flat_map (spec.node_line files.now) (map node_view nodes.now)) }
+{
+    let mut text = text;
+    for node in nodes {
+        text = with_node(text, files, node)?;
+    }
+    Ok(text)
+}
+
+/// A text, and the lines of the edges of all nodes.
+fn with_all_edges(text: Vec<u8>, files: &Labels, nodes: &[Node]) -> Result<Vec<u8>, AllocError>
+    requires { AreNodesWithin (length files.now) nodes.now }
+    ensures { IfOk result (λ t. t.items
+        ≡ text.items ++ flat_map (spec.edge_lines files.now) (map node_view nodes.now)) }
+{
+    let mut text = text;
+    for node in nodes {
+        text = with_edges(text, files, node)?;
+    }
+    Ok(text)
+}
+
+/// The graph as DOT.
+fn dot(alloc: Global, files: &Labels, nodes: &[Node]) -> Result<Vec<u8>, AllocError>
+    requires { AreNodesWithin (length files.now) nodes.now }
+    ensures { IfOk result (λ t. t.items ≡ spec.graph_text files.now (map node_view nodes.now)) }
+{
+    let mut text = Vec::new(alloc);
+    text.extend_from_slice(b"digraph loads {\n")?;
+    let text = with_nodes(text, files, nodes)?;
+    let mut text = with_all_edges(text, files, nodes)?;
+    text.extend_from_slice(b"}\n")?;
+    Ok(text)
+}
+
+/// The graph of the loads of a run as DOT: a node for each reached file, filled where it is not ok, and an edge for each
+/// file that its load statements load, red where that load lies on a cycle of loads.
+pub fn graph(
+    alloc: Global,
+    files: &Labels,
+    reads: &Reads,
+    run: &mut Run,
+) -> Result<Vec<u8>, AllocError>
+    requires files { length run.old.cells ≡ length files.now }
+    requires reads { length reads.now.all.items ≡ length files.now }
+    requires loads { LeadWithin reads.now.all.items }
+    ensures same { run.new ≡ run.old }
+    ensures text { IfOk result (λ s. (plan : Plan) → IsPlanOf files.now plan
+        → IsReadOf files.now plan.roots plan.prelude reads.now.all.items → AreModules plan run.old.kept
+        → spec.IsGraphText files.now plan s.items) }
+{
+    let mut kept = run.kept(alloc)?;
+    let table = modules_by_number(alloc, files.len(), run, kept.as_mut_slice())?;
+    let nodes = nodes_of(alloc, reads, table.as_slice())?;
+    dot(alloc, files, nodes.as_slice())
+}

@@ -1,0 +1,207 @@
+//! The text of a module, with what is wanted more of it.
+
+ghost use Rattle.std.specs.Prelude.{◌≡◌, ◌<◌, ◌++◌, ◌∷◌, [], false, All, IfOk, codes, filter, is_some, length, map};
+ghost use Rattle.json.specs.Print.{quoted};
+ghost use Rattle.serde_json.specs.Data.{Data, Members, object};
+ghost use Rattle.serde_json.specs.View.{view};
+ghost use Rattle.serde_json.specs.Written.{comma_if, compact_text, has_float};
+ghost use Rattle.star_reading.specs.Readings.{loads_at};
+ghost use Rattle.star_report.specs.Shelf.{loads_part, more_of, names_of, steps_part, stored_data};
+ghost use Rattle.star_report.specs.Shown.{IsShown};
+ghost use Rattle.star_report.specs.Texts.{AreTexts, EndsIn, joined_members};
+ghost use Rattle.star_report.specs.Values.{value_members_by};
+ghost use Rattle.star_report.specs.Wanted.{added, load_member, put_in};
+ghost use Rattle.star_cause.specs.Ways.{Nexts};
+
+use crate::values::{Values, members_of};
+use crate::wanted::Wanted;
+use json::Writer;
+use serde_json::{Map, Value as Json, json};
+use star_label::files::Files as Labels;
+use star_outcome::module::{Body, Ended, Module};
+use star_reading::reading::{Read, Reads};
+use star_scope::loads::Load;
+use std::alloc::{AllocError, Global};
+
+/// An object with one member more; other JSON stays.
+fn with_member(alloc: Global, shown: Json, key: &str, json: Json) -> Result<Json, AllocError>
+    ensures { IfOk result (λ v. view v ≡ put_in key.now (view json) (view shown)) }
+{
+    match shown {
+        Json::Object(mut members) => {
+            serde_json::put(&mut members, alloc, key, json)?;
+            Ok(Json::Object(members))
+        }
+        other => Ok(other),
+    }
+}
+
+/// The loads of a file: none where it has a static fault.
+pub(crate) fn loads_in<'s, 't>(reads: &'s Reads<'t>, n: usize) -> &'s [Load]
+    ensures { result.now ≡ loads_at reads.now.all.items n }
+{
+    match reads.all.get(n) {
+        Some(Some(Read::Program(program))) => program.loads(),
+        _ => &[],
+    }
+}
+
+/// A load, by the label of its file and its line.
+fn load_json(alloc: Global, files: &Labels, load: &Load) -> Result<Json, AllocError>
+    requires { load.now.file < length files.now }
+    ensures { IfOk result (λ v. view v ≡ load_member files.now load.now) }
+{
+    let label = files.label(load.file).text();
+    json!(in alloc; {"label": label, "line": load.line as u64})
+}
+
+/// The loads of load statements, in order: the prelude's has none.
+fn loads_json(alloc: Global, files: &Labels, loads: &[Load]) -> Result<Vec<Json>, AllocError>
+    requires { All (λ l. l.file < length files.now) loads.now }
+    ensures { IfOk result (λ v. map view v.items
+        ≡ map (load_member files.now) (filter (λ l. is_some l.token) loads.now)) }
+{
+    let mut all = Vec::new(alloc);
+    for load in loads {
+        if load.token.is_some() {
+            all.push(load_json(alloc, files, load)?)?;
+        }
+    }
+    Ok(all)
+}
+
+/// A module with its loads, where they are wanted.
+fn with_loads(
+    alloc: Global,
+    files: &Labels,
+    loads: &[Load],
+    wanted: Wanted,
+    shown: Json,
+) -> Result<Json, AllocError>
+    requires { All (λ l. l.file < length files.now) loads.now }
+    ensures { IfOk result (λ v. view v ≡ added (loads_part wanted files.now loads.now) (view shown)) }
+{
+    if !wanted.loads {
+        return Ok(shown);
+    }
+    let loads = loads_json(alloc, files, loads)?;
+    with_member(alloc, shown, "loads", Json::Array(loads))
+}
+
+/// A module with the steps that it has paid, where they are wanted and it is ok.
+fn with_steps(alloc: Global, wanted: Wanted, ended: &Ended, shown: Json) -> Result<Json, AllocError>
+    ensures { IfOk result (λ v. view v ≡ added (steps_part wanted ended.now) (view shown)) }
+{
+    match ended {
+        Ended::Good(body) if wanted.steps => {
+            with_member(alloc, shown, "steps", Json::from(body.paid as u64))
+        }
+        _ => Ok(shown),
+    }
+}
+
+/// A comma, where something stands before.
+fn with_comma(text: Vec<u8>, later: bool) -> Result<Vec<u8>, AllocError>
+    ensures { IfOk result (λ t. t.items ≡ text.items ++ comma_if later) }
+{
+    let mut text = text;
+    if later {
+        text.push(b',')?;
+    }
+    Ok(text)
+}
+
+/// A text, and a name with its colon.
+fn with_key(text: Vec<u8>, name: &str) -> Result<Vec<u8>, AllocError>
+    ensures { IfOk result (λ t. t.items ≡ text.items ++ (quoted name.now ++ 58 ∷ [])) }
+{
+    let mut out = Writer::new(text);
+    out.key(name)?;
+    Ok(out.into_inner())
+}
+
+/// One member more in the text of an object, by its JSON.
+fn with_text(text: Vec<u8>, later: bool, name: &str, json: &[u8]) -> Result<Vec<u8>, AllocError>
+    ensures { IfOk result (λ t. t.items ≡ text.items ++ (comma_if later ++ (quoted name.now ++ 58 ∷ json.now))) }
+{
+    let text = with_comma(text, later)?;
+    let mut text = with_key(text, name)?;
+    text.extend_from_slice(json)?;
+    Ok(text)
+}
+
+/// A text, and the object of these members, each by its JSON.
+fn with_object(text: Vec<u8>, members: &Map<&str, Vec<u8>>) -> Result<Vec<u8>, AllocError>
+    ensures { IfOk result (λ t. t.items ≡ text.items ++ 123 ∷ joined_members false members.now.entries) }
+{
+    let mut text = text;
+    let mut later = false;
+    text.push(b'{')?;
+    for (name, json) in members.iter() {
+        text = with_text(text, later, *name, json.as_slice())?;
+        later = true;
+    }
+    text.push(b'}')?;
+    Ok(text)
+}
+
+/// The text of an object with one member more, which is the last, and is itself an object of these members.
+fn with_last(
+    alloc: Global,
+    shown: &Json,
+    name: &str,
+    members: &Map<&str, Vec<u8>>,
+) -> Result<Vec<u8>, AllocError>
+    requires { EndsIn name.now (view shown.now) }
+    ensures { IfOk result (λ t. has_float (view shown.now) ≡ false → (ms : Members) → AreTexts members.now.entries ms
+        → t.items ≡ compact_text (put_in name.now (object ms) (view shown.now))) }
+{
+    let mut text = shown.to_vec(alloc)?;
+    text.pop();
+    text.push(b',')?;
+    let text = with_key(text, name)?;
+    let mut text = with_object(text, members)?;
+    text.push(b'}')?;
+    Ok(text)
+}
+
+/// The text of a module with the values of its globals, and with the names of those that are no data.
+fn text_with_values(
+    alloc: Global,
+    files: &Labels,
+    n: usize,
+    body: &Body,
+    shown: Json,
+) -> Result<Vec<u8>, AllocError>
+    requires { (d : Data) → EndsIn (codes "values") (put_in (codes "opaque") d (view shown)) }
+    ensures { let more = value_members_by (stored_data (length files.now) n body.now) (names_of body.now) in
+        IfOk result (λ t. has_float (added more (view shown)) ≡ false → t.items ≡ compact_text (added more (view shown))) }
+{
+    let Values { values, opaque } = members_of(alloc, files.len(), n, body)?;
+    let shown = with_member(alloc, shown, "opaque", Json::Array(opaque))?;
+    with_last(alloc, &shown, "values", &values)
+}
+
+/// The text of a module with what is wanted more of it.
+pub(crate) fn text_with_more(
+    alloc: Global,
+    files: &Labels,
+    loads: &[Load],
+    wanted: Wanted,
+    it: &Module,
+    shown: Json,
+) -> Result<Vec<u8>, AllocError>
+    requires loads { All (λ l. l.file < length files.now) loads.now }
+    requires shown { (nexts : Nexts) × IsShown files.now nexts it.now.number it.now.ended shown }
+    ensures { let more = more_of wanted files.now loads.now it.now in
+        IfOk result (λ t. has_float (added more (view shown)) ≡ false → t.items ≡ compact_text (added more (view shown))) }
+{
+    let shown = with_loads(alloc, files, loads, wanted, shown)?;
+    let shown = with_steps(alloc, wanted, &it.ended, shown)?;
+    match &it.ended {
+        Ended::Good(body) if wanted.values => {
+            text_with_values(alloc, files, it.number, body, shown)
+        }
+        _ => shown.to_vec(alloc),
+    }
+}
