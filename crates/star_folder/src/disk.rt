@@ -178,16 +178,32 @@ pub struct Front {
     pub bytes: Vec<u8>,
 }
 
+/// Reads at most so many of the first bytes of the file at a path, which has `size` bytes or so.
+pub fn front_of_size<R: Files + AllocGlobal>(
+    rt: &R,
+    path: String,
+    most: usize,
+    size: u64,
+) -> io::Result<Front>
+    ensures path { IfOk result (λ front. string_bytes front.path ≡ string_bytes path) }
+    ensures few { IfOk result (λ front. vec_len front.bytes ≤ most) }
+{
+    let file = File::open(rt, path.as_str())?;
+    // With room for one byte more than the file has, one read finds all of it, and one its end.
+    let room = size.saturating_add(1).min(most as u64);
+    let mut bytes = Vec::with_capacity(rt.alloc(), room as usize)?;
+    file.take(most as u64).read_to_end(&mut bytes)?;
+    bytes.truncate(most);
+    Ok(Front { path, bytes })
+}
+
 /// Reads at most so many of the first bytes of the file at a path.
 pub fn front_at<R: Files + AllocGlobal>(rt: &R, path: String, most: usize) -> io::Result<Front>
     ensures path { IfOk result (λ front. string_bytes front.path ≡ string_bytes path) }
     ensures few { IfOk result (λ front. vec_len front.bytes ≤ most) }
 {
-    let file = File::open(rt, path.as_str())?;
-    let mut bytes = Vec::new(rt.alloc());
-    file.take(most as u64).read_to_end(&mut bytes)?;
-    bytes.truncate(most);
-    Ok(Front { path, bytes })
+    let size = fs::metadata(rt, path.as_str())?.len();
+    front_of_size(rt, path, most, size)
 }
 
 /// The first 1,048,577 bytes of the file of a label in the folder at `top`.

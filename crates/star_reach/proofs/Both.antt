@@ -26,7 +26,7 @@ use Rattle.star_repo.specs.Loading.{LoadsLabel}
 use Rattle.star_repo.specs.Reach.{IsReachedOf, root as is_root, prelude as is_prelude, load as is_load}
 use Rattle.star_repo.specs.Laws.{AreAllFiles}
 use Rattle.star_reach.specs.Laws.{AllSound, PlansReachAll, words_of}
-use Rattle.star_repo.specs.Rows.{IsIn}
+use Rattle.star_words.specs.Rows.{IsIn}
 use Rattle.star_repo.proofs.Rows.{from_in, to_in}
 use Rattle.star_reach.proofs.Plans.{file, some_same}
 

@@ -6,10 +6,11 @@ use Rattle.std.specs.Str.{IsUtf8}
 use Rattle.std.proofs.lemmas.Bool.{le-ltb}
 use Rattle.star_label.specs.Files.{File, IsOrdered, file_of, is_too_long, limit_passed}
 use Rattle.star_repo.specs.Held.{Fits, Held, Said}
-use Rattle.star_repo.specs.Parsed.{AreFilesParsed, AreParsed, ParsedView}
+use Rattle.star_repo.specs.Parsed.{AreFilesParsed, AreParsed}
+use Rattle.star_reading.specs.Parsed.{ParsedView}
 use Rattle.star_repo.specs.Reach.{AreReachedFiles, Words}
 use Rattle.star_repo.specs.Refusal.{Pass}
-use Rattle.star_repo.specs.Rows.{IsIn}
+use Rattle.star_words.specs.Rows.{IsIn}
 use Rattle.star_repo.specs.Views.{answer_of, answers_in}
 use Rattle.star_repo.specs.Way.{IsWay}
 use Rattle.star_repo.proofs.Inserted.{each_of}

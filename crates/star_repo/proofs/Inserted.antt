@@ -15,7 +15,7 @@ use Rattle.std.proofs.lemmas.Map.Lookups.{exact_bytes}
 use Rattle.std.proofs.lemmas.Slice.Eq.{bytes_eq-Decides}
 use Rattle.star_label.specs.Files.{File, IsOrdered}
 use Rattle.star_repo.specs.Refusal.{size_of}
-use Rattle.star_repo.specs.Rows.{IsIn}
+use Rattle.star_words.specs.Rows.{IsIn}
 use Rattle.star_repo.proofs.Rows.{R, from_in, to_in}
 
 pub bytes_same : (k l : List ℕ) → bytes_eq k l ≡ true → k ≡ l

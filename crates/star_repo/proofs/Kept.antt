@@ -14,8 +14,9 @@ use Rattle.star_label.specs.contracts.label.LabelOrd.TheImpl.{cmp-value}
 use Rattle.star_label.specs.Files.{File, IsOrdered, file_of}
 use Rattle.star_label.specs.View.{text_of}
 use Rattle.star_repo.specs.declared.found.ReadFile.{ReadFile}
-use Rattle.star_repo.specs.Parsed.{AreParsed, IsParsed, ParsedView}
-use Rattle.star_repo.specs.Rows.{IsIn}
+use Rattle.star_repo.specs.Parsed.{AreParsed}
+use Rattle.star_reading.specs.Parsed.{IsParsed, ParsedView}
+use Rattle.star_words.specs.Rows.{IsIn}
 use Rattle.star_repo.specs.Views.{IsAfter, IsKept, IsRead, answer_of, labels_of}
 use Rattle.star_repo.specs.Way.{Answer, IsBelow}
 use Rattle.star_repo.proofs.Inserted.{all_of, each_of}

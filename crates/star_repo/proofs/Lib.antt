@@ -11,4 +11,4 @@ pub mod Kept
 pub mod Parts
 pub mod Ended
 pub mod Turns
-pub mod Paths
+pub mod SameWords

@@ -9,7 +9,7 @@ use Rattle.star_parser.proofs.Once.{one_answer}
 use Rattle.star_tree.specs.declared.tree.Tree.{Tree}
 use Rattle.star_scope.specs.Loads.{Written, written}
 use Rattle.star_repo.specs.Loading.{LoadsLabel}
-use Rattle.star_repo.specs.Rows.{IsIn}
+use Rattle.star_words.specs.Rows.{IsIn}
 use Rattle.star_repo.specs.Views.{IsNamed}
 use Rattle.star_repo.proofs.Labels.{in_back, in_either, in_front}
 use Rattle.star_repo.proofs.Rows.{from_in, to_in}

@@ -19,7 +19,7 @@ use Rattle.star_repo.specs.Reach.{Words}
 use Rattle.star_repo.specs.Refusal.{AreBefore, ComesFirst, IsRefusedAt, IsRound, Pass, Refuses, Stands, size_of}
 use Rattle.star_repo.specs.Laws.{OneRefusal, RefusedOrNot}
 use Rattle.star_repo.proofs.Reached.{from_round}
-use Rattle.star_repo.specs.Rows.{IsIn}
+use Rattle.star_words.specs.Rows.{IsIn}
 use Rattle.star_repo.proofs.Rows.{R, below, from_in, never_less, same_rows, to_in}
 
 -- a file stands where a refusal is not that its read failed

@@ -9,7 +9,7 @@ use Rattle.std.specs.List.Sorted.{IsStrictlySortedBy}
 use Rattle.std.specs.Ordering.{nat_cmp, ordering_reverse}
 use Rattle.std.proofs.lemmas.Cmp.{nat_list_cmp_total}
 use Rattle.star_label.specs.Files.{File, IsOrdered}
-use Rattle.star_repo.specs.Rows.{IsIn}
+use Rattle.star_words.specs.Rows.{IsIn}
 
 pub to_in : {X : Type 0} (xs : List X) (x : X) → Contains xs x → IsIn x xs
 to_in [] x c = absurd (omega (arith, c.1))

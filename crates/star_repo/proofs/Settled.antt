@@ -9,8 +9,9 @@ use Rattle.star_label.specs.Label.{package_of}
 use Rattle.star_label.specs.View.{text_of}
 use Rattle.star_repo.specs.declared.found.ReadFile.{ReadFile}
 use Rattle.star_repo.specs.Loading.{LoadsLabel}
-use Rattle.star_repo.specs.Parsed.{AreParsed, IsParsed}
-use Rattle.star_repo.specs.Rows.{IsIn}
+use Rattle.star_repo.specs.Parsed.{AreParsed}
+use Rattle.star_reading.specs.Parsed.{IsParsed}
+use Rattle.star_words.specs.Rows.{IsIn}
 use Rattle.star_repo.specs.Views.{answer_of, answers_in, fresh_answer}
 use Rattle.star_repo.specs.Way.{Answer, IsLoadedBy}
 use Rattle.star_repo.proofs.Labels.{Entry, entry_from, entry_to, in_back, in_either, in_front, in_map, of_map}

@@ -16,7 +16,7 @@ use Rattle.star_repo.specs.declared.found.ReadFile.{ReadFile}
 use Rattle.star_repo.specs.Held.{Held, Said, Tells, TellsFront}
 use Rattle.star_repo.specs.Reach.{Words}
 use Rattle.star_repo.specs.Refusal.{Refuses, Stands}
-use Rattle.star_repo.specs.Rows.{IsIn}
+use Rattle.star_words.specs.Rows.{IsIn}
 use Rattle.star_repo.specs.Views.{IsUnknown, Says, answer_of, answers_in, failed_read, fresh_answer}
 use Rattle.star_repo.specs.Way.{Answer, IsBelow, IsLooked, IsWay}
 use Rattle.star_repo.proofs.Labels.{Entry, entry_from, entry_to, in_back, in_either, in_front, in_map, of_map}

@@ -14,7 +14,7 @@ use Rattle.star_repo.specs.Held.{Fits, Held, Said, Tells}
 use Rattle.star_repo.specs.Loading.{LoadsLabel}
 use Rattle.star_repo.specs.Reach.{AreReachedFiles, IsReachedOf, Words}
 use Rattle.star_repo.specs.Refusal.{AreBefore, ComesFirst, IsRefusedAt, IsRound, Pass, ReachedIn, Refuses, Stands, size_of}
-use Rattle.star_repo.specs.Rows.{IsIn}
+use Rattle.star_words.specs.Rows.{IsIn}
 use Rattle.star_repo.specs.Way.{Agrees, Answer, IsAtRound, IsBelow, IsDone, IsEarlier, IsLoadedBy, IsLooked, IsWay}
 use Rattle.star_repo.proofs.Reached.{from_round, in_rounds}
 use Rattle.star_repo.proofs.Inserted.{all_of, bytes_same, bytes_self, each_of, put, put_from, put_length, put_ordered, put_size, put_to}

@@ -1,4 +1,3 @@
-pub mod Rows
 pub mod Held
 pub mod Memory
 pub mod Loading
@@ -9,4 +8,4 @@ pub mod Parsed
 pub mod Way
 pub mod Views
 pub mod Turn
-pub mod Words
+pub mod Asked

@@ -1,23 +1,11 @@
 -- What the parser has made of texts.
-use Rattle.std.specs.Prelude.{◌≢◌, ℕ, ◌*◌, ◌<◌, List, length, take, drop, Result, Ok, Err, IfOk, Vec, String, string_bytes, slice_index_or}
+use Rattle.std.specs.Prelude.{ℕ, ◌*◌, ◌<◌, List, length, take, drop, Result, IfOk, Vec, String, string_bytes, slice_index_or}
 use Rattle.std.specs.List.{AllZip}
 use Rattle.std.specs.declared.alloc.AllocError.{AllocError}
 use Rattle.std.specs.declared.alloc.Global.{Global}
-use denote.Ref.{Bor}
 use Rattle.star_label.specs.declared.label.Label.{Label}
 use Rattle.star_label.specs.Files.{File}
-use Rattle.star_lex.specs.declared.token.SyntaxFault.{SyntaxFault}
-use Rattle.star_lex.specs.declared.token.SyntaxFault.TheVariants.{Memory}
-use Rattle.star_parser.specs.Sources.{Parses}
-use Rattle.star_tree.specs.declared.tree.Tree.{Tree}
-
--- the tree of a text, or the fault of a text that has none
-abbrev pub ParsedView : Type 0
-ParsedView = Result (Bor Tree) SyntaxFault
-
-abbrev pub IsParsed : List ℕ → ParsedView → Type 0
-IsParsed text (Ok tree) = Parses text (Ok tree.now)
-IsParsed text (Err fault) = Parses text (Err fault) × (fault ≢ Memory)
+use Rattle.star_reading.specs.Parsed.{IsParsed, ParsedView}
 
 -- labels with texts, each beside what the parser has made of its text
 abbrev pub AreParsed : List (Label × String Global) → List ParsedView → Type 0

@@ -12,18 +12,16 @@ use Rattle.star_label.specs.View.{text_of}
 use Rattle.star_bundle.specs.declared.error.ServeError.TheVariants.{BadFile}
 use Rattle.star_scope.specs.Loads.{Written}
 use Rattle.star_repo.specs.Held.{Fits, Held, Said}
-use Rattle.star_repo.specs.Parsed.{IsParsed, ParsedView}
+use Rattle.star_reading.specs.Parsed.{IsParsed, ParsedView}
 use Rattle.star_repo.specs.Reach.{Words}
 use Rattle.star_repo.specs.Refusal.{IsRefusedAt}
-use Rattle.star_repo.specs.Rows.{IsIn}
+use Rattle.star_words.specs.Rows.{IsIn}
+pub use Rattle.star_words.specs.Named.{labels_of}
 use Rattle.star_repo.specs.Way.{Answer, IsLooked, IsWay}
 use Rattle.star_repo.specs.declared.error.ReadError.{ReadError}
 use Rattle.star_repo.specs.declared.error.ReadError.TheVariants as why
 use Rattle.star_repo.specs.declared.found.Found.{Found}
 use Rattle.star_repo.specs.declared.found.ReadFile.{ReadFile}
-
-abbrev pub labels_of : List Label → List (List ℕ)
-labels_of ls = map text_of ls
 
 -- what a run asks for: these labels
 abbrev pub words_of : List Label → Words

@@ -9,7 +9,7 @@ use Rattle.star_repo.specs.Held.{Held, Said, Tells}
 use Rattle.star_repo.specs.Loading.{LoadsLabel}
 use Rattle.star_repo.specs.Reach.{Words}
 use Rattle.star_repo.specs.Refusal.{IsRound, Pass, ReachedIn, size_of}
-use Rattle.star_repo.specs.Rows.{IsIn}
+use Rattle.star_words.specs.Rows.{IsIn}
 
 -- the label comes before these
 abbrev pub IsBelow : List ℕ → List (List ℕ) → Type 0

@@ -7,11 +7,13 @@ ghost use Rattle.star_repo.specs.Held.{unmarked, unsaid};
 
 use crate::mark::{FRONT, MARK, front_of};
 use crate::repo::Repo;
-use star_folder::disk::{front_at, path_of};
-use star_folder::folder::FolderError;
+use star_folder::disk::{front_of_size, path_of};
+use star_folder::folder::{FolderError, Kind};
 use star_label::label::Label;
+use star_words::pattern::Listing;
 use std::alloc::{AllocError, Global};
-use std::fs;
+use std::collections::BTreeMap;
+use std::fs::{self, DirEntry};
 use std::io::{self, ErrorKind};
 use std::rt::Files;
 
@@ -74,13 +76,14 @@ fn leads_nowhere(kind: ErrorKind) -> bool {
     )
 }
 
-/// Whether a path leads to a file, through links too.
-fn is_file<R: Files>(rt: &R, path: &str) -> io::Result<bool> {
+/// How many bytes the file has that a path leads to, through links too: none where it leads to no file.
+fn size_at<R: Files>(rt: &R, path: &str) -> io::Result<Option<u64>> {
     match fs::metadata(rt, path) {
-        Ok(metadata) => Ok(metadata.is_file()),
+        Ok(metadata) if metadata.is_file() => Ok(Some(metadata.len())),
+        Ok(_) => Ok(None),
         Err(error) => {
             if leads_nowhere(error.kind()) {
-                Ok(false)
+                Ok(None)
             } else {
                 Err(error)
             }
@@ -104,10 +107,10 @@ fn found_at<R: Files + AllocGlobal>(rt: &R, path: String) -> io::Result<Found>
     ensures path { IfOk result (λ found. string_bytes found.path ≡ string_bytes path) }
     ensures few { IfOk result (λ found. IfSome found.text (λ text. vec_len text ≤ 1048577)) }
 {
-    if !is_file(rt, path.as_str())? {
+    let Some(size) = size_at(rt, path.as_str())? else {
         return Ok(Found { path, text: None });
-    }
-    let front = front_at(rt, path, FRONT + MARK.len())?;
+    };
+    let front = front_of_size(rt, path, FRONT + MARK.len(), size)?;
     let text = text_in(rt.alloc(), front.bytes)?;
     Ok(Found {
         path: front.path,
@@ -122,4 +125,67 @@ fn found_of<R: Files + AllocGlobal>(rt: &R, top: &str, label: &Label) -> io::Res
 {
     let path = path_of(rt.alloc(), top, label)?;
     found_at(rt, path)
+}
+
+/// The entry of a folder: none where its name is not UTF-8.
+fn entry_of<R: Files + AllocGlobal + Clone + Drop>(
+    alloc: Global,
+    entry: io::Result<DirEntry<R>>,
+) -> io::Result<Option<(String, Kind)>> {
+    let entry = match entry {
+        Ok(entry) => entry,
+        Err(error) => {
+            if error.kind() == ErrorKind::InvalidFilename {
+                return Ok(None);
+            }
+            return Err(error);
+        }
+    };
+    let found = entry.file_type()?;
+    let kind = if found.is_file() {
+        Kind::File
+    } else if found.is_dir() {
+        Kind::Folder
+    } else {
+        Kind::Other
+    };
+    Ok(Some((String::from_str(alloc, entry.file_name())?, kind)))
+}
+
+/// The entries of the folder at a path in the folder at `top`, but those whose names are not UTF-8.
+fn entries_of<R: Files + AllocGlobal + Clone + Drop>(
+    rt: &R,
+    top: &str,
+    path: &str,
+) -> io::Result<BTreeMap<String, Kind>> {
+    let alloc = rt.alloc();
+    let mut below = String::from_str(alloc, top)?;
+    below.push('/')?;
+    below.push_str(path)?;
+    let mut entries = BTreeMap::new(alloc);
+    for entry in fs::read_dir(rt, below.as_str())? {
+        if let Some((name, kind)) = entry_of(alloc, entry)? {
+            entries.insert(name, kind)?;
+        }
+    }
+    Ok(entries)
+}
+
+impl<'a, R: Files + AllocGlobal + Clone + Drop> Listing for DiskRepo<'a, R> {
+    fn entries(
+        &mut self,
+        _alloc: Global,
+        path: &str,
+    ) -> Result<BTreeMap<String, Kind>, FolderError> {
+        match entries_of(self.rt, self.top, path) {
+            Ok(entries) => Ok(entries),
+            Err(error) => {
+                if error.kind() == ErrorKind::OutOfMemory {
+                    Err(FolderError::Memory)
+                } else {
+                    Err(FolderError::Failed)
+                }
+            }
+        }
+    }
 }

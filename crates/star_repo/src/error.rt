@@ -34,3 +34,14 @@ impl<T: Drop> From<AllocFailed<T>> for ReadError {
         ReadError::Memory
     }
 }
+
+/// Why there is no report of the files that roots reach in a folder.
+#[derive(Debug, Drop, Error)]
+pub enum RepoError {
+    /// The file of a label is refused: `BadFile`, `TooMany`, `TooLong`, `NotText` or `TooBig`.
+    #[error("{error}: {label}")]
+    File { label: Label, error: ServeError },
+    /// Anything else.
+    #[error("{error}")]
+    Run { error: ServeError },
+}

@@ -2,8 +2,8 @@
 
 ghost use Rattle.std.specs.Prelude.{◌≤◌};
 
-use crate::parse::Parsed;
 use star_label::label::Label;
+use star_reading::parses::Parsed;
 use std::collections::BTreeMap;
 
 /// A file that was read: its text, and what the parser has made of it.

@@ -3,11 +3,10 @@
 ghost use Rattle.std.specs.Prelude.{◌≡◌, ◌*◌, ◌<◌, ℕ, List, IfOk, String, length, take};
 ghost use Rattle.std.specs.declared.alloc.Global.{Global as GlobalView};
 ghost use Rattle.star_label.specs.declared.label.Label.{Label as LabelView};
-ghost use Rattle.star_repo.specs.Parsed.{AreParsed, ArePartsParsed, IsParsed};
+ghost use Rattle.star_repo.specs.Parsed.{AreParsed, ArePartsParsed};
 
 use star_label::label::Label;
-use star_lex::token::SyntaxFault;
-use star_parser::parse;
+use star_reading::parses::{Parsed, parsed};
 use star_tree::tree::Tree;
 use std::alloc::{AllocError, Global};
 use std::sync::Wait;
@@ -15,29 +14,6 @@ use std::thread::{self, Threads};
 
 /// For so many texts a thread more parses.
 const SHARE: usize = 16;
-
-/// What the parser has made of a text: its tree, or its fault, which is not want of memory.
-pub type Parsed<'t> = Result<&'t Tree, SyntaxFault>;
-
-/// Parses a text, and keeps its tree with the other trees.
-fn parsed<'t, R: Wait>(
-    rt: &R,
-    alloc: Global,
-    trees: &'t boxcar::Vec<Tree>,
-    text: &str,
-) -> Result<Parsed<'t>, AllocError>
-    ensures { IfOk result (IsParsed text.now) }
-{
-    let tree = match parse(alloc, text) {
-        Ok(tree) => tree,
-        Err(SyntaxFault::Memory) => return Err(AllocError),
-        Err(fault) => return Ok(Err(fault)),
-    };
-    match trees.push_shown(rt, tree) {
-        Ok(pushed) => Ok(Ok(trees.value(&pushed))),
-        Err(_) => Err(AllocError),
-    }
-}
 
 /// Parses one text after another.
 fn parsed_each<'t, R: Wait>(

@@ -6,19 +6,20 @@ ghost use Rattle.star_label.specs.View.{text_of};
 ghost use Rattle.star_scope.specs.Loads.{written, written_in};
 ghost use Rattle.star_repo.specs.Held.{Said};
 ghost use Rattle.star_repo.specs.Loading.{LoadsLabel};
-ghost use Rattle.star_repo.specs.Parsed.{AreParsed, IsParsed};
+ghost use Rattle.star_repo.specs.Parsed.{AreParsed};
+ghost use Rattle.star_reading.specs.Parsed.{IsParsed};
 ghost use Rattle.star_repo.specs.Reach.{Words};
-ghost use Rattle.star_repo.specs.Rows.{IsIn};
+ghost use Rattle.star_words.specs.Rows.{IsIn};
 ghost use Rattle.star_repo.specs.declared.found.ReadFile.{ReadFile as ReadFileView};
 ghost use Rattle.star_repo.specs.Views.{AllRead, IsNamed, IsOnWay, Says, labels_of, reads_failed, with_read};
 
 use crate::error::ReadError;
 use crate::found::{Found, ReadFile};
-use crate::parse::Parsed;
 use crate::read::after_label;
 use crate::repo::Repo;
 use star_label::error::LabelError;
 use star_label::label::Label;
+use star_reading::parses::Parsed;
 use star_tree::tree::{Form, Statement};
 use std::alloc::{AllocError, Global};
 use std::collections::{BTreeMap, BTreeSet};
@@ -80,7 +81,7 @@ fn add_load(
 }
 
 /// The labels that a file of this package loads wait.
-fn add_loads(
+pub(crate) fn add_loads(
     alloc: Global,
     waiting: &mut BTreeSet<Label>,
     package: &str,

@@ -3,7 +3,8 @@ use Rattle.std.proofs.Math.Seq.{get_or-append_seam}
 use Rattle.std.proofs.lemmas.List.{get_or_append_left}
 use Rattle.std.specs.Prelude.{IfOk, Result}
 use Rattle.std.specs.declared.alloc.AllocError.{AllocError}
-use Rattle.star_repo.specs.Parsed.{AreParsed, ArePartsParsed, IsParsed, ParsedView}
+use Rattle.star_repo.specs.Parsed.{AreParsed, ArePartsParsed}
+use Rattle.star_reading.specs.Parsed.{IsParsed, ParsedView}
 use Rattle.star_repo.proofs.Parts.{take_parts}
 use Rattle.star_repo.proofs.Settled.{zip_append}
 use Rattle.star_repo.proofs.Steps.{Fresh}

@@ -1,6 +1,7 @@
 use Rattle.std.proofs.Common.{◌∙◌, ◌∷◌, ◌++◌, [], ap, subst, sym, string_bytes, take}
 use Rattle.std.proofs.lemmas.List.{take_more}
-use Rattle.star_repo.specs.Parsed.{AreParsed, IsParsed, ParsedView}
+use Rattle.star_repo.specs.Parsed.{AreParsed}
+use Rattle.star_reading.specs.Parsed.{IsParsed, ParsedView}
 use Rattle.star_repo.proofs.Settled.{zip_push}
 use Rattle.star_repo.proofs.Steps.{Fresh}
 use Rattle.star_repo.proofs.parse.parsed_each.Goals as goal

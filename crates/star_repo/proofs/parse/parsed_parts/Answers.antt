@@ -2,7 +2,8 @@ use Rattle.std.proofs.Common.{◌∙◌, ◌*◌, ◌≤◌, Vec, Global, length
 use Rattle.std.specs.Prelude.{IfOk, Result, Ok, Err, slice_index_or}
 use Rattle.std.specs.declared.alloc.AllocError.{AllocError}
 use Rattle.std.proofs.lemmas.List.{take_all}
-use Rattle.star_repo.specs.Parsed.{AreParsed, ArePartsParsed, ParsedView}
+use Rattle.star_repo.specs.Parsed.{AreParsed, ArePartsParsed}
+use Rattle.star_reading.specs.Parsed.{ParsedView}
 use Rattle.star_repo.proofs.Parts.{parts_hold}
 use Rattle.star_repo.proofs.parse.parsed_parts.Goals as goal
 

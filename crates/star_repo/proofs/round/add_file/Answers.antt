@@ -1,6 +1,6 @@
 use Rattle.std.proofs.Common.{List, ℕ, inl, inr, subst, sym}
 use Rattle.star_scope.specs.Loads.{written}
-use Rattle.star_repo.specs.Parsed.{IsParsed}
+use Rattle.star_reading.specs.Parsed.{IsParsed}
 use Rattle.star_repo.specs.Views.{IsNamed}
 use Rattle.star_label.specs.Label.{package_of}
 use Rattle.star_label.specs.View.{text_of}

@@ -5,7 +5,7 @@ use Rattle.star_label.specs.Label.{Reads, name_of, package_of}
 use Rattle.star_label.specs.View.{text_of}
 use Rattle.star_scope.specs.Loads.{Written, load_in, written_in}
 use Rattle.star_scope.proofs.LoadStatements.{is_load}
-use Rattle.star_repo.specs.Rows.{IsIn}
+use Rattle.star_words.specs.Rows.{IsIn}
 use Rattle.star_repo.specs.Views.{labels_of}
 use Rattle.star_repo.proofs.Labels.{key_from, key_to}
 use Rattle.star_repo.proofs.Loads.{one_label}

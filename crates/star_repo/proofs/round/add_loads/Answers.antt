@@ -3,7 +3,7 @@ use Rattle.std.specs.Prelude.{◌↔◌}
 use Rattle.std.proofs.lemmas.List.{take_all}
 use Rattle.star_scope.specs.Loads.{written, written_in}
 use Rattle.star_scope.proofs.LoadStatements.{written_more}
-use Rattle.star_repo.specs.Rows.{IsIn}
+use Rattle.star_words.specs.Rows.{IsIn}
 use Rattle.star_repo.specs.Views.{IsNamed, labels_of}
 use Rattle.star_repo.proofs.Loads.{named_back, named_either, named_front}
 use Rattle.star_repo.proofs.round.add_loads.Goals as goal

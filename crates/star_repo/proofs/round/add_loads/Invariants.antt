@@ -1,7 +1,7 @@
 use Rattle.std.proofs.Common.{◌⊎◌, List, ℕ, take}
 use Rattle.std.specs.Prelude.{◌↔◌}
 use Rattle.star_scope.specs.Loads.{written}
-use Rattle.star_repo.specs.Rows.{IsIn}
+use Rattle.star_words.specs.Rows.{IsIn}
 use Rattle.star_repo.specs.Views.{IsNamed, labels_of}
 use Rattle.star_repo.proofs.round.add_loads.Given as goal
 

@@ -5,8 +5,9 @@ use Rattle.std.proofs.lemmas.Map.Views.{All-values-insert_entry}
 use Rattle.star_bundle.proofs.Members.{nothing_left}
 use Rattle.star_label.specs.Files.{file_of}
 use Rattle.star_label.specs.contracts.label.LabelOrd.TheImpl.{cmp-value}
-use Rattle.star_repo.specs.Parsed.{AreParsed, IsParsed}
-use Rattle.star_repo.specs.Rows.{IsIn}
+use Rattle.star_repo.specs.Parsed.{AreParsed}
+use Rattle.star_reading.specs.Parsed.{IsParsed}
+use Rattle.star_words.specs.Rows.{IsIn}
 use Rattle.star_repo.specs.Views.{IsRead, answers_in, labels_of}
 use Rattle.star_repo.specs.Way.{IsLoadedBy, IsWay}
 use Rattle.star_repo.proofs.Settled.{Same, loaded_more, once_too, same_on, stays, zip_last}

@@ -2,7 +2,7 @@ use Rattle.std.proofs.Common.{◌≡◌, ◌++◌, List, ℕ, length, map}
 use Rattle.std.specs.Prelude.{◌↔◌}
 use Rattle.star_label.specs.Files.{file_of}
 use Rattle.star_repo.specs.Parsed.{AreParsed}
-use Rattle.star_repo.specs.Rows.{IsIn}
+use Rattle.star_words.specs.Rows.{IsIn}
 use Rattle.star_repo.specs.Views.{AllRead, answers_in, labels_of}
 use Rattle.star_repo.specs.Way.{IsLoadedBy}
 use Rattle.star_repo.proofs.Settled.{Once, Same}

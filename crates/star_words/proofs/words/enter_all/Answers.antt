@@ -4,9 +4,9 @@ use Rattle.std.specs.Option.{option_and_then}
 use Rattle.std.proofs.lemmas.Str.Pattern.{split_parts}
 use Rattle.star_label.specs.Label.{parts}
 use Rattle.star_label.proofs.Parts.{parts-free, parts-split}
-use Rattle.star_repo.specs.Words.{Leads, folders_of, led, led_by}
-use Rattle.star_repo.proofs.Paths.{then_some}
-use Rattle.star_repo.proofs.words.enter_all.Goals as goal
+use Rattle.star_words.specs.Words.{Leads, folders_of, led, led_by}
+use Rattle.star_words.proofs.Paths.{then_some}
+use Rattle.star_words.proofs.words.enter_all.Goals as goal
 
 if_ok : {A E : Type 0} (P Q : A → Type 0) (r : Result A E) → IfOk r P → ((x : A) → P x → Q x) → IfOk r Q
 if_ok P Q (Ok x) h k = k x h

@@ -4,9 +4,9 @@ use Rattle.std.specs.List.{list_all}
 use Rattle.std.specs.Option.{option_and_then}
 use Rattle.star_bundle.proofs.Members.{nothing_left}
 use Rattle.star_label.specs.Label.{is_segment, joined, label_text, parts}
-use Rattle.star_repo.specs.Words.{Leads, folders_of, label_of_parts, led_by}
-use Rattle.star_repo.proofs.Paths.{first_out, folders_last, leads_to, named_last}
-use Rattle.star_repo.proofs.words.label_of.Goals as goal
+use Rattle.star_words.specs.Words.{Leads, folders_of, label_of_parts, led_by}
+use Rattle.star_words.proofs.Paths.{first_out, folders_last, leads_to, named_last}
+use Rattle.star_words.proofs.words.label_of.Goals as goal
 
 pub returns-then-not-branch-clause-label : goal.returns-then-not-branch-clause-label
 returns-then-not-branch-clause-label c =

@@ -1,6 +1,6 @@
 -- Which label a path names.
 use denote.Ref.{Bor}
-use Rattle.std.specs.Prelude.{◌≡◌, ℕ, ◌-◌, List, [], ◌∷◌, ◌++◌, length, map, take, Bool, true, false, ◌&&◌, ◌||◌, Option, Some, None, if◌then◌else◌, slice_index_or}
+use Rattle.std.specs.Prelude.{◌≡◌, ℕ, ◌-◌, List, [], ◌∷◌, ◌++◌, ◌==◌, length, map, take, Bool, true, false, ◌&&◌, ◌||◌, Option, Some, None, if◌then◌else◌, slice_index_or}
 use Rattle.std.specs.List.{list_all}
 use Rattle.std.specs.Option.{option_and_then}
 use Rattle.std.specs.Str.{bytes_eq}
@@ -45,3 +45,8 @@ Leads given false folders = given ≡ None
 
 abbrev pub folders_of : List (Bor (List ℕ)) → List (List ℕ)
 folders_of fs = map (λ f. f.now) fs
+
+-- the label that a word names as a path; one that begins with a slash is not below the top
+abbrev pub path_named : List ℕ → List ℕ → Option (List ℕ)
+path_named here [] = label_of_path here []
+path_named here (b ∷ bs) = if b == 47 then None else label_of_path here (b ∷ bs)

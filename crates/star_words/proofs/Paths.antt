@@ -5,7 +5,7 @@ use Rattle.std.specs.Prelude.{if◌then◌else◌, slice_index_or}
 use Rattle.std.specs.List.{list_all}
 use Rattle.std.specs.Option.{option_and_then}
 use Rattle.star_label.specs.Label.{is_segment, joined, label_text, parts}
-use Rattle.star_repo.specs.Words.{folders_of, label_of_parts, label_of_path, led, led_by}
+use Rattle.star_words.specs.Words.{folders_of, label_of_parts, label_of_path, led, led_by}
 
 pub led_both : (fs xs ys : List (List ℕ)) → led_by fs (xs ++ ys) ≡ option_and_then (λ gs. led_by gs ys) (led_by fs xs)
 led_both fs [] ys = refl

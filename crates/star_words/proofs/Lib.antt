@@ -1,0 +1,5 @@
+pub mod Members
+pub mod Paths
+pub mod Labels
+pub mod Globs
+pub mod Inside

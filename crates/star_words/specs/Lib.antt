@@ -1,0 +1,5 @@
+pub mod Rows
+pub mod Words
+pub mod Named
+pub mod Glob
+pub mod Below

@@ -1,0 +1,85 @@
+//! The labels that a run is asked for.
+
+ghost use Rattle.std.specs.Prelude.{◌≡◌, ◌↔◌, ◌⊎◌, ℕ, List, IfOk, IfErr, MatchOption, option_map, string_bytes, true};
+ghost use Rattle.star_bundle.specs.Bundle.{is_label};
+ghost use Rattle.star_bundle.specs.View.{if_label};
+ghost use Rattle.star_label.specs.View.{text_of};
+ghost use Rattle.star_words.specs.Named.{AllLabels, AreAsked, IsMisnamed, OneIsNone, texts_of};
+ghost use Rattle.star_words.specs.Rows.{IsIn};
+ghost use Rattle.star_words.specs.Named.{labels_of};
+
+use star_bundle::error::ServeError;
+use star_label::error::LabelError;
+use star_label::label::Label;
+use std::alloc::{AllocError, Global};
+use std::collections::BTreeSet;
+
+/// The label that a text is the normal form of: none for another text.
+fn label_in(alloc: Global, text: &str) -> Result<Option<Label>, AllocError>
+    ensures { IfOk result (λ label. option_map text_of label ≡ if_label text.now) }
+{
+    match Label::read(alloc, text, "") {
+        Ok(label) => {
+            if label.text() == text {
+                Ok(Some(label))
+            } else {
+                Ok(None)
+            }
+        }
+        Err(LabelError::BadLabel) => Ok(None),
+        Err(_) => Err(AllocError),
+    }
+}
+
+/// Puts a label among others. False where the text is no label in normal form.
+fn add_label(alloc: Global, labels: &mut BTreeSet<Label>, text: &str) -> Result<bool, AllocError>
+    ensures is { IfOk result (λ is. is_label text.now ≡ is) }
+    ensures added { IfOk result (λ is. is ≡ true → (m : List ℕ) → IsIn m (labels_of labels.new.keys)
+        ↔ (IsIn m (labels_of labels.old.keys) ⊎ (m ≡ text.now))) }
+{
+    let Some(label) = label_in(alloc, text)? else {
+        return Ok(false);
+    };
+    labels.insert(label)?;
+    Ok(true)
+}
+
+/// The labels of roots: none where one is no label in normal form.
+fn root_labels(alloc: Global, roots: &[String]) -> Result<Option<BTreeSet<Label>>, AllocError>
+    ensures { IfOk result (λ labels. MatchOption labels
+        (OneIsNone (texts_of roots.now))
+        (λ set. AllLabels (texts_of roots.now)
+        × ((l : List ℕ) → IsIn l (labels_of set.keys) ↔ IsIn l (texts_of roots.now)))) }
+{
+    let mut labels = BTreeSet::new(alloc);
+    for root in roots {
+        if !add_label(alloc, &mut labels, root.as_str())? {
+            return Ok(None);
+        }
+    }
+    Ok(Some(labels))
+}
+
+/// The labels that a run is asked for: those of its roots, and that of its prelude. `BadRoot` where a root is no label
+/// in normal form, else `BadPrelude` where the prelude is none.
+pub fn asked_labels(
+    alloc: Global,
+    roots: &[String],
+    prelude: Option<&String>,
+) -> Result<BTreeSet<Label>, ServeError>
+    ensures asked { IfOk result (λ set. AreAsked (texts_of roots.now)
+        (option_map (λ p. string_bytes p.now) prelude.entry) (labels_of set.keys)) }
+    ensures refused { IfErr result (IsMisnamed (texts_of roots.now)
+        (option_map (λ p. string_bytes p.now) prelude.entry)) }
+{
+    let Some(mut labels) = root_labels(alloc, roots)? else {
+        return Err(ServeError::BadRoot);
+    };
+    let Some(prelude) = prelude else {
+        return Ok(labels);
+    };
+    if !add_label(alloc, &mut labels, prelude.as_str())? {
+        return Err(ServeError::BadPrelude);
+    }
+    Ok(labels)
+}

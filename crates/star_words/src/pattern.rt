@@ -1,0 +1,192 @@
+//! Words that ask for all files below a folder.
+
+ghost use Rattle.std.specs.Prelude.{◌≡◌, ◌+◌, ◌≤◌, ◌∷◌, ◌++◌, [], ℕ, List, IfOk, IfSome, MatchOption, OnOk, length, string_bytes, vec_len};
+ghost use Rattle.star_label.specs.Label.{label_text, with_folder};
+ghost use Rattle.star_label.specs.View.{text_of};
+ghost use Rattle.star_words.specs.Below.{AreBelow, IsInside, IsWalked};
+ghost use Rattle.star_words.specs.Named.{labels_of};
+
+use crate::glob::matches;
+use crate::walk::Walk;
+use crate::words::label_of;
+use star_bundle::error::ServeError;
+use star_folder::folder::{FolderError, Kind};
+use star_label::error::LabelError;
+use star_label::label::Label;
+use star_label::segment::is_segment;
+use std::alloc::{AllocError, Global};
+use std::collections::{BTreeMap, BTreeSet};
+
+/// The most entries that may be listed.
+const ENTRIES: usize = 1_000_000;
+
+/// A folder whose folders can be listed.
+pub trait Listing {
+    /// The entries of the folder at a path, by their names. The path has a slash between two folders; at the top it is
+    /// empty.
+    fn entries(&mut self, alloc: Global, path: &str) -> Result<BTreeMap<String, Kind>, FolderError>;
+}
+
+/// What stands before `...` in a word that asks for all files below a folder: `...`, `a/...`, `//...` or `//a/...`.
+pub fn front_of(word: &str) -> Option<&str> {
+    let front = word.strip_suffix("...")?;
+    if front == "" || front.ends_with('/') {
+        Some(front)
+    } else {
+        None
+    }
+}
+
+/// A label in the folder that such a word asks for, in the package `here`: its package is that folder. None where no
+/// label names a file there.
+pub fn label_below(alloc: Global, here: &str, front: &str) -> Result<Option<Label>, LabelError> {
+    let (from, path) = match front.strip_prefix("//") {
+        Some(path) => ("", path),
+        None => (here, front),
+    };
+    if path.starts_with('/') {
+        return Ok(None);
+    }
+    let mut file = String::from_str(alloc, path)?;
+    file.push('x')?;
+    label_of(alloc, from, file.as_str())
+}
+
+/// The label of a file in the folder at a path: none where its name is no segment.
+fn file_label(alloc: Global, path: &str, name: &str) -> Result<Option<Label>, AllocError>
+    ensures { IfOk result (λ found. IfSome found (λ label. text_of label ≡ label_text path.now name.now)) }
+{
+    let mut text = String::from_str(alloc, "//")?;
+    text.push_str(path)?;
+    text.push(':')?;
+    text.push_str(name)?;
+    match Label::read(alloc, text.as_str(), "") {
+        Ok(label) => Ok(Some(label)),
+        Err(LabelError::BadLabel) => Ok(None),
+        Err(_) => Err(AllocError),
+    }
+}
+
+/// The path of a folder in the folder at a path.
+fn inside(alloc: Global, path: &str, name: &str) -> Result<String, AllocError>
+    ensures { IfOk result (λ text. string_bytes text ≡ with_folder path.now name.now) }
+{
+    if path == "" {
+        return String::from_str(alloc, name);
+    }
+    let mut text = String::from_str(alloc, path)?;
+    text.push('/')?;
+    text.push_str(name)?;
+    Ok(text)
+}
+
+/// Goes where an entry of the folder at a path leads.
+fn enter(
+    alloc: Global,
+    walk: &mut Walk,
+    path: &str,
+    name: &str,
+    kind: Kind,
+    pattern: &str,
+) -> Result<(), AllocError>
+    ensures walked { OnOk result ((top : List ℕ) → IsInside top path.now → IsWalked top pattern.now walk.old
+        → IsWalked top pattern.now walk.new) }
+    ensures listed { walk.new.listed ≡ walk.old.listed }
+    ensures places { OnOk result (vec_len walk.new.places ≤ vec_len walk.old.places + 1) }
+{
+    match kind {
+        Kind::File => {
+            if matches(pattern.as_bytes(), name.as_bytes()) {
+                if let Some(label) = file_label(alloc, path, name)? {
+                    walk.found.insert(label)?;
+                }
+            }
+        }
+        Kind::Folder => {
+            if is_segment(name) {
+                walk.places.push(inside(alloc, path, name)?)?;
+            }
+        }
+        Kind::Other => {}
+    }
+    Ok(())
+}
+
+/// Goes where the entries of the folder at a path lead.
+fn enter_all(
+    alloc: Global,
+    walk: &mut Walk,
+    path: &str,
+    mut entries: BTreeMap<String, Kind>,
+    pattern: &str,
+) -> Result<(), AllocError>
+    ensures walked { OnOk result ((top : List ℕ) → IsInside top path.now → IsWalked top pattern.now walk.old
+        → IsWalked top pattern.now walk.new) }
+    ensures listed { walk.new.listed ≡ walk.old.listed }
+    ensures places { OnOk result (vec_len walk.new.places ≤ vec_len walk.old.places + length entries.entries) }
+{
+    while let Some((name, kind)) = entries.pop_first() {
+        enter(alloc, walk, path, name.as_str(), kind, pattern)?;
+    }
+    Ok(())
+}
+
+/// Lists a folder. `BadDir` where it cannot be listed, `TooMany` where more than 1,000,000 entries would be listed then.
+fn listed<F: Listing>(
+    alloc: Global,
+    folder: &mut F,
+    walk: &mut Walk,
+    path: &str,
+    pattern: &str,
+) -> Result<(), ServeError>
+    ensures walked { OnOk result ((top : List ℕ) → IsInside top path.now → IsWalked top pattern.now walk.old
+        → IsWalked top pattern.now walk.new) }
+    ensures left { OnOk result (1000000 + vec_len walk.new.places + walk.old.listed
+        ≤ 1000000 + vec_len walk.old.places + walk.new.listed) }
+{
+    let entries = match folder.entries(alloc, path) {
+        Ok(entries) => entries,
+        Err(FolderError::Failed) => return Err(ServeError::BadDir),
+        Err(FolderError::Memory) => return Err(ServeError::Memory),
+    };
+    if entries.len() > ENTRIES - walk.listed {
+        return Err(ServeError::TooMany);
+    }
+    walk.listed += entries.len();
+    enter_all(alloc, walk, path, entries, pattern)?;
+    Ok(())
+}
+
+/// Takes the folder that comes next.
+fn next_place(walk: &mut Walk) -> Option<String>
+    ensures place { MatchOption result
+        (walk.old.places.items ≡ [])
+        (λ path. walk.old.places.items ≡ walk.new.places.items ++ path ∷ []) }
+    ensures found { walk.new.found ≡ walk.old.found }
+    ensures listed { walk.new.listed ≡ walk.old.listed }
+{
+    walk.places.pop()
+}
+
+/// The labels of all files below the folder at `top` whose names a pattern matches. Names that are no segment are left
+/// out, a folder with all that it has, and so is what is neither a file nor a folder, such as a link. `BadDir` where a
+/// folder cannot be listed, `TooMany` where more than 1,000,000 entries are listed.
+pub fn files_below<F: Listing>(
+    alloc: Global,
+    folder: &mut F,
+    top: &str,
+    pattern: &str,
+) -> Result<BTreeSet<Label>, ServeError>
+    ensures { IfOk result (λ found. AreBelow top.now pattern.now (labels_of found.keys)) }
+{
+    let mut walk = Walk {
+        places: vec![in alloc; String::from_str(alloc, top)?]?,
+        found: BTreeSet::new(alloc),
+        listed: 0,
+    };
+    while let Some(path) = next_place(&mut walk) {
+        listed(alloc, folder, &mut walk, path.as_str(), pattern)?;
+    }
+    let Walk { found, .. } = walk;
+    Ok(found)
+}
