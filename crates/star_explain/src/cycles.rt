@@ -1,0 +1,183 @@
+//! Cycles of loads.
+
+use crate::ends::{End, Ends};
+use crate::entry::Entry;
+use crate::trail::mark_of_line;
+use star_label::files::Files;
+use star_mistakes::place::{Naming, label_of, push_short_place};
+use std::alloc::{AllocError, Global};
+
+/// How many loads of a cycle are listed.
+const LISTED: usize = 20;
+
+/// The cycles of a run.
+#[derive(Drop)]
+pub(crate) struct Cycles {
+    /// The cycles, each with its files as the loads lead from one to the next.
+    pub all: Vec<Vec<usize>>,
+    /// For each file of a cycle the number of the cycle.
+    of: Vec<Option<usize>>,
+    /// In which order the roots come to the files.
+    orders: Vec<usize>,
+}
+
+/// In which order the roots come to the files, by the loads of each one in order.
+fn orders_of(alloc: Global, ends: &Ends, roots: &[usize]) -> Result<Vec<usize>, AllocError> {
+    let mut orders = vec![in alloc; usize::MAX; ends.ends.len()]?;
+    let mut todo: Vec<usize> = Vec::new(alloc);
+    for root in roots.iter().rev() {
+        todo.push(*root)?;
+    }
+    for turn in 0..usize::MAX {
+        let Some(n) = todo.pop() else {
+            break;
+        };
+        let Some(order) = orders.get_mut(n) else {
+            continue;
+        };
+        if *order < usize::MAX {
+            continue;
+        }
+        *order = turn;
+        if let Some(loads) = ends.loads.get(n) {
+            for load in loads.iter().rev() {
+                todo.push(*load)?;
+            }
+        }
+    }
+    Ok(orders)
+}
+
+/// The cycle on which a file lies, from that file on.
+fn cycle_from(alloc: Global, ends: &Ends, first: usize) -> Result<Vec<usize>, AllocError> {
+    let mut files = Vec::new(alloc);
+    let mut at = first;
+    for _ in 0..ends.ends.len() {
+        files.push(at)?;
+        match ends.end(at) {
+            End::Load { next, .. } if next != first => at = next,
+            _ => break,
+        }
+    }
+    Ok(files)
+}
+
+impl Cycles {
+    /// The cycles into which the loads of files lead, by the files that are their roots.
+    pub(crate) fn of(
+        alloc: Global,
+        ends: &Ends,
+        roots: &[usize],
+        asked: &[usize],
+    ) -> Result<Cycles, AllocError> {
+        let mut cycles = Cycles {
+            all: Vec::new(alloc),
+            of: vec![in alloc; None; ends.ends.len()]?,
+            orders: orders_of(alloc, ends, asked)?,
+        };
+        for root in roots {
+            cycles.add(alloc, ends, *root)?;
+        }
+        Ok(cycles)
+    }
+
+    /// The cycle of a file, where it lies on one that is not known yet.
+    fn add(&mut self, alloc: Global, ends: &Ends, root: usize) -> Result<(), AllocError> {
+        let End::Load { .. } = ends.end(root) else {
+            return Ok(());
+        };
+        if self.number(root).is_some() {
+            return Ok(());
+        }
+        let files = cycle_from(alloc, ends, root)?;
+        let number = self.all.len();
+        for file in &files {
+            if let Some(place) = self.of.get_mut(*file) {
+                *place = Some(number);
+            }
+        }
+        self.all.push(files)?;
+        Ok(())
+    }
+
+    /// The number of the cycle on which a file lies.
+    pub(crate) fn number(&self, file: usize) -> Option<usize> {
+        self.of.get(file).copied().flatten()
+    }
+
+    /// The place in a cycle of the file that the roots come to first: the last load of the cycle leads to it.
+    fn entrance(&self, files: &[usize]) -> usize {
+        let mut best = 0;
+        let mut least = usize::MAX;
+        for (i, file) in files.iter().enumerate() {
+            let order = self.orders.get(*file).copied().unwrap_or(usize::MAX);
+            if order < least {
+                least = order;
+                best = i;
+            }
+        }
+        best
+    }
+
+    /// The entry of a cycle: the load that closes it, and below it the other loads.
+    pub(crate) fn entry(
+        &self,
+        alloc: Global,
+        files: &Files,
+        ends: &Ends,
+        naming: Naming,
+        number: usize,
+    ) -> Result<Option<Entry>, AllocError> {
+        let Some(cycle) = self.all.get(number) else {
+            return Ok(None);
+        };
+        let (front, back) = cycle.split_at(self.entrance(cycle.as_slice()).min(cycle.len()));
+        let mut ordered = Vec::new(alloc);
+        ordered.extend_from_slice(back)?;
+        ordered.extend_from_slice(front)?;
+        let Some(last) = ordered.pop() else {
+            return Ok(None);
+        };
+        let End::Load { next, line } = ends.end(last) else {
+            return Ok(None);
+        };
+        let label = label_of(files, next);
+        Ok(Some(Entry {
+            mark: mark_of_line(files, last, line),
+            code: "load",
+            text: format!(in alloc; "this load of {label} closes a cycle of loads")?,
+            notes: notes_of(alloc, files, ends, naming, ordered.as_slice())?,
+            help: Some(String::from_str(
+                alloc,
+                "move what both need into a file of its own, which loads none of them",
+            )?),
+            root: Some(last),
+        }))
+    }
+}
+
+/// The loads of files of a cycle, a line each.
+fn notes_of(
+    alloc: Global,
+    files: &Files,
+    ends: &Ends,
+    naming: Naming,
+    cycle: &[usize],
+) -> Result<String, AllocError> {
+    let mut notes = String::new(alloc);
+    for file in cycle.iter().take(LISTED) {
+        if let End::Load { next, line } = ends.end(*file) {
+            notes.push_str("  ")?;
+            push_short_place(&mut notes, files, mark_of_line(files, *file, line), naming)?;
+            write!(notes, ": loads {}\n", label_of(files, next))?;
+        }
+    }
+    if cycle.len() > LISTED {
+        write!(
+            notes,
+            "  and {} more loads\n",
+            cycle.len().saturating_sub(LISTED)
+        )?;
+    }
+    Ok(notes)
+}

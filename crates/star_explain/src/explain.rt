@@ -1,0 +1,280 @@
+//! What a person is told of a run.
+
+use crate::cycles::Cycles;
+use crate::ends::{End, Ends, Stop};
+use crate::entry::Entry;
+use crate::pages::page_of;
+use crate::trail::{callers, innermost};
+use star_label::files::Files;
+use star_meaning::fault::Code;
+use star_mistakes::place::Naming;
+use star_mistakes::statics::Sources;
+use star_outcome::outcome::Run;
+use star_reading::code::{StaticCode, StaticFault, code_text};
+use std::alloc::{AllocError, Global};
+
+/// How many entries are shown, unless all are asked for.
+const ENTRIES: usize = 20;
+
+/// Which entries are shown, and how files are named.
+#[derive(Clone, Copy, Debug, PartialEq, Eq)]
+pub struct Form {
+    pub naming: Naming,
+    /// All entries are shown.
+    pub is_whole: bool,
+}
+
+/// What is told, so far.
+#[derive(Drop)]
+struct Telling<'a> {
+    sources: Sources<'a>,
+    form: Form,
+    entries: Vec<Entry>,
+    /// Files at fault, and cycles, for which there is no room.
+    more: usize,
+    /// Whether the prelude does not parse.
+    is_blind: bool,
+    /// Whether the faults of the prelude are told.
+    has_prelude: bool,
+}
+
+/// What is said of a run that stopped.
+fn text_of_code(alloc: Global, code: Code, said: Option<&String>) -> Result<String, AllocError> {
+    if let Some(said) = said {
+        return format!(in alloc; "fail: {said}");
+    }
+    let code = code_text(code);
+    String::from_str(alloc, page_of(code).map_or(code, |page| page.short))
+}
+
+impl<'a> Telling<'a> {
+    /// Whether there is room for another entry. Where there is none, it is counted.
+    fn has_room(&mut self) -> bool {
+        let has_room = self.form.is_whole || self.entries.len() < ENTRIES;
+        if !has_room {
+            self.more = self.more.saturating_add(1);
+        }
+        has_room
+    }
+
+    /// The entry of a run that stopped at a line.
+    fn stopped(
+        &mut self,
+        n: usize,
+        code: Code,
+        line: usize,
+        stop: &Stop,
+    ) -> Result<(), AllocError> {
+        let (alloc, files) = (self.sources.alloc, self.sources.files);
+        let said = stop.said.as_ref();
+        let trail = stop.trail.as_slice();
+        let word = code_text(code);
+        let help = match page_of(word) {
+            Some(page) if said.is_none() => Some(String::from_str(alloc, page.cure)?),
+            _ => None,
+        };
+        self.entries.push(Entry {
+            mark: innermost(files, trail, n, line),
+            code: word,
+            text: text_of_code(alloc, code, said)?,
+            notes: callers(alloc, files, self.form.naming, trail)?,
+            help,
+            root: Some(n),
+        })?;
+        Ok(())
+    }
+
+    /// The entries of a file with static faults: whether there is one.
+    fn statics(&mut self, n: usize) -> Result<bool, AllocError> {
+        let mut root = Some(n);
+        for mistake in self.sources.mistakes(n)? {
+            self.entries
+                .push(Entry::of(self.sources.alloc, mistake, root))?;
+            root = None;
+        }
+        Ok(root.is_none())
+    }
+
+    /// The entries of the prelude, once.
+    fn prelude(&mut self) -> Result<(), AllocError> {
+        match self.sources.prelude {
+            Some(prelude) if !self.has_prelude => {
+                self.has_prelude = true;
+                if self.has_room() {
+                    self.statics(prelude)?;
+                }
+                Ok(())
+            }
+            _ => Ok(()),
+        }
+    }
+
+    /// Whether an undefined name of this file may come from a prelude that does not parse.
+    fn may_lack(&self, n: usize, fault: StaticFault) -> bool {
+        self.is_blind && self.sources.prelude != Some(n) && fault.code == StaticCode::Undefined
+    }
+
+    /// What has become of a file is told. Where it has no fault of its own, it fails by the prelude.
+    fn tell(&mut self, ends: &mut Ends, n: usize) -> Result<(), AllocError> {
+        match ends.end(n) {
+            End::Static(fault) => {
+                if self.sources.prelude == Some(n) {
+                    return self.prelude();
+                }
+                if !self.has_room() {
+                    return Ok(());
+                }
+                let is_told = self.statics(n)?;
+                if !is_told && self.may_lack(n, fault) {
+                    let next = self.sources.prelude.unwrap_or(n);
+                    ends.set(n, End::Load { next, line: 1 });
+                    return self.prelude();
+                }
+                Ok(())
+            }
+            End::Stopped { code, line } => {
+                if !self.has_room() {
+                    return Ok(());
+                }
+                match ends.stops.get(n) {
+                    Some(stop) => self.stopped(n, code, line, stop),
+                    None => Ok(()),
+                }
+            }
+            _ => Ok(()),
+        }
+    }
+}
+
+/// Where the loads of files lead at last.
+#[derive(Drop)]
+struct Ways {
+    ends: Ends,
+    roots: Vec<usize>,
+    cycles: Cycles,
+}
+
+impl Ways {
+    fn of(alloc: Global, ends: Ends, asked: &[usize]) -> Result<Ways, AllocError> {
+        let roots = ends.roots(alloc)?;
+        let cycles = Cycles::of(alloc, &ends, roots.as_slice(), asked)?;
+        Ok(Ways {
+            ends,
+            roots,
+            cycles,
+        })
+    }
+
+    /// The file by which a file fails at last; of a cycle it is the first one that was found.
+    fn cause(&self, n: usize) -> usize {
+        let root = self.roots.get(n).copied().unwrap_or(n);
+        let cycle = self
+            .cycles
+            .number(root)
+            .and_then(|number| self.cycles.all.get(number));
+        cycle
+            .and_then(|files| files.first())
+            .copied()
+            .unwrap_or(root)
+    }
+
+    /// The files that fail by this one, or by the cycle on which it lies.
+    fn failing(&self, alloc: Global, root: Option<usize>) -> Result<Vec<usize>, AllocError> {
+        let mut failing = Vec::new(alloc);
+        let Some(root) = root else {
+            return Ok(failing);
+        };
+        let cause = self.cause(root);
+        for n in &self.ends.reached {
+            let fails = matches!(self.ends.end(*n), End::Load { .. });
+            if fails && self.cycles.number(*n).is_none() && self.cause(*n) == cause {
+                failing.push(*n)?;
+            }
+        }
+        Ok(failing)
+    }
+
+    /// `N files: ..`
+    fn push_summary(&self, all: &mut String) -> Result<(), AllocError> {
+        let good = self.ends.count(|end| end == End::Good);
+        let own = self
+            .ends
+            .count(|end| matches!(end, End::Static(_) | End::Stopped { .. }));
+        let by_loads = self.ends.count(|end| matches!(end, End::Load { .. }));
+        let count = self.ends.reached.len();
+        let files = if count == 1 { "file" } else { "files" };
+        let whose = if by_loads == 1 { "its" } else { "their" };
+        write!(
+            all,
+            "{count} {files}: {good} ok, {own} at fault, {by_loads} by {whose} loads\n"
+        )
+    }
+}
+
+impl<'a> Telling<'a> {
+    /// The entries of all cycles.
+    fn cycles(&mut self, ways: &Ways) -> Result<(), AllocError> {
+        let (alloc, files) = (self.sources.alloc, self.sources.files);
+        for number in 0..ways.cycles.all.len() {
+            if !self.has_room() {
+                continue;
+            }
+            let naming = self.form.naming;
+            let entry = ways.cycles.entry(alloc, files, &ways.ends, naming, number)?;
+            if let Some(entry) = entry {
+                self.entries.push(entry)?;
+            }
+        }
+        Ok(())
+    }
+
+    /// The text of all entries: none where there is no entry.
+    fn text(&self, ways: &Ways) -> Result<String, AllocError> {
+        let (alloc, files) = (self.sources.alloc, self.sources.files);
+        let mut all = String::new(alloc);
+        if self.entries.is_empty() {
+            return Ok(all);
+        }
+        for entry in &self.entries {
+            let failing = ways.failing(alloc, entry.root)?;
+            entry.push(&mut all, alloc, files, self.form.naming, failing.as_slice())?;
+        }
+        if self.more > 0 {
+            write!(all, "and {} more; --explain=all shows them\n\n", self.more)?;
+        }
+        ways.push_summary(&mut all)?;
+        Ok(all)
+    }
+}
+
+/// What a person is told of a run: nothing where no file is at fault.
+pub fn explain(
+    alloc: Global,
+    files: &Files,
+    run: &mut Run,
+    roots: &[usize],
+    prelude: Option<usize>,
+    form: Form,
+) -> Result<String, AllocError> {
+    let sources = Sources {
+        alloc,
+        files,
+        prelude,
+    };
+    let mut telling = Telling {
+        sources,
+        form,
+        entries: Vec::new(alloc),
+        more: 0,
+        is_blind: sources.is_blind()?,
+        has_prelude: false,
+    };
+    let mut ends = Ends::of(alloc, files.len(), run)?;
+    for i in 0..ends.reached.len() {
+        let n = ends.reached.get(i).copied().unwrap_or(0);
+        telling.tell(&mut ends, n)?;
+    }
+    let ways = Ways::of(alloc, ends, roots)?;
+    telling.cycles(&ways)?;
+    telling.text(&ways)
+}

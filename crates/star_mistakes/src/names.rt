@@ -1,0 +1,311 @@
+//! Names, loads and statements that stand where they may not.
+//!
+//! The resolver answers the first fault of a file with its line. Here each fault gets its token: those of loads,
+//! conflicts and statements from the walks of the resolver itself; and the undefined names by resolving the file once
+//! more with a prelude that has all of its names: undefined are those that only this prelude has.
+
+ghost use Rattle.std.specs.Prelude.{◌<◌, length};
+
+use crate::place::word_of;
+use star_label::files::Files;
+use star_lex::token::{Keyword, Kind, Token};
+use star_parser::parse;
+use star_scope::conflicts::block_conflict;
+use star_scope::error::{Refusal, ScopeFault};
+use star_scope::loads::find_loads;
+use star_scope::placement::misplaced;
+use star_scope::program::{Prelude, resolve};
+use star_scope::spot::Spot;
+use star_tree::tree::Tree;
+use std::alloc::{AllocError, Global};
+use std::collections::BTreeSet;
+
+/// The names of the outermost block.
+const BUILT_INS: [&str; 24] = [
+    "None",
+    "True",
+    "False",
+    "abs",
+    "all",
+    "any",
+    "bool",
+    "dict",
+    "enumerate",
+    "fail",
+    "int",
+    "len",
+    "list",
+    "max",
+    "min",
+    "print",
+    "range",
+    "repr",
+    "reversed",
+    "sorted",
+    "str",
+    "tuple",
+    "type",
+    "zip",
+];
+
+/// A file whose text parses: its tokens and its tree.
+#[derive(Clone, Copy)]
+pub(crate) struct Source<'a> {
+    pub alloc: Global,
+    pub files: &'a Files,
+    pub file: usize,
+    pub text: &'a str,
+    pub tokens: &'a [Token],
+    pub tree: &'a Tree,
+    /// The prelude that it sees, and its tree, where that parses.
+    pub prelude: Option<usize>,
+    pub seen: Option<&'a Tree>,
+}
+
+/// What is found of the names of a file.
+#[derive(Drop)]
+pub(crate) struct Found<'a> {
+    /// The faults in the order of their tokens.
+    pub faults: Vec<Refusal>,
+    /// The names that an undefined one can mean.
+    pub names: Vec<&'a str>,
+}
+
+/// What a walk answers that fails for want of memory alone.
+fn without_memory<T>(found: Result<T, ScopeFault>) -> Result<T, AllocError> {
+    match found {
+        Ok(found) => Ok(found),
+        Err(_) => Err(AllocError),
+    }
+}
+
+fn undefined_at(at: usize, token: &Token) -> Refusal {
+    Refusal {
+        token: at,
+        fault: ScopeFault::Undefined { line: token.line },
+    }
+}
+
+/// The line of a fault: 0 for none.
+fn line_of(fault: ScopeFault) -> usize {
+    match fault {
+        ScopeFault::Undefined { line }
+        | ScopeFault::BadPlace { line }
+        | ScopeFault::Conflict { line }
+        | ScopeFault::Private { line }
+        | ScopeFault::NoFile { line }
+        | ScopeFault::BadLabel { line } => line,
+        ScopeFault::Memory => 0,
+    }
+}
+
+/// Whether a token can be the one of a fault, as far as its kind shows.
+fn may_stand_at(fault: ScopeFault, kind: Kind) -> bool {
+    match fault {
+        ScopeFault::BadPlace { .. } => matches!(
+            kind,
+            Kind::Keyword(Keyword::Return | Keyword::Break | Keyword::Continue | Keyword::Load)
+        ),
+        ScopeFault::Undefined { .. } => kind == Kind::Name,
+        ScopeFault::Conflict { .. } => matches!(kind, Kind::Name | Kind::Text),
+        _ => kind == Kind::Text,
+    }
+}
+
+impl<'a> Source<'a> {
+    /// A text that binds each name of the file.
+    fn bindings(self) -> Result<String, AllocError> {
+        let mut all = String::new(self.alloc);
+        for token in self.tokens {
+            if token.kind == Kind::Name {
+                all.push_str(word_of(self.text, token))?;
+                all.push_str(" = 0\n")?;
+            }
+        }
+        Ok(all)
+    }
+
+    /// The names that the file's own block, its prelude and the outermost block bind.
+    fn known(self) -> Result<Vec<&'a str>, AllocError> {
+        let mut names = Vec::new(self.alloc);
+        let own = without_memory(Prelude::new(self.alloc, self.file, Some(self.tree)))?;
+        names.extend_from_slice(own.names.as_slice())?;
+        if let Some(tree) = self.seen {
+            let seen = without_memory(Prelude::new(self.alloc, self.file, Some(tree)))?;
+            names.extend_from_slice(seen.names.as_slice())?;
+        }
+        names.extend_from_slice(&BUILT_INS)?;
+        Ok(names)
+    }
+
+    /// The first fault of the file, as the report has it.
+    fn first_fault(self) -> Result<Option<ScopeFault>, AllocError>
+        requires { self.file < length self.files.now }
+    {
+        let seen = match self.prelude {
+            Some(number) => Some(without_memory(Prelude::new(self.alloc, number, self.seen))?),
+            None => None,
+        };
+        match resolve(self.alloc, self.files, self.file, self.tree, seen.as_ref()) {
+            Ok(_) => Ok(None),
+            Err(ScopeFault::Memory) => Err(AllocError),
+            Err(fault) => Ok(Some(fault)),
+        }
+    }
+}
+
+impl<'a> Found<'a> {
+    /// A name at a token: where nothing but the prelude of all names has it, it is undefined.
+    fn add(
+        &mut self,
+        spot: Spot,
+        at: usize,
+        token: &Token,
+        word: &'a str,
+    ) -> Result<(), AllocError> {
+        if spot == Spot::Prelude {
+            self.faults.push(undefined_at(at, token))?;
+        } else {
+            self.names.push(word)?;
+        }
+        Ok(())
+    }
+
+    fn add_fault(&mut self, fault: Option<Refusal>) -> Result<(), AllocError> {
+        if let Some(fault) = fault {
+            self.faults.push(fault)?;
+        }
+        Ok(())
+    }
+}
+
+// Undefined names.
+impl<'a> Source<'a> {
+    /// Adds the undefined names, each at its first place, and those that blocks inside of the file bind. None are found
+    /// where the file has another fault, too.
+    fn add_names(self, found: &mut Found<'a>) -> Result<(), AllocError>
+        requires { self.file < length self.files.now }
+    {
+        let text = self.bindings()?;
+        let Ok(tree) = parse(self.alloc, text.as_str()) else {
+            return Ok(());
+        };
+        // Any number but the file's own serves for a prelude that is no file.
+        let number = self.files.len();
+        let all = without_memory(Prelude::new(self.alloc, number, Some(&tree)))?;
+        let seen = Some(&all);
+        let Ok(program) = resolve(self.alloc, self.files, self.file, self.tree, seen) else {
+            return Ok(());
+        };
+        let mut told = self.set_of(found.names.as_slice())?;
+        for (at, token) in self.tokens.iter().enumerate() {
+            let word = word_of(self.text, token);
+            match program.spot(at) {
+                Some(spot) if token.kind == Kind::Name && told.insert(word)? => {
+                    found.add(spot, at, token, word)?;
+                }
+                _ => {}
+            }
+        }
+        Ok(())
+    }
+
+    /// Names as a set.
+    fn set_of(self, names: &[&'a str]) -> Result<BTreeSet<&'a str>, AllocError> {
+        let mut set = BTreeSet::new(self.alloc);
+        for name in names {
+            set.insert(*name)?;
+        }
+        Ok(set)
+    }
+
+    /// The name on a line that stands before in the same definition, too: a parameter that is named twice.
+    fn repeated_name(self, line: usize) -> Result<Option<usize>, AllocError> {
+        let mut words = BTreeSet::new(self.alloc);
+        let mut is_definition = false;
+        for (at, token) in self.tokens.iter().enumerate() {
+            if matches!(token.kind, Kind::Keyword(Keyword::Def | Keyword::Lambda)) {
+                words = BTreeSet::new(self.alloc);
+                is_definition = token.kind == Kind::Keyword(Keyword::Def);
+            }
+            if token.kind != Kind::Name {
+                continue;
+            }
+            if is_definition {
+                is_definition = false;
+                continue;
+            }
+            if !words.insert(word_of(self.text, token))? && token.line == line {
+                return Ok(Some(at));
+            }
+        }
+        Ok(None)
+    }
+
+    /// The token of a fault whose line alone is known.
+    fn token_of(self, fault: ScopeFault) -> Result<usize, AllocError> {
+        let line = line_of(fault);
+        if let ScopeFault::Conflict { .. } = fault {
+            if let Some(at) = self.repeated_name(line)? {
+                return Ok(at);
+            }
+        }
+        let mut tokens = self.tokens.iter();
+        let found = tokens.position(|token| token.line == line && may_stand_at(fault, token.kind));
+        Ok(found.unwrap_or(0))
+    }
+
+    /// The first load statement: the prelude may have none.
+    fn load_in_prelude(self) -> Option<Refusal> {
+        let load = Kind::Keyword(Keyword::Load);
+        let at = self.tokens.iter().position(|token| token.kind == load)?;
+        let line = self.tokens.get(at)?.line;
+        Some(Refusal {
+            token: at,
+            fault: ScopeFault::BadPlace { line },
+        })
+    }
+
+    /// The first fault of each kind but undefined names.
+    fn firsts(self) -> Result<[Option<Refusal>; 3], AllocError>
+        requires { self.file < length self.files.now }
+    {
+        let statements = self.tree.statements.as_slice();
+        let place = match misplaced(statements) {
+            None if self.prelude == Some(self.file) => self.load_in_prelude(),
+            found => found,
+        };
+        let loads = without_memory(find_loads(
+            self.alloc, self.files, self.file, None, statements,
+        ))?;
+        let conflict = without_memory(block_conflict(self.alloc, statements))?;
+        Ok([place, loads.first, conflict])
+    }
+
+    /// The static faults of the file: the first one, as the report has it, the first one of each kind, and each
+    /// undefined name.
+    pub(crate) fn found(self) -> Result<Found<'a>, AllocError>
+        requires { self.file < length self.files.now }
+    {
+        let mut found = Found {
+            faults: Vec::new(self.alloc),
+            names: self.known()?,
+        };
+        let Some(first) = self.first_fault()? else {
+            return Ok(found);
+        };
+        self.add_names(&mut found)?;
+        for fault in self.firsts()? {
+            found.add_fault(fault)?;
+        }
+        if !found.faults.iter().any(|refusal| refusal.fault == first) {
+            let token = self.token_of(first)?;
+            found.add_fault(Some(Refusal {
+                token,
+                fault: first,
+            }))?;
+        }
+        found.faults.sort_by_key(|refusal| refusal.token)?;
+        Ok(found)
+    }
+}

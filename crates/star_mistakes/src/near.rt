@@ -1,0 +1,50 @@
+//! The name that was probably meant.
+
+use std::alloc::{AllocError, Global};
+use strsim::osa_distance;
+
+/// The longest word that a near one is looked for.
+const LONGEST: usize = 80;
+
+/// From how many edits on a name is too far from a word: more than a third of the letters may not differ.
+fn limit(word: &str) -> usize {
+    let letters = word.chars().count();
+    if letters < 4 { 2 } else { letters / 3 + 1 }
+}
+
+/// The nearest of some names to a word: the first of those with the fewest edits. None that is too far, and none to a
+/// word of one letter.
+pub fn nearest<'a>(
+    alloc: Global,
+    word: &str,
+    names: &[&'a str],
+) -> Result<Option<&'a str>, AllocError> {
+    if word.len() < 2 || word.len() > LONGEST {
+        return Ok(None);
+    }
+    let mut best = None;
+    let mut least = limit(word);
+    for name in names {
+        if *name == word || name.len().abs_diff(word.len()) > LONGEST {
+            continue;
+        }
+        let edits = osa_distance(alloc, word, *name)?;
+        if edits < least {
+            least = edits;
+            best = Some(*name);
+        }
+    }
+    Ok(best)
+}
+
+/// ``did you mean `NAME`?`` of the nearest name.
+pub fn did_you_mean(
+    alloc: Global,
+    word: &str,
+    names: &[&str],
+) -> Result<Option<String>, AllocError> {
+    match nearest(alloc, word, names)? {
+        Some(name) => Ok(Some(format!(in alloc; "did you mean `{name}`?")?)),
+        None => Ok(None),
+    }
+}

@@ -1,0 +1,138 @@
+//! The static faults of a file.
+
+ghost use Rattle.std.specs.Prelude.{◌<◌, length};
+
+use crate::mistake::Mistake;
+use crate::names::Source;
+use crate::place::{Line, text_of};
+use crate::refused::told;
+use crate::syntax::bad_syntax;
+use crate::tokens::{bad_indent, bad_token};
+use star_label::files::Files;
+use star_lex::lex;
+use star_lex::token::{SyntaxFault, Token};
+use star_parser::parse;
+use star_scope::error::ScopeFault;
+use star_tree::tree::Tree;
+use std::alloc::{AllocError, Global};
+
+/// The files of a run, and which of them is the prelude.
+#[derive(Clone, Copy)]
+pub struct Sources<'a> {
+    pub alloc: Global,
+    pub files: &'a Files,
+    pub prelude: Option<usize>,
+}
+
+/// What is said of a text that is nested too deeply, by this line.
+fn nested(alloc: Global, file: usize, text: &str, line: usize) -> Result<Mistake, AllocError> {
+    let mark = Line::numbered(text, line).mark(file);
+    let text = String::from_str(
+        alloc,
+        "nested too deeply: brackets, blocks and operators weigh more than 100 here",
+    )?;
+    Mistake::new(mark, "nested", text).with(alloc, "give the inner parts names of their own")
+}
+
+/// What is said of a text that has no tree.
+fn unread(
+    alloc: Global,
+    file: usize,
+    text: &str,
+    fault: SyntaxFault,
+) -> Result<Mistake, AllocError> {
+    match fault {
+        SyntaxFault::BadToken { line } => bad_token(alloc, file, text, line),
+        SyntaxFault::BadIndent { line } => bad_indent(alloc, file, text, line),
+        SyntaxFault::TooNested { line } => nested(alloc, file, text, line),
+        SyntaxFault::BadSyntax => match lex(alloc, text) {
+            Ok(tokens) => bad_syntax(alloc, file, text, tokens.as_slice()),
+            Err(_) => Err(AllocError),
+        },
+        SyntaxFault::Memory => Err(AllocError),
+    }
+}
+
+/// What is said of the faults of a file whose text parses: nothing of undefined names where some may not be known.
+fn mistakes_of(source: Source, is_blind: bool) -> Result<Vec<Mistake>, AllocError>
+    requires { source.file < length source.files.now }
+{
+    let found = source.found()?;
+    let mut all = Vec::new(source.alloc);
+    for refusal in &found.faults {
+        let is_undefined = matches!(refusal.fault, ScopeFault::Undefined { .. });
+        if is_undefined && is_blind {
+            continue;
+        }
+        if let Some(mistake) = told(source, found.names.as_slice(), *refusal)? {
+            all.push(mistake)?;
+        }
+    }
+    Ok(all)
+}
+
+/// The mistakes of a file whose text parses, where its prelude has this tree.
+fn in_tree<'x>(
+    sources: Sources<'x>,
+    file: usize,
+    tokens: &'x [Token],
+    tree: &'x Tree,
+    seen: Option<&'x Tree>,
+) -> Result<Vec<Mistake>, AllocError>
+    requires { file < length sources.files.now }
+{
+    let is_blind = sources.prelude.is_some() && seen.is_none();
+    let source = Source {
+        alloc: sources.alloc,
+        files: sources.files,
+        file,
+        text: sources.files.text(file),
+        tokens,
+        tree,
+        prelude: sources.prelude,
+        seen,
+    };
+    mistakes_of(source, is_blind)
+}
+
+impl<'a> Sources<'a> {
+    /// The tree of the prelude, where it parses.
+    fn prelude_tree(self) -> Result<Option<Tree>, AllocError> {
+        let Some(prelude) = self.prelude else {
+            return Ok(None);
+        };
+        match parse(self.alloc, text_of(self.files, prelude)) {
+            Ok(tree) => Ok(Some(tree)),
+            Err(SyntaxFault::Memory) => Err(AllocError),
+            Err(_) => Ok(None),
+        }
+    }
+
+    /// Whether the prelude does not parse, so that its names are not known.
+    pub fn is_blind(self) -> Result<bool, AllocError> {
+        Ok(self.prelude.is_some() && self.prelude_tree()?.is_none())
+    }
+
+    /// The mistakes of a file that has static faults, in the order in which they stand: the first of each kind, and
+    /// each name that is undefined. Of names that may come from a prelude that does not parse nothing is said.
+    pub fn mistakes(self, file: usize) -> Result<Vec<Mistake>, AllocError> {
+        let mut all = Vec::new(self.alloc);
+        if file >= self.files.len() {
+            return Ok(all);
+        }
+        let text = self.files.text(file);
+        match parse(self.alloc, text) {
+            Ok(tree) => match lex(self.alloc, text) {
+                Ok(tokens) => {
+                    let prelude = self.prelude_tree()?;
+                    in_tree(self, file, tokens.as_slice(), &tree, prelude.as_ref())
+                }
+                Err(_) => Err(AllocError),
+            },
+            Err(fault) => {
+                all.push(unread(self.alloc, file, text, fault)?)?;
+                Ok(all)
+            }
+        }
+    }
+}
