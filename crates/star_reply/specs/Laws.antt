@@ -9,7 +9,7 @@ use Rattle.star_folder.specs.Refusal.{IsStopped}
 use Rattle.star_folder.specs.Walk.{AreFilesOf}
 use Rattle.star_folder.specs.Memory.{contents_of}
 use Rattle.star_folder.specs.declared.memory.Row.{Row}
-use Rattle.star_report.specs.declared.wanted.Wanted.{Wanted}
+use Rattle.star_report.specs.declared.wanted.Output.{Output}
 use Rattle.star_serve.specs.Serve.{ReadsAll, Reports}
 use Rattle.star_serve.specs.Stream.{Said}
 
@@ -39,54 +39,54 @@ OneWalk =
     → files ≡ others
 
 -- what the words ask for of these files was written between `before` and `after`, and so answered
-abbrev pub Answers : Wanted → List File → List (List ℕ) → Option (List ℕ) → ℕ → List ℕ → Option (List ℕ) → Bool → Type 0
-Answers wanted files roots prelude steps before after ok =
-    (asked : Asked) × (asked_among roots prelude files ≡ Ok asked) × Reports wanted asked steps (Some before) after ok
+abbrev pub Answers : Output → List File → List (List ℕ) → Option (List ℕ) → ℕ → List ℕ → Option (List ℕ) → Bool → Type 0
+Answers output files roots prelude steps before after ok =
+    (asked : Asked) × (asked_among roots prelude files ≡ Ok asked) × Reports output asked steps (Some before) after ok
 
 -- ordered files have one answer
 abbrev pub OneAnswer : Type 0
 OneAnswer =
     (files : List File) → IsOrdered files
-    → (wanted : Wanted) (roots : List (List ℕ)) (prelude : Option (List ℕ)) (steps : ℕ) (before : List ℕ)
-    → (x y : Option (List ℕ)) (ok well : Bool) → Answers wanted files roots prelude steps before x ok
-    → Answers wanted files roots prelude steps before y well → (x ≡ y) × (ok ≡ well)
+    → (output : Output) (roots : List (List ℕ)) (prelude : Option (List ℕ)) (steps : ℕ) (before : List ℕ)
+    → (x y : Option (List ℕ)) (ok well : Bool) → Answers output files roots prelude steps before x ok
+    → Answers output files roots prelude steps before y well → (x ≡ y) × (ok ≡ well)
 
 -- what `serve` says where it answers: of the input, and of a writer that says what it took
-abbrev pub Replies : Wanted → List (List ℕ) → Option (List ℕ) → ℕ → List ℕ → List ℕ → Option (List ℕ) → Bool → Type 0
-Replies wanted roots prelude steps input before after ok =
-    (asked : Asked) × (asked_of roots prelude input ≡ Ok asked) × Reports wanted asked steps (Some before) after ok
+abbrev pub Replies : Output → List (List ℕ) → Option (List ℕ) → ℕ → List ℕ → List ℕ → Option (List ℕ) → Bool → Type 0
+Replies output roots prelude steps input before after ok =
+    (asked : Asked) × (asked_of roots prelude input ≡ Ok asked) × Reports output asked steps (Some before) after ok
 
 -- an input has one reply
 abbrev pub OneReply : Type 0
 OneReply =
-    (wanted : Wanted) (roots : List (List ℕ)) (prelude : Option (List ℕ)) (steps : ℕ) (input before : List ℕ)
-    → (x y : Option (List ℕ)) (ok well : Bool) → Replies wanted roots prelude steps input before x ok
-    → Replies wanted roots prelude steps input before y well → (x ≡ y) × (ok ≡ well)
+    (output : Output) (roots : List (List ℕ)) (prelude : Option (List ℕ)) (steps : ℕ) (input before : List ℕ)
+    → (x y : Option (List ℕ)) (ok well : Bool) → Replies output roots prelude steps input before x ok
+    → Replies output roots prelude steps input before y well → (x ≡ y) × (ok ≡ well)
 
 -- what `serve` says of its reader too: all of what that gave was the input
-abbrev pub Serves : Wanted → List (List ℕ) → Option (List ℕ) → ℕ → Said → Said → List ℕ → Option (List ℕ) → Bool → Type 0
-Serves wanted roots prelude steps old new before after ok =
-    (input : List ℕ) × ReadsAll old new input × Replies wanted roots prelude steps input before after ok
+abbrev pub Serves : Output → List (List ℕ) → Option (List ℕ) → ℕ → Said → Said → List ℕ → Option (List ℕ) → Bool → Type 0
+Serves output roots prelude steps old new before after ok =
+    (input : List ℕ) × ReadsAll old new input × Replies output roots prelude steps input before after ok
 
 -- a reader that says what it will give has one reply
 abbrev pub OneServed : Type 0
 OneServed =
-    (wanted : Wanted) (roots : List (List ℕ)) (prelude : Option (List ℕ)) (steps : ℕ) (old new other : Said) (all before : List ℕ)
+    (output : Output) (roots : List (List ℕ)) (prelude : Option (List ℕ)) (steps : ℕ) (old new other : Said) (all before : List ℕ)
     → old.left ≡ Some all
-    → (x y : Option (List ℕ)) (ok well : Bool) → Serves wanted roots prelude steps old new before x ok
-    → Serves wanted roots prelude steps old other before y well → (x ≡ y) × (ok ≡ well)
+    → (x y : Option (List ℕ)) (ok well : Bool) → Serves output roots prelude steps old new before x ok
+    → Serves output roots prelude steps old other before y well → (x ≡ y) × (ok ≡ well)
 
 -- what `serve_dir` says where it answers
-abbrev pub RepliesDir : Wanted → List (List ℕ) → Option (List ℕ) → ℕ → Contents → List ℕ → Option (List ℕ) → Bool → Type 0
-RepliesDir wanted roots prelude steps held before after ok =
-    (files : List File) × AreFilesOf held files × Answers wanted files roots prelude steps before after ok
+abbrev pub RepliesDir : Output → List (List ℕ) → Option (List ℕ) → ℕ → Contents → List ℕ → Option (List ℕ) → Bool → Type 0
+RepliesDir output roots prelude steps held before after ok =
+    (files : List File) × AreFilesOf held files × Answers output files roots prelude steps before after ok
 
 -- a folder that says all has one reply
 abbrev pub OneReplyDir : Type 0
 OneReplyDir =
-    (wanted : Wanted) (roots : List (List ℕ)) (prelude : Option (List ℕ)) (steps : ℕ) (held : Contents) → SaysAll held
-    → (before : List ℕ) (x y : Option (List ℕ)) (ok well : Bool) → RepliesDir wanted roots prelude steps held before x ok
-    → RepliesDir wanted roots prelude steps held before y well → (x ≡ y) × (ok ≡ well)
+    (output : Output) (roots : List (List ℕ)) (prelude : Option (List ℕ)) (steps : ℕ) (held : Contents) → SaysAll held
+    → (before : List ℕ) (x y : Option (List ℕ)) (ok well : Bool) → RepliesDir output roots prelude steps held before x ok
+    → RepliesDir output roots prelude steps held before y well → (x ≡ y) × (ok ≡ well)
 
 -- a refusal that the contents decide: no listing or read failed, and no growth was refused
 abbrev pub IsDecided : ServeError → Type 0

@@ -57,15 +57,15 @@ IsOf P (Ok x) = ⊤
 IsOf P (Err e) = P e
 
 module _ (P : ServeError → Type 0) where
-  there_kind : {A : Type 0} (e : ServeError) (o : Option A) → P e → IsOf P (there_or e o)
+  pub there_kind : {A : Type 0} (e : ServeError) (o : Option A) → P e → IsOf P (there_or e o)
   there_kind e None h = h
   there_kind e (Some x) h = tt
 
-  bind_kind : {A B : Type 0} (r : Result A ServeError) (f : A → Result B ServeError) → IsOf P r → ((x : A) → IsOf P (f x)) → IsOf P (r >>= f)
+  pub bind_kind : {A B : Type 0} (r : Result A ServeError) (f : A → Result B ServeError) → IsOf P r → ((x : A) → IsOf P (f x)) → IsOf P (r >>= f)
   bind_kind (Ok x) f h g = g x
   bind_kind (Err e) f h g = h
 
-  cond_kind : {A : Type 0} (b : Bool) (r : Result A ServeError) (e : ServeError) → IsOf P r → P e → IsOf P (cond b r (Err e))
+  pub cond_kind : {A : Type 0} (b : Bool) (r : Result A ServeError) (e : ServeError) → IsOf P r → P e → IsOf P (cond b r (Err e))
   cond_kind true r e h k = h
   cond_kind false r e h k = k
 

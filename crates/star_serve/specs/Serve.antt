@@ -1,10 +1,9 @@
 -- What the program answers.
-use Rattle.std.specs.Prelude.{◌≡◌, ⊤, ℕ, ◌≤◌, List, length, Bool, true, false, Option, Result, Ok, Err}
+use Rattle.std.specs.Prelude.{◌≡◌, ⊤, ℕ, ◌≤◌, List, length, Bool, Option, Result, Ok, Err}
 use Rattle.star_serve.specs.Stream.{Adds, GivesAll, Said}
 use Rattle.star_bundle.specs.Bundle.{Asked}
-use Rattle.star_outcome.specs.Kept.{AllGood, AreModulesOf, KeptView}
-use Rattle.star_report.specs.Shown.{IsReportOf}
-use Rattle.star_report.specs.declared.wanted.Wanted.{Wanted}
+use Rattle.star_report.specs.Output.{InPlanOf, IsOutput}
+use Rattle.star_report.specs.declared.wanted.Output.{Output}
 use Rattle.star_bundle.specs.declared.error.ServeError.{ServeError}
 use Rattle.star_bundle.specs.declared.error.ServeError.TheVariants.{Read, TooBig, BadBundle, BadKey, TooMany, TooLong, BadRoot, NoRoot, BadPrelude, NoPrelude, Memory, Write, Unpublished}
 
@@ -16,13 +15,11 @@ input_limit = 268435456
 abbrev pub ReadsAll : Said → Said → List ℕ → Type 0
 ReadsAll old new input = GivesAll old new input × (length input ≤ input_limit)
 
--- Between old and new the report of what is asked for was written, with what is wanted, and nothing else; and the answer is whether each of
--- the modules, which are those of exactly the reached files, each with its file's outcome, is good.
-abbrev pub Reports : Wanted → Asked → ℕ → Option (List ℕ) → Option (List ℕ) → Bool → Type 0
-Reports wanted asked steps old new all_ok =
-    (text : List ℕ) × Adds old new text × IsReportOf wanted asked.files asked.roots asked.prelude steps text
-    × (modules : List KeptView) × AreModulesOf asked.files asked.roots asked.prelude steps modules
-    × (all_ok ≡ true → AllGood modules) × (all_ok ≡ false → AllGood modules → ⊥)
+-- Between old and new what is wanted of what is asked for was written, and nothing else, and so answered (`IsOutput`).
+abbrev pub Reports : Output → Asked → ℕ → Option (List ℕ) → Option (List ℕ) → Bool → Type 0
+Reports output asked steps old new all_ok =
+    (text : List ℕ) × Adds old new text
+    × InPlanOf asked.files asked.roots asked.prelude steps (λ plan. IsOutput output asked.files plan text all_ok)
 
 -- what a refusal of a run or of its report says: nothing was written, but where the write failed
 abbrev pub IsRefusedRun : Type 0 → ServeError → Type 0

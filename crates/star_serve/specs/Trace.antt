@@ -1,9 +1,12 @@
 -- What is written of the refused loads.
-use Rattle.std.specs.Prelude.{ℕ, List, [], ◌∷◌, ◌++◌, Option, codes}
+use Rattle.std.specs.Prelude.{◌≡◌, ℕ, Bool, false, not, List, [], ◌∷◌, ◌++◌, Option, codes}
 use Rattle.star_label.specs.Files.{File, label_at}
 use Rattle.star_bundle.specs.Bundle.{Asked}
 use Rattle.star_outcome.specs.Refusals.{AreRefusalsOf}
 use Rattle.star_outcome.specs.declared.trace.Refused.{Refused}
+use Rattle.star_report.specs.Output.{InPlanOf, IsSaid}
+use Rattle.star_report.specs.declared.wanted.Output.{Output}
+use Rattle.star_report.specs.declared.wanted.Output.TheVariants.{Global, Graph, Report}
 use Rattle.star_serve.specs.Stream.{Adds}
 
 -- the line of a load
@@ -16,8 +19,17 @@ abbrev pub trace_text : List File → List Refused → List ℕ
 trace_text files [] = []
 trace_text files (r ∷ rs) = trace_line files r ++ trace_text files rs
 
--- between old and new the lines of some loads were written, and nothing else: each lies on a cycle of loads
-abbrev pub Traces : Asked → ℕ → Option (List ℕ) → Option (List ℕ) → Type 0
-Traces asked steps old new =
-    (rs : List Refused) × AreRefusalsOf asked.files asked.roots asked.prelude steps rs
-    × Adds old new (trace_text asked.files rs)
+-- Between old and new the line was written that is said beside what is wanted (`IsSaid`), and then, with the trace, the
+-- lines of some loads, and nothing else: each of these lies on a cycle of loads.
+abbrev pub Traces : Output → Asked → ℕ → Bool → Bool → Option (List ℕ) → Option (List ℕ) → Type 0
+Traces output asked steps all_ok trace old new =
+    (line : List ℕ)
+    × InPlanOf asked.files asked.roots asked.prelude steps (λ plan. IsSaid output asked.files plan all_ok line)
+    × (rs : List Refused) × AreRefusalsOf asked.files asked.roots asked.prelude steps rs
+    × (trace ≡ false → rs ≡ []) × Adds old new (line ++ trace_text asked.files rs)
+
+-- whether a line is said beside what is wanted
+abbrev pub is_said : Output → Bool → Bool
+is_said (Report wanted) all_ok = false
+is_said (Global name) all_ok = not all_ok
+is_said Graph all_ok = false

@@ -1,13 +1,13 @@
 //! From the files of a folder to the report's bytes.
 
-ghost use Rattle.std.specs.Prelude.{false, ◌≡◌, ◌+◌, ◌≤◌, List, map, option_map, string_bytes, IfOk, IfErr, Ok};
+ghost use Rattle.std.specs.Prelude.{false, ◌≡◌, ◌+◌, ◌≤◌, List, None, map, option_map, string_bytes, IfOk, IfErr, Ok};
 ghost use Rattle.star_label.specs.Files.{File};
 ghost use Rattle.star_bundle.specs.Bundle as bundle;
 ghost use Rattle.star_bundle.specs.Refusal.{writes_failed};
 ghost use Rattle.star_folder.specs.Refusal.{IsStopped, files_failed, listings_failed};
 ghost use Rattle.star_folder.specs.Walk.{AreFilesOf};
 ghost use Rattle.star_serve.specs.Serve.{IsRefusedDir, Reports};
-ghost use Rattle.star_serve.specs.Trace.{Traces};
+ghost use Rattle.star_serve.specs.Trace.{Traces, is_said};
 
 use crate::serve::{Options, reported};
 use crate::stream::Sink;
@@ -19,8 +19,8 @@ use std::alloc::Global;
 use std::sync::Wait;
 use std::thread::Threads;
 
-/// Loads the roots from the files of a folder and writes the report, and the trace to `errors` where that is wanted. It
-/// answers whether every module of the report is ok.
+/// Loads the roots from the files of a folder and writes the report, and to `errors` the trace and what a person is told,
+/// where these are wanted. It answers whether every module of the report is ok.
 ///
 /// The rules are those of `docs/FOLDERS.md` and `docs/REPORT.md`: which files a folder has, the refusals in their
 /// order, and the report.
@@ -41,12 +41,15 @@ pub fn serve_dir<H: Threads + Wait + Sync, F: Folder, W: Sink, E: Sink>(
         × (asked : bundle.Asked)
         × (bundle.asked_among (map string_bytes options.now.roots.items) (option_map string_bytes options.now.prelude) files
         ≡ Ok asked)
-        × Reports options.now.wanted asked options.now.steps (W.taken writer.old) (W.taken writer.new) all_ok
-        × (E.failed errors.new ≡ E.failed errors.old
-        → Traces asked options.now.steps (E.taken errors.old) (E.taken errors.new))) }
+        × Reports options.now.output asked options.now.steps (W.taken writer.old) (W.taken writer.new) all_ok
+        × (options.now.explain ≡ None → E.failed errors.new ≡ E.failed errors.old
+        → Traces options.now.output asked options.now.steps all_ok options.now.trace (E.taken errors.old)
+        (E.taken errors.new))) }
 
-    // Without the trace, and where there is no answer, nothing was written to `errors`.
-    ensures untraced { options.now.trace ≡ false → errors.new ≡ errors.old }
+    // Where neither the trace is wanted nor a person told, and where there is no answer, nothing was written to
+    // `errors`.
+    ensures untraced { IfOk result (λ all_ok. options.now.explain ≡ None → options.now.trace ≡ false
+        → is_said options.now.output all_ok ≡ false → errors.new ≡ errors.old) }
     ensures unsaid { IfErr result (λ _. errors.new ≡ errors.old) }
 
     // The walk stopped so, or what is asked for of its files is refused so, and nothing was written.

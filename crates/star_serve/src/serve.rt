@@ -1,25 +1,27 @@
 //! From the bundle's bytes to the report's bytes.
 
-ghost use Rattle.std.specs.Prelude.{true, false, ◌≡◌, ◌+◌, ◌<◌, ◌≤◌, ◌⊎◌, ℕ, List, All, map, length, option_map, string_bytes, IfOk, IfErr, IfSome, Ok};
+ghost use Rattle.std.specs.Prelude.{true, false, ◌≡◌, ◌+◌, ◌<◌, ◌≤◌, ◌⊎◌, ℕ, List, All, None, map, length, option_map, string_bytes, IfOk, IfErr, IfSome, Ok};
 ghost use Rattle.star_bundle.specs.Bundle as bundle;
 ghost use Rattle.star_bundle.specs.View.{asked_view};
 ghost use Rattle.star_bundle.specs.Refusal.{reads_failed, writes_failed};
-ghost use Rattle.star_outcome.specs.Kept.{AllGood, AreModulesOf};
 ghost use Rattle.star_outcome.specs.Refusals.{AreRefusalsOf};
-ghost use Rattle.star_report.specs.Shown.{IsReportOf};
+ghost use Rattle.star_reading.specs.Parsed.{AreParsesOf};
+ghost use Rattle.star_report.specs.Output.{InPlanOf, IsOutput, IsSaid};
 ghost use Rattle.star_serve.specs.Serve.{IsRefused, IsRefusedRun, ReadsAll, Reports, input_limit};
 ghost use Rattle.star_serve.specs.Stream.{GaveFirst, Gives};
-ghost use Rattle.star_serve.specs.Trace.{Traces};
+ghost use Rattle.star_serve.specs.Trace.{Traces, is_said};
 
 use crate::read::read_all;
 use crate::stream::{Sink, Source};
-use crate::trace::write_trace;
+use crate::trace::{say, write_some};
+use crate::written::{Written, written_of};
 use star_bundle::bundle::{AskedFor, asked_for};
 use star_bundle::error::ServeError;
+pub use star_explain::explain::Form;
+use star_explain::explain::explain;
 use star_host::gate::Open;
-use star_host::{Reads, Run, RunError, Trees, run_in};
-use star_report::report::{all_good, report};
-pub use star_report::wanted::Wanted;
+use star_host::{Parsed, Reads, Run, RunError, Trees, run_in};
+pub use star_report::wanted::{Output, Wanted};
 use std::alloc::Global;
 use std::mem;
 use std::sync::Wait;
@@ -36,20 +38,22 @@ pub struct Options {
     pub roots: Vec<String>,
     /// The label of the prelude: the file whose names every other file sees.
     pub prelude: Option<String>,
-    /// What is wanted of each module beside what the report always has.
-    pub wanted: Wanted,
+    /// What is written: the report, the globals of the roots, or the graph of loads.
+    pub output: Output,
     /// Whether the refused loads are written after the report.
     pub trace: bool,
     /// The folder that has the files: none where the bundle is read.
     pub dir: Option<String>,
+    /// How a person is told after the report, and after the trace, what is at fault and where: none where nothing is
+    /// told.
+    pub explain: Option<Form>,
 }
 
-/// A run, its report, and whether every module of it is ok.
+/// A run, and what there is to write of it.
 #[derive(Drop)]
 struct Answer {
     run: Run,
-    text: String,
-    all_ok: bool,
+    written: Written,
 }
 
 /// Runs what is asked for. `Memory`, or `Unpublished` where a module was not published.
@@ -58,32 +62,32 @@ fn answered<'t, H: Threads + Wait + Sync>(
     alloc: Global,
     asked: &AskedFor,
     trees: &'t Trees,
+    parses: &[Parsed<'t>],
     reads: &mut Reads<'t>,
-    wanted: Wanted,
-    loaders: usize,
-    steps: u32,
+    options: &Options,
 ) -> Result<Answer, ServeError>
+    requires parses { AreParsesOf asked.now.files parses.now }
     requires roots { All (λ n. n < length asked.now.files) asked.now.roots.items }
     requires prelude { IfSome asked.now.prelude (λ n. n < length asked.now.files) }
-    requires loaders { (1 ≤ loaders) × (loaders ≤ 64) }
-    requires steps { (1 ≤ steps) × (steps ≤ 100000000) }
+    requires loaders { (1 ≤ options.now.loaders) × (options.now.loaders ≤ 64) }
+    requires steps { (1 ≤ options.now.steps) × (options.now.steps ≤ 100000000) }
     ensures kinds { IfErr result (λ e. (e ≡ ServeError.Memory) ⊎ (e ≡ ServeError.Unpublished)) }
-    ensures modules { IfOk result (λ a.
-        AreModulesOf asked.now.files asked.now.roots.items asked.now.prelude steps a.run.kept) }
-    ensures text { IfOk result (λ a.
-        IsReportOf wanted asked.now.files asked.now.roots.items asked.now.prelude steps (string_bytes a.text)) }
-    ensures good { IfOk result (λ a. a.all_ok ≡ true → AllGood a.run.kept) }
-    ensures bad { IfOk result (λ a. a.all_ok ≡ false → AllGood a.run.kept → ⊥) }
-    ensures refused { IfOk result (λ a.
-        AreRefusalsOf asked.now.files asked.now.roots.items asked.now.prelude steps a.run.refused) }
+    ensures text { IfOk result (λ a. InPlanOf asked.now.files asked.now.roots.items asked.now.prelude options.now.steps
+        (λ plan. IsOutput options.now.output asked.now.files plan a.written.text.items a.written.all_ok)) }
+    ensures said { IfOk result (λ a. InPlanOf asked.now.files asked.now.roots.items asked.now.prelude options.now.steps
+        (λ plan. IsSaid options.now.output asked.now.files plan a.written.all_ok (string_bytes a.written.said))) }
+    ensures refused { IfOk result (λ a. AreRefusalsOf asked.now.files asked.now.roots.items asked.now.prelude
+        options.now.steps a.run.refused) }
 {
     let files = &asked.files;
     let roots = asked.roots.as_slice();
+    let (loaders, steps) = (options.loaders, options.steps);
     let mut run = match run_in(
         rt,
         alloc,
         files,
         trees,
+        parses,
         reads,
         roots,
         asked.prelude,
@@ -95,13 +99,95 @@ fn answered<'t, H: Threads + Wait + Sync>(
         Err(RunError::Memory) => return Err(ServeError::Memory),
         Err(RunError::Unpublished) => return Err(ServeError::Unpublished),
     };
-    let text = report(rt, alloc, files, &mut run, roots, wanted, loaders)?;
-    let all_ok = all_good(&mut run);
-    Ok(Answer { run, text, all_ok })
+    let written = written_of(
+        rt,
+        alloc,
+        files,
+        reads,
+        &mut run,
+        roots,
+        &options.output,
+        loaders,
+    )?;
+    Ok(Answer { run, written })
 }
 
-/// Runs what is asked for and writes the report, and the trace to `errors` where that is wanted. It answers whether
-/// every module of the report is ok.
+/// Writes what a person is told of a run by one write, where that is wanted. Where it gets no memory, nothing is written.
+fn write_explained<E: Sink>(
+    alloc: Global,
+    errors: &mut E,
+    asked: &AskedFor,
+    run: &mut Run,
+    form: Option<Form>,
+)
+    ensures { form ≡ None → errors.new ≡ errors.old }
+{
+    let Some(form) = form else {
+        return;
+    };
+    let roots = asked.roots.as_slice();
+    if let Ok(text) = explain(alloc, &asked.files, run, roots, asked.prelude, form) {
+        let _ = errors.write(text.as_bytes());
+    }
+}
+
+/// Runs what is asked for and writes the report, and to `errors` the trace and what a person is told, where these are
+/// wanted. It answers whether every module of the report is ok. The texts of the first files were parsed before.
+pub(crate) fn reported_over<'t, H: Threads + Wait + Sync, W: Sink, E: Sink>(
+    rt: &H,
+    alloc: Global,
+    asked: &AskedFor,
+    trees: &'t Trees,
+    parses: &[Parsed<'t>],
+    writer: &mut W,
+    errors: &mut E,
+    options: &Options,
+) -> Result<bool, ServeError>
+    requires parses { AreParsesOf asked.now.files parses.now }
+    requires roots { All (λ n. n < length asked.now.files) asked.now.roots.items }
+    requires prelude { IfSome asked.now.prelude (λ n. n < length asked.now.files) }
+    requires loaders { (1 ≤ options.now.loaders) × (options.now.loaders ≤ 64) }
+    requires steps { (1 ≤ options.now.steps) × (options.now.steps ≤ 100000000) }
+    ensures ok { IfOk result (Reports options.now.output (asked_view asked.now) options.now.steps (W.taken writer.old)
+        (W.taken writer.new)) }
+    ensures traced { IfOk result (λ all_ok. options.now.explain ≡ None → E.failed errors.new ≡ E.failed errors.old
+        → Traces options.now.output (asked_view asked.now) options.now.steps all_ok options.now.trace
+        (E.taken errors.old) (E.taken errors.new)) }
+    ensures untraced { IfOk result (λ all_ok. options.now.explain ≡ None → options.now.trace ≡ false
+        → is_said options.now.output all_ok ≡ false → errors.new ≡ errors.old) }
+    ensures refused { IfErr result (IsRefusedRun (writer.new ≡ writer.old)) }
+    ensures unsaid { IfErr result (λ _. errors.new ≡ errors.old) }
+    ensures writes { W.failed writer.new ≡ W.failed writer.old + writes_failed result }
+{
+    let mut reads = Reads::new(alloc);
+    let Answer { run, written } = match answered(
+        rt, alloc, asked, trees, parses, &mut reads, options,
+    ) {
+        Ok(answer) => answer,
+        Err(error) => return Err(error),
+    };
+    let mut run = run;
+    let Written { text, said, all_ok } = written;
+    if write_some(writer, text.as_slice()).is_err() {
+        return Err(ServeError::Write);
+    }
+    say(
+        alloc,
+        errors,
+        &asked.files,
+        said.as_str(),
+        run.refused(),
+        options.trace,
+    );
+    write_explained(alloc, errors, asked, &mut run, options.explain);
+    // The process ends next, and the system takes back all of its memory at once.
+    mem::forget(run);
+    mem::forget(reads);
+    Ok(all_ok)
+}
+
+/// Runs what is asked for and writes the report, and to `errors` the trace and what a person is told, where these are
+/// wanted. It answers whether every module of the report is ok.
 pub(crate) fn reported<H: Threads + Wait + Sync, W: Sink, E: Sink>(
     rt: &H,
     alloc: Global,
@@ -114,39 +200,36 @@ pub(crate) fn reported<H: Threads + Wait + Sync, W: Sink, E: Sink>(
     requires prelude { IfSome asked.now.prelude (λ n. n < length asked.now.files) }
     requires loaders { (1 ≤ options.now.loaders) × (options.now.loaders ≤ 64) }
     requires steps { (1 ≤ options.now.steps) × (options.now.steps ≤ 100000000) }
-    ensures ok { IfOk result (Reports options.now.wanted (asked_view asked.now) options.now.steps (W.taken writer.old)
+    ensures ok { IfOk result (Reports options.now.output (asked_view asked.now) options.now.steps (W.taken writer.old)
         (W.taken writer.new)) }
-    ensures traced { IfOk result (λ _. E.failed errors.new ≡ E.failed errors.old
-        → Traces (asked_view asked.now) options.now.steps (E.taken errors.old) (E.taken errors.new)) }
-    ensures untraced { options.now.trace ≡ false → errors.new ≡ errors.old }
+    ensures traced { IfOk result (λ all_ok. options.now.explain ≡ None → E.failed errors.new ≡ E.failed errors.old
+        → Traces options.now.output (asked_view asked.now) options.now.steps all_ok options.now.trace
+        (E.taken errors.old) (E.taken errors.new)) }
+    ensures untraced { IfOk result (λ all_ok. options.now.explain ≡ None → options.now.trace ≡ false
+        → is_said options.now.output all_ok ≡ false → errors.new ≡ errors.old) }
     ensures refused { IfErr result (IsRefusedRun (writer.new ≡ writer.old)) }
     ensures unsaid { IfErr result (λ _. errors.new ≡ errors.old) }
     ensures writes { W.failed writer.new ≡ W.failed writer.old + writes_failed result }
 {
     let trees = Trees::new(alloc)?;
-    let mut reads = Reads::new(alloc);
-    let (wanted, loaders, steps) = (options.wanted, options.loaders, options.steps);
-    let Answer { run, text, all_ok } = match answered(
-        rt, alloc, asked, &trees, &mut reads, wanted, loaders, steps,
-    ) {
-        Ok(answer) => answer,
-        Err(error) => return Err(error),
-    };
-    if writer.write(text.as_bytes()).is_err() {
-        return Err(ServeError::Write);
-    }
-    if options.trace {
-        write_trace(alloc, errors, &asked.files, run.refused());
-    }
+    let parses = Vec::new(alloc);
+    let outcome = reported_over(
+        rt,
+        alloc,
+        asked,
+        &trees,
+        parses.as_slice(),
+        writer,
+        errors,
+        options,
+    );
     // The process ends next, and the system takes back all of its memory at once.
-    mem::forget(run);
-    mem::forget(reads);
     mem::forget(trees);
-    Ok(all_ok)
+    outcome
 }
 
-/// Reads a bundle, loads the roots and writes the report, and the trace to `errors` where that is wanted. It answers
-/// whether every module of the report is ok.
+/// Reads a bundle, loads the roots and writes the report, and to `errors` the trace and what a person is told, where
+/// these are wanted. It answers whether every module of the report is ok.
 ///
 /// The rules are those of `docs/REPORT.md`: what a bundle is, the refusals in their order, and the report.
 pub fn serve<H: Threads + Wait + Sync, R: Source, W: Sink, E: Sink>(
@@ -167,12 +250,15 @@ pub fn serve<H: Threads + Wait + Sync, R: Source, W: Sink, E: Sink>(
         × (asked : bundle.Asked)
         × (bundle.asked_of (map string_bytes options.now.roots.items) (option_map string_bytes options.now.prelude) input
         ≡ Ok asked)
-        × Reports options.now.wanted asked options.now.steps (W.taken writer.old) (W.taken writer.new) all_ok
-        × (E.failed errors.new ≡ E.failed errors.old
-        → Traces asked options.now.steps (E.taken errors.old) (E.taken errors.new))) }
+        × Reports options.now.output asked options.now.steps (W.taken writer.old) (W.taken writer.new) all_ok
+        × (options.now.explain ≡ None → E.failed errors.new ≡ E.failed errors.old
+        → Traces options.now.output asked options.now.steps all_ok options.now.trace (E.taken errors.old)
+        (E.taken errors.new))) }
 
-    // Without the trace, and where there is no answer, nothing was written to `errors`.
-    ensures untraced { options.now.trace ≡ false → errors.new ≡ errors.old }
+    // Where neither the trace is wanted nor a person told, and where there is no answer, nothing was written to
+    // `errors`.
+    ensures untraced { IfOk result (λ all_ok. options.now.explain ≡ None → options.now.trace ≡ false
+        → is_said options.now.output all_ok ≡ false → errors.new ≡ errors.old) }
     ensures unsaid { IfErr result (λ _. errors.new ≡ errors.old) }
 
     // What was read is refused so, and nothing was written.

@@ -1,10 +1,10 @@
 //! The trace: a line for each refused load.
 
-ghost use Rattle.std.specs.Prelude.{◌≡◌, ◌<◌, ℕ, All, IfOk, length, string_bytes, take};
+ghost use Rattle.std.specs.Prelude.{◌≡◌, ◌+◌, ◌++◌, ◌<◌, [], ℕ, All, IfOk, OnOk, false, is_err, length, string_bytes, take, if◌then◌else◌};
 ghost use Rattle.star_serve.specs.Stream.{Adds};
-ghost use Rattle.star_serve.specs.Trace as trace;
+ghost use Rattle.star_serve.specs.Trace as spec;
 
-use crate::stream::Sink;
+use crate::stream::{Failed, Sink};
 use star_host::Refused;
 use star_label::files::Files;
 use std::alloc::{AllocError, Global};
@@ -13,7 +13,7 @@ use std::alloc::{AllocError, Global};
 fn trace_line(alloc: Global, files: &Files, refused: &Refused) -> Result<String, AllocError>
     requires file { refused.now.file < length files.now }
     requires loaded { refused.now.loaded < length files.now }
-    ensures { IfOk result (λ s. string_bytes s ≡ trace.trace_line files.now refused.now) }
+    ensures { IfOk result (λ s. string_bytes s ≡ spec.trace_line files.now refused.now) }
 {
     let loader = files.label(refused.file).text();
     let loaded = files.label(refused.loaded).text();
@@ -21,16 +21,11 @@ fn trace_line(alloc: Global, files: &Files, refused: &Refused) -> Result<String,
 }
 
 /// Writes the line of each refused load, in order, up to the first that gets no memory or cannot be written.
-pub(crate) fn write_trace<W: Sink>(
-    alloc: Global,
-    writer: &mut W,
-    files: &Files,
-    refused: &[Refused],
-)
+fn write_trace<W: Sink>(alloc: Global, writer: &mut W, files: &Files, refused: &[Refused])
     requires { All (λ r. (r.file < length files.now) × (r.loaded < length files.now)) refused.now }
     ensures { W.failed writer.new ≡ W.failed writer.old
         → (count : ℕ) × Adds (W.taken writer.old) (W.taken writer.new)
-        (trace.trace_text files.now (take count refused.now)) }
+        (spec.trace_text files.now (take count refused.now)) }
 {
     for i in 0..refused.len() {
         let Ok(line) = trace_line(alloc, files, &refused[i]) else {
@@ -39,5 +34,41 @@ pub(crate) fn write_trace<W: Sink>(
         if writer.write(line.as_bytes()).is_err() {
             return;
         }
+    }
+}
+
+/// Writes a text, unless it is empty.
+pub(crate) fn write_some<W: Sink>(writer: &mut W, text: &[u8]) -> Result<(), Failed>
+    ensures takes { OnOk result (Adds (W.taken writer.old) (W.taken writer.new) text.now) }
+    ensures counts { W.failed writer.new ≡ W.failed writer.old + (if is_err result then 1 else 0) }
+    ensures none { text.now ≡ [] → writer.new ≡ writer.old }
+{
+    if text.is_empty() {
+        return Ok(());
+    }
+    writer.write(text)
+}
+
+/// Writes what is said of a run, and then, with the trace, the line of each refused load, up to the first that gets no
+/// memory or cannot be written.
+pub(crate) fn say<W: Sink>(
+    alloc: Global,
+    writer: &mut W,
+    files: &Files,
+    said: &str,
+    refused: &[Refused],
+    trace: bool,
+)
+    requires { All (λ r. (r.file < length files.now) × (r.loaded < length files.now)) refused.now }
+    ensures says { W.failed writer.new ≡ W.failed writer.old
+        → (count : ℕ) × (trace ≡ false → count ≡ 0) × Adds (W.taken writer.old) (W.taken writer.new)
+        (said.now ++ spec.trace_text files.now (take count refused.now)) }
+    ensures none { said.now ≡ [] → trace ≡ false → writer.new ≡ writer.old }
+{
+    if write_some(writer, said.as_bytes()).is_err() {
+        return;
+    }
+    if trace {
+        write_trace(alloc, writer, files, refused);
     }
 }

@@ -1,9 +1,12 @@
 -- What stands in a command line.
-use Rattle.std.specs.Prelude.{◌≡◌, ℕ, ◌≤◌, nat_eq, Bool, true, false, List, [], ◌∷◌, Option, Some, None, codes, if◌then◌else◌}
+use Rattle.std.specs.Prelude.{◌≡◌, ℕ, ◌≤◌, nat_eq, Bool, true, false, List, [], ◌∷◌, Option, Some, None, codes, string_bytes, if◌then◌else◌}
 use Rattle.std.specs.Cmp.Lexicographic.{pointwise}
 use Rattle.std.specs.Option.{option_map_or}
 use Rattle.std.specs.Str.Parse.{IsNumeral, digits_value, without_leading_plus}
 use Rattle.clap.specs.Matches.{found_of, matched_of, one_text, raw_values}
+use Rattle.star_report.specs.declared.wanted.Output.{Output}
+use Rattle.star_report.specs.declared.wanted.Output.TheVariants.{Global, Graph, Report}
+use Rattle.star_report.specs.declared.wanted.Wanted.{Wanted}
 use Rattle.clap.specs.declared.parser.matches.ArgMatches.{ArgMatches}
 
 -- the values of an argument, in their order
@@ -28,3 +31,17 @@ Writes word n = IsNumeral 10 (without_leading_plus word) × (digits_value 10 (wi
 abbrev pub IsNumberOf : Option (List ℕ) → ℕ → ℕ → ℕ → ℕ → Type 0
 IsNumberOf None low high other n = n ≡ other
 IsNumberOf (Some word) low high other n = (m : ℕ) → Writes word m → low ≤ m → m ≤ high → n ≡ m
+
+-- more is wanted of each module by the words after `--with`, and of the roots alone by its flag
+pub record IsWanted (matches : ArgMatches) (wanted : Wanted) : Type 0 where
+  pub values : wanted.values ≡ is_named matches (codes "with") (codes "values")
+  pub loads : wanted.loads ≡ is_named matches (codes "with") (codes "loads")
+  pub steps : wanted.steps ≡ is_named matches (codes "with") (codes "steps")
+  pub only_roots : one_text (found_of matches) (codes "only-roots") ≡ Some (codes "true") → wanted.only_roots ≡ true
+  pub all : one_text (found_of matches) (codes "only-roots") ≡ Some (codes "false") → wanted.only_roots ≡ false
+
+-- the globals of a name, where there is one, and else the report
+abbrev pub IsReportOrGlobal : ArgMatches → Option (List ℕ) → Output → Type 0
+IsReportOrGlobal matches (Some name) (Global s) = string_bytes s ≡ name
+IsReportOrGlobal matches None (Report wanted) = IsWanted matches wanted
+IsReportOrGlobal matches name output = ⊥

@@ -1,15 +1,17 @@
 //! The command line.
 
-ghost use Rattle.std.specs.Prelude.{◌≡◌, ◌≤◌, true, false, Some, IfOk, codes, map, option_map, string_bytes};
+ghost use Rattle.std.specs.Prelude.{◌≡◌, ◌≤◌, true, false, None, Some, IfOk, codes, map, option_map, string_bytes};
 ghost use Rattle.clap.specs.Matches.{first_value, found_of, one_text};
+ghost use Rattle.star_report.specs.declared.wanted.Output.TheVariants as Output;
 ghost use Rattle.starload.specs.Options as spec;
 
 use clap::{Arg, ArgAction, ArgMatches, Command, value_parser};
-use star_serve::serve::{Options, Wanted};
+use star_mistakes::place::Naming;
+use star_serve::serve::{Form, Options, Output, Wanted};
 use std::alloc::{AllocError, Global};
 
 /// What `--version` says after the program's name: its version, and the kit that proved it.
-const VERSION: &str = "1.0.0 (rattle-kit-13f logic dac8208d650f15bf)";
+const VERSION: &str = "1.1.0 (rattle-kit-13b logic dac8208d650f15bf)";
 
 /// What stands after the options in the help.
 const EXAMPLE: &str =
@@ -23,7 +25,7 @@ The report is one line of JSON on standard output. The exit status is 0 where ev
 file is not, and 2 where there is no report; then standard error says why.";
 
 /// What `--with` may name.
-const MORE: &[&str] = &["values"];
+const MORE: &[&str] = &["values", "loads", "steps"];
 
 fn loaders_arg<'a>(alloc: Global) -> Arg<'a> {
     Arg::new(alloc, "loaders")
@@ -63,6 +65,26 @@ fn dir_arg<'a>(alloc: Global) -> Arg<'a> {
     )
 }
 
+fn repo_arg<'a>(alloc: Global) -> Result<Arg<'a>, AllocError> {
+    Arg::new(alloc, "repo")
+        .long("repo")
+        .value_name("DIR")
+        .help(
+            "The folder whose files are read as they are loaded, whatever their names; a ROOT may be a path then",
+        )
+        .conflicts_with("dir")
+}
+
+fn match_arg<'a>(alloc: Global) -> Result<Arg<'a>, AllocError> {
+    Arg::new(alloc, "match")
+        .long("match")
+        .value_name("GLOB")
+        .help(
+            "Which names //app/... stands for, where * is any text and ? one byte [default: *.star]",
+        )
+        .requires_arg("repo")
+}
+
 fn code_arg<'a>(alloc: Global) -> Arg<'a> {
     Arg::new(alloc, "explain-code")
         .long("explain-code")
@@ -70,13 +92,28 @@ fn code_arg<'a>(alloc: Global) -> Arg<'a> {
         .help("Says what a code of a fault means, or `all` of them, and loads nothing")
 }
 
+/// What `--explain` may say.
+const WHEN: &[&str] = &["auto", "always", "never", "all"];
+
+fn explain_arg<'a>(alloc: Global) -> Arg<'a> {
+    Arg::new(alloc, "explain")
+        .long("explain")
+        .value_name("WHEN")
+        .help(
+            "Says on standard error, after the report, what is at fault and where: auto (where that is a terminal), always, never, or all (however many there are)",
+        )
+        .value_parser(WHEN)
+        .num_args(0..=1)
+        .require_equals(true)
+        .default_value("auto")
+        .default_missing_value("always")
+}
+
 fn with_arg<'a>(alloc: Global) -> Arg<'a> {
     Arg::new(alloc, "with")
         .long("with")
         .value_name("WHAT")
-        .help(
-            "What the report says more of each file that is ok: values, which are its globals as JSON",
-        )
+        .help("What the report says more of each file: values (its globals as JSON), loads, steps")
         .value_parser(MORE)
         .value_delimiter(',')
         .action(ArgAction::Append)
@@ -87,6 +124,25 @@ fn only_roots_arg<'a>(alloc: Global) -> Arg<'a> {
         .long("only-roots")
         .help("Of the files that are ok, reports the roots alone")
         .action(ArgAction::SetTrue)
+}
+
+fn get_arg<'a>(alloc: Global) -> Result<Arg<'a>, AllocError> {
+    Arg::new(alloc, "get")
+        .long("get")
+        .value_name("NAME")
+        .help("In place of the report writes the global NAME of each root as a line of JSON")
+        .conflicts_with("graph")?
+        .conflicts_with("with")?
+        .conflicts_with("only-roots")
+}
+
+fn graph_arg<'a>(alloc: Global) -> Result<Arg<'a>, AllocError> {
+    Arg::new(alloc, "graph")
+        .long("graph")
+        .help("In place of the report writes the graph of loads as DOT")
+        .action(ArgAction::SetTrue)
+        .conflicts_with("with")?
+        .conflicts_with("only-roots")
 }
 
 fn roots_arg<'a>(alloc: Global) -> Result<Arg<'a>, AllocError> {
@@ -110,8 +166,13 @@ pub fn command<'a>(alloc: Global) -> Result<Command<'a>, clap::Error> {
             .arg(prelude_arg(alloc))?
             .arg(trace_arg(alloc))?
             .arg(dir_arg(alloc))?
+            .arg(repo_arg(alloc)?)?
+            .arg(match_arg(alloc)?)?
             .arg(with_arg(alloc))?
             .arg(only_roots_arg(alloc))?
+            .arg(get_arg(alloc)?)?
+            .arg(graph_arg(alloc)?)?
+            .arg(explain_arg(alloc))?
             .arg(code_arg(alloc))?
             .arg(roots_arg(alloc)?)?,
     )
@@ -170,8 +231,68 @@ fn has_word(words: &[&str], value: &str) -> bool
     false
 }
 
+/// What the words of the command line want more of each module, and of which modules.
+fn wanted(matches: &ArgMatches<'_>) -> Wanted
+    ensures values { result.values ≡ spec.is_named matches.now (codes "with") (codes "values") }
+    ensures loads { result.loads ≡ spec.is_named matches.now (codes "with") (codes "loads") }
+    ensures steps { result.steps ≡ spec.is_named matches.now (codes "with") (codes "steps") }
+    ensures only_roots { (one_text (found_of matches.now) (codes "only-roots") ≡ Some (codes "true"))
+        → (result.only_roots ≡ true) }
+    ensures all { (one_text (found_of matches.now) (codes "only-roots") ≡ Some (codes "false"))
+        → (result.only_roots ≡ false) }
+{
+    Wanted {
+        values: is_named(matches, "with", "values"),
+        loads: is_named(matches, "with", "loads"),
+        steps: is_named(matches, "with", "steps"),
+        only_roots: matches.get_flag("only-roots"),
+    }
+}
+
+/// What the words of the command line want to be written: the graph, or the globals of a name, or else the report.
+fn output(alloc: Global, matches: &ArgMatches<'_>) -> Result<Output, AllocError>
+    ensures graph { IfOk result (λ o. (one_text (found_of matches.now) (codes "graph") ≡ Some (codes "true"))
+        → (o ≡ Output.Graph)) }
+    ensures other { IfOk result (λ o. (one_text (found_of matches.now) (codes "graph") ≡ Some (codes "false"))
+        → spec.IsReportOrGlobal matches.now (first_value (found_of matches.now) (codes "get")) o) }
+{
+    if matches.get_flag("graph") {
+        return Ok(Output::Graph);
+    }
+    match value_of(alloc, matches, "get")? {
+        Some(name) => Ok(Output::Global(name)),
+        None => Ok(Output::Report(wanted(matches))),
+    }
+}
+
+/// How a person is told of what is at fault, by `--explain` and by whether standard error is a terminal. Files are named
+/// by their paths in the folder that has them.
+fn form_of(matches: &ArgMatches<'_>, is_terminal: bool) -> Option<Form>
+    ensures { spec.is_named matches.now (codes "explain") (codes "always") ≡ false
+        → spec.is_named matches.now (codes "explain") (codes "all") ≡ false
+        → is_terminal ≡ false → result ≡ None }
+{
+    let is_whole = is_named(matches, "explain", "all");
+    let is_asked = is_whole || is_named(matches, "explain", "always");
+    let is_meant = is_terminal && is_named(matches, "explain", "auto");
+    if !is_asked && !is_meant {
+        return None;
+    }
+    let has_folder = matches.get_str("dir").is_some() || matches.get_str("repo").is_some();
+    let naming = if has_folder {
+        Naming::Paths
+    } else {
+        Naming::Labels
+    };
+    Some(Form { naming, is_whole })
+}
+
 /// The options that the words of the command line give: the roots in their order. `Memory` where a growth was refused.
-pub fn options(alloc: Global, matches: &ArgMatches<'_>) -> Result<Options, AllocError>
+pub fn options(
+    alloc: Global,
+    matches: &ArgMatches<'_>,
+    is_terminal: bool,
+) -> Result<Options, AllocError>
     ensures loaders { IfOk result (λ o. (1 ≤ o.loaders) × (o.loaders ≤ 64)) }
     ensures steps { IfOk result (λ o. (1 ≤ o.steps) × (o.steps ≤ 100000000)) }
     ensures loaders_given { IfOk result (λ o.
@@ -182,15 +303,17 @@ pub fn options(alloc: Global, matches: &ArgMatches<'_>) -> Result<Options, Alloc
     ensures prelude { IfOk result (λ o. option_map string_bytes o.prelude
         ≡ first_value (found_of matches.now) (codes "prelude")) }
     ensures dir { IfOk result (λ o. option_map string_bytes o.dir ≡ first_value (found_of matches.now) (codes "dir")) }
-    ensures wanted { IfOk result (λ o. o.wanted.values ≡ spec.is_named matches.now (codes "with") (codes "values")) }
-    ensures only_roots { IfOk result (λ o. (one_text (found_of matches.now) (codes "only-roots") ≡ Some (codes "true"))
-        → (o.wanted.only_roots ≡ true)) }
-    ensures all { IfOk result (λ o. (one_text (found_of matches.now) (codes "only-roots") ≡ Some (codes "false"))
-        → (o.wanted.only_roots ≡ false)) }
+    ensures graph { IfOk result (λ o. (one_text (found_of matches.now) (codes "graph") ≡ Some (codes "true"))
+        → (o.output ≡ Output.Graph)) }
+    ensures other { IfOk result (λ o. (one_text (found_of matches.now) (codes "graph") ≡ Some (codes "false"))
+        → spec.IsReportOrGlobal matches.now (first_value (found_of matches.now) (codes "get")) o.output) }
     ensures trace { IfOk result (λ o. (one_text (found_of matches.now) (codes "trace") ≡ Some (codes "true"))
         → (o.trace ≡ true)) }
     ensures no_trace { IfOk result (λ o. (one_text (found_of matches.now) (codes "trace") ≡ Some (codes "false"))
         → (o.trace ≡ false)) }
+    ensures unexplained { IfOk result (λ o. spec.is_named matches.now (codes "explain") (codes "always") ≡ false
+        → spec.is_named matches.now (codes "explain") (codes "all") ≡ false
+        → is_terminal ≡ false → o.explain ≡ None) }
 {
     let loaders = usize::from(matches.get_one::<u8>("loaders").unwrap_or(4));
     let steps = matches.get_one::<u32>("steps").unwrap_or(1_000_000);
@@ -199,11 +322,9 @@ pub fn options(alloc: Global, matches: &ArgMatches<'_>) -> Result<Options, Alloc
         steps: steps.clamp(1, 100_000_000),
         roots: values_of(alloc, matches, "ROOT")?,
         prelude: value_of(alloc, matches, "prelude")?,
-        wanted: Wanted {
-            values: is_named(matches, "with", "values"),
-            only_roots: matches.get_flag("only-roots"),
-        },
+        output: output(alloc, matches)?,
         trace: matches.get_flag("trace"),
         dir: value_of(alloc, matches, "dir")?,
+        explain: form_of(matches, is_terminal),
     })
 }

@@ -1,17 +1,20 @@
 //! Loads the Starlark files of a bundle or of a folder and writes the report.
 //!
 //! The bundle is read on standard input, by `serve`, or the files of a folder are, by `serve_dir`; the report is
-//! written on standard output. `docs/REPORT.md` has the rules. The statuses are those of `status`; what goes wrong
-//! before is said on standard error, with status 2.
+//! written on standard output. `docs/REPORT.md` has the rules. What is at fault, and where, is said to a person on
+//! standard error after it (`docs/EXPLAIN.md`). The statuses are those of `status`; what goes wrong before is said on
+//! standard error, with status 2.
 #![tactic(auto)]
 
 ghost use Rattle.std.specs.Prelude.{◌≤◌};
 
 mod codes;
 mod command;
+mod repo;
 
 use clap::error::ErrorKind;
 use command::{command, options};
+use repo::{RepoAsked, report_repo};
 use star_bundle::error::{ServeError, status};
 use star_folder::disk::DiskFolder;
 use star_serve::dir::serve_dir;
@@ -138,10 +141,15 @@ fn main(rt: HostRuntime) -> ExitCode {
     if let Some(code) = matches.get_str("explain-code") {
         return explain_code(&rt, code);
     }
-    let options = match options(alloc, &matches) {
+    let options = match options(alloc, &matches, rt.stderr().is_terminal()) {
         Ok(options) => options,
         Err(_) => return refuse(&rt, ServeError::Memory.text()),
     };
+    match RepoAsked::of(alloc, &matches) {
+        Ok(None) => {}
+        Ok(Some(asked)) => return report_repo(&rt, &rt, alloc, &asked, options),
+        Err(_) => return refuse(&rt, ServeError::Memory.text()),
+    }
     let outcome = report(&rt, &rt, alloc, &options);
     if let Err(error) = &outcome {
         let _ = eprintln!(rt; "starload: {}", error.text());

@@ -1,24 +1,46 @@
-use Rattle.std.proofs.Common.{◌≡◌, ◌∙◌, string_bytes, sym, subst}
-use Rattle.star_outcome.specs.Kept.{AllGood, AreModulesOf}
+use Rattle.std.proofs.Common.{◌≡◌, sym, subst}
+use Rattle.star_outcome.specs.Kept.{AreModulesOf}
 use Rattle.star_outcome.specs.Refusals.{AreRefusalsOf}
-use Rattle.star_report.proofs.Shows.{report_of}
+use Rattle.star_reading.specs.Found.{IsReadOf}
+use Rattle.star_serve.specs.Written.{IsRunOf}
+use Rattle.star_serve.proofs.WrittenTexts.{in_plan_of, lead_within, row_size}
 use Rattle.star_serve.proofs.serve.answered.Goals as goal
 
-pub returns-clause-good : goal.returns-clause-good
-returns-clause-good g c = λ e. subst (λ r. AllGood r.kept) (sym c.all_good-all_ok.ensures.same) (c.all_good-all_ok.ensures.good e)
+pub written_of-requires-clause-reads : goal.written_of-requires-clause-reads
+written_of-requires-clause-reads g c =
+    let asked = c.args.asked.now in
+    λ lives within. row_size asked.files c.as_slice-roots.result.now asked.prelude c.run_in.new.reads.all.items c.in-Ok.ensures.read
 
-pub returns-clause-bad : goal.returns-clause-bad
-returns-clause-bad g c = λ e all. c.all_good-all_ok.ensures.bad e (subst (λ r. AllGood r.kept) c.all_good-all_ok.ensures.same all)
+pub written_of-requires-clause-loads : goal.written_of-requires-clause-loads
+written_of-requires-clause-loads g c =
+    let asked = c.args.asked.now in
+    λ lives within. lead_within asked.files c.as_slice-roots.result.now asked.prelude c.run_in.new.reads.all.items c.in-Ok.ensures.read
 
 pub returns-clause-text : goal.returns-clause-text
 returns-clause-text g c =
     let asked = c.args.asked.now in
-    report_of c.args.wanted asked.files asked.roots.items asked.prelude c.args.steps c.in-Ok.run'.kept c.in-Ok.run'.begun (string_bytes c.in_ok-text.text) c.in-Ok.ensures.begun
-    (subst (λ roots. AreModulesOf asked.files roots asked.prelude c.args.steps c.in-Ok.run'.kept) c.as_slice-roots.ensures.value c.in-Ok.ensures.modules) (λ plan planned of_roots are. c.in_ok-text.ensures.text plan planned (of_roots ∙ sym c.as_slice-roots.ensures.value) are)
+    let row = c.run_in.new.reads.all.items in
+    let run = c.in-Ok.run' in
+    let value = c.as_slice-roots.ensures.value in
+    in_plan_of asked.files asked.roots.items asked.prelude c.args.options.now.steps row run _ c.in-Ok.ensures.begun
+    (subst (λ roots. AreModulesOf asked.files roots asked.prelude c.args.options.now.steps run.kept) value c.in-Ok.ensures.modules)
+    (subst (λ roots. IsReadOf asked.files roots asked.prelude row) value c.in-Ok.ensures.read)
+    (λ plan of. c.in_ok-written.ensures.text plan (subst (λ roots. IsRunOf asked.files roots row run plan) (sym value) of))
+
+pub returns-clause-said : goal.returns-clause-said
+returns-clause-said g c =
+    let asked = c.args.asked.now in
+    let row = c.run_in.new.reads.all.items in
+    let run = c.in-Ok.run' in
+    let value = c.as_slice-roots.ensures.value in
+    in_plan_of asked.files asked.roots.items asked.prelude c.args.options.now.steps row run _ c.in-Ok.ensures.begun
+    (subst (λ roots. AreModulesOf asked.files roots asked.prelude c.args.options.now.steps run.kept) value c.in-Ok.ensures.modules)
+    (subst (λ roots. IsReadOf asked.files roots asked.prelude row) value c.in-Ok.ensures.read)
+    (λ plan of. c.in_ok-written.ensures.said plan (subst (λ roots. IsRunOf asked.files roots row run plan) (sym value) of))
 
 pub returns-clause-refused : goal.returns-clause-refused
 returns-clause-refused g c =
     let asked = c.args.asked.now in
-    let same = c.all_good-all_ok.ensures.same ∙ c.in_ok-text.ensures.same in
-    subst (λ r. AreRefusalsOf asked.files asked.roots.items asked.prelude c.args.steps r.refused) (sym same)
-    (subst (λ roots. AreRefusalsOf asked.files roots asked.prelude c.args.steps c.in-Ok.run'.refused) c.as_slice-roots.ensures.value c.in-Ok.ensures.refused)
+    let steps = c.args.options.now.steps in
+    subst (λ r. AreRefusalsOf asked.files asked.roots.items asked.prelude steps r.refused) (sym c.in_ok-written.ensures.same)
+    (subst (λ roots. AreRefusalsOf asked.files roots asked.prelude steps c.in-Ok.run'.refused) c.as_slice-roots.ensures.value c.in-Ok.ensures.refused)

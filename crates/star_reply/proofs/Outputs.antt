@@ -1,0 +1,158 @@
+-- What is written of a plan is one text, with one answer.
+use Rattle.std.proofs.Common.{arith, ◌≡◌, ◌⊎◌, ◌<◌, ◌↔◌, ℕ, zero, suc, Bool, true, false, List, [], ◌∷◌, ◌++◌, Result, Ok, Err, map, refl, ap, sym, subst, ◌∙◌, inl, inr}
+use Rattle.std.specs.Prelude.{Contains, string_bytes}
+use Rattle.std.specs.List.{All, AllPairs}
+use Rattle.std.proofs.lemmas.List.Kept.{AllPairs-from_increasing}
+use Rattle.serde_json.specs.Data.{Data}
+use Rattle.star_label.specs.Files.{File}
+use Rattle.star_cache.specs.State.{Loads}
+use Rattle.star_cache.specs.Walk.{IsOnCycle}
+use Rattle.star_plan.specs.Plan.{Plan, loaded}
+use Rattle.star_plan.proofs.Outcomes.{one-outcome}
+use Rattle.star_report.specs.Got.{AreGot, HasGot, IsFirstLack, got_of, got_text}
+use Rattle.star_report.specs.Graph.{IsGraph, IsGraphText, IsNode, Node, graph_text}
+use Rattle.star_report.specs.Output.{IsAnswer, IsOutput}
+use Rattle.star_report.specs.declared.got.Lack.{Lack}
+use Rattle.star_report.specs.declared.wanted.Output.{Output}
+use Rattle.star_report.specs.declared.wanted.Output.TheVariants.{Global, Graph, Report}
+use Rattle.star_report.proofs.OneText.{one_full_text}
+use Rattle.star_reply.proofs.Goods.{all_good_too, same_answer}
+
+-- ---- globals
+
+one_has : (plan : Plan) (name : List ℕ) (n : ℕ) (r s : Result Data Lack) → HasGot plan name n r → HasGot plan name n s → r ≡ s
+one_has plan name n r s (o, x, e) (p, y, g) = sym e ∙ (ap (got_of name) (one-outcome plan n o p x y) ∙ g)
+
+one_got : (plan : Plan) (name ns : List ℕ) (ds es : List Data) → AreGot plan name ns ds → AreGot plan name ns es → ds ≡ es
+one_got plan name [] [] [] a b = refl
+one_got plan name [] [] (e ∷ es) a b = absurd b
+one_got plan name [] (d ∷ ds) es a b = absurd a
+one_got plan name (n ∷ ns) [] es a b = absurd a
+one_got plan name (n ∷ ns) (d ∷ ds) [] a b = absurd b
+one_got plan name (n ∷ ns) (d ∷ ds) (e ∷ es) a b =
+    let both : Ok d ≡ Ok e = one_has plan name n (Ok d) (Ok e) a.0 b.0 in
+    let head : d ≡ e = cc in
+    ap (λ x. x ∷ ds) head ∙ ap (λ xs. e ∷ xs) (one_got plan name ns ds es a.1 b.1)
+
+got_at : (plan : Plan) (name before : List ℕ) (n : ℕ) (after : List ℕ) (ds : List Data) → AreGot plan name (before ++ n ∷ after) ds → (d : Data) × HasGot plan name n (Ok d)
+got_at plan name [] n after [] are = absurd are
+got_at plan name [] n after (d ∷ ds) are = (d, are.0)
+got_at plan name (x ∷ before) n after [] are = absurd are
+got_at plan name (x ∷ before) n after (d ∷ ds) are = got_at plan name before n after ds are.1
+
+no_lack : (plan : Plan) (name roots : List ℕ) (ds : List Data) (n : ℕ) (why : Lack) → AreGot plan name roots ds → IsFirstLack plan name roots n why → ⊥
+no_lack plan name roots ds n why are lack =
+    let there = got_at plan name lack.before n lack.after ds (subst (λ ns. AreGot plan name ns ds) lack.files_are are) in
+    let both : Ok there.0 ≡ Err why = one_has plan name n (Ok there.0) (Err why) there.1 lack.lacks in
+    let no : ⊥ = cc in
+    no
+
+-- ---- graphs
+
+-- the type of the items of a list
+abbrev item_of : {A : Type 0} → List A → Type 0
+item_of {A} xs = A
+
+-- the type of edges
+abbrev Edge : Type 0
+Edge = item_of (let v : Node = record { file = 0; is_ok = true; edges = [] } in v.edges)
+
+member : (x : ℕ) (xs : List ℕ) (n : ℕ) → Contains (x ∷ xs) n → (x ≡ n) ⊎ Contains xs n
+member x xs n (zero, less, e) = inl e
+member x xs n (suc k, less, e) = inr (k, omega arith, e)
+
+first : (x : ℕ) (xs : List ℕ) → Contains (x ∷ xs) x
+first x xs = (0, omega arith, refl)
+
+later : (x n : ℕ) (xs : List ℕ) → Contains xs n → Contains (x ∷ xs) n
+later x n xs (k, less, e) = (suc k, omega arith, e)
+
+above : (x : ℕ) (xs : List ℕ) → AllPairs (λ y z. y < z) (x ∷ xs) → (n : ℕ) → Contains xs n → x < n
+above x xs rises n (k, less, e) = subst (λ z. x < z) e (rises 0 (suc k) n (omega arith) (omega arith))
+
+rest_rises : (x : ℕ) (xs : List ℕ) → AllPairs (λ y z. y < z) (x ∷ xs) → AllPairs (λ y z. y < z) xs
+rest_rises x xs rises i j d less short = rises (suc i) (suc j) d (omega arith) (omega arith)
+
+-- rising lists with the same members are one
+same_rising : (xs ys : List ℕ) → AllPairs (λ y z. y < z) xs → AllPairs (λ y z. y < z) ys → ((n : ℕ) → Contains xs n → Contains ys n) → ((n : ℕ) → Contains ys n → Contains xs n) → xs ≡ ys
+same_rising [] [] p q to from = refl
+same_rising [] (y ∷ ys) p q to from = absurd (let h : Contains [] y = from y (first y ys) in let less = h.1 in let no : ⊥ = omega arith in no)
+same_rising (x ∷ xs) [] p q to from = absurd (let h : Contains [] x = to x (first x xs) in let less = h.1 in let no : ⊥ = omega arith in no)
+same_rising (x ∷ xs) (y ∷ ys) p q to from =
+    let same : x ≡ y = heads (member y ys x (to x (first x xs))) (member x xs y (from y (first y ys))) in
+    let rest : xs ≡ ys = same_rising xs ys (rest_rises x xs p) (rest_rises y ys q)
+    (λ n h. tail y ys n (let less = above x xs p n h in λ e. let no : ⊥ = omega arith in no) (to n (later x n xs h)))
+    (λ n h. tail x xs n (let less = above y ys q n h in λ e. let no : ⊥ = omega arith in no) (from n (later y n ys h))) in
+    ap (λ zs. x ∷ zs) rest ∙ ap (λ z. z ∷ ys) same
+  where
+    heads : ((y ≡ x) ⊎ Contains ys x) → ((x ≡ y) ⊎ Contains xs y) → x ≡ y
+    heads (inl e) _ = sym e
+    heads (inr h) (inl e) = e
+    heads (inr h) (inr k) = let up = above y ys q x h in let down = above x xs p y k in absurd (let no : ⊥ = omega arith in no)
+
+    tail : (z : ℕ) (zs : List ℕ) (n : ℕ) → (z ≡ n → ⊥) → Contains (z ∷ zs) n → Contains zs n
+    tail z zs n differ h = pick (member z zs n h)
+      where
+        pick : ((z ≡ n) ⊎ Contains zs n) → Contains zs n
+        pick (inl e) = absurd (differ e)
+        pick (inr k) = k
+
+same_test : {A : Type 0} (b c : Bool) → (b ≡ true) ↔ A → (c ≡ true) ↔ A → b ≡ c
+same_test true true f g = refl
+same_test false false f g = refl
+same_test true false f g = sym (g.1 (f.0 refl))
+same_test false true f g = f.1 (g.0 refl)
+
+abbrev Tests : (Edge → Type 0) → List Edge → Type 0
+Tests A es = All (λ (e : Edge). (e.on_cycle ≡ true) ↔ A e) es
+
+same_edges : (A : ℕ → Type 0) (es fs : List Edge) → map (λ (e : Edge). e.to) es ≡ map (λ (e : Edge). e.to) fs → Tests (λ (e : Edge). A e.to) es → Tests (λ (e : Edge). A e.to) fs → es ≡ fs
+same_edges A [] [] s p q = refl
+same_edges A [] (f ∷ fs) s p q = absurd (let no : ⊥ = cc in no)
+same_edges A (e ∷ es) [] s p q = absurd (let no : ⊥ = cc in no)
+same_edges A (e ∷ es) (f ∷ fs) s p q =
+    let to : e.to ≡ f.to = cc in
+    let rest : map (λ (x : Edge). x.to) es ≡ map (λ (x : Edge). x.to) fs = cc in
+    let cycle : e.on_cycle ≡ f.on_cycle = same_test e.on_cycle f.on_cycle (p 0 e (omega arith)) (subst (λ n. (f.on_cycle ≡ true) ↔ A n) (sym to) (q 0 f (omega arith))) in
+    let head : e ≡ f = ap (λ n. let x : Edge = record { to = n; on_cycle = e.on_cycle } in x) to ∙ ap (λ b. let x : Edge = record { to = f.to; on_cycle = b } in x) cycle in
+    ap (λ x. x ∷ es) head ∙ ap (λ xs. f ∷ xs) (same_edges A es fs rest (λ i d less. p (suc i) d (omega (arith, less))) (λ i d less. q (suc i) d (omega (arith, less))))
+
+same_node : (plan : Plan) (v w : Node) → v.file ≡ w.file → IsNode plan v → IsNode plan w → v ≡ w
+same_node plan v w at p q =
+    let other : IsNode plan (record { file = v.file; is_ok = w.is_ok; edges = w.edges }) = subst (λ n. IsNode plan (record { file = n; is_ok = w.is_ok; edges = w.edges })) (sym at) q in
+    let ok : v.is_ok ≡ w.is_ok = same_test v.is_ok w.is_ok p.ok other.ok in
+    let edges : v.edges ≡ w.edges = same_edges (IsOnCycle (Loads (loaded plan)) v.file) v.edges w.edges (p.edges ∙ sym other.edges) p.cycles other.cycles in
+    ap (λ n. let x : Node = record { file = n; is_ok = v.is_ok; edges = v.edges } in x) at
+    ∙ (ap (λ b. let x : Node = record { file = w.file; is_ok = b; edges = v.edges } in x) ok ∙ ap (λ es. let x : Node = record { file = w.file; is_ok = w.is_ok; edges = es } in x) edges)
+
+same_nodes : (plan : Plan) (vs ws : List Node) → map (λ (v : Node). v.file) vs ≡ map (λ (v : Node). v.file) ws → All (IsNode plan) vs → All (IsNode plan) ws → vs ≡ ws
+same_nodes plan [] [] s p q = refl
+same_nodes plan [] (w ∷ ws) s p q = absurd (let no : ⊥ = cc in no)
+same_nodes plan (v ∷ vs) [] s p q = absurd (let no : ⊥ = cc in no)
+same_nodes plan (v ∷ vs) (w ∷ ws) s p q =
+    let at : v.file ≡ w.file = cc in
+    let rest : map (λ (x : Node). x.file) vs ≡ map (λ (x : Node). x.file) ws = cc in
+    ap (λ x. x ∷ vs) (same_node plan v w at (p 0 v (omega arith)) (q 0 w (omega arith)))
+    ∙ ap (λ xs. w ∷ xs) (same_nodes plan vs ws rest (λ i d less. p (suc i) d (omega (arith, less))) (λ i d less. q (suc i) d (omega (arith, less))))
+
+one_graph : (plan : Plan) (vs ws : List Node) → IsGraph plan vs → IsGraph plan ws → vs ≡ ws
+one_graph plan vs ws x y =
+    let ns : List ℕ = map (λ (v : Node). v.file) vs in
+    let ms : List ℕ = map (λ (v : Node). v.file) ws in
+    same_nodes plan vs ws (same_rising ns ms (AllPairs-from_increasing ns x.in_order) (AllPairs-from_increasing ms y.in_order) (λ n h. (y.all n).0 ((x.all n).1 h)) (λ n h. (x.all n).0 ((y.all n).1 h))) x.each y.each
+
+one_graph_text : (files : List File) (plan : Plan) (a b : List ℕ) → IsGraphText files plan a → IsGraphText files plan b → a ≡ b
+one_graph_text files plan a b (vs, x, e) (ws, y, g) = e ∙ (ap (graph_text files) (one_graph plan vs ws x y) ∙ sym g)
+
+-- ---- what is written
+
+one_reply : (plan : Plan) (ok well : Bool) → IsAnswer plan ok → IsAnswer plan well → ok ≡ well
+one_reply plan ok well (ks, are, good, bad) (js, also, fine, ill) = same_answer ok well good bad fine ill (all_good_too plan ks js are also) (all_good_too plan js ks also are)
+
+pub one_output : (output : Output) (files : List File) (plan : Plan) (a b : List ℕ) (ok well : Bool) → IsOutput output files plan a ok → IsOutput output files plan b well → (a ≡ b) × (ok ≡ well)
+one_output (Report wanted) files plan a b ok well h k = (one_full_text wanted files plan a b h.0 k.0, one_reply plan ok well h.1 k.1)
+one_output (Global name) files plan a b true true (ds, x, e) (es, y, g) = (e ∙ (ap got_text (one_got plan (string_bytes name) plan.roots ds es x y) ∙ sym g), refl)
+one_output (Global name) files plan a b true false (ds, x, e) ((n, why, y), g) = absurd (no_lack plan (string_bytes name) plan.roots ds n why x y)
+one_output (Global name) files plan a b false true ((n, why, x), e) (ds, y, g) = absurd (no_lack plan (string_bytes name) plan.roots ds n why y x)
+one_output (Global name) files plan a b false false (x, e) (y, g) = (e ∙ sym g, refl)
+one_output Graph files plan a b ok well h k = (one_graph_text files plan a b h.0 k.0, one_reply plan ok well h.1 k.1)

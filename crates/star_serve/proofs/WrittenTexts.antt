@@ -1,0 +1,66 @@
+-- What is written of a run.
+use Rattle.std.proofs.Common.{◌≡◌, ◌<◌, ℕ, Bool, true, false, List, [], Option, length, map, sym, subst, Result, Ok, Err}
+use Rattle.std.specs.Prelude.{IfOk}
+use Rattle.std.specs.List.{All}
+use Rattle.star_label.specs.Files.{File}
+use Rattle.star_outcome.specs.Kept.{AllGood, AreModules, AreModulesOf, KeptView, RunView}
+use Rattle.star_plan.specs.Plan.{Plan}
+use Rattle.star_plan.specs.Report.{IsReport}
+use Rattle.star_reading.specs.Found.{IsReadOf}
+use Rattle.star_reading.specs.Readings.{Row, loads_at}
+use Rattle.star_report.specs.Drawn.{LeadWithin}
+use Rattle.star_report.specs.Output.{InPlanOf, IsAnswer, IsSaid}
+use Rattle.star_report.specs.Shelf.{LeadToFiles}
+use Rattle.star_report.specs.Shown.{IsReportBut}
+use Rattle.star_report.specs.Wanted.{Full, IsFullText}
+use Rattle.star_report.specs.declared.wanted.Output.{Output}
+use Rattle.star_report.specs.declared.wanted.Output.TheVariants.{Global, Graph, Report}
+use Rattle.star_report.specs.declared.wanted.Wanted.{Wanted}
+use Rattle.star_report.proofs.Planned.{lead_to_files}
+use Rattle.star_serve.specs.Trace.{is_said}
+use Rattle.star_serve.specs.Written.{IsRunOf}
+
+-- where as many files were begun as are reached, the text is that of the report
+pub full_text_of : (wanted : Wanted) (files : List File) (plan : Plan) (ks : List KeptView) (begun : ℕ) (text : List ℕ) → begun ≡ length ks → IsReportBut wanted files plan (length ks) begun text → IsFullText wanted files plan text
+full_text_of wanted files plan ks begun text count but = record {
+  begun = begun;
+  fulls = but.fulls;
+  report = subst (λ b. IsReport plan b (map (λ (f : Full). f.shown) but.fulls)) (sym count) but.report;
+  more = but.more;
+  text_is = but.text_is;
+}
+
+pub lead_files : (files : List File) (row : Row) → length row ≡ length files → LeadWithin row → LeadToFiles files row
+lead_files files row size within n = subst (λ k. All (λ l. l.file < k) (loads_at row n)) size (within n)
+
+-- what was read of files has a place for each, and loads within them
+pub row_size : (files : List File) (roots : List ℕ) (prelude : Option ℕ) (row : Row) → IsReadOf files roots prelude row → length row ≡ length files
+row_size files roots prelude row (block, prelude_is, rows) = rows.sized
+
+pub lead_within : (files : List File) (roots : List ℕ) (prelude : Option ℕ) (row : Row) → IsReadOf files roots prelude row → LeadWithin row
+lead_within files roots prelude row read n = subst (λ k. All (λ l. l.file < k) (loads_at row n)) (sym (row_size files roots prelude row read)) (lead_to_files files roots prelude row read n)
+
+-- the answer, by the modules of a run
+pub answer_of : (plan : Plan) (ks : List KeptView) (ok : Bool) → AreModules plan ks → (ok ≡ true → AllGood ks) → (ok ≡ false → AllGood ks → ⊥) → IsAnswer plan ok
+answer_of plan ks ok are good bad = (ks, are, good, bad)
+
+-- what holds of each plan of which a run is holds of the plan of files, whose run it is
+pub in_plan_of : (files : List File) (roots : List ℕ) (prelude : Option ℕ) (steps : ℕ) (row : Row) (run : RunView) (P : Plan → Type 0) → run.begun ≡ length run.kept → AreModulesOf files roots prelude steps run.kept → IsReadOf files roots prelude row
+    → ((plan : Plan) → IsRunOf files roots row run plan → P plan) → InPlanOf files roots prelude steps P
+in_plan_of files roots prelude steps row run P begun (plan, planned, of_roots, of_prelude, of_steps, are) read each =
+    (plan, planned, of_roots, of_prelude, of_steps, each plan (record { planned = planned; roots_are = of_roots; read = subst (λ p. IsReadOf files roots p row) (sym of_prelude) read; modules = are; begun = begun }))
+
+none_said : (output : Output) (files : List File) (plan : Plan) (ok : Bool) (line : List ℕ) → IsSaid output files plan ok line → is_said output ok ≡ false → line ≡ []
+none_said (Report wanted) files plan ok line is none = is
+none_said (Global name) files plan true line is none = is
+none_said (Global name) files plan false line is none = absurd (let no : ⊥ = cc in no)
+none_said Graph files plan ok line is none = is
+
+-- where no line is said beside what is wanted, none is
+pub not_said : (output : Output) (files : List File) (roots : List ℕ) (prelude : Option ℕ) (steps : ℕ) (ok : Bool) (line : List ℕ) → InPlanOf files roots prelude steps (λ plan. IsSaid output files plan ok line) → is_said output ok ≡ false → line ≡ []
+not_said output files roots prelude steps ok line (plan, planned, of_roots, of_prelude, of_steps, is) none = none_said output files plan ok line is none
+
+-- what is there has a further fact
+pub if_ok-map : {A E : Type 0} {P Q : A → Type 0} (r : Result A E) → ((x : A) → P x → Q x) → IfOk r P → IfOk r Q
+if_ok-map (Ok x) f h = f x h
+if_ok-map (Err e) f h = tt

@@ -1,0 +1,50 @@
+use Rattle.std.proofs.Common.{◌≡◌, ◌<◌, ◌++◌, ℕ, [], All, ap, refl, subst, sym, ◌∙◌, arith, length, take}
+use Rattle.std.specs.Prelude.{string_bytes}
+use Rattle.star_outcome.specs.Refusals.{AreRefusalsOf}
+use Rattle.star_outcome.proofs.RefusedLoads.{all_files, first_refused}
+use Rattle.star_report.specs.Output.{InPlanOf, IsOutput, IsSaid}
+use Rattle.star_serve.specs.Stream.{Adds}
+use Rattle.star_bundle.specs.View.{asked_view}
+use Rattle.star_serve.specs.Trace.{Traces, trace_text}
+use Rattle.star_serve.proofs.Streams.{went_well}
+use Rattle.star_serve.proofs.Refusals.{started_refused, started_writes}
+use Rattle.star_serve.proofs.WrittenTexts.{not_said}
+use Rattle.star_serve.proofs.serve.reported_over.Goals as goal
+
+pub returns-in-Err-clause-refused : goal.returns-in-Err-clause-refused
+returns-in-Err-clause-refused g c = started_refused _ c.in-Err.error c.in-Err.ensures.kinds refl
+
+pub returns-in-Err-clause-writes : goal.returns-in-Err-clause-writes
+returns-in-Err-clause-writes g c = omega (arith, started_writes c.in-Err.error c.in-Err.ensures.kinds)
+
+pub returns-clause-ok : goal.returns-clause-ok
+returns-clause-ok g c =
+    let asked = c.args.asked.now in
+    let options = c.args.options.now in
+    let it = c.in-Ok.answer.written in
+    (c.as_slice.result.now, went_well c.write_some.result (sym c.is_err.ensures.value ∙ c.if-is_err.false) c.write_some.ensures.takes, subst (λ text. InPlanOf asked.files asked.roots.items asked.prelude options.steps (λ plan. IsOutput options.output asked.files plan text it.all_ok)) (sym c.as_slice.ensures.value) c.in-Ok.ensures.text)
+
+pub say-requires : goal.say-requires
+say-requires g c =
+    let asked = c.args.asked.now in
+    subst (λ rs. All (λ r. (r.file < length asked.files) × (r.loaded < length asked.files)) rs) (sym c.refused.ensures)
+    (all_files asked.files asked.roots.items asked.prelude c.args.options.now.steps _ c.in-Ok.ensures.refused)
+
+pub returns-clause-traced : goal.returns-clause-traced
+returns-clause-traced g c = λ none same.
+    let asked = c.args.asked.now in
+    let options = c.args.options.now in
+    let run = c.in-Ok.answer.run in
+    let said = string_bytes c.in-Ok.answer.written.said in
+    let kept = c.write_explained.ensures none in
+    let it = c.say.ensures.says (subst (λ e. g.E.Sink.failed e ≡ g.E.Sink.failed c.args.errors.now) kept same) in
+    let lines = subst (λ rs. Adds (g.E.Sink.taken c.args.errors.now) (g.E.Sink.taken c.say.new.writer) (c.as_str.result.now ++ trace_text asked.files (take it.0 rs))) c.refused.ensures it.2 in
+    subst (λ e. Traces options.output (asked_view asked) options.steps c.in-Ok.answer.written.all_ok options.trace (g.E.Sink.taken c.args.errors.now) (g.E.Sink.taken e)) (sym kept)
+    (said, c.in-Ok.ensures.said, take it.0 run.refused, first_refused asked.files asked.roots.items asked.prelude options.steps run.refused it.0 c.in-Ok.ensures.refused, (λ off. ap (λ k. take k run.refused) (it.1 off)), subst (λ s. Adds (g.E.Sink.taken c.args.errors.now) (g.E.Sink.taken c.say.new.writer) (s ++ trace_text asked.files (take it.0 run.refused))) c.as_str.ensures.value lines)
+
+pub returns-clause-untraced : goal.returns-clause-untraced
+returns-clause-untraced g c = λ quiet off none.
+    let asked = c.args.asked.now in
+    let options = c.args.options.now in
+    let empty = not_said options.output asked.files asked.roots.items asked.prelude options.steps c.in-Ok.answer.written.all_ok (string_bytes c.in-Ok.answer.written.said) c.in-Ok.ensures.said none in
+    c.write_explained.ensures quiet ∙ c.say.ensures.none (c.as_str.ensures.value ∙ empty) off

@@ -1,0 +1,22 @@
+use Rattle.star_serve.proofs.WrittenTexts.{if_ok-map}
+use Rattle.star_serve.proofs.written.written_of.Goals as goal
+
+pub returns-in-Report-clause-said : goal.returns-in-Report-clause-said
+returns-in-Report-clause-said g c =
+    if_ok-map c.report_written.result (λ w h plan of. rw c.in-Report.is (h plan)) c.report_written.ensures.said
+
+pub returns-in-Global-clause-text : goal.returns-in-Global-clause-text
+returns-in-Global-clause-text g c =
+    if_ok-map c.globals_written.result (λ w h plan of. rw c.in-Global.is (h c.args.reads.now.all.items plan of)) c.globals_written.ensures.text
+
+pub returns-in-Global-clause-said : goal.returns-in-Global-clause-said
+returns-in-Global-clause-said g c =
+    if_ok-map c.globals_written.result (λ w h plan of. rw c.in-Global.is (h c.args.reads.now.all.items plan of)) c.globals_written.ensures.said
+
+pub returns-in-Graph-clause-text : goal.returns-in-Graph-clause-text
+returns-in-Graph-clause-text g c =
+    if_ok-map c.graph_written.result (λ w h plan of. rw c.in-Graph.is (h c.args.roots.now plan of)) c.graph_written.ensures.text
+
+pub returns-in-Graph-clause-said : goal.returns-in-Graph-clause-said
+returns-in-Graph-clause-said g c =
+    if_ok-map c.graph_written.result (λ w h plan of. rw c.in-Graph.is (h plan)) c.graph_written.ensures.said

@@ -1,0 +1,54 @@
+-- What the program answers where the files are those that roots reach in a folder.
+use Rattle.std.specs.Prelude.{◌≡◌, ℕ, List, Option, Result, Ok, Err}
+use Rattle.star_label.specs.Files.{File}
+use Rattle.star_bundle.specs.Bundle.{Asked, asked_among}
+use Rattle.star_bundle.specs.declared.error.ServeError.{ServeError}
+use Rattle.star_bundle.specs.declared.error.ServeError.TheVariants.{BadPrelude, BadRoot, Memory, NoPrelude, NoRoot, Unpublished, Write}
+use Rattle.star_words.specs.Named.{IsMisnamed}
+use Rattle.star_repo.specs.Asked.{AreFilesFor, IsUnread}
+use Rattle.star_repo.specs.Held.{Said}
+use Rattle.star_repo.specs.declared.error.RepoError.{RepoError}
+use Rattle.star_repo.specs.declared.error.RepoError.TheVariants as why
+
+-- what is asked for of such files is this, or is refused so
+abbrev pub AsksOf : Said → List (List ℕ) → Option (List ℕ) → Result Asked ServeError → Type 0
+AsksOf said roots prelude given =
+    (files : List File) × AreFilesFor said roots prelude files × (asked_among roots prelude files ≡ given)
+
+-- a refusal but of a file: first of the words, then of what is asked for, then of the run
+abbrev pub IsRefusedAll : Said → List (List ℕ) → Option (List ℕ) → Type 0 → ServeError → Type 0
+IsRefusedAll said roots prelude unwritten BadRoot = IsMisnamed roots prelude BadRoot × unwritten
+IsRefusedAll said roots prelude unwritten BadPrelude = IsMisnamed roots prelude BadPrelude × unwritten
+IsRefusedAll said roots prelude unwritten NoRoot = AsksOf said roots prelude (Err NoRoot) × unwritten
+IsRefusedAll said roots prelude unwritten NoPrelude = AsksOf said roots prelude (Err NoPrelude) × unwritten
+IsRefusedAll said roots prelude unwritten Memory = unwritten
+IsRefusedAll said roots prelude unwritten Unpublished =
+    ((asked : Asked) × AsksOf said roots prelude (Ok asked)) × unwritten
+IsRefusedAll said roots prelude unwritten Write = (asked : Asked) × AsksOf said roots prelude (Ok asked)
+IsRefusedAll said roots prelude unwritten e = ⊥
+
+-- A refusal of what is asked for of files, or of its run.
+abbrev pub IsRefusedOf : Result Asked ServeError → Type 0 → ServeError → Type 0
+IsRefusedOf given unwritten BadRoot = (given ≡ Err BadRoot) × unwritten
+IsRefusedOf given unwritten BadPrelude = (given ≡ Err BadPrelude) × unwritten
+IsRefusedOf given unwritten NoRoot = (given ≡ Err NoRoot) × unwritten
+IsRefusedOf given unwritten NoPrelude = (given ≡ Err NoPrelude) × unwritten
+IsRefusedOf given unwritten Memory = unwritten
+IsRefusedOf given unwritten Unpublished = ((asked : Asked) × (given ≡ Ok asked)) × unwritten
+IsRefusedOf given unwritten Write = (asked : Asked) × (given ≡ Ok asked)
+IsRefusedOf given unwritten e = ⊥
+
+-- What a refusal says: of the file at a label, that it is the first, by its round and its label, that does not pass.
+abbrev pub IsRefusedRepo : Said → List (List ℕ) → Option (List ℕ) → Type 0 → RepoError → Type 0
+IsRefusedRepo said roots prelude unwritten (why.File label error) =
+    IsUnread said roots prelude (why.File label error) × unwritten
+IsRefusedRepo said roots prelude unwritten (why.Run error) = IsRefusedAll said roots prelude unwritten error
+
+-- a write failed where the answer is so, and else none
+abbrev pub failed_write : RepoError → ℕ
+failed_write (why.Run Write) = 1
+failed_write e = 0
+
+abbrev pub repo_writes_failed : {T : Type 0} → Result T RepoError → ℕ
+repo_writes_failed (Ok x) = 0
+repo_writes_failed (Err e) = failed_write e

@@ -1,0 +1,156 @@
+//! What is written of a run: the report, the globals of the roots, or the graph of loads.
+
+ghost use Rattle.std.specs.Prelude.{◌≡◌, ◌<◌, [], ℕ, All, IfOk, List, false, length, string_bytes, true};
+ghost use Rattle.star_outcome.specs.Kept.{AllGood};
+ghost use Rattle.star_plan.specs.Plan.{Plan};
+ghost use Rattle.star_reading.specs.Readings.{Row};
+ghost use Rattle.star_report.specs.Drawn.{LeadWithin};
+ghost use Rattle.star_report.specs.Got as spec;
+ghost use Rattle.star_report.specs.Output.{IsOutput, IsSaid};
+ghost use Rattle.star_report.specs.declared.wanted.Output.TheVariants as output;
+ghost use Rattle.star_serve.specs.Written.{IsRunOf};
+
+use star_host::{Reads, Run};
+use star_label::files::Files;
+use star_report::got::{Got, Lack, globals_of};
+use star_report::graph::graph;
+use star_report::report::{all_good, report};
+use star_report::wanted::{Output, Wanted};
+use std::alloc::{AllocError, Global};
+use std::thread::Threads;
+
+/// What there is to write of a run, a line to say beside it, and the answer.
+#[derive(Drop)]
+pub(crate) struct Written {
+    pub text: Vec<u8>,
+    pub said: String,
+    pub all_ok: bool,
+}
+
+/// A text, and as the answer whether all modules are ok.
+fn with_answer(alloc: Global, run: &mut Run, text: Vec<u8>) -> Written
+    ensures same { run.new ≡ run.old }
+    ensures text { result.text.items ≡ text.items }
+    ensures good { result.all_ok ≡ true → AllGood run.old.kept }
+    ensures bad { result.all_ok ≡ false → AllGood run.old.kept → ⊥ }
+    ensures said { string_bytes result.said ≡ [] }
+{
+    let all_ok = all_good(run);
+    let said = String::new(alloc);
+    Written { text, said, all_ok }
+}
+
+/// The report, with what is wanted more; the answer is whether all modules are ok.
+fn report_written<R: Threads + Sync>(
+    rt: &R,
+    alloc: Global,
+    files: &Files,
+    reads: &Reads,
+    run: &mut Run,
+    roots: &[usize],
+    wanted: Wanted,
+    threads: usize,
+) -> Result<Written, AllocError>
+    requires files { length run.old.cells ≡ length files.now }
+    requires reads { length reads.now.all.items ≡ length files.now }
+    requires loads { LeadWithin reads.now.all.items }
+    ensures same { run.new ≡ run.old }
+    ensures text { IfOk result (λ w. (plan : Plan) → IsRunOf files.now roots.now reads.now.all.items run.old plan
+        → IsOutput (output.Report wanted) files.now plan w.text.items w.all_ok) }
+    ensures said { IfOk result (λ w. (plan : Plan)
+        → IsSaid (output.Report wanted) files.now plan w.all_ok (string_bytes w.said)) }
+{
+    let text = report(rt, alloc, files, reads, run, roots, wanted, threads)?;
+    Ok(with_answer(alloc, run, text))
+}
+
+/// The graph of loads; the answer is whether all modules are ok.
+fn graph_written(
+    alloc: Global,
+    files: &Files,
+    reads: &Reads,
+    run: &mut Run,
+) -> Result<Written, AllocError>
+    requires files { length run.old.cells ≡ length files.now }
+    requires reads { length reads.now.all.items ≡ length files.now }
+    requires loads { LeadWithin reads.now.all.items }
+    ensures same { run.new ≡ run.old }
+    ensures text { IfOk result (λ w. (roots : List ℕ) (plan : Plan)
+        → IsRunOf files.now roots reads.now.all.items run.old plan
+        → IsOutput output.Graph files.now plan w.text.items w.all_ok) }
+    ensures said { IfOk result (λ w. (plan : Plan)
+        → IsSaid output.Graph files.now plan w.all_ok (string_bytes w.said)) }
+{
+    let text = graph(alloc, files, reads, run)?;
+    Ok(with_answer(alloc, run, text))
+}
+
+/// What is said of the first root that has no data for a name.
+fn lack_line(alloc: Global, files: &Files, root: usize, why: Lack) -> Result<String, AllocError>
+    requires { root < length files.now }
+    ensures { IfOk result (λ s. string_bytes s ≡ spec.lack_line files.now root why) }
+{
+    let root = files.label(root).text();
+    let why = why.text();
+    format!(in alloc; "starload: {root}: {why}\n")
+}
+
+/// The globals of the roots, where each has its own; else what is said of the first that has none.
+fn globals_written(
+    alloc: Global,
+    files: &Files,
+    run: &mut Run,
+    roots: &[usize],
+    name: &String,
+) -> Result<Written, AllocError>
+    requires files { length run.old.cells ≡ length files.now }
+    requires roots { All (λ n. n < length files.now) roots.now }
+    ensures same { run.new ≡ run.old }
+    ensures text { IfOk result (λ w. (row : Row) (plan : Plan) → IsRunOf files.now roots.now row run.old plan
+        → IsOutput (output.Global name.now) files.now plan w.text.items w.all_ok) }
+    ensures said { IfOk result (λ w. (row : Row) (plan : Plan) → IsRunOf files.now roots.now row run.old plan
+        → IsSaid (output.Global name.now) files.now plan w.all_ok (string_bytes w.said)) }
+{
+    match globals_of(alloc, files, run, roots, name.as_str())? {
+        Got::Lines(text) => Ok(Written {
+            text,
+            said: String::new(alloc),
+            all_ok: true,
+        }),
+        Got::Lack { root, why } => Ok(Written {
+            text: Vec::new(alloc),
+            said: lack_line(alloc, files, root, why)?,
+            all_ok: false,
+        }),
+    }
+}
+
+/// What is wanted of a run.
+pub(crate) fn written_of<R: Threads + Sync>(
+    rt: &R,
+    alloc: Global,
+    files: &Files,
+    reads: &Reads,
+    run: &mut Run,
+    roots: &[usize],
+    output: &Output,
+    threads: usize,
+) -> Result<Written, AllocError>
+    requires files { length run.old.cells ≡ length files.now }
+    requires reads { length reads.now.all.items ≡ length files.now }
+    requires loads { LeadWithin reads.now.all.items }
+    requires roots { All (λ n. n < length files.now) roots.now }
+    ensures same { run.new ≡ run.old }
+    ensures text { IfOk result (λ w. (plan : Plan) → IsRunOf files.now roots.now reads.now.all.items run.old plan
+        → IsOutput output.now files.now plan w.text.items w.all_ok) }
+    ensures said { IfOk result (λ w. (plan : Plan) → IsRunOf files.now roots.now reads.now.all.items run.old plan
+        → IsSaid output.now files.now plan w.all_ok (string_bytes w.said)) }
+{
+    match output {
+        Output::Report(wanted) => {
+            report_written(rt, alloc, files, reads, run, roots, *wanted, threads)
+        }
+        Output::Global(name) => globals_written(alloc, files, run, roots, name),
+        Output::Graph => graph_written(alloc, files, reads, run),
+    }
+}

@@ -1,0 +1,340 @@
+//! The report of files that roots reach in a folder, and what the words of the command line name there.
+
+ghost use Rattle.std.specs.Prelude.{◌≡◌, ◌≤◌, IfOk, IfSome, true};
+ghost use Rattle.star_label.specs.Label.{is_package};
+
+use clap::ArgMatches;
+use star_bundle::error::{ServeError, status};
+use star_label::error::LabelError;
+use star_label::label::Label;
+use star_repo::disk::DiskRepo;
+use star_repo::error::RepoError;
+use star_repo::wanting::{LoadAt, wanting};
+use star_serve::ends::CountedWriter;
+use star_serve::repo::serve_repo;
+use star_serve::serve::Options;
+use star_tree::tree::Tree;
+use star_words::named::asked_labels;
+use star_words::pattern::{files_below, front_of, label_below};
+use star_words::words::{label_of, label_of_word};
+use std::alloc::{AllocError, AllocFailed, Global};
+use std::collections::BTreeSet;
+use std::mem::ManuallyDrop;
+use std::process::ExitCode;
+use std::sync::Wait;
+use std::thread::Threads;
+use std::{env, fs, io};
+use thiserror::Error;
+
+/// What `--repo` and `--match` ask for.
+#[derive(Debug, Drop)]
+pub(crate) struct RepoAsked {
+    /// The folder.
+    pub dir: String,
+    /// Which names a word that ends in `...` asks for.
+    pub pattern: String,
+}
+
+impl RepoAsked {
+    /// What the words of the command line give, where they name such a folder.
+    pub(crate) fn of(
+        alloc: Global,
+        matches: &ArgMatches<'_>,
+    ) -> Result<Option<RepoAsked>, AllocError> {
+        let Some(dir) = matches.get_str("repo") else {
+            return Ok(None);
+        };
+        let pattern = matches.get_str("match").unwrap_or(PATTERN);
+        Ok(Some(RepoAsked {
+            dir: String::from_str(alloc, dir)?,
+            pattern: String::from_str(alloc, pattern)?,
+        }))
+    }
+}
+
+/// Which names a word that ends in `...` asks for without `--match`.
+const PATTERN: &str = "*.star";
+
+/// Where the folder lies, and where the program was called.
+#[derive(Drop)]
+struct Place {
+    /// The path of the folder, in which no link is left.
+    top: String,
+    /// A label of the folder that the program was called in: its package is `here`. None where no label names a file
+    /// there.
+    here: Option<Label>,
+}
+
+/// What stands below a folder, of a path that leads there.
+fn below<'a>(top: &str, path: &'a str) -> Option<&'a str> {
+    let rest = path.strip_prefix(top)?;
+    if rest == "" || top.ends_with('/') {
+        return Some(rest);
+    }
+    rest.strip_prefix('/')
+}
+
+/// A path as text: an error where it is not UTF-8.
+fn path_text(alloc: Global, path: Option<&str>) -> io::Result<String> {
+    match path {
+        Some(text) => Ok(String::from_str(alloc, text)?),
+        None => Err(io::Error::from(io::ErrorKind::InvalidData)),
+    }
+}
+
+/// Where a folder lies.
+fn place_of(rt: &HostRuntime, alloc: Global, dir: &str) -> io::Result<Place> {
+    if !fs::metadata(rt, dir)?.is_dir() {
+        return Err(io::Error::from(io::ErrorKind::NotADirectory));
+    }
+    let top = path_text(alloc, fs::canonicalize(rt, dir)?.to_str())?;
+    let called = path_text(alloc, env::current_dir(rt)?.to_str())?;
+    let folder = below(top.as_str(), called.as_str()).unwrap_or("");
+    match label_of(alloc, folder, "x") {
+        Ok(here) => Ok(Place { top, here }),
+        Err(_) => Err(io::Error::from(io::ErrorKind::OutOfMemory)),
+    }
+}
+
+/// A word: where it is the absolute path of a file in the folder, the label of that.
+fn word_in(alloc: Global, place: &Place, word: &str) -> Result<String, LabelError> {
+    if word.starts_with('/') {
+        if let Some(rest) = below(place.top.as_str(), word) {
+            if let Some(label) = label_of(alloc, "", rest)? {
+                return Ok(String::from_str(alloc, label.text())?);
+            }
+        }
+    }
+    Ok(String::from_str(alloc, word)?)
+}
+
+/// Why there is no report.
+#[derive(Debug, Drop, Error)]
+enum Refusal {
+    /// What the run says; and the load statement that asks for the file which it names, where a person is told.
+    #[error("{error}")]
+    Run {
+        error: RepoError,
+        load: Option<LoadAt>,
+    },
+    /// A word that asks for files below a folder, where there is none.
+    #[error("no file matches: {word}")]
+    Unmatched {
+        word: String,
+    },
+}
+
+impl From<ServeError> for Refusal {
+    fn from(error: ServeError) -> Refusal {
+        Refusal::Run {
+            error: RepoError::Run { error },
+            load: None,
+        }
+    }
+}
+
+impl From<AllocError> for Refusal {
+    fn from(_error: AllocError) -> Refusal {
+        Refusal::from(ServeError::Memory)
+    }
+}
+
+impl<T: Drop> From<AllocFailed<T>> for Refusal {
+    fn from(_error: AllocFailed<T>) -> Refusal {
+        Refusal::from(ServeError::Memory)
+    }
+}
+
+impl From<LabelError> for Refusal {
+    fn from(_error: LabelError) -> Refusal {
+        Refusal::from(ServeError::Memory)
+    }
+}
+
+/// The package of the folder that the program was called in: none where no label names a file there.
+fn here_of(place: &Place) -> Option<&str>
+    ensures { IfSome result (λ here. is_package here.now ≡ true) }
+{
+    match &place.here {
+        Some(label) => Some(label.package()),
+        None => None,
+    }
+}
+
+/// The labels of the files below a folder that a word asks for, in their order.
+fn push_below(
+    rt: &HostRuntime,
+    alloc: Global,
+    dir: &str,
+    place: &Place,
+    word: &str,
+    front: &str,
+    pattern: &str,
+    labels: &mut Vec<String>,
+) -> Result<(), Refusal> {
+    let here = here_of(place).unwrap_or("");
+    let mut found = BTreeSet::new(alloc);
+    if let Some(label) = label_below(alloc, here, front)? {
+        let mut folder = DiskRepo::new(rt, dir);
+        found = files_below(alloc, &mut folder, label.package(), pattern)?;
+    }
+    if found.is_empty() {
+        let word = String::from_str(alloc, word)?;
+        return Err(Refusal::Unmatched { word });
+    }
+    for label in found.iter() {
+        labels.push(String::from_str(alloc, label.text())?)?;
+    }
+    Ok(())
+}
+
+/// The label that a word names: an error of this kind where it names none.
+fn label_named(
+    alloc: Global,
+    place: &Place,
+    word: &str,
+    bad: ServeError,
+) -> Result<String, Refusal> {
+    let text = word_in(alloc, place, word)?;
+    let Some(here) = here_of(place) else {
+        return Ok(text);
+    };
+    match label_of_word(alloc, here, text.as_str())? {
+        Some(label) => Ok(String::from_str(alloc, label.text())?),
+        None => Err(Refusal::from(bad)),
+    }
+}
+
+/// The labels of the roots that words name.
+fn roots_named(
+    rt: &HostRuntime,
+    alloc: Global,
+    asked: &RepoAsked,
+    place: &Place,
+    words: &[String],
+) -> Result<Vec<String>, Refusal> {
+    let mut labels = Vec::new(alloc);
+    let (dir, pattern) = (asked.dir.as_str(), asked.pattern.as_str());
+    for word in words {
+        let word = word.as_str();
+        match front_of(word) {
+            Some(front) => push_below(rt, alloc, dir, place, word, front, pattern, &mut labels)?,
+            None => labels.push(label_named(alloc, place, word, ServeError::BadRoot)?)?,
+        }
+    }
+    Ok(labels)
+}
+
+/// The options, with the labels that their words name.
+fn with_labels(
+    rt: &HostRuntime,
+    alloc: Global,
+    asked: &RepoAsked,
+    place: &Place,
+    options: Options,
+) -> Result<Options, Refusal>
+    requires loaders { (1 ≤ options.loaders) × (options.loaders ≤ 64) }
+    requires steps { (1 ≤ options.steps) × (options.steps ≤ 100000000) }
+    ensures loaders { IfOk result (λ o. (1 ≤ o.loaders) × (o.loaders ≤ 64)) }
+    ensures steps { IfOk result (λ o. (1 ≤ o.steps) × (o.steps ≤ 100000000)) }
+{
+    let mut options = options;
+    options.roots = roots_named(rt, alloc, asked, place, options.roots.as_slice())?;
+    if let Some(word) = options.prelude.take() {
+        let label = label_named(alloc, place, word.as_str(), ServeError::BadPrelude)?;
+        options.prelude = Some(label);
+    }
+    Ok(options)
+}
+
+/// The load statement that asks for the file which a refusal names: none where no person is told, or where the file was
+/// asked for on the command line.
+fn load_for<H: Wait>(
+    rt: &HostRuntime,
+    threads: &H,
+    alloc: Global,
+    asked: &RepoAsked,
+    options: &Options,
+    error: &RepoError,
+) -> Option<LoadAt> {
+    let RepoError::File { label, .. } = error else {
+        return None;
+    };
+    if options.explain.is_none() {
+        return None;
+    }
+    let words = asked_labels(alloc, options.roots.as_slice(), options.prelude.as_ref()).ok()?;
+    // The process ends next, and the system takes back all of its memory at once.
+    let trees: ManuallyDrop<boxcar::Vec<Tree>> = ManuallyDrop::new(boxcar::Vec::new(alloc).ok()?);
+    let mut folder = DiskRepo::new(rt, asked.dir.as_str());
+    match wanting(threads, alloc, &mut folder, &*trees, words, label) {
+        Ok(load) => load,
+        Err(_) => None,
+    }
+}
+
+/// Says why there is no report, and which load statement asks for the file that cannot be had.
+fn say_refusal(rt: &HostRuntime, refusal: &Refusal) {
+    let _ = eprintln!(rt; "starload: {refusal}");
+    if let Refusal::Run {
+        load: Some(LoadAt { file, line }),
+        ..
+    } = refusal
+    {
+        let _ = eprintln!(rt; "  loaded by {file}, line {line}");
+    }
+}
+
+/// Writes the report of the files that roots reach in a folder. The loaders are threads of `threads`.
+fn reported<H: Threads + Wait + Sync>(
+    rt: &HostRuntime,
+    threads: &H,
+    alloc: Global,
+    asked: &RepoAsked,
+    options: Options,
+) -> Result<bool, Refusal>
+    requires loaders { (1 ≤ options.loaders) × (options.loaders ≤ 64) }
+    requires steps { (1 ≤ options.steps) × (options.steps ≤ 100000000) }
+{
+    let Ok(place) = place_of(rt, alloc, asked.dir.as_str()) else {
+        return Err(Refusal::from(ServeError::BadDir));
+    };
+    let options = with_labels(rt, alloc, asked, &place, options)?;
+    let mut folder = DiskRepo::new(rt, asked.dir.as_str());
+    let mut writer = CountedWriter::new(rt.stdout());
+    let mut errors = CountedWriter::new(rt.stderr());
+    match serve_repo(
+        threads,
+        alloc,
+        &mut folder,
+        &mut writer,
+        &mut errors,
+        &options,
+    ) {
+        Ok(all_ok) => Ok(all_ok),
+        Err(error) => {
+            let load = load_for(rt, threads, alloc, asked, &options, &error);
+            Err(Refusal::Run { error, load })
+        }
+    }
+}
+
+/// Writes the report of the files that roots reach in a folder, or says why there is none.
+pub(crate) fn report_repo<H: Threads + Wait + Sync>(
+    rt: &HostRuntime,
+    threads: &H,
+    alloc: Global,
+    asked: &RepoAsked,
+    options: Options,
+) -> ExitCode
+    requires loaders { (1 ≤ options.loaders) × (options.loaders ≤ 64) }
+    requires steps { (1 ≤ options.steps) × (options.steps ≤ 100000000) }
+{
+    match reported(rt, threads, alloc, asked, options) {
+        Ok(all_ok) => ExitCode::from(status(&Ok(all_ok))),
+        Err(refusal) => {
+            say_refusal(rt, &refusal);
+            ExitCode::from(2)
+        }
+    }
+}
