@@ -23,3 +23,5 @@ mod text;
 mod tokens;
 #[cfg(test)]
 mod trees;
+#[cfg(test)]
+mod words;

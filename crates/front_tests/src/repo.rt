@@ -8,11 +8,12 @@ use star_repo::disk::DiskRepo;
 use star_repo::memory::{FileAt, MemoryRepo};
 use star_repo::reach::{Reached, read_reached};
 use star_repo::repo::Repo;
-use star_repo::words::label_of;
 use star_tree::tree::Tree;
+use star_words::words::label_of;
 use std::alloc::Global;
 use std::collections::BTreeSet;
 use std::fs;
+use std::mem::ManuallyDrop;
 use std::process::Abort;
 use std::sync::Wait;
 use std::test::Fail;
@@ -54,10 +55,10 @@ fn outcome<H: Threads + Wait + Sync, F: Repo>(
     words: &[&str],
     threads: usize,
 ) -> Result<String, Fail> {
-    let trees: boxcar::Vec<Tree> = boxcar::Vec::new(alloc)?;
+    let trees: ManuallyDrop<boxcar::Vec<Tree>> = ManuallyDrop::new(boxcar::Vec::new(alloc)?);
     let words = labels(alloc, words)?;
-    match read_reached(rt, alloc, folder, &trees, words, threads) {
-        Ok(reached) => shown(alloc, &reached),
+    match read_reached(rt, alloc, folder, &*trees, words, threads) {
+        Ok(reached) => shown(alloc, &*ManuallyDrop::new(reached)),
         Err(error) => Ok(format!(in alloc; "{error}")?),
     }
 }
@@ -123,13 +124,14 @@ fn files_that_are_reached(rt: HostRuntime) -> Result<(), Fail> {
 #[test]
 fn trees_of_the_files(rt: HostRuntime) -> Result<(), Fail> {
     let alloc = rt.alloc();
-    let trees: boxcar::Vec<Tree> = boxcar::Vec::new(alloc)?;
+    let trees: ManuallyDrop<boxcar::Vec<Tree>> = ManuallyDrop::new(boxcar::Vec::new(alloc)?);
     let words = labels(alloc, &["//:a.star"])?;
     let mut folder = MemoryRepo::new(&TREE);
-    let Ok(reached) = read_reached(&rt, alloc, &mut folder, &trees, words, 1) else {
+    let Ok(reached) = read_reached(&rt, alloc, &mut folder, &*trees, words, 1) else {
         assert!(rt; false);
         return Ok(());
     };
+    let reached = ManuallyDrop::new(reached);
     assert_eq!(rt; reached.files.len(), 2);
     assert_eq!(rt; reached.parses.len(), 2);
     assert!(rt; reached.parses[0].is_ok());
@@ -256,13 +258,14 @@ impl Repo for Chain {
 #[test]
 fn a_chain_of_loads(rt: HostRuntime) -> Result<(), Fail> {
     let alloc = rt.alloc();
-    let trees: boxcar::Vec<Tree> = boxcar::Vec::new(alloc)?;
+    let trees: ManuallyDrop<boxcar::Vec<Tree>> = ManuallyDrop::new(boxcar::Vec::new(alloc)?);
     let words = labels(alloc, &["//:0.star"])?;
     let mut folder = Chain { count: 40 };
-    let Ok(reached) = read_reached(&rt, alloc, &mut folder, &trees, words, 4) else {
+    let Ok(reached) = read_reached(&rt, alloc, &mut folder, &*trees, words, 4) else {
         assert!(rt; false);
         return Ok(());
     };
+    let reached = ManuallyDrop::new(reached);
     assert_eq!(rt; reached.files.len(), 40);
     Ok(())
 }

@@ -3,7 +3,7 @@
 ghost use Rattle.std.specs.Prelude.{◌≡◌, ◌<◌, ◌≤◌, All, IfOk, length};
 
 use star_host::gate::{Gate, Open};
-use star_host::{Run, run};
+use star_host::{Reads, Run, run};
 use star_label::files::Files;
 use star_label::label::Label;
 use star_report::report::report;
@@ -101,6 +101,23 @@ pub fn run_all<R: Threads + Wait + Sync, G: Gate + Sync>(
     Ok(run(rt, alloc, files, &roots, None, loaders, 100_000, gate)?)
 }
 
+/// The report of a run, in which no loads are wanted: so nothing is asked of what was read.
+pub fn report_text<R: Threads + Sync>(
+    rt: &R,
+    alloc: Global,
+    files: &Files,
+    run: &mut Run,
+    roots: &[usize],
+    wanted: Wanted,
+    threads: usize,
+) -> Result<String, Fail>
+    requires { length run.old.cells ≡ length files.now }
+{
+    let reads = Reads::new(alloc);
+    let text = report(rt, alloc, files, &reads, run, roots, wanted, threads)?;
+    Ok(String::from_utf8(text)?)
+}
+
 /// The report of a bundle all of whose files are roots, where each body may take 100,000 steps.
 pub fn report_of<R: Threads + Wait + Sync>(
     rt: &R,
@@ -112,5 +129,5 @@ pub fn report_of<R: Threads + Wait + Sync>(
 {
     let files = files_of(alloc, bundle)?;
     let mut run = run_all(rt, alloc, &files, loaders, &Open)?;
-    Ok(report(rt, alloc, &files, &mut run, &[], Wanted::NOTHING, loaders)?)
+    report_text(rt, alloc, &files, &mut run, &[], Wanted::NOTHING, loaders)
 }

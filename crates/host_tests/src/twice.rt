@@ -2,7 +2,7 @@
 
 use crate::runs::all_roots;
 use star_host::gate::Open;
-use star_host::run;
+use star_host::{Reads, run};
 use star_label::files::Files;
 use star_label::label::Label;
 use star_report::report::report;
@@ -32,7 +32,9 @@ fn reported<R: Threads + Wait + Sync>(rt: &R, alloc: Global) -> Option<String> {
     let files = Files::new(alloc, files).ok()?;
     let roots = all_roots(alloc, &files).ok()?;
     let mut run = run(rt, alloc, &files, &roots, None, 1, 100_000, &Open).ok()?;
-    report(rt, alloc, &files, &mut run, &[], Wanted::NOTHING, 1).ok()
+    let reads = Reads::new(alloc);
+    let text = report(rt, alloc, &files, &reads, &mut run, &[], Wanted::NOTHING, 1).ok()?;
+    String::from_utf8(text).ok()
 }
 
 /// What the three files come to, whatever became of the run before. `tests/refused` runs this test with each allocation

@@ -1,8 +1,7 @@
 //! Tests of reports with what is wanted more of each module.
 
-use crate::runs::{files_of, run_all};
+use crate::runs::{files_of, report_text, run_all};
 use star_host::gate::Open;
-use star_report::report::report;
 use star_report::wanted::Wanted;
 use std::test::Fail;
 
@@ -21,11 +20,13 @@ fn values_are_reported_as_json(rt: HostRuntime) -> Result<(), Fail> {
     let mut run = run_all(&rt, alloc, &files, 2, &Open)?;
     let wanted = Wanted {
         values: true,
+        loads: false,
+        steps: true,
         only_roots: false,
     };
     assert_eq!(rt;
-        report(&rt, alloc, &files, &mut run, &[0, 1], wanted, 2)?.as_str(),
-        "{\"begun\":2,\"modules\":[{\"globals\":{\"_y\":\"1\",\"x\":\"[1, (2,), {\\\"k\\\": None}]\",\"z\":\"<built-in function len>\"},\"label\":\"//:a.star\",\"lines\":[],\"opaque\":[\"z\"],\"status\":\"ok\",\"values\":{\"x\":[1,[2],{\"k\":null}]}},{\"globals\":{\"r\":\"range(2)\",\"t\":\"{\\\"k\\\": None}\"},\"label\":\"//:b.star\",\"lines\":[],\"opaque\":[\"r\"],\"status\":\"ok\",\"values\":{\"t\":{\"k\":null}}}]}\n"
+        report_text(&rt, alloc, &files, &mut run, &[0, 1], wanted, 2)?.as_str(),
+        "{\"begun\":2,\"modules\":[{\"globals\":{\"_y\":\"1\",\"x\":\"[1, (2,), {\\\"k\\\": None}]\",\"z\":\"<built-in function len>\"},\"label\":\"//:a.star\",\"lines\":[],\"opaque\":[\"z\"],\"status\":\"ok\",\"steps\":75,\"values\":{\"x\":[1,[2],{\"k\":null}]}},{\"globals\":{\"r\":\"range(2)\",\"t\":\"{\\\"k\\\": None}\"},\"label\":\"//:b.star\",\"lines\":[],\"opaque\":[\"r\"],\"status\":\"ok\",\"steps\":39,\"values\":{\"t\":{\"k\":null}}}]}\n"
     );
     Ok(())
 }
@@ -37,10 +38,12 @@ fn roots_alone_are_reported(rt: HostRuntime) -> Result<(), Fail> {
     let mut run = run_all(&rt, alloc, &files, 2, &Open)?;
     let wanted = Wanted {
         values: false,
+        loads: false,
+        steps: false,
         only_roots: true,
     };
     assert_eq!(rt;
-        report(&rt, alloc, &files, &mut run, &[1], wanted, 1)?.as_str(),
+        report_text(&rt, alloc, &files, &mut run, &[1], wanted, 1)?.as_str(),
         "{\"begun\":2,\"modules\":[{\"globals\":{\"r\":\"range(2)\",\"t\":\"{\\\"k\\\": None}\"},\"label\":\"//:b.star\",\"lines\":[],\"status\":\"ok\"}]}\n"
     );
     Ok(())

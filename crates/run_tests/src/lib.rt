@@ -13,4 +13,6 @@ mod programs;
 #[cfg(test)]
 mod samples;
 #[cfg(test)]
+mod trails;
+#[cfg(test)]
 mod variables;

@@ -17,6 +17,7 @@ use star_world::files::{Files, program_of};
 use star_world::world::World;
 use std::alloc::{AllocError, Global};
 use std::collections::BTreeMap;
+use std::mem::ManuallyDrop;
 use std::process::Abort;
 use std::test::Fail;
 
@@ -65,10 +66,10 @@ fn outcome_of_program(alloc: Global, program: &Program, steps: u32) -> Result<Ou
 /// How the body of a text ends with so many steps.
 fn outcome_of(rt: &impl Abort, alloc: Global, source: &str, steps: u32) -> Result<Outcome, Fail> {
     let labels = two(alloc)?;
-    let tree = parse(alloc, source)?;
+    let tree = ManuallyDrop::new(parse(alloc, source)?);
     assert!(rt; 0 < labels.len());
     assert!(rt; steps <= MOST_STEPS);
-    let program = program_of(alloc, &labels, 0, &tree, None)?;
+    let program = program_of(alloc, &labels, 0, &*tree, None)?;
     Ok(outcome_of_program(alloc, &program, steps)?)
 }
 
@@ -118,18 +119,16 @@ pub(crate) fn good(
             frozen,
             shown: texts,
             lines: found,
+            left,
         } => {
+            assert!(rt; left <= steps, "{source}: {left} steps left");
             shown(rt, alloc, texts.as_slice(), globals, source)?;
             for (name, _text) in globals {
                 assert!(rt; frozen.global(*name).is_some(), "{source}");
             }
             printed(rt, alloc, found.as_slice(), lines, source)
         }
-        Outcome::Fault {
-            code,
-            line,
-            lines: _,
-        } => {
+        Outcome::Fault { code, line, .. } => {
             assert!(rt; false, "{source}: {code:?} in line {line}");
             Ok(())
         }
@@ -154,6 +153,7 @@ fn fault(
             code,
             line,
             lines: found,
+            ..
         } => {
             assert_eq!(rt; (code, line), want, "{source}");
             printed(rt, alloc, found.as_slice(), lines, source)

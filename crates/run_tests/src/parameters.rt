@@ -26,6 +26,7 @@ use star_world::parts::new_closure;
 use star_world::variables::paid_frame;
 use star_world::world::World;
 use std::alloc::{AllocError, Global};
+use std::mem::ManuallyDrop;
 use std::process::Abort;
 use std::test::Fail;
 
@@ -184,6 +185,6 @@ fn many_parameters_have_a_layout_of(
 fn many_parameters_have_a_layout(rt: HostRuntime) -> Result<(), Fail> {
     let alloc = rt.alloc();
     let labels = two(alloc)?;
-    let tree = parse(alloc, MANY)?;
-    many_parameters_have_a_layout_of(&rt, alloc, &labels, &tree)
+    let tree = ManuallyDrop::new(parse(alloc, MANY)?);
+    many_parameters_have_a_layout_of(&rt, alloc, &labels, &*tree)
 }

@@ -20,6 +20,7 @@ use star_world::files::{Files, program_of};
 use star_world::variables::new_frame;
 use star_world::world::World;
 use std::alloc::Global;
+use std::mem::ManuallyDrop;
 use std::process::Abort;
 use std::test::Fail;
 
@@ -147,8 +148,8 @@ fn sample_is_as_wanted(
     labels: &Labels,
     sample: Sample<'_>,
 ) -> Result<(), Fail> {
-    let tree = parse(alloc, sample.source)?;
-    sample_is_as_wanted_of(rt, alloc, labels, &tree, sample)
+    let tree = ManuallyDrop::new(parse(alloc, sample.source)?);
+    sample_is_as_wanted_of(rt, alloc, labels, &*tree, sample)
 }
 
 /// Asserts the text of the last value of each program.

@@ -21,6 +21,7 @@ use star_world::variables::{bind, new_frame, paid_frame, read};
 use star_world::world::World;
 use std::alloc::{AllocError, Global};
 use std::collections::BTreeMap;
+use std::mem::ManuallyDrop;
 use std::process::Abort;
 use std::test::Fail;
 
@@ -220,9 +221,9 @@ fn names_are_read_and_bound_by_their_places_of<'t>(
 fn names_are_read_and_bound_by_their_places(rt: HostRuntime) -> Result<(), Fail> {
     let alloc = rt.alloc();
     let labels = two(alloc)?;
-    let first = parse(alloc, "k = 5\nn = 6\n")?;
-    let tree = parse(alloc, FILE)?;
-    names_are_read_and_bound_by_their_places_of(&rt, alloc, &labels, &first, &tree)
+    let first = ManuallyDrop::new(parse(alloc, "k = 5\nn = 6\n")?);
+    let tree = ManuallyDrop::new(parse(alloc, FILE)?);
+    names_are_read_and_bound_by_their_places_of(&rt, alloc, &labels, &*first, &*tree)
 }
 
 #[test]

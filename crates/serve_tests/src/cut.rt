@@ -5,7 +5,7 @@ ghost use Rattle.std.specs.Prelude.{◌≤◌, IfOk};
 use crate::tests::{NEVER, scripted, writer_of};
 use serde_json::Value;
 use star_bundle::error::ServeError;
-use star_serve::serve::{Options, Wanted, serve};
+use star_serve::serve::{Options, Output, Wanted, serve};
 use std::alloc::{AllocError, Global};
 use std::process::Abort;
 use std::sync::Wait;
@@ -43,9 +43,10 @@ fn options_of(alloc: Global, root: &str) -> Result<Options, AllocError>
         steps: 10_000,
         roots,
         prelude: None,
-        wanted: Wanted::NOTHING,
+        output: Output::Report(Wanted::NOTHING),
         trace: false,
         dir: None,
+        explain: None,
     })
 }
 

@@ -4,4 +4,6 @@
 #[cfg(test)]
 mod cut;
 #[cfg(test)]
+mod ondemand;
+#[cfg(test)]
 mod tests;

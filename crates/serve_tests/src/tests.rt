@@ -15,7 +15,7 @@ use star_folder::folder::{Folder, FolderError, Kind};
 use star_folder::memory::{MemoryFolder, Row};
 use star_label::label::Label;
 use star_serve::dir::serve_dir;
-use star_serve::serve::{Options, Wanted, serve};
+use star_serve::serve::{Options, Output, Wanted, serve};
 use star_serve::stream::{Failed, Sink, Source};
 use std::alloc::{AllocError, Global};
 use std::collections::BTreeMap;
@@ -139,7 +139,7 @@ pub(crate) fn writer_of(alloc: Global, fails_at: usize) -> Kept {
 }
 
 /// What is asked for: the root `//:a.star`, with so many loaders.
-fn options_of(alloc: Global, loaders: usize) -> Result<Options, AllocError>
+pub(crate) fn options_of(alloc: Global, loaders: usize) -> Result<Options, AllocError>
     requires { (1 ≤ loaders) × (loaders ≤ 64) }
     ensures { IfOk result (λ o. (1 ≤ o.loaders) × (o.loaders ≤ 64) × (1 ≤ o.steps) × (o.steps ≤ 100000000)) }
 {
@@ -150,9 +150,10 @@ fn options_of(alloc: Global, loaders: usize) -> Result<Options, AllocError>
         steps: 10_000,
         roots,
         prelude: None,
-        wanted: Wanted::NOTHING,
+        output: Output::Report(Wanted::NOTHING),
         trace: true,
         dir: None,
+        explain: None,
     })
 }
 
@@ -201,9 +202,10 @@ fn asked_by(alloc: Global, case: &Case, loaders: usize) -> Result<Options, Alloc
         steps: case.steps.clamp(1, 100_000_000),
         roots,
         prelude,
-        wanted: Wanted::NOTHING,
+        output: Output::Report(Wanted::NOTHING),
         trace: case.trace.is_some(),
         dir: None,
+        explain: None,
     })
 }
 
