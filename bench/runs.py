@@ -8,7 +8,7 @@ import time
 
 
 def programs(words):
-    """The programs to measure, by the words NAME=PROGRAM: the built one where there is none."""
+    """The programs to measure, by the words NAME=PROGRAM: the built one if there is none."""
     top = os.path.dirname(os.path.dirname(os.path.abspath(__file__)))
     built = [f"starload={top}/crates/starload/out/starload"]
     found = dict(word.split("=", 1) for word in words or built)
@@ -33,6 +33,6 @@ def once(program, bundle, root, loaders=1, steps=100000000):
 
 
 def median(program, bundle, root, loaders, rounds):
-    """The median of the seconds of so many runs, and their report."""
+    """The median of the seconds of several runs, and their report."""
     runs = [once(program, bundle, root, loaders) for _ in range(rounds)]
     return statistics.median(took for took, _ in runs), runs[0][1]

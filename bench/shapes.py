@@ -81,7 +81,7 @@ FILES = {
 
 
 def looped(line, before="", count=300000):
-    """A function that does this line so many times."""
+    """A function that does this line many times."""
     return f"def f(n):\n{before}  for i in range(n):\n    {line}\nf({count})\n"
 
 

@@ -1,4 +1,4 @@
-//! What bundles and words ask for.
+//! Tests of bundles, of the roots and preludes that words name, and of their refusals.
 
 use star_bundle::bundle::{asked_for, asked_in, files_in, prelude_in, roots_in};
 use star_bundle::error::ServeError;

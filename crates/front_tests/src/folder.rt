@@ -1,4 +1,5 @@
-//! Folders in memory, and what a test can see of the disk: that it runs in a folder without such files.
+//! Tests of folders: of those in memory, and of the little of a disk that a test can see: it runs in a folder without
+//! such files.
 
 ghost use Rattle.star_folder.specs.Folder.{unsaid};
 
@@ -100,7 +101,7 @@ fn the_first_that_is_met(rt: HostRuntime) -> Result<(), Fail> {
     refuses(&rt, alloc, &rows, ServeError::TooLong)
 }
 
-/// A folder with so many empty files.
+/// A folder with this number of empty files.
 #[derive(Drop)]
 struct Many(usize);
 

@@ -1,4 +1,4 @@
-//! Labels and files, with values from outside.
+//! Tests of labels and of numbered files, with values from the environment, so that no compiler can fold them.
 
 use star_label::error::LabelError;
 use star_label::files::Files;
@@ -8,7 +8,7 @@ use std::alloc::Global;
 use std::collections::BTreeMap;
 use std::test::Fail;
 
-/// Rows of a text, the package in which it is read, and its normal form, or `!` where it is none.
+/// Rows of a text, the package in which it is read, and its normal form, or `!` if it is none.
 const TABLE: &str = "//:a||//:a;//:x.star||//:x.star;:x.star||//:x.star;//lib:x.star||//lib:x.star;\
     //lib/y:x.star||//lib/y:x.star;//a/b/c/d:e||//a/b/c/d:e;lib:x||!;//a//b:c||!;//:a/b||!;//a:..||!;\
     //:..||!;//:.||!;||!;:||!;//||!;//:||!;//lib||!;//lib:||!;:..||!;:.||!;:...||//:...;\
@@ -135,7 +135,7 @@ fn takes_ten_thousand_files(rt: HostRuntime) -> Result<(), Fail> {
     Ok(())
 }
 
-/// One file with a text of so many bytes.
+/// One file with a text of `bytes` bytes.
 fn one(alloc: Global, bytes: usize) -> Result<Result<Files, LabelError>, Fail> {
     let mut text = String::new(alloc);
     for _ in 0..bytes {

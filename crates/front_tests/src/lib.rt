@@ -1,4 +1,9 @@
-//! Tests of what reads files: texts, labels, bundles and folders, the lexer, the parser and the resolver.
+//! Tests of all that reads files: texts, labels, bundles and folders, the words of the command line, the lexer, the
+//! parser and the resolver.
+//!
+//! Tests are crates of their own, so that no crate is proved once more for its tests. They call public functions only.
+//! Most tests go through a table: a row has a text and the result that it must have. Begin at `tokens.rt` and
+//! `rows.rt`, or at `programs.rt` for the resolver.
 #![tactic(auto)]
 
 #[cfg(test)]

@@ -1,4 +1,4 @@
-//! The spots of the names of small files.
+//! Tests of the resolver: the spots of the names of small files.
 
 use star_label::files::Files;
 use star_label::label::Label;
@@ -12,8 +12,9 @@ use std::collections::BTreeMap;
 use std::process::Abort;
 use std::test::Fail;
 
-/// Each row is a text, the text of the prelude (none where it is empty), and the spots of its names by their tokens
-/// (how many frames up and which slot, or `prelude`, or `outermost`), or the line of the first undefined name.
+/// Each row is a text, the text of the prelude (none if it is empty), and a result: the spots of its names by their
+/// tokens, or the line of the first undefined name. A spot is a number of frames up and a slot, or `prelude`, or
+/// `outermost`.
 const ROWS: &str = "\
     \x1ex = 1\ny = x\n\x1f\x1f0=0.0 4=0.1 6=0.0 \
     \x1edef f(a):\n  def g(b):\n    def h(c): return a + b + c + f\n\x1f\x1f\

@@ -1,4 +1,4 @@
-//! Whole files, by their texts.
+//! Tests of the resolver: whole files, by their texts, with their definitions, blocks and loads.
 
 use star_label::files::Files;
 use star_label::label::Label;
@@ -129,7 +129,7 @@ fn answers_a_program_or_the_first_fault(rt: HostRuntime) -> Result<(), Fail> {
     Ok(())
 }
 
-/// Each row is the text of the prelude `//:b.star`, that of `//:a.star`, and what is answered on each.
+/// Each row is the text of the prelude `//:b.star`, that of `//:a.star`, and the answers for both.
 const PRELUDES: &str = "\
     \x1ek = 1\x1fx = k\x1f-\x1f-\
     \x1e_h = 2\x1fx = _h\x1fundefined 1\x1f-\
@@ -140,7 +140,7 @@ const PRELUDES: &str = "\
     \x1ek = 1\ny = len(k) + y\x1fload(':b.star', 'k')\x1f-\x1f-\
     \x1ex = zz\x1fx = 1\x1f-\x1fundefined 1";
 
-/// What is answered on `//:a.star` and on the prelude `//:b.star`, whose tree comes first.
+/// The answers for `//:a.star` and for the prelude `//:b.star`, whose tree comes first.
 fn answers(alloc: Global, files: &Files, trees: &[Tree]) -> Result<(String, String), Fail> {
     let own = String::new(alloc);
     match trees {

@@ -47,7 +47,7 @@ fn shown(alloc: Global, reached: &Reached) -> Result<String, Fail> {
     Ok(text)
 }
 
-/// What is reached, or the refusal.
+/// The reached files, or the refusal.
 fn outcome<H: Threads + Wait + Sync, F: Repo>(
     rt: &H,
     alloc: Global,
@@ -227,7 +227,7 @@ fn texts_within_the_limits(rt: HostRuntime) -> Result<(), Fail> {
     Ok(())
 }
 
-/// A folder in which each file loads the next, so many of them.
+/// A folder of `count` files, each of which loads the next.
 #[derive(Drop)]
 struct Chain {
     count: usize,

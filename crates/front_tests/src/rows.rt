@@ -1,4 +1,4 @@
-//! Worked texts and their tokens.
+//! Rows of texts with their tokens, for the tests of the lexer.
 
 /// Rows, each after a byte 30: a text, a byte 31, and its fault or its tokens. A token is a letter for its kind, its
 /// line, and the bytes at which it starts and ends.

@@ -1,4 +1,4 @@
-//! Small files, by their texts.
+//! Tests of the resolver: small files with a static fault.
 
 use star_label::files::Files;
 use star_label::label::Label;

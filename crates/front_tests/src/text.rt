@@ -1,4 +1,4 @@
-//! Texts that their copies share.
+//! Tests of `Text`: its copies share the bytes.
 
 use star_text::Text;
 use std::hash::{DefaultHasher, Hash, Hasher};

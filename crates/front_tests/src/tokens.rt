@@ -1,4 +1,4 @@
-//! Worked texts.
+//! Tests of the lexer: texts with their tokens or their first fault.
 
 use crate::rows::ROWS;
 use star_lex::lex;
@@ -174,7 +174,7 @@ fn line_ends(rt: HostRuntime) -> Result<(), AllocError> {
     Ok(())
 }
 
-/// Whether an answer is a fault of the text, or tokens whose spans stand in order up to the END of the text.
+/// Whether an answer is a fault of the text, or tokens whose spans come in order up to the END of the text.
 fn well_formed(text: &str, answer: Result<Vec<Token>, SyntaxFault>) -> bool {
     let Ok(tokens) = answer else {
         return !matches!(answer, Err(SyntaxFault::Memory));

@@ -1,4 +1,4 @@
-//! Worked texts.
+//! Tests of the parser: texts with their trees or their fault.
 
 use star_lex::lex;
 use star_lex::token::SyntaxFault;
@@ -22,7 +22,7 @@ fn shown(alloc: Global, answer: Result<Tree, SyntaxFault>) -> Result<String, All
     }
 }
 
-/// Each row is a text and what is shown of its answer.
+/// Each row is a text, and the answer for it as text.
 const ROWS: &str = "\
     \x1ex = 1\n\x1ft\
     \x1e1 + 2 = x\n\x1fs\
@@ -282,7 +282,7 @@ fn nesting(rt: HostRuntime) -> Result<(), AllocError> {
     Ok(())
 }
 
-/// What `too_nested` answers, or 0 for a text that has no tokens.
+/// The answer of `too_nested`, or 0 for a text that has no tokens.
 fn weighed(alloc: Global, text: &str) -> Result<Option<usize>, AllocError> {
     match lex(alloc, text) {
         Ok(tokens) => too_nested(alloc, &tokens),

@@ -1,4 +1,4 @@
-//! Which labels the words of a command line name, and which files a pattern finds.
+//! Tests of the words of the command line: the labels that they name, and the files that a pattern finds.
 
 use star_bundle::error::ServeError;
 use star_folder::folder::{FolderError, Kind};

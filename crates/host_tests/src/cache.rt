@@ -1,4 +1,4 @@
-//! The book of the cache, its lock and its seats.
+//! Tests of the cache: the book, its lock and its seats.
 
 mod alone;
 mod kept;

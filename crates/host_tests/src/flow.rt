@@ -1,4 +1,4 @@
-//! Which file a loader runs next.
+//! Tests of the schedule: the file that a loader runs next.
 
 use star_flow::{Flow, Graph, Schedule};
 use std::alloc::Global;

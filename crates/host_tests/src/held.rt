@@ -1,4 +1,4 @@
-//! A module is read while the body of another file is held.
+//! A test that a module can be read while the body of another file is running.
 
 ghost use Rattle.std.specs.Prelude.{◌≡◌, ◌<◌, All, length};
 ghost use Rattle.star_host.specs.Worlds.{IsWorld};
@@ -17,7 +17,7 @@ use std::test::Fail;
 use std::thread;
 use std::thread::Threads;
 
-/// How often a loader looks for what it waits for: for some seconds.
+/// How often a loader looks again for the file that it waits for: for some seconds.
 const LOOKS: u32 = 10_000_000;
 
 /// The file whose body is held until the number after it has come.
@@ -95,7 +95,7 @@ fn read_and_load<J: Naming + Send + Sync, R: Threads + Wait + Sync>(
     Ok(cache.close(back).is_ok())
 }
 
-/// The same over files, of which two are loaded.
+/// As above, over files of which two are loaded.
 fn read_while_held<R: Threads + Wait + Sync>(
     rt: &R,
     alloc: Global,

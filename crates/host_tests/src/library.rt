@@ -1,4 +1,4 @@
-//! How another program loads a root by itself, and what it is told.
+//! Tests of `load` as another program calls it: a root is loaded by itself.
 
 ghost use Rattle.std.specs.Prelude.{◌≡◌, ◌<◌, All, length};
 ghost use Rattle.star_host.specs.Worlds.{IsWorld};
@@ -17,7 +17,7 @@ use std::sync::ledger::Blank;
 use std::test::Fail;
 use std::thread::Threads;
 
-/// What came of a root: whether its module is good, how many files were begun, how many of them by the first loader,
+/// The result for a root: whether its module is good, how many files were begun, how many of them by the first loader,
 /// and the sum of all loaders' counts.
 #[derive(Clone, Copy, Debug, PartialEq, Eq)]
 struct Loaded {
@@ -27,7 +27,7 @@ struct Loaded {
     sum: u32,
 }
 
-/// What a closed cache tells.
+/// The result of a closed cache.
 fn loaded_of<J: Naming>(good: bool, closed: (Book<Told<J>>, [u32; 64])) -> Loaded {
     let (book, counts) = closed;
     let sum = counts

@@ -1,4 +1,4 @@
-//! A gate at which bodies wait for one another.
+//! A gate that makes bodies wait for one another.
 
 use star_host::gate::Gate;
 use std::sync::atomic::{AtomicU64, Ordering};

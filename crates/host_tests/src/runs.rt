@@ -1,4 +1,4 @@
-//! Runs of small bundles.
+//! Helpers: runs of small bundles, and their reports.
 
 ghost use Rattle.std.specs.Prelude.{◌≡◌, ◌<◌, ◌≤◌, All, IfOk, length};
 
@@ -24,7 +24,7 @@ pub fn files_of(alloc: Global, bundle: &[(&str, &str)]) -> Result<Files, Fail> {
     Ok(Files::new(alloc, files)?)
 }
 
-/// So many files, of which each loads the next two, and has the sum of their numbers; the last two have 1.
+/// `count` files, each of which loads the next two and adds their numbers; the last two have 1.
 pub fn sums(alloc: Global, count: u32) -> Result<Files, Fail>
     requires { count ≤ 100 }
 {
@@ -65,7 +65,7 @@ fn text_of(alloc: Global, n: u32) -> Result<String, Fail>
     Ok(text)
 }
 
-/// Three hundred files, of which thirty lie on cycles of loads.
+/// Three hundred files, thirty of which are on cycles of loads.
 pub fn rings(alloc: Global) -> Result<Files, Fail> {
     let mut files = BTreeMap::new(alloc);
     for n in 0..300u32 {
@@ -101,7 +101,7 @@ pub fn run_all<R: Threads + Wait + Sync, G: Gate + Sync>(
     Ok(run(rt, alloc, files, &roots, None, loaders, 100_000, gate)?)
 }
 
-/// The report of a run, in which no loads are wanted: so nothing is asked of what was read.
+/// The report of a run without the member for loads, for which the read files are not needed.
 pub fn report_text<R: Threads + Sync>(
     rt: &R,
     alloc: Global,

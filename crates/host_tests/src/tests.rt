@@ -1,3 +1,5 @@
+//! Reports of whole runs by 1, 2, 3, 4 and 64 loaders, which must all be the same.
+
 use crate::runs::report_of;
 use std::test::Fail;
 

@@ -13,14 +13,14 @@ use std::sync::Wait;
 use std::test::Fail;
 use std::thread::Threads;
 
-/// Three files, of which two load the third.
+/// Three files, two of which load the third.
 const BUNDLE: [(&str, &str); 3] = [
     ("//:a.star", "load(\"//:c.star\", \"k\")\nx = k"),
     ("//:b.star", "load(\":c.star\", j = \"k\")\ny = [j, j]"),
     ("//:c.star", "print(\"once\")\nk = (1,)"),
 ];
 
-/// Their report, by one loader: none where a growth was refused.
+/// Their report, by one loader: none if an allocation failed.
 fn reported<R: Threads + Wait + Sync>(rt: &R, alloc: Global) -> Option<String> {
     let mut files = BTreeMap::new(alloc);
     for (label, text) in BUNDLE {
@@ -37,8 +37,8 @@ fn reported<R: Threads + Wait + Sync>(rt: &R, alloc: Global) -> Option<String> {
     String::from_utf8(text).ok()
 }
 
-/// What the three files come to, whatever became of the run before. `tests/refused` runs this test with each allocation
-/// of the first run refused in turn.
+/// The report of the three files, whatever became of the run before. `tests/refused` runs this test with each
+/// allocation of the first run refused in turn.
 #[test]
 fn a_second_run_in_one_process(rt: HostRuntime) -> Result<(), Fail> {
     let _first = reported(&rt, rt.alloc());

@@ -1,8 +1,14 @@
-//! Tests of reports with what is wanted more of each module.
+//! Tests of reports with further members of each module, and of the globals of roots.
+
+ghost use Rattle.std.specs.Prelude.{◌≡◌, length};
 
 use crate::runs::{files_of, report_text, run_all};
+use star_host::Run;
 use star_host::gate::Open;
+use star_label::files::Files;
+use star_report::got::{Got, Lack, globals_of};
 use star_report::wanted::Wanted;
+use std::alloc::{AllocError, Global};
 use std::test::Fail;
 
 const BUNDLE: [(&str, &str); 2] = [
@@ -46,5 +52,47 @@ fn roots_alone_are_reported(rt: HostRuntime) -> Result<(), Fail> {
         report_text(&rt, alloc, &files, &mut run, &[1], wanted, 1)?.as_str(),
         "{\"begun\":2,\"modules\":[{\"globals\":{\"r\":\"range(2)\",\"t\":\"{\\\"k\\\": None}\"},\"label\":\"//:b.star\",\"lines\":[],\"status\":\"ok\"}]}\n"
     );
+    Ok(())
+}
+
+/// The lines with a global of two roots, or none and the first that has none.
+fn got_of(
+    alloc: Global,
+    files: &Files,
+    run: &mut Run,
+    name: &str,
+) -> Result<(Vec<u8>, Option<(usize, Lack)>), AllocError>
+    requires { length run.old.cells ≡ length files.now }
+    ensures { run.new ≡ run.old }
+{
+    match globals_of(alloc, files, run, &[1, 0], name)? {
+        Got::Lines(lines) => Ok((lines, None)),
+        Got::Lack { root, why } => Ok((Vec::new(alloc), Some((root, why)))),
+    }
+}
+
+#[test]
+fn globals_of_roots_are_lines_of_json(rt: HostRuntime) -> Result<(), Fail> {
+    let alloc = rt.alloc();
+    let files = files_of(
+        alloc,
+        &[
+            ("//:a.star", "x = ([1], None)\ny = 1\nz = {}"),
+            ("//:b.star", "x = {\"k\": \"\\n\"}\n_y = 2\nz = range(2)"),
+        ],
+    )?;
+    let mut run = run_all(&rt, alloc, &files, 2, &Open)?;
+    let (lines, lack) = got_of(alloc, &files, &mut run, "x")?;
+    assert_eq!(rt;
+        lines.as_slice(),
+        "{\"k\":\"\\n\"}\n[[1],null]\n".as_bytes()
+    );
+    assert_eq!(rt; lack, None);
+    let (lines, lack) = got_of(alloc, &files, &mut run, "y")?;
+    assert!(rt; lines.is_empty());
+    assert_eq!(rt; lack, Some((1, Lack::NoGlobal)));
+    let (lines, lack) = got_of(alloc, &files, &mut run, "z")?;
+    assert!(rt; lines.is_empty());
+    assert_eq!(rt; lack, Some((1, Lack::NoData)));
     Ok(())
 }

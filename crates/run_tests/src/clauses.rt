@@ -1,4 +1,4 @@
-// Comprehensions of many clauses.
+//! Tests of comprehensions with many clauses.
 
 use crate::modules::good;
 use crate::samples::cost;
@@ -6,8 +6,8 @@ use std::alloc::{AllocError, Global};
 use std::process::Abort;
 use std::test::Fail;
 
-/// Two lists: `x`, of one pair, and `y`, of what a comprehension over it gives with so many further `for` clauses,
-/// after each of them so many conditions. A comma of a target gives the nesting weight back.
+/// Two lists: `x`, of one pair, and `y`, by a comprehension over it with `count` further `for` clauses, each followed by
+/// `conditions` conditions. A comma of a target gives the nesting weight back.
 fn with_clauses(alloc: Global, count: usize, conditions: usize) -> Result<String, AllocError> {
     let mut text = String::from_str(alloc, "x = [(1, 2)]\ny = [0 for a, b in x")?;
     for _ in 0..count {

@@ -1,4 +1,4 @@
-// How the body of a file ends.
+//! Tests of the ends of a file's body.
 
 ghost use Rattle.std.specs.Prelude.{◌≤◌};
 ghost use Rattle.star_meaning.specs.Places.{Stands};
@@ -63,7 +63,7 @@ fn outcome_of_program(alloc: Global, program: &Program, steps: u32) -> Result<Ou
     outcome_over(alloc, &files, &homes, program, steps)
 }
 
-/// How the body of a text ends with so many steps.
+/// The end of the body of a text with `steps` steps.
 fn outcome_of(rt: &impl Abort, alloc: Global, source: &str, steps: u32) -> Result<Outcome, Fail> {
     let labels = two(alloc)?;
     let tree = ManuallyDrop::new(parse(alloc, source)?);

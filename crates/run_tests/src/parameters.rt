@@ -1,4 +1,4 @@
-// A call of a function with many parameters: how they take the slots of its frame, and what the slots have.
+//! Tests of calls of functions with many parameters: which slots of the frame they take, and with which values.
 
 ghost use Rattle.star_call.specs.Callees.{IsDefined, IsFound};
 ghost use Rattle.star_meaning.specs.Programs.{IsOfFile};
@@ -60,8 +60,8 @@ fn are_laid_out(rt: &impl Abort, layout: &Layout) -> Result<(), Fail> {
     Ok(())
 }
 
-/// Asserts what slots of its frame have: values by place and by name, defaults, and what is made of the values that are
-/// left.
+/// Asserts the slots of a frame: positional and keyword arguments, defaults, and the values made of the arguments that
+/// are left.
 fn are_bound(rt: &impl Abort, machine: &Machine, world: &World, frame: Value) {
     match machine.content(world.setting(), frame) {
         Content::Held(Cell::Frame(frame)) => {

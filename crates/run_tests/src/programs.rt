@@ -1,4 +1,4 @@
-// What small programs do, and what they pay and open. What they answer stands in `tests/cases`.
+//! Tests of small programs: the steps that they pay and the levels that they open. Their values are in `tests/cases`.
 
 use crate::samples::{cost, fault, give, open};
 use star_meaning::fault::Code;

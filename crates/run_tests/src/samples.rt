@@ -1,4 +1,4 @@
-// How a test runs programs of a few lines.
+//! Helpers: runs of programs of a few lines.
 
 ghost use Rattle.star_meaning.specs.Programs.{IsOfFile};
 
@@ -24,8 +24,8 @@ use std::mem::ManuallyDrop;
 use std::process::Abort;
 use std::test::Fail;
 
-/// A program of `//:a.star`, the steps and levels that it has, and what is wanted of it: the text of its last value,
-/// which is empty where its last statement is no expression, or why it stops.
+/// A program of `//:a.star`, the steps and levels that it has, and its result: the text of its last value, which is
+/// empty if its last statement is not an expression, or why it stops.
 #[derive(Clone, Copy)]
 struct Sample<'s> {
     source: &'s str,
@@ -141,7 +141,7 @@ fn sample_is_as_wanted_of(
     sample_is_as_wanted_with(rt, alloc, &program, sample)
 }
 
-/// Asserts what is wanted of a program.
+/// Asserts the result of a program.
 fn sample_is_as_wanted(
     rt: &impl Abort,
     alloc: Global,
@@ -186,7 +186,7 @@ pub(crate) fn fault(
     Ok(())
 }
 
-/// Asserts what is wanted of a program where it has enough steps and levels, and where one is missing.
+/// Asserts the result of a program if it has enough steps and levels, and if one is missing.
 fn needs(
     rt: &impl Abort,
     alloc: Global,
@@ -198,8 +198,8 @@ fn needs(
     sample_is_as_wanted(rt, alloc, labels, short)
 }
 
-/// Asserts the least number of steps with which each program, whose last statement is no expression, ends well. With
-/// one less it ends in a line.
+/// Asserts the least number of steps with which each program, whose last statement is not an expression, ends well.
+/// With one step less it ends in a line.
 pub(crate) fn cost(
     rt: &impl Abort,
     alloc: Global,
@@ -224,8 +224,8 @@ pub(crate) fn cost(
     Ok(())
 }
 
-/// Asserts the least number of levels with which each program, whose last statement is no expression, ends well. With
-/// one less it ends in a line.
+/// Asserts the least number of levels with which each program, whose last statement is not an expression, ends well.
+/// With one level less it ends in a line.
 pub(crate) fn open(
     rt: &impl Abort,
     alloc: Global,

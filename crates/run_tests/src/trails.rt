@@ -1,4 +1,4 @@
-// What a fault leaves on its way out.
+//! Tests of the trail that a fault leaves on its way out.
 
 ghost use Rattle.std.specs.Prelude.{◌<◌, length};
 ghost use Rattle.star_meaning.specs.Places.{Stands};
@@ -95,11 +95,11 @@ fn leaves(
         Outcome::Good { .. } => assert!(rt; false, "{source}: no fault"),
         Outcome::Fault {
             line: at,
-            trail,
+            remains,
             ..
         } => {
             assert_eq!(rt; at, line, "{source}");
-            assert_eq!(rt; trail.as_slice(), want, "{source}");
+            assert_eq!(rt; remains.trail.as_slice(), want, "{source}");
         }
     }
     Ok(())

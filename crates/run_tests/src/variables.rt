@@ -1,4 +1,4 @@
-// What the calls of this crate answer, on a file with a prelude.
+//! Tests of variables, frames and loads, on a file with a prelude.
 
 ghost use Rattle.star_meaning.specs.Programs.{IsOfFile};
 
@@ -25,8 +25,8 @@ use std::mem::ManuallyDrop;
 use std::process::Abort;
 use std::test::Fail;
 
-/// The names that stand in it: `x` at the tokens 0 and 14, `y` at 7 and 16, `z` at 18 and 26, `len` at 20, `k` at 22,
-/// and `n` at 24. The definition of `f` has the number 4.
+/// The names in it: `x` at the tokens 0 and 14, `y` at 7 and 16, `z` at 18 and 26, `len` at 20, `k` at 22, and `n` at
+/// 24. The definition of `f` has the number 4.
 const FILE: &str = "x = 1\ndef f(y):\n  return [x, y, z, len, k, n]\nz = 2\nload(':p.star', 'n')\n";
 
 /// The labels of `//:a.star` and of the prelude `//:p.star`.
@@ -53,7 +53,7 @@ fn name(alloc: Global, text: &str, token: usize) -> Result<Name, AllocError> {
     })
 }
 
-/// Asserts what a name at a token is.
+/// Asserts the value of the name at a token.
 fn is(
     rt: &impl Abort,
     alloc: Global,

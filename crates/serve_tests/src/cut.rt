@@ -32,7 +32,7 @@ const TEXTS: [&str; 16] = [
     "c = \"{1}{0}\".format(1, 2)",
 ];
 
-/// What is asked for: the root, by one loader.
+/// The options: one root, one loader.
 fn options_of(alloc: Global, root: &str) -> Result<Options, AllocError>
     ensures { IfOk result (λ o. (1 ≤ o.loaders) × (o.loaders ≤ 64) × (1 ≤ o.steps) × (o.steps ≤ 100000000)) }
 {
@@ -50,7 +50,7 @@ fn options_of(alloc: Global, root: &str) -> Result<Options, AllocError>
     })
 }
 
-/// What is answered for a root of a bundle, and what is written.
+/// The answer for a root of a bundle, and the bytes that were written.
 fn served<H: Threads + Wait + Sync>(
     rt: &H,
     alloc: Global,

@@ -72,7 +72,7 @@ impl<'a> Repo for Failing<'a> {
     }
 }
 
-/// What is answered for a root, or the text of the refusal, and what was written.
+/// The answer for a root, or the text of the refusal, and the bytes that were written.
 fn asked<H: Threads + Wait + Sync, F: Repo>(
     rt: &H,
     alloc: Global,

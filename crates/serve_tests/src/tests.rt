@@ -1,5 +1,5 @@
-//! Bundles and folders from bytes to bytes, over scripted streams that say their bytes and folders that say what they
-//! hold.
+//! Tests of bundles and folders from bytes to bytes, over scripted streams that say their bytes to contracts, and
+//! folders that say what they hold.
 
 ghost use Rattle.std.specs.Prelude.{◌≤◌, IfOk, None, Some, false, ◌==◌, if◌then◌else◌};
 ghost use Rattle.star_folder.specs.Memory.{contents_of, rows_of};
@@ -24,19 +24,19 @@ use std::sync::Wait;
 use std::test::Fail;
 use std::thread::Threads;
 
-/// A bundle with the words that ask for its files, and what comes of it.
+/// A bundle with the words that ask for its files, and the expected result.
 struct Case {
     bundle: &'static str,
     roots: &'static [&'static str],
     prelude: Option<&'static str>,
     steps: u32,
-    /// What one loader writes to standard error, where the trace is asked for.
+    /// The lines that one loader writes to standard error, if the trace is asked for.
     trace: Option<&'static str>,
     answer: Result<bool, ServeError>,
     report: &'static str,
 }
 
-/// Gives bytes, at most so many at a time. The read with a given number fails, counted from 0.
+/// Gives bytes, at most `piece` at a time. The read with a given number fails, counted from 0.
 #[derive(Drop)]
 pub(crate) struct Script<'a> {
     rest: &'a [u8],
@@ -87,7 +87,7 @@ impl Source for Spaces {
     }
 }
 
-/// Keeps what it takes. The write with a given number fails, counted from 0.
+/// Keeps the bytes that it takes. The write with a given number fails, counted from 0.
 #[derive(Drop)]
 pub(crate) struct Kept {
     pub bytes: Vec<u8>,
@@ -138,7 +138,7 @@ pub(crate) fn writer_of(alloc: Global, fails_at: usize) -> Kept {
     }
 }
 
-/// What is asked for: the root `//:a.star`, with so many loaders.
+/// The options for the root `//:a.star`, with `loaders` loaders.
 pub(crate) fn options_of(alloc: Global, loaders: usize) -> Result<Options, AllocError>
     requires { (1 ≤ loaders) × (loaders ≤ 64) }
     ensures { IfOk result (λ o. (1 ≤ o.loaders) × (o.loaders ≤ 64) × (1 ≤ o.steps) × (o.steps ≤ 100000000)) }
@@ -157,8 +157,8 @@ pub(crate) fn options_of(alloc: Global, loaders: usize) -> Result<Options, Alloc
     })
 }
 
-/// What `serve` answers for the root `//:a.star`, and what it wrote. The write of the report fails where that is
-/// wanted.
+/// The answer of `serve` for the root `//:a.star`, and the bytes that it wrote. The write of the report fails if that
+/// is wanted.
 fn served<H: Threads + Wait + Sync, R: Source>(
     rt: &H,
     alloc: Global,
@@ -209,7 +209,7 @@ fn asked_by(alloc: Global, case: &Case, loaders: usize) -> Result<Options, Alloc
     })
 }
 
-/// What the case says is answered and written. The lines of the trace are those of one loader.
+/// Asserts the answer and the bytes of the case. The lines of the trace are those of one loader.
 fn comes_of<H: Abort + Threads + Wait + Sync>(
     rt: &H,
     alloc: Global,
@@ -356,7 +356,7 @@ fn a_writer_that_fails(rt: HostRuntime) -> Result<(), Fail> {
     Ok(())
 }
 
-/// The line that cannot be written ends the trace, and the report stands.
+/// A line that cannot be written ends the trace, and the report is there all the same.
 #[test]
 fn a_trace_that_fails(rt: HostRuntime) -> Result<(), Fail> {
     let alloc = rt.alloc();
@@ -432,7 +432,7 @@ fn row<'a>(path: &'a str, name: &'a str, kind: Kind, bytes: &'a [u8]) -> Row<'a>
     }
 }
 
-/// What `serve_dir` answers for the root `//:a.star` of a folder with these entries, and what it wrote.
+/// The answer of `serve_dir` for the root `//:a.star` of a folder with these entries, and the bytes that it wrote.
 fn served_dir<H: Threads + Wait + Sync>(
     rt: &H,
     alloc: Global,

@@ -53,7 +53,7 @@ field_before w levels line g (b ∷ bs) after f k out h =
 pub outside_cut : (w : Setting) (levels line : ℕ) (g : Given) (t before after : List ℕ) (b : ℕ) (k : Numbering) (out : List ℕ) → t ≡ before ++ b ∷ after → list_all (is_neither 123 125) before ≡ true → formatted w levels line g t Outside k out ≡ formatted w levels line g (b ∷ after) Outside k (out ++ before)
 outside_cut w levels line g t before after b k out e h = rw e (outside_before w levels line g before (b ∷ after) k out h)
 
--- where there is no further brace
+-- if there is no further brace
 pub outside_last : (w : Setting) (levels line : ℕ) (g : Given) (t : List ℕ) (k : Numbering) (out : List ℕ) (s : State) → list_all (is_neither 123 125) t ≡ true → formatted w levels line g t Outside k out s ≡ Done (out ++ t) s
 outside_last w levels line g t k out s h = ap (λ u. formatted w levels line g u Outside k out s) (sym (append-nil t)) ∙ ap (λ f. f s) (outside_before w levels line g t [] k out h)
 
@@ -102,7 +102,7 @@ closing b h k =
 pub field_opened : (w : Setting) (levels line : ℕ) (g : Given) (t field more : List ℕ) (b : ℕ) (k : Numbering) (out : List ℕ) → t ≡ field ++ b ∷ more → list_all (is_neither 123 125) field ≡ true → b ≡ 123 → formatted w levels line g t (Field []) k out ≡ (if nat_eq (length field) 0 then formatted w levels line g more Outside k (out ++ 123 ∷ []) else fail BadValue line)
 field_opened w levels line g t field more b k out e h j = field_cut w levels line g t field more b k out e h ∙ rw j refl
 
--- what is no `}` after a `}`
+-- a byte other than `}` after a `}`
 pub closed_badly : (w : Setting) (levels line : ℕ) (g : Given) (t : List ℕ) (k : Numbering) (out : List ℕ) → begins_plainly t ≡ false → formatted w levels line g t Closing k out ≡ fail BadValue line
 closed_badly w levels line g [] k out h = refl
 closed_badly w levels line g (b ∷ bs) k out h =

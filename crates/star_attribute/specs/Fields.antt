@@ -1,4 +1,4 @@
--- The fields of the method `format`, by the next place and by number, and how reading goes on after a brace.
+-- The fields of `format`, by the next place and by number, and how reading goes on after a brace.
 use Rattle.std.specs.Prelude.{◌≡◌, ℕ, List, Result, Ok, Err}
 use Rattle.star_store.specs.declared.values.Value.{Value}
 use Rattle.star_machine.specs.declared.fault.Stop.{Stop}
@@ -33,11 +33,11 @@ next_value line xs k = next_place line k >>= placed_value line xs
 abbrev pub numbered_value : ℕ → List Value → List ℕ → Numbering → Action (Value × Numbering)
 numbered_value line xs f k = numbered_place line (number_from 0 f) k >>= placed_value line xs
 
--- what `str` makes of the value of a field
+-- the `str` of the value of a field
 abbrev pub field_text : Setting → ℕ → ℕ → Given → List ℕ → Numbering → Action (List ℕ × Numbering)
 field_text w levels line g f k = field_value line g f k >>= λ r. str w levels line r.0 >>= λ t. give (t, r.1)
 
--- What was to be made is what reading on makes; or the fault is that of what was to be made.
+-- The text is the one that reading on makes; or the fault is that of its definition.
 abbrev pub ReadsOn : {A : Type 0} → Outcome (List ℕ) → (A → Outcome (List ℕ)) → Result A Stop → State → Type 0
 ReadsOn o rest (Ok r) new = o ≡ rest r
 ReadsOn o rest (Err e) new = Ends o e new

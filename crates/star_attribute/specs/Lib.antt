@@ -1,1 +1,2 @@
+-- Words of the contracts of `format`: its fields.
 pub mod Fields

@@ -1,4 +1,8 @@
-//! The fields of the method `format`, and the values that they find.
+//! The fields of `format`: the text between two braces, and the value that it names: the next one, one by number, or
+//! one by keyword.
+//!
+//! A field's number may have any number of digits: reading stops at the first digit that makes it reach the number of
+//! values, so a larger one is `Index` and nothing wraps.
 
 ghost use Rattle.std.specs.Prelude.{◌≡◌, slice_get};
 ghost use Rattle.std.specs.List.{find, list_all};
@@ -20,7 +24,7 @@ use star_text::Text;
 /// How fields have found their values so far.
 #[derive(Clone, Copy, Debug, PartialEq, Eq)]
 pub enum Numbering {
-    /// None by place.
+    /// No positional one yet.
     Unused,
     /// Some by the next place: this one is next.
     Automatic(usize),
@@ -76,14 +80,14 @@ fn is_field_name(bytes: &[u8]) -> bool
     }
 }
 
-/// The value at a place: none beyond all values.
+/// The value at a place; `None` beyond all values.
 fn value_in(values: &[Value], place: usize) -> Option<Value>
     ensures { result ≡ slice_get values.now place }
 {
     values.get(place).copied()
 }
 
-/// The value at the place that digits write: none where it is beyond all values, however large it is.
+/// The value at the place that digits write; `None` if it is beyond all values, however large it is.
 fn value_at(values: &[Value], digits: &[u8]) -> Option<Value>
     ensures { result ≡ slice_get values.now (number_from 0 digits.now) }
 {
@@ -109,7 +113,7 @@ fn value_named(values: &[NamedValue], name: &str) -> Option<Value>
     None
 }
 
-/// The value at the next place. `BadValue` beside fields with numbers, `Index` where no value is left.
+/// The value at the next place. `BadValue` beside fields with numbers, `Index` if no value is left.
 fn next_value(
     machine: &Machine,
     line: usize,
@@ -129,7 +133,7 @@ fn next_value(
     Ok((value, Numbering::Automatic(place + 1)))
 }
 
-/// The value at the place that digits write. `BadValue` beside fields with none, `Index` where it is beyond all values.
+/// The value at the place that digits write. `BadValue` beside fields with none, `Index` if it is beyond all values.
 fn numbered_value(
     machine: &Machine,
     line: usize,
@@ -149,7 +153,7 @@ fn numbered_value(
     Ok((value, Numbering::ByNumber))
 }
 
-/// The value with a name. `Key` where it is not given.
+/// The value with a name. `Key` if it is not given.
 fn named_value(
     machine: &Machine,
     line: usize,
@@ -192,7 +196,7 @@ fn field_value(
     Err(faulted(Code::BadValue, line))
 }
 
-/// What `str` makes of the value of a field, and how fields find theirs from then on. The faults are those of the field
+/// The `str` of the value of a field, and how fields find their values from then on. The faults are those of the field
 /// and of the text.
 pub fn field_text(
     machine: &mut Machine,

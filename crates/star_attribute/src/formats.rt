@@ -1,4 +1,7 @@
-//! The method `format` of strings.
+//! The method `format`: walks over the format string, brace by brace.
+//!
+//! The string is cut only at ASCII braces, so each piece is UTF-8 and the work linear. It is copied once, since the
+//! texts of fields change the machine.
 
 ghost use Rattle.std.specs.Prelude.{◌≡◌, ◌≤◌, ◌∷◌, [], IfOk, false, length, string_bytes};
 ghost use Rattle.star_attribute.specs.Fields.{ReadsOn, as_numbering};
@@ -20,9 +23,9 @@ use star_method::texts::pay_for_bytes;
 use star_store::values::Value;
 use star_text::Text;
 
-/// Puts what stands for the braces after a `{`: the text of a field's value, or a `{` for another `{`. And what stands
-/// after them, and how fields find their values from then on. `BadValue` where no brace follows, and for a `{` inside
-/// of a field.
+/// Puts the text for the braces after a `{`: that of a field's value, or a `{` for another `{`. Returns the rest of the
+/// format, and how fields find their values from then on. `BadValue` if no brace follows, and for a `{` inside of a
+/// field.
 fn read_field<'a>(
     machine: &mut Machine,
     setting: &Setting,
@@ -54,7 +57,7 @@ fn read_field<'a>(
     Ok((more, numbering))
 }
 
-/// Puts what stands for a brace and for what belongs to it. And what stands after that, and how fields find their
+/// Puts the text for a brace and all that belongs to it. Returns the rest of the format, and how fields find their
 /// values from then on. `BadValue` for a `{` that is not closed and for a `}` that closes nothing.
 fn read_brace<'a>(
     machine: &mut Machine,

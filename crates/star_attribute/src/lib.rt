@@ -1,7 +1,15 @@
-//! The attributes of values: `x.m`, a call of a bound method, and the method `format`.
+//! Attributes: `x.m`, a call of a bound method, and the method `format`.
 //!
-//! `methods` looks a method up among those of the receiver's type, and has the `match` that calls it. `formats` cuts
-//! the string of `format` at its braces, `fields` reads what stands between two of them and finds its value.
+//! - `methods` has the methods of each type by name (`attribute` looks one up), and the `match` that calls a bound
+//!   method (`call_method`).
+//! - `formats` cuts the string of `format` at its braces, and `fields` finds the value that the text between two braces
+//!   names.
+//!
+//! Begin at `methods.rt`. A bound method is a heap object with its receiver. The work of all methods but `format` is in
+//! `star_method`.
+//!
+//! The promise is `Gives` of `star_machine`, by `Methods` and `Format` of `star_meaning`. See `docs/LANGUAGE.md`,
+//! "Methods".
 #![tactic(auto)]
 
 mod fields;

@@ -1,4 +1,4 @@
-//! The methods that values have, and a call of each.
+//! `x.m`: the methods of each type, by name; and the `match` that calls a bound method.
 
 ghost use Rattle.std.specs.Prelude.{◌≡◌};
 ghost use Rattle.std.specs.List.{find};
@@ -95,7 +95,7 @@ fn method_of(content: Content, name: &str) -> Option<Method>
     }
 }
 
-/// `x.m`: 1 is paid, then a new bound method. `BadType` where the value has no method with this name.
+/// `x.m`: 1 is paid, then a new bound method. `BadType` if the value has no method with this name.
 #[tactic(auto, unfolding(star_meaning::specs::Methods::attribute))]
 pub fn attribute(
     machine: &mut Machine,
@@ -112,8 +112,7 @@ pub fn attribute(
     machine.build(line, 1, Cell::Bound(method, value))
 }
 
-/// A call of a method of a string. `BadType` for a receiver that is no string, and for a method that is none of a
-/// string.
+/// Calls a method of a string. `BadType` if the receiver is not a string, or the method is not one of strings.
 fn call_on_text(
     machine: &mut Machine,
     setting: &Setting,
@@ -144,8 +143,8 @@ fn call_on_text(
     }
 }
 
-/// A call of a bound method on its receiver and what the call gives, where so many levels may be opened by its visits.
-/// The faults are those of the method; `BadType` too where the receiver is not of the method's type.
+/// Calls a bound method on its receiver. `levels` bounds the depth of comparisons and of texts. The faults are those of
+/// the method; `BadType` too if the receiver is not of the method's type.
 #[tactic(auto, unfolding(star_meaning::specs::Methods::call_method))]
 pub fn call_method(
     machine: &mut Machine,

@@ -1,4 +1,4 @@
--- Ints, and strings, stand in the same order by their contents.
+-- Ints, and strings, have the same order as their contents.
 use Rattle.std.proofs.Common.{◌≡◌, List, [], ◌∷◌, map, Bool, true, false, ◌&&◌, ◌||◌, if◌then◌else◌, refl, sym, ap, ◌∙◌}
 use Rattle.std.specs.List.{list_all}
 use Rattle.std.specs.Cmp.{IsStrictWeakOrder}
@@ -97,10 +97,10 @@ order_by : (w : Setting) (s : State) (xs : List Value) (a b : Bool) → list_all
 order_by w s xs true b h k e = order_alike (λ v. is_int (content w s v)) (λ x y. is_before (content w s x) (content w s y)) (λ x y. is_lt (by_contents (content w s x) (content w s y))) (λ x y p q. ints_alike (content w s x) (content w s y) p q) xs h
 order_by w s xs false b h k e = order_alike (λ v. is_text (content w s v)) (λ x y. is_before (content w s x) (content w s y)) (λ x y. is_lt (by_contents (content w s x) (content w s y))) (λ x y p q. texts_alike (content w s x) (content w s y) p q) xs (k ∙ e)
 
--- values that can be sorted stand in the order of their contents
+-- values that can be sorted are in the order of their contents
 pub order_same : (w : Setting) (s : State) (xs : List Value) → can_sort (map (content w s) xs) ≡ true → in_order (λ x y. is_before (content w s x) (content w s y)) xs ≡ in_order (λ x y. is_lt (by_contents (content w s x) (content w s y))) xs
 order_same w s xs h = order_by w s xs (list_all (λ v. is_int (content w s v)) xs) (list_all (λ v. is_text (content w s v)) xs) refl refl (ap (λ b. b || list_all (λ v. is_text (content w s v)) xs) (sym (all_map is_int (content w s) xs)) ∙ ap (λ b. list_all is_int (map (content w s) xs) || b) (sym (all_map is_text (content w s) xs)) ∙ h)
 
--- the order of contents is one in which any two values compare
+-- the order of contents compares any two values
 pub contents_rank : (w : Setting) (s : State) → IsStrictWeakOrder (λ x y. is_lt (by_contents (content w s x) (content w s y)))
 contents_rank w s = ranks_by (then_total (on_total int_in int_cmp_total) (on_total bytes_of nat_list_cmp_total)) (content w s)

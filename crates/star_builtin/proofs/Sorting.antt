@@ -1,4 +1,4 @@
--- A list that is sorted, and in which elements that tie keep their order, is the list with each element placed in turn.
+-- A sorted list whose ties keep their order is the list with each element placed in turn.
 use Rattle.std.proofs.Common.{◌≡◌, suc, ◌+◌, List, [], ◌∷◌, Bool, true, false, not, ◌&&◌, if◌then◌else◌, refl, sym, ap, ◌∙◌, arith}
 use Rattle.std.specs.List.{filter}
 use Rattle.std.specs.List.Sorted.{IsSortedBy, IsStableBy, ties}
@@ -17,7 +17,7 @@ abbrev None_below : (Value → Value → Bool) → Value → List Value → Type
 None_below lt x [] = Unit {0}
 None_below lt x (y ∷ ys) = (lt y x ≡ false) × None_below lt x ys
 
--- no element comes before one that stands in front of it
+-- no element is less than one in front of it
 abbrev Rises : (Value → Value → Bool) → List Value → Type 0
 Rises lt [] = Unit {0}
 Rises lt (x ∷ xs) = None_below lt x xs × Rises lt xs
@@ -97,7 +97,7 @@ module _ (lt : Value → Value → Bool) (o : IsStrictWeakOrder lt) where
   held_turn p v y x rest xs true e h ih f = let g : y ∷ rest ≡ x ∷ filter p xs = rw e at f in let k : y ≡ x = cc in rw k h
   held_turn p v y x rest xs false e h ih f = ih (rw e at f)
 
-  -- what passes is one of the elements
+  -- an element that passes is one of them
   held_below : (p : Value → Bool) (v y : Value) (rest xs : List Value) → None_below lt v xs → y ∷ rest ≡ filter p xs → lt y v ≡ false
   held_below p v y rest [] k f = cc
   held_below p v y rest (x ∷ xs) k f = held_turn p v y x rest xs (p x) refl k.0 (held_below p v y rest xs k.1) f
@@ -138,7 +138,7 @@ module _ (lt : Value → Value → Bool) (o : IsStrictWeakOrder lt) where
   is_in_order : (xs ys : List Value) → IsSortedBy lt ys → IsStableBy lt xs ys → ys ≡ in_order lt xs
   is_in_order xs ys up stays = same ys (in_order lt xs) (rises_sorted ys up) (rises_in_order xs) (λ x. stays x ∙ sym (stable_in_order x xs))
 
-  -- what a sort by a closure made, each call of which answers by the order and leaves the closure
+  -- the result of a sort by a closure; each call answers by the order and leaves the closure
   pub sorted_by : {F : Type 0} {g : Mut F (Bor Value × (Bor Value × Unit {0})) Ordering} {f : F} (xs ys : List Value)
       → ((before : Value → Value → Bool) → IsStrictWeakOrder before → ComparesAs g before f → IsSortedBy before ys)
       → ((before : Value → Value → Bool) → IsStrictWeakOrder before → ComparesAs g before f → IsStableBy before xs ys)

@@ -1,4 +1,4 @@
--- The best of some values.
+-- `max` and `min`: the best of some values, as the code goes through them.
 use Rattle.std.specs.Prelude.{ℕ, Bool, List}
 use Rattle.std.specs.Ordering.{is_lt, is_gt}
 use Rattle.std.specs.declared.cmp.Ordering.{Ordering}

@@ -1,4 +1,4 @@
--- Pairs, as the code holds them.
+-- Pairs as the code holds them, and as the definitions see them.
 use Rattle.std.specs.Prelude.{◌≡◌, ℕ, List, Result, Ok, Err}
 use Rattle.star_store.specs.declared.values.Value.{Value}
 use Rattle.star_builtin.specs.declared.dicts.Pairs.{Pairs as HeldPairs}
@@ -14,7 +14,7 @@ use Rattle.star_meaning.specs.Pairs.{Pairs}
 abbrev pub as_pairs : HeldPairs → Pairs
 as_pairs p = record { are_keys = p.are_keys; pairs = p.pairs.items }
 
--- A function that puts something into entries left what was to be there.
+-- A function that puts something into entries leaves those of its definition.
 abbrev pub Puts : Outcome (List (Value × Value)) → Result (Unit {0}) Stop → List (Value × Value) → State → Type 0
 Puts o (Ok x) entries new = o ≡ Done entries new
 Puts o (Err e) entries new = Ends o e new

@@ -1,3 +1,4 @@
+-- Words of the contracts of the built-in functions; their meaning is `BuiltIns` of star_meaning.
 pub mod Best
 pub mod Dicts
 pub mod Orders

@@ -1,4 +1,4 @@
--- Parts of the built-in functions, after their arguments.
+-- The built-in functions after their arguments have been unpacked.
 use Rattle.std.specs.Prelude.{ℕ, ◌+◌, ◌^◌, min, List, [], ◌∷◌, length, ℤ, pos}
 use Rattle.star_store.specs.declared.values.Value.{Value}
 use Rattle.star_meaning.specs.declared.fault.Code.TheVariants as code
@@ -34,6 +34,6 @@ said w levels line by xs = do
   _ ← pay line (1 + length (joined by ts))
   add_line (joined by ts)
 
--- a number, or 2^64 where it is not below: what is no int of 64 bits either way
+-- a number, or 2^64 if it is not below: not an int of 64 bits either way
 abbrev pub capped : ℕ → ℕ
 capped n = min n (2 ^ 64)

@@ -1,4 +1,4 @@
-//! The work of `max` and `min`.
+//! `max` and `min`.
 
 ghost use Rattle.std.specs.Prelude.{◌≡◌};
 ghost use Rattle.star_meaning.specs.BuiltIns as spec;
@@ -32,7 +32,7 @@ impl Best {
     }
 }
 
-/// The best of a value and those after it: the first of equals. `BadType` where two have no order.
+/// The best of a value and those after it: the first of equals. `BadType` if two have no order.
 fn best_of(
     machine: &mut Machine,
     setting: &Setting,
@@ -55,7 +55,7 @@ fn best_of(
     Ok(best)
 }
 
-/// The best of some values: the first of equals. `BadValue` for none, `BadType` where two have no order.
+/// The best of some values: the first of equals. `BadValue` for none, `BadType` if two have no order.
 fn best_in(
     machine: &mut Machine,
     setting: &Setting,
@@ -72,8 +72,8 @@ fn best_in(
     }
 }
 
-/// The best of one value's items, or of several values: the first of equals. `Args` for no value, `BadType` for what is
-/// no iterable and where two have no order, `BadValue` for no item.
+/// The best of one value's items, or of several values: the first of equals. `Args` for no value, `BadType` if the one
+/// value is not iterable and if two have no order, `BadValue` for no item.
 fn best_among(
     machine: &mut Machine,
     setting: &Setting,
@@ -95,8 +95,8 @@ fn best_among(
 }
 
 /// `max(x, ..)` or `min(x, ..)`: the best of the items of one value, or of several values, and the first of equals.
-/// `Args` for no value and for a name, `BadType` for what is no iterable and where two have no order, `BadValue` for no
-/// item.
+/// `Args` for no value and for a keyword argument, `BadType` if the one value is not iterable and if two have no order,
+/// `BadValue` for no item.
 pub fn call_best(
     machine: &mut Machine,
     setting: &Setting,

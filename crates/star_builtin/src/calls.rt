@@ -1,4 +1,4 @@
-//! Calls of built-in functions.
+//! The `match` over all built-in functions. To see one of them, follow its arm.
 
 ghost use Rattle.star_meaning.specs.BuiltIns.{call_built_in};
 ghost use Rattle.star_machine.specs.Gives.{Gives};
@@ -18,8 +18,8 @@ use star_meaning::given::Given;
 use star_store::names::BuiltIn;
 use star_store::values::Value;
 
-/// What a built-in function answers to what a call gives, where so many levels may be opened by its visits. The faults
-/// are those of the function with that name.
+/// Calls a built-in function. `levels` bounds the depth of comparisons and of texts. The faults are those of the
+/// function with that name.
 #[tactic(auto, unfolding(star_meaning::specs::BuiltIns::call_built_in))]
 pub fn call_built_in(
     machine: &mut Machine,

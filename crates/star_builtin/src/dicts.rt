@@ -1,4 +1,4 @@
-//! The work of `dict`.
+//! `dict`: pairs and keyword arguments are gathered into a new dictionary.
 
 ghost use Rattle.std.specs.Prelude.{◌≡◌, [], IfOk, OnOk};
 ghost use Rattle.star_meaning.specs.BuiltIns.{call_dict};
@@ -27,7 +27,7 @@ struct Pairs {
     pairs: Vec<(Value, Value)>,
 }
 
-/// The number of items of the argument, and 0 without one. `BadType` for what is no iterable.
+/// The number of items of the argument, and 0 without one. `BadType` if it is not iterable.
 fn pairs_count(
     machine: &Machine,
     setting: &Setting,
@@ -42,7 +42,7 @@ fn pairs_count(
     }
 }
 
-/// The two items of an iterable. `BadType` for what is none, `BadValue` for another number of items.
+/// The two items of an iterable. `BadType` if it is not iterable, `BadValue` for another number of items.
 fn pair_of(
     machine: &mut Machine,
     setting: &Setting,
@@ -74,7 +74,7 @@ fn pairs_among(
     Ok(pairs)
 }
 
-/// A copy of the entries of a dictionary: none of another value.
+/// A copy of the entries of a dictionary; no entries for another value.
 fn copied_entries(
     machine: &Machine,
     setting: &Setting,
@@ -131,8 +131,8 @@ fn pairs_in(
     })
 }
 
-/// The pairs of a value, and without one none. `BadType` for an item that is no iterable, `BadValue` for one without
-/// two items.
+/// The pairs of a value; no pairs without one. `BadType` if an item is not iterable, `BadValue` for one without two
+/// items.
 #[tactic(auto, unfolding(star_meaning::specs::Pairs::pairs_of))]
 fn pairs_of(
     machine: &mut Machine,
@@ -152,7 +152,7 @@ fn pairs_of(
     }
 }
 
-/// Checks a key, unless it is one already. `BadType` for what is no key.
+/// Checks a key, unless it is one already. `BadType` if it is not hashable.
 fn check_pair(
     machine: &mut Machine,
     setting: &Setting,
@@ -170,7 +170,7 @@ fn check_pair(
     machine.check_key(setting, levels, line, key)
 }
 
-/// Puts a pair in, whose key is checked unless it is a key already. `BadType` for what is no key.
+/// Puts a pair in, whose key is checked unless it is a key already. `BadType` if it is not hashable.
 fn put_pair(
     machine: &mut Machine,
     setting: &Setting,
@@ -190,7 +190,7 @@ fn put_pair(
     Ok(())
 }
 
-/// The entries of a new dictionary of pairs. `BadType` for what is no key.
+/// The entries of a new dictionary of pairs. `BadType` if a key is not hashable.
 fn with_pairs(
     machine: &mut Machine,
     setting: &Setting,
@@ -254,7 +254,7 @@ fn with_named(
     Ok(gathered.into_entries())
 }
 
-/// A new dictionary of pairs and named values. `BadType` for what is no key.
+/// A new dictionary of pairs and keyword arguments. `BadType` if a key is not hashable.
 #[tactic(auto, unfolding(star_meaning::specs::Pairs::dict_of))]
 fn dict_of(
     machine: &mut Machine,
@@ -272,8 +272,9 @@ fn dict_of(
     machine.new_dict(line, entries)
 }
 
-/// `dict([x], **kw)`: a new dictionary of the pairs of a value and of named values. `Args` for more values, `BadType`
-/// for what is no iterable and for what is no key, `BadValue` for an item without two items.
+/// `dict([x], **kw)`: a new dictionary of the pairs of a value and of the keyword arguments. `Args` for more values,
+/// `BadType` if the value or an item is not iterable or a key is not hashable, `BadValue` for an item without two
+/// items.
 pub fn call_dict(
     machine: &mut Machine,
     setting: &Setting,

@@ -1,4 +1,4 @@
-//! Ints of 64 bits.
+//! Checks that an int is within 64 bits, for results that can leave them.
 
 ghost use Rattle.std.specs.Prelude.{◌≡◌};
 ghost use Rattle.star_store.specs.Arithmetic.{checked};

@@ -1,8 +1,13 @@
 //! The built-in functions (`docs/LANGUAGE.md`, "Built-in functions").
 //!
-//! `calls::call_built_in` is the `match` over all of them. Each other file has a group: first the work on values,
-//! then the calls, which read their arguments and do that work. No built-in function runs a function of a program:
-//! `sorted` takes `reverse` and no `key`.
+//! Begin at `calls::call_built_in`, the `match` over all of them. Each other file has one function or a group. In a
+//! file the work on values comes first, and the functions `call_..` at its end unpack the arguments and do that work.
+//!
+//! No built-in function runs a function of the program: `sorted` takes `reverse` and no `key`. It has no types of its
+//! own and no state.
+//!
+//! The promise of each `call_..` is `Gives` of `star_machine`: it has the result of its definition in
+//! `star_meaning/specs/BuiltIns`, the fault, the payments and the printed lines included.
 #![tactic(auto)]
 
 pub mod best;

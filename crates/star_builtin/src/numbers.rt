@@ -1,4 +1,4 @@
-//! The work of `abs`, `int` and `len`.
+//! `abs`, `int` and `len`.
 
 ghost use Rattle.std.specs.Prelude.{◌≡◌, unsigned_abs};
 ghost use Rattle.star_meaning.specs.BuiltIns as spec;
@@ -23,8 +23,8 @@ fn absolute(machine: &Machine, line: usize, int: i64) -> Result<Value, Stop>
     machine.new_int(line, narrow(int.unsigned_abs() as i128))
 }
 
-/// The int that a content makes: an int itself, a bool as 1 or 0, and what a string spells. `BadValue` for a string
-/// that spells none, `Overflow` for one outside 64 bits, `BadType` for another content.
+/// The int of a content: an int itself, a bool as 1 or 0, or the int that a string spells. `BadValue` for a string that
+/// spells no int, `Overflow` for one outside 64 bits, `BadType` for another content.
 fn to_int(machine: &Machine, line: usize, content: Content) -> Result<Value, Stop>
     ensures { Gives (spec.to_int line (shown content.entry) machine.now) result machine.now }
 {
@@ -39,7 +39,7 @@ fn to_int(machine: &Machine, line: usize, content: Content) -> Result<Value, Sto
     }
 }
 
-/// How many bytes a string has, or items an iterable: none for another content.
+/// How many bytes a string has, or items an iterable; `None` for another content.
 fn length_in(content: Content) -> Option<usize>
     ensures { result ≡ spec.length_in (shown content.entry) }
 {
@@ -59,8 +59,8 @@ fn length_of(machine: &Machine, setting: &Setting, line: usize, value: Value) ->
     }
 }
 
-/// `abs(x)`: how far an int lies from 0. `Args` for another number of values and for a name, `BadType` for what is no
-/// int, `Overflow` for the least int.
+/// `abs(x)`: the distance of an int from 0. `Args` for another number of values and for a keyword argument, `BadType`
+/// if it is not an int, `Overflow` for the least int.
 pub fn call_abs(
     machine: &Machine,
     setting: &Setting,
@@ -74,9 +74,9 @@ pub fn call_abs(
     absolute(machine, line, int)
 }
 
-/// `int(x)`: an int, a bool as 1 or 0, or what a string of an optional sign and decimal digits spells. `Args` for
-/// another number of values and for a name, `BadType` for another value, `BadValue` for another string, `Overflow`
-/// outside 64 bits.
+/// `int(x)`: an int, a bool as 1 or 0, or the int that a string of an optional sign and decimal digits spells. `Args`
+/// for another number of values and for a keyword argument, `BadType` for another value, `BadValue` for another string,
+/// `Overflow` outside 64 bits.
 pub fn call_int(
     machine: &Machine,
     setting: &Setting,

@@ -1,4 +1,4 @@
-//! The work of `range`.
+//! `range`.
 
 ghost use Rattle.star_meaning.specs.BuiltIns as spec;
 ghost use Rattle.star_machine.specs.Gives.{Gives};
@@ -26,7 +26,7 @@ fn new_range(machine: &mut Machine, line: usize, range: Range) -> Result<Value, 
 }
 
 /// The range of a stop, of a start and a stop, or of these and a step. `Args` for another number of values, `BadType`
-/// for one that is no int, `BadValue` for a step of 0, `Overflow` for more than 2^63 - 1 ints.
+/// if one is not an int, `BadValue` for a step of 0, `Overflow` for more than 2^63 - 1 ints.
 fn range_of(
     machine: &mut Machine,
     setting: &Setting,
@@ -65,8 +65,8 @@ fn range_of(
     }
 }
 
-/// `range([start], stop, [step])`. `Args` for another number of values and for a name, `BadType` for what is no int,
-/// `BadValue` for a step of 0, `Overflow` for more than 2^63 - 1 ints.
+/// `range([start], stop, [step])`. `Args` for another number of values and for a keyword argument, `BadType` if one is
+/// not an int, `BadValue` for a step of 0, `Overflow` for more than 2^63 - 1 ints.
 pub fn call_range(
     machine: &mut Machine,
     setting: &Setting,

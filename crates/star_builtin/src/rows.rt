@@ -1,4 +1,6 @@
-//! The work of `list`, `tuple`, `reversed`, `enumerate` and `zip`.
+//! `list`, `tuple`, `reversed`, `enumerate` and `zip`.
+//!
+//! `enumerate` counts in 128 bits, so only a number that an item has can be `Overflow`.
 
 ghost use Rattle.std.specs.Prelude.{◌≡◌, [], ◌∷◌, IfOk, reverse};
 ghost use Rattle.star_meaning.specs.BuiltIns as spec;
@@ -15,7 +17,7 @@ use star_meaning::given::Given;
 use star_store::values::{Value, Values};
 use std::alloc::{AllocError, Global};
 
-/// All items of an iterable, and of none nothing. `BadType` for what is no iterable.
+/// All items of an iterable; nothing without one. `BadType` if the value is not iterable.
 fn taken_from(
     machine: &mut Machine,
     setting: &Setting,
@@ -66,7 +68,7 @@ fn numbered(machine: &mut Machine, line: usize, start: i64, items: &[Value]) -> 
     Ok(Values::new(pairs))
 }
 
-/// How many items each of some values has. `BadType` for what is no iterable.
+/// The number of items of each value. `BadType` if one is not iterable.
 fn counts(
     machine: &Machine,
     setting: &Setting,
@@ -135,7 +137,7 @@ fn row_at(
     machine.new_tuple(line, items)
 }
 
-/// So many rows, from the first place on.
+/// `count` rows, from the first place on.
 #[tactic(auto, using(star_machine::proofs::Turns::collect_next))]
 fn rows(
     machine: &mut Machine,
@@ -153,8 +155,8 @@ fn rows(
     Ok(Values::new(rows))
 }
 
-/// As many rows as the shortest value has items, each a new tuple of one item of each, in a new list. `BadType` for
-/// what is no iterable.
+/// As many tuples as the shortest value has items, each new and of one item of each, in a new list. `BadType` if a
+/// value is not iterable.
 fn zipped(
     machine: &mut Machine,
     setting: &Setting,
@@ -168,7 +170,8 @@ fn zipped(
     machine.new_list(line, rows)
 }
 
-/// `list([it])`: all items in a new list. `Args` for more values and for a name, `BadType` for what is no iterable.
+/// `list([it])`: all items in a new list. `Args` for more values and for a keyword argument, `BadType` if `it` is not
+/// iterable.
 pub fn call_list(
     machine: &mut Machine,
     setting: &Setting,
@@ -182,7 +185,8 @@ pub fn call_list(
     machine.new_list(line, items)
 }
 
-/// `tuple([it])`: all items in a new tuple. `Args` for more values and for a name, `BadType` for what is no iterable.
+/// `tuple([it])`: all items in a new tuple. `Args` for more values and for a keyword argument, `BadType` if `it` is not
+/// iterable.
 pub fn call_tuple(
     machine: &mut Machine,
     setting: &Setting,
@@ -196,8 +200,8 @@ pub fn call_tuple(
     machine.new_tuple(line, items)
 }
 
-/// `reversed(it)`: all items in the other order, in a new list. `Args` for another number of values and for a name,
-/// `BadType` for what is no iterable.
+/// `reversed(it)`: all items in the other order, in a new list. `Args` for another number of values and for a keyword
+/// argument, `BadType` if `it` is not iterable.
 pub fn call_reversed(
     machine: &mut Machine,
     setting: &Setting,
@@ -212,7 +216,7 @@ pub fn call_reversed(
     machine.new_list(line, turned)
 }
 
-/// The number of the first item: 0 where none is given. `BadType` for what is no int.
+/// The number of the first item: 0 if no start is given. `BadType` if the start is not an int.
 fn want_start(
     machine: &Machine,
     setting: &Setting,
@@ -228,8 +232,8 @@ fn want_start(
 }
 
 /// `enumerate(it, [start])`: for each item a new tuple of its number and itself, in a new list. `Args` for another
-/// number of values and for a name, `BadType` for what is no iterable or no int, `Overflow` for a number outside 64
-/// bits.
+/// number of values and for a keyword argument, `BadType` if `it` is not iterable or `start` not an int, `Overflow` for
+/// a number outside 64 bits.
 pub fn call_enumerate(
     machine: &mut Machine,
     setting: &Setting,
@@ -247,7 +251,7 @@ pub fn call_enumerate(
 }
 
 /// `zip(*it)`: as many new tuples as the shortest value has items, each of one item of each, in a new list. `Args` for
-/// a name, `BadType` for what is no iterable.
+/// a keyword argument, `BadType` if a value is not iterable.
 pub fn call_zip(
     machine: &mut Machine,
     setting: &Setting,

@@ -1,4 +1,4 @@
-//! The work of `print`, `fail`, `repr`, `str` and `type`.
+//! `print`, `fail`, `repr`, `str` and `type`.
 
 ghost use Rattle.std.specs.Prelude.{◌≡◌, ◌∷◌, IfOk, OnOk, string_bytes};
 ghost use Rattle.star_meaning.specs.BuiltIns as spec;
@@ -18,7 +18,7 @@ use star_store::values::{Cell, Value};
 use star_text::Text;
 use std::alloc::{AllocError, Global};
 
-/// What stands between the texts of a line: a space, where nothing else is wanted. `BadType` for what is no string.
+/// The separator between the texts of a line: a space, unless `sep` is given. `BadType` if it is not a string.
 fn want_separator(
     machine: &Machine,
     setting: &Setting,
@@ -116,7 +116,7 @@ fn type_name(content: Content) -> &'static str
 }
 
 /// The line of `print` and of `fail`: the `str` of each value, with the separator between each and the next. `Args` for
-/// a name but `sep`, `BadType` for a separator that is no string.
+/// a keyword argument but `sep`, `BadType` if the separator is not a string.
 fn say_line(
     machine: &mut Machine,
     setting: &Setting,
@@ -131,7 +131,8 @@ fn say_line(
     say(machine, setting, levels, line, &by, values)
 }
 
-/// `print(*x, sep=" ")`: adds a line. `Args` for a name but `sep`, `BadType` for a separator that is no string.
+/// `print(*x, sep=" ")`: adds a line. `Args` for a keyword argument but `sep`, `BadType` if the separator is not a
+/// string.
 pub fn call_print(
     machine: &mut Machine,
     setting: &Setting,
@@ -145,8 +146,8 @@ pub fn call_print(
     Ok(Value::NoneValue)
 }
 
-/// `fail(*x, sep=" ")`: adds a line, and is then the fault `Fail`. `Args` for a name but `sep`, `BadType` for a
-/// separator that is no string.
+/// `fail(*x, sep=" ")`: adds a line, and is then the fault `Fail`. `Args` for a keyword argument but `sep`, `BadType`
+/// if the separator is not a string.
 pub fn call_fail(
     machine: &mut Machine,
     setting: &Setting,

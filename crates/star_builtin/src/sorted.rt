@@ -1,4 +1,8 @@
-//! The work of `sorted`.
+//! `sorted`: of ints or of strings, with `reverse` and without `key`.
+//!
+//! It uses the standard library's stable sort, by one order of all contents, which on ints alone and on strings alone
+//! is the definition's. That a stable rising list is the definition's is a lemma (`proofs/Sorting`). Items are copied
+//! before they are sorted or reversed, since a row lends its items only to be read.
 
 ghost use Rattle.std.specs.Prelude.{◌≡◌, IfOk, map, true};
 ghost use Rattle.std.specs.List.{list_all};
@@ -81,7 +85,7 @@ fn order(machine: &Machine, setting: &Setting, x: Value, y: Value) -> Ordering
     }
 }
 
-/// Ints or strings in order. What is equal keeps its order.
+/// Ints or strings in order. Equal items keep their order.
 fn in_order(
     machine: &Machine,
     setting: &Setting,
@@ -125,7 +129,7 @@ fn sort(
     machine.new_list(line, turned(backwards, items))
 }
 
-/// Whether the order is turned: it is not where nothing is said. `BadType` for what is no bool.
+/// Whether the order is turned: it is not without the argument. `BadType` if the argument is not a bool.
 fn want_reverse(
     machine: &Machine,
     setting: &Setting,
@@ -140,9 +144,9 @@ fn want_reverse(
     }
 }
 
-/// `sorted(it, reverse=False)`: all items in order, in a new list. `Args` for another number of values and for a name
-/// but `reverse`, `BadType` for what is no iterable, for a `reverse` that is no bool, and unless all items are ints, or
-/// all are strings.
+/// `sorted(it, reverse=False)`: all items in order, in a new list. `Args` for another number of values and for a
+/// keyword argument but `reverse`, `BadType` if `it` is not iterable, if `reverse` is not a bool, and unless all items
+/// are ints, or all are strings.
 pub fn call_sorted(
     machine: &mut Machine,
     setting: &Setting,

@@ -1,4 +1,7 @@
-//! Ints that strings spell.
+//! The int that a string spells, for `int`.
+//!
+//! Digits are valued up to 2^64 only, which is outside 64 bits either way. That all bytes are digits is tested first,
+//! so a long string with another byte is `BadValue` and not `Overflow`.
 
 ghost use Rattle.std.specs.Prelude.{◌≡◌, ◌^◌, neg_ℤ, pos};
 ghost use Rattle.std.specs.List.{list_all};
@@ -10,7 +13,7 @@ ghost use Rattle.star_builtin.specs.Parts.{capped};
 use crate::ints::narrow;
 use star_store::fault::StoreFault;
 
-/// What is above every int of 64 bits.
+/// A number above every int of 64 bits.
 const LIMIT: u128 = 1 << 64;
 
 /// Whether all bytes are decimal digits.
@@ -25,7 +28,7 @@ fn are_digits(bytes: &[u8]) -> bool
     true
 }
 
-/// The number that digits write, or 2^64 where it is not below.
+/// The number that digits write, or 2^64 if it is not below.
 #[tactic(auto, using(crate::proofs::Digits::number_small))]
 fn number_from(digits: &[u8]) -> u128
     ensures { result ≡ capped (spec.number_from 0 digits.now) }
@@ -40,7 +43,7 @@ fn number_from(digits: &[u8]) -> u128
     number
 }
 
-/// The number that decimal digits write, or 2^64 where it is not below: none for no digit, and for other bytes.
+/// The number that decimal digits write, or 2^64 if it is not below; `None` for no digits, and for other bytes.
 fn decimal_of(bytes: &[u8]) -> Option<u128>
     ensures { result ≡ option_map capped (spec.decimal_of bytes.now) }
 {
@@ -50,7 +53,7 @@ fn decimal_of(bytes: &[u8]) -> Option<u128>
     Some(number_from(bytes))
 }
 
-/// The int above 0 that digits write. `Overflow` outside 64 bits; none for other bytes.
+/// The int above 0 that digits write. `Overflow` outside 64 bits; `None` for other bytes.
 fn above(bytes: &[u8]) -> Option<Result<i64, StoreFault>>
     ensures { result ≡ option_map checked (spec.signed_by pos (spec.decimal_of bytes.now)) }
 {
@@ -60,7 +63,7 @@ fn above(bytes: &[u8]) -> Option<Result<i64, StoreFault>>
     }
 }
 
-/// The int below 0 that digits write after its sign. `Overflow` outside 64 bits; none for other bytes.
+/// The int below 0 that digits write after its sign. `Overflow` outside 64 bits; `None` for other bytes.
 fn below(bytes: &[u8]) -> Option<Result<i64, StoreFault>>
     ensures { result ≡ option_map checked (spec.signed_by (λ n. neg_ℤ (pos n)) (spec.decimal_of bytes.now)) }
 {
@@ -70,7 +73,7 @@ fn below(bytes: &[u8]) -> Option<Result<i64, StoreFault>>
     }
 }
 
-/// The int that a string spells: a sign or none, and decimal digits. `Overflow` outside 64 bits; none for another
+/// The int that a string spells: an optional sign, and decimal digits. `Overflow` outside 64 bits; `None` for another
 /// string.
 pub fn spelled(text: &[u8]) -> Option<Result<i64, StoreFault>>
     ensures { result ≡ option_map checked (spec.spelled text.now) }

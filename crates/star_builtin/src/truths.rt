@@ -1,4 +1,4 @@
-//! The work of `all`, `any` and `bool`.
+//! `all`, `any` and `bool`.
 
 ghost use Rattle.std.specs.Prelude.{◌≡◌};
 ghost use Rattle.star_meaning.specs.BuiltIns as spec;
@@ -27,7 +27,7 @@ fn is_decided(
     Ok(if truth { wanted } else { !wanted })
 }
 
-/// Takes items up to the first whose truth is the one looked for: whether there is one among so many.
+/// Takes items up to the first whose truth is `wanted`: whether one of the `count` items has it.
 #[tactic(auto, using(star_machine::proofs::Turns::until_next))]
 fn some_of(
     machine: &mut Machine,
@@ -57,8 +57,8 @@ fn truth_of(machine: &Machine, setting: &Setting, value: Option<Value>) -> Value
     }
 }
 
-/// Whether one of the items of the one value has the truth looked for. `Args` for another number of values and for a
-/// name, `BadType` for what is no iterable.
+/// Whether one of the items of the one value has the truth `wanted`. `Args` for another number of values and for a
+/// keyword argument, `BadType` if the value is not iterable.
 fn some_item(
     machine: &mut Machine,
     setting: &Setting,
@@ -74,7 +74,7 @@ fn some_item(
 }
 
 /// `all(it)`: whether all items count as true; items are taken up to the first that does not. `Args` for another number
-/// of values and for a name, `BadType` for what is no iterable.
+/// of values and for a keyword argument, `BadType` if `it` is not iterable.
 pub fn call_all(
     machine: &mut Machine,
     setting: &Setting,
@@ -88,7 +88,7 @@ pub fn call_all(
 }
 
 /// `any(it)`: whether an item counts as true; items are taken up to the first that does. `Args` for another number of
-/// values and for a name, `BadType` for what is no iterable.
+/// values and for a keyword argument, `BadType` if `it` is not iterable.
 pub fn call_any(
     machine: &mut Machine,
     setting: &Setting,

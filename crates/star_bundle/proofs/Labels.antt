@@ -16,7 +16,7 @@ both true true false h = cc
 both true false c h = cc
 both false b c h = cc
 
--- what reads as a label whose text it is
+-- a text that reads as the label with this text
 pub is_label_read : (t : List ℕ) → t ≡ label_text (package_of t) (name_of t) → is_package (package_of t) ≡ true → is_segment (name_of t) ≡ true → is_label t ≡ true
 unfolding is_label
 is_label_read t e p n = rw ((bytes_eq-Decides t (label_text (package_of t) (name_of t))).1 e, p, n) refl
@@ -31,7 +31,7 @@ decided : (b : Bool) → (b ≡ true → ⊥) → b ≡ false
 decided true h = absurd (h refl)
 decided false h = refl
 
--- what reads as no label
+-- a text that does not read as a label
 pub no_label : (t : List ℕ) → ((p n : List ℕ) → Reads [] t p n → ⊥) → is_label t ≡ false
 no_label t h = decided (is_label t) (λ e. h (package_of t) (name_of t) (reads_label t e))
 
@@ -42,7 +42,7 @@ same_text : (t : List ℕ) → is_label t ≡ true → t ≡ label_text (package
 unfolding is_label
 same_text t h = (bytes_eq-Decides t (label_text (package_of t) (name_of t))).0 (both _ _ _ h).0
 
--- what reads as a label with another text
+-- a text that reads as a label with another text
 other : (t l : List ℕ) → (t ≡ l → ⊥) → l ≡ label_text (package_of l) (name_of l) → (t ≡ label_text (package_of l) (name_of l)) ⊎ ((t ≡ 58 ∷ name_of l) × (package_of l ≡ [])) → is_label t ≡ true → ⊥
 other t l d e (inl h) i = d (h ∙ sym e)
 other t l d e (inr h) i = colon (name_of l) (package_of t) (name_of t) (sym h.0 ∙ same_text t i)
@@ -53,7 +53,7 @@ another_label t l d e r = decided (is_label t) (other t l d e r.form)
 abbrev said : Option (List ℕ) → Result (Option (List ℕ)) ServeError
 said o = Ok o
 
--- what `normal_label` answers of a text
+-- the answer of `normal_label` for a text
 pub is_no_label : (t u : List ℕ) (o : Option Label) → said (if_label t) ≡ said (option_map text_of o) → o ≡ None → t ≡ u → is_label u ≡ false
 is_no_label t u o h e same = subst (λ x. is_label x ≡ false) same (from (is_label t) refl)
   where

@@ -17,7 +17,7 @@ pub texts_next : (front : List File) (k t : List ℕ) (d : Data) (ms : Members) 
 unfolding texts_of
 texts_next front k t d ms h = rw h (onto front (k, t) (texts_of ms))
 
--- a member that is no text
+-- a member that is not a text
 pub texts_stop : (k : List ℕ) (d : Data) (ms : Members) → as_str d ≡ None → texts_of (member k d ms) ≡ None
 unfolding texts_of
 texts_stop k d ms h = rw h refl

@@ -15,7 +15,7 @@ none_passes p xs i d e h =
     let all : length xs ≤ position_or_len p xs = grind (arith, common_steps) in
     fails_before_first p xs i d (omega (arith, all, h))
 
--- what `find` answers is the first place of the label
+-- the answer of `find` is the first place of the label
 pub found_first : (files : List File) (word : List ℕ) (r : Option ℕ)
     → IfSome r (λ n. (n < length files) × (label_at files n ≡ word))
     → ((n : ℕ) → n < length files → label_at files n ≡ word → r ≡ Some n)

@@ -16,6 +16,6 @@ unfolding json_of
 json_of-cases bytes true e h = rw e (h (IsUtf8-from_is_utf8 bytes e))
 json_of-cases bytes false e h = rw e refl
 
--- the bytes are no text, or read as nothing
+-- the bytes are not a text, or read as nothing
 pub json_of-none : (bytes : List ℕ) → (IsUtf8 bytes → read bytes ≡ None) → json_of bytes ≡ None
 json_of-none bytes h = json_of-cases bytes (is_utf8 bytes) refl h

@@ -30,7 +30,7 @@ abbrev pub there_or : {A : Type 0} → ServeError → Option A → Result A Serv
 there_or e None = Err e
 there_or e (Some x) = Ok x
 
--- what `serde_json` makes of the bytes
+-- the JSON value of the bytes, as `serde_json` reads them
 unfoldable pub json_of : List ℕ → Option Data
 json_of bytes = if is_utf8 bytes then read bytes else None
 
@@ -38,7 +38,7 @@ json_of bytes = if is_utf8 bytes then read bytes else None
 abbrev pub GivesJson : Result Value ServeError → Option Data → Type 0
 GivesJson r found = Gives view r (there_or BadBundle found)
 
--- the members of an object, each of which is a text
+-- the members of an object, if each is a text
 unfoldable pub texts_of : Members → Option (List File)
 texts_of no_members = Some []
 texts_of (member k d ms) = option_and_then (λ t. option_map (λ fs. (k, t) ∷ fs) (texts_of ms)) (as_str d)
@@ -92,7 +92,7 @@ prelude_of files (Some word) = do
   n ← number_of BadPrelude NoPrelude files word
   Ok (Some n)
 
--- what is asked for: the files, the numbers of the roots and that of the prelude
+-- an input: the files, the numbers of the roots and that of the prelude
 pub record Asked : Type 0 where
   pub files : List File
   pub roots : List ℕ
@@ -104,6 +104,6 @@ asked_among roots prelude files = do
   p ← prelude_of files prelude
   Ok (record { files = files; roots = ns; prelude = p })
 
--- what is asked for of the bundle that the bytes are
+-- the input that a bundle with these bytes is
 unfoldable pub asked_of : List (List ℕ) → Option (List ℕ) → List ℕ → Result Asked ServeError
 asked_of roots prelude input = files_of input >>= λ files. asked_among roots prelude files

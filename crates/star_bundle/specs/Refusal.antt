@@ -1,4 +1,4 @@
--- Why there is no report, what the program says of it, and its exit status.
+-- Why there is no report: the refusals, the text of each on standard error, and the exit status.
 use Rattle.std.specs.Prelude.{◌≡◌, ⊤, ℕ, List, Bool, true, false, Result, Ok, Err, codes}
 use Rattle.star_bundle.specs.declared.error.ServeError.{ServeError}
 use Rattle.star_bundle.specs.declared.error.ServeError.TheVariants.{Read, TooBig, BadDir, BadFile, NotText, BadBundle, BadKey, TooMany, TooLong, BadRoot, NoRoot, BadPrelude, NoPrelude, Memory, Write, Unpublished}
@@ -21,13 +21,13 @@ text_of Memory = codes "out of memory"
 text_of Write = codes "cannot write the report"
 text_of Unpublished = codes "module not published"
 
--- 0 where every module is ok, 1 where one is not, 2 where there is no report
+-- 0 if every module is ok, 1 if one is not, 2 if there is no report
 abbrev pub status_of : Result Bool ServeError → ℕ
 status_of (Ok true) = 0
 status_of (Ok false) = 1
 status_of (Err e) = 2
 
--- What a function answered, seen by `view`, is what the definition gives, unless memory ran out.
+-- The answer of a function, seen by `view`, is that of the definition, unless memory ran out.
 abbrev pub Fails : {Y : Type 0} → ServeError → Result Y ServeError → Type 0
 Fails Memory given = ⊤
 Fails e given = given ≡ Err e
@@ -41,7 +41,7 @@ abbrev pub IsNamed : ServeError → Type 0
 IsNamed Memory = ⊥
 IsNamed e = ⊤
 
--- one read failed where the answer is so, and else none
+-- one read failed if the answer is so, else none
 abbrev pub reads_failed : {T : Type 0} → Result T ServeError → ℕ
 reads_failed (Err Read) = 1
 reads_failed r = 0

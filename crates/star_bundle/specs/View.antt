@@ -1,4 +1,4 @@
--- What the program's values stand for.
+-- The program's files and words, as contracts see them.
 use Rattle.std.specs.Prelude.{ℕ, List, Option, Some, None, String, string_bytes, if◌then◌else◌}
 use Rattle.std.specs.declared.alloc.Global.{Global}
 use Rattle.star_label.specs.Files.{File}
@@ -9,10 +9,10 @@ use Rattle.star_bundle.specs.declared.bundle.AskedFor.{AskedFor}
 abbrev pub member_view : String Global × String Global → File
 member_view m = (string_bytes m.0, string_bytes m.1)
 
--- a text where it is a label in normal form
+-- a text if it is a label in normal form
 abbrev pub if_label : List ℕ → Option (List ℕ)
 if_label t = if is_label t then Some t else None
 
--- what was asked for
+-- an input, as contracts see it
 abbrev pub asked_view : AskedFor → Asked
 asked_view a = record { files = a.files; roots = a.roots.items; prelude = a.prelude }

@@ -37,7 +37,7 @@ fn into_members(value: Value) -> Option<Map<String, Value>>
     }
 }
 
-/// What `serde_json` makes of the bytes.
+/// The JSON value of the bytes.
 fn json_in(alloc: Global, bytes: &[u8]) -> Result<Value, ServeError>
     ensures { GivesJson result (json_of bytes.now) }
 {
@@ -53,7 +53,7 @@ fn json_in(alloc: Global, bytes: &[u8]) -> Result<Value, ServeError>
     }
 }
 
-/// The label that a text is the normal form of: none for another text.
+/// The label whose normal form a text is; `None` for another text.
 fn normal_label(alloc: Global, text: &str) -> Result<Option<Label>, ServeError>
     ensures { Gives (option_map text_of) result (Ok (if_label text.now)) }
 {
@@ -70,7 +70,7 @@ fn normal_label(alloc: Global, text: &str) -> Result<Option<Label>, ServeError>
     }
 }
 
-/// The members of the object. `BadBundle` where one is no text.
+/// The members of the object. `BadBundle` if one is not a text.
 fn texts_in(
     alloc: Global,
     mut members: Map<String, Value>,
@@ -88,7 +88,7 @@ fn texts_in(
     Ok(texts)
 }
 
-/// The members by their labels. `BadKey` where a name is no label in normal form.
+/// The members by their labels. `BadKey` if a name is not a label in normal form.
 #[tactic(auto, unfolding(crate::specs::Bundle::labelled))]
 fn labelled(
     alloc: Global,
@@ -106,7 +106,7 @@ fn labelled(
     Ok(files)
 }
 
-/// The files of a bundle. `BadBundle` where the bytes are no JSON object of texts, `BadKey` where a key is no label in
+/// The files of a bundle. `BadBundle` if the bytes are not a JSON object of texts, `BadKey` if a key is not a label in
 /// normal form, then `TooMany` and `TooLong`.
 #[tactic(auto, unfolding(crate::specs::Bundle::files_of))]
 pub fn files_in(alloc: Global, bytes: &[u8]) -> Result<Files, ServeError>
@@ -125,8 +125,8 @@ pub fn files_in(alloc: Global, bytes: &[u8]) -> Result<Files, ServeError>
     }
 }
 
-/// The number of the file that a word of the command line names: the first error where the word is no label in normal
-/// form, the second where no file has it.
+/// The number of the file that a word of the command line names: the error `bad` if the word is not a label in normal
+/// form, `none` if no file has that label.
 #[tactic(auto, unfolding(crate::specs::Bundle::number_of))]
 fn number_in(
     alloc: Global,
@@ -193,7 +193,7 @@ pub fn prelude_in(
     Ok(Some(n))
 }
 
-/// What is asked for: the files, the numbers of the roots, and that of the prelude.
+/// The input: the files, the numbers of the roots, and that of the prelude.
 #[derive(Drop)]
 pub struct AskedFor {
     pub files: Files,
@@ -201,8 +201,8 @@ pub struct AskedFor {
     pub prelude: Option<usize>,
 }
 
-/// What the words of the command line ask for of these files. The refusals come in this order: those of the roots,
-/// those of the prelude.
+/// Finds the roots and the prelude, as the words of the command line name them, among these files. The refusals come in
+/// this order: those of the roots, those of the prelude.
 #[tactic(auto, unfolding(crate::specs::Bundle::asked_among))]
 pub fn asked_in(
     alloc: Global,
@@ -224,7 +224,7 @@ pub fn asked_in(
     })
 }
 
-/// What the bytes of a bundle and the words of the command line ask for. The refusals come in this order: those of the
+/// The input, by the bytes of a bundle and the words of the command line. The refusals come in this order: those of the
 /// bundle, those of the roots, those of the prelude.
 #[tactic(auto, unfolding(crate::specs::Bundle::asked_of))]
 pub fn asked_for(

@@ -1,4 +1,4 @@
-//! Why there is no report, and the exit status.
+//! The refusals: why there is no report, their texts, and the exit status.
 
 ghost use Rattle.std.specs.Prelude.{◌≡◌};
 ghost use Rattle.star_bundle.specs.Refusal.{text_of, status_of};
@@ -21,23 +21,23 @@ pub enum ServeError {
     BadFile,
     /// A file is not UTF-8.
     NotText,
-    /// The input is no JSON object of texts.
+    /// The input is not a JSON object of texts.
     BadBundle,
-    /// A key of the bundle is no label in normal form.
+    /// A key of the bundle is not a label in normal form.
     BadKey,
     /// There are more than 10,000 files, or more than 100,000 entries of folders were listed.
     TooMany,
     /// A text has more than 1,048,576 bytes.
     TooLong,
-    /// A root is no label in normal form.
+    /// A root is not a label in normal form.
     BadRoot,
     /// A root is the label of no file.
     NoRoot,
-    /// The prelude is no label in normal form.
+    /// The prelude is not a label in normal form.
     BadPrelude,
     /// The prelude is the label of no file.
     NoPrelude,
-    /// A growth was refused. It may come at any point.
+    /// An allocation failed. It may come at any point.
     Memory,
     /// A write failed; the output may be partial.
     Write,
@@ -46,7 +46,7 @@ pub enum ServeError {
 }
 
 impl ServeError {
-    /// What the program says of it on standard error.
+    /// The text of the refusal on standard error.
     pub fn text(&self) -> &'static str
         ensures { result.now ≡ text_of self.now }
     {

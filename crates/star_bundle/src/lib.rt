@@ -1,8 +1,13 @@
-//! A bundle of files: what its bytes and the words of the command line ask for, or why it is refused.
+//! Bundles: files that come as one JSON object, from labels to texts; and the refusals of the whole program
+//! (`docs/REPORT.md`).
 //!
-//! `bundle::asked_for` reads a JSON object from labels to texts and finds the roots and the prelude among them.
-//! Refusals come in the order of `docs/REPORT.md`, "Refusals"; `error::ServeError` names them, with the text and the
-//! exit status of each.
+//! - `bundle::asked_for` reads the bytes of a bundle and finds the roots and the prelude among its files. `AskedFor` is
+//!   the result: the numbered files, the roots, the prelude.
+//! - `error::ServeError` has every reason for a missing report. `text` is its line on standard error, `status` the exit
+//!   status.
+//!
+//! Begin at `bundle.rt`, from its end. The promise is the contract of `asked_for`: exactly the files, roots and prelude
+//! that bytes and words ask for, or the first refusal in the order of `docs/REPORT.md`, "Refusals".
 #![tactic(auto)]
 
 pub mod bundle;

@@ -17,7 +17,7 @@ no_top [] t = refl
 no_top (x ∷ below) t = absurd (cc)
 
 module _ {P : Type 0} (b : BookState P) (s : ℕ) (there : s < length b.loaders) where
-  -- what another loader and other entries, of the same count, are given up to
+  -- another loader and other entries, of the same count, after giving up
   pub after_abandon-moved : (entries : List (Entry P)) (l : LoaderState) → l.count ≡ (loader_at b s).count → spoiled l.stack entries ≡ spoiled (stack_of b s) b.entries → after_abandon (record { entries = entries; loaders = set b.loaders s l }) s ≡ after_abandon b s
   after_abandon-moved entries l same_count same_entries =
       let at : get_or (set b.loaders s l) s idle ≡ l = get_or-set_same b.loaders s l idle there in
@@ -37,7 +37,7 @@ module _ {P : Type 0} (b : BookState P) (s : ℕ) (there : s < length b.loaders)
       after_abandon-moved (set b.entries n Spoiled) (record { stack = below_top (stack_of b s); awaited = awaited_by b s; count = (loader_at b s).count }) refl
       (ap (λ st. spoiled st b.entries) (sym (stack_shape n (stack_of b s) top)))
 
-  -- where the stack is empty and nothing is awaited, it is done
+  -- if the stack is empty and nothing is awaited, it is done
   pub after_abandon-done : top_of (stack_of b s) ≡ None → awaited_by b s ≡ None → after_abandon b s ≡ b
   after_abandon-done top free =
       let empty : stack_of b s ≡ [] = no_top (stack_of b s) top in
@@ -59,7 +59,7 @@ module _ {P : Type 0} (b : BookState P) (s : ℕ) (there : s < length b.loaders)
   pub free_end : (n : ℕ) → awaited_by b s ≡ None → awaited_by (after_end b s n Spoiled) s ≡ None
   free_end n free = ap (λ (l : LoaderState). l.awaited) (get_or-set_same b.loaders s (record { stack = below_top (stack_of b s); awaited = awaited_by b s; count = (loader_at b s).count }) idle there) ∙ free
 
--- what holds while a stack is given up
+-- the invariant while a stack is given up
 pub record IsGivingUp {P : Type 0} (start now : BookState P) (s : ℕ) : Type 0 where
   pub there : s < length now.loaders
   pub free : awaited_by now s ≡ None

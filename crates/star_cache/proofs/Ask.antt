@@ -10,7 +10,7 @@ use Rattle.star_cache.specs.Tells.{Tells, IsCyclic}
 use Rattle.star_cache.proofs.Cycles.{LeadsTo-links, top_from_member}
 use Rattle.star_cache.proofs.Meets.{below_member, running_not_fresh}
 
--- what stands on top is a member
+-- the top is a member
 pub member_from_top : (x : ℕ) (stack : List ℕ) → top_of stack ≡ Some x → IsIn x stack
 member_from_top x [] t = absurd (cc)
 member_from_top x (y ∷ below) t = inl (cc)
@@ -30,7 +30,7 @@ module _ {P : Type 0} (loads : ℕ → List ℕ) (Good : ℕ → Type 0) (Reache
       let on = book.lawful.reached p (running_not_fresh (entry_at b p) runs) in
       law p n on load
 
-  -- what is on top loads it
+  -- the top loads it
   pub Loads-target : (s n : ℕ) (parent : Option ℕ) → MayAsk b s parent → MatchOption parent (Reached n) (λ p. Loads loads p n) → (x : ℕ) → top_of (stack_of b s) ≡ Some x → Loads loads x n
   Loads-target s n None may load x top = let clash = sym top ∙ may.on_top in absurd (cc)
   Loads-target s n (Some p) may load x top =

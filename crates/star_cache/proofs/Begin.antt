@@ -34,7 +34,7 @@ module _ {P : Type 0} (loads : ℕ → List ℕ) (Reached : ℕ → Type 0) (Rig
         | inr apart ↦ ap (λ (l : LoaderState). l.awaited) (loader_old t apart)
       ]
 
-  -- what is fresh stands in no stack
+  -- a fresh entry is in no stack
   pub not_in : (t : ℕ) → IsIn n (stack_of b t) → ⊥
   not_in t h = let runs = lawful.runs t n h in let clash = sym fresh ∙ runs in cc
 

@@ -102,7 +102,7 @@ module _ {P : Type 0} (loads : ℕ → List ℕ) (Reached : ℕ → Type 0) (Rig
         lawful = IsLawful-begin loads Reached Right (book_state entries parents loaders) s n kept.lawful there_in free fresh known reached loaded;
       }
 
-  -- what the loader has begun is less than how many entries there are
+  -- the loader has begun fewer entries than there are
   pub count_fits : row.count < length entries
   count_fits =
       let below = count_by-lt_entries in

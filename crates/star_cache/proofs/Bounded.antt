@@ -8,7 +8,7 @@ use Rattle.star_cache.specs.Walk.{Walk, LeadsTo, IsAcyclic}
 use Rattle.star_cache.specs.State.{IsIn, IsSet}
 use Rattle.star_cache.proofs.Walks.{Walk-returns}
 
--- where a walk stands, its start first
+-- the steps of a walk, its start first
 abbrev pub nodes : (R : ℕ → ℕ → Type 0) (k x y : ℕ) → Walk R k x y → List ℕ
 nodes R zero x y w = x ∷ []
 nodes R (suc k) x y w = x ∷ nodes R k w.0 y w.2

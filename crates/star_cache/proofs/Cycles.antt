@@ -25,7 +25,7 @@ top_from_member e [] h = absurd h
 top_from_member e (x ∷ below) h = (x, refl)
 
 module _ {P : Type 0} (loads : ℕ → List ℕ) (Reached : ℕ → Type 0) (Right : ℕ → P → Type 0) (b : BookState P) (lawful : IsLawful loads Reached Right b) where
-  -- what runs in a stack that leads to a seat by links leads to the seat's top by loads
+  -- an entry that runs in a stack that leads to a seat by links leads to the seat's top by loads
   pub LeadsTo-links : (k s t e top : ℕ) → IsIn e (stack_of b s) → Walk (Links b) k s t → top_of (stack_of b t) ≡ Some top → LeadsTo (Loads loads) e top
   LeadsTo-links zero s t e top h w is_top =
       LeadsTo-top loads e top (stack_of b t) (lawful.path t) (subst (λ v. IsIn e (stack_of b v)) w h) is_top

@@ -7,7 +7,7 @@ use Rattle.star_cache.specs.Headline.{Headline, Runs}
 use Rattle.star_cache.proofs.Walks.{cycle-not_good}
 use Rattle.star_cache.proofs.Meets.{below_member}
 
--- where all walks end, no step lies on a cycle
+-- if all walks end, no step lies on a cycle
 acyclic_no_ring : (R : ℕ → ℕ → Type 0) → IsAcyclic R → (s t : ℕ) → IsOnCycle R s t → ⊥
 acyclic_no_ring R ends s t on =
     let last = ends s in

@@ -1,4 +1,4 @@
--- Numbers that are equal or not, counts after a write, and lists that are given place by place.
+-- Numbers that are equal or not, counts after a write, and lists that are equal at each place.
 use Rattle.std.proofs.Common.{◌≡◌, ◌≢◌, ◌⊎◌, ◌+◌, ◌<◌, ℕ, List, Bool, true, false, cond, length, get_or, set, ap, inl, inr, arith, count_by}
 use Rattle.std.proofs.lemmas.Bool.Decides.{eqb_tells}
 use Rattle.std.proofs.lemmas.List.{length-set}
@@ -7,7 +7,7 @@ use Rattle.std.proofs.lemmas.List.Sums.{sum_by-set, count_by-le-length}
 pub same_or_apart : (a b : ℕ) → (a ≡ b) ⊎ (a ≢ b)
 same_or_apart a b = elim (eqb_tells a b) [ inl h ↦ inl h.1 | inr h ↦ inr h.1 ]
 
--- what an element counts
+-- the count of an element
 abbrev pub weight : Bool → ℕ
 weight t = cond t 1 0
 
@@ -27,7 +27,7 @@ count_by-set_same {X} p xs i y d h passed passes =
     let after : weight (p y) ≡ 1 = ap weight passes in
     omega (arith, moved, before, after)
 
--- where one doesn't pass, fewer pass than there are
+-- if one doesn't pass, fewer pass than there are
 pub count_by-lt : {X : Type 0} (p : X → Bool) (xs : List X) (i : ℕ) (y d : X) → i < length xs → p (get_or xs i d) ≡ false → p y ≡ true → count_by p xs < length xs
 count_by-lt p xs i y d h fails passes =
     let more = count_by-set_more p xs i y d h fails passes in

@@ -36,18 +36,18 @@ below_awaited b s e h =
       | no l ↦ absurd (let past = get_or_past b.loaders s idle (omega arith) in let none : awaited_by b s ≡ None = ap (λ (v : LoaderState). v.awaited) past in cc)
     ]
 
--- what the row says that a loader awaits is what the book says
+-- the row and the book agree on the entry that a loader awaits
 pub awaited_row : {P : Type 0} (entries : List (Entry P)) (parents : List (Option ℕ)) (loaders : List Loader) (s : ℕ) (d : Loader) → s < length loaders → awaited_by (book_state entries parents loaders) s ≡ (get_or loaders s d).awaited
 awaited_row entries parents loaders s d h = ap (λ (v : LoaderState). v.awaited) (get_or-map (loader_state parents) loaders s d idle h)
 
--- after k links from the target's loader the walk stands at the loader of `at`
+-- after k links from the target's loader the walk is at the loader of `at`
 pub record IsAt {P : Type 0} (b : BookState P) (owners : List ℕ) (target seat at k : ℕ) : Type 0 where
   pub running : entry_at b at ≡ Running
   pub walked : Walk (Links b) k (slice_index owners target) (slice_index owners at)
   pub back : LeadsTo (Links b) (slice_index owners target) seat → LeadsTo (Links b) (slice_index owners at) seat
 
 module _ {P : Type 0} (loads : ℕ → List ℕ) (Reached : ℕ → Type 0) (Right : ℕ → P → Type 0) (files : ℕ) (entries : List (Entry P)) (parents : List (Option ℕ)) (owners : List ℕ) (loaders : List Loader) (kept : IsKept loads Reached Right files entries parents owners loaders) where
-  -- a running entry stands in its owner's stack
+  -- a running entry is in its owner's stack
   pub in_owner : (e : ℕ) → entry_at (book_state entries parents loaders) e ≡ Running → IsIn e (stack_of (book_state entries parents loaders) (slice_index owners e))
   in_owner e runs =
       let at = kept.lawful.stacked e runs in
@@ -111,11 +111,11 @@ module _ {P : Type 0} (loads : ℕ → List ℕ) (Reached : ℕ → Type 0) (Rig
   pub owner_read : (e r : ℕ) → entry_at (book_state entries parents loaders) e ≡ Running → r ≡ get_or owners e r → slice_index owners e ≡ r
   owner_read e r runs read = sym (get_or_read owners e r (below_owners e runs) read 0)
 
-  -- the entry that the row has, which is no fresh one
+  -- the entry that the row has, which is not fresh
   pub entry_read : (e : ℕ) (r : Entry P) → entry_at (book_state entries parents loaders) e ≢ Fresh → r ≡ get_or entries e r → entry_at (book_state entries parents loaders) e ≡ r
   entry_read e r begun read = sym (get_or_read entries e r (below_running (book_state entries parents loaders) e begun) read Fresh)
 
-  -- what the loader's row has of an entry's owner
+  -- the part of the loader's row that tells an entry's owner
   pub waits_read : (e r : ℕ) (row : Loader) → entry_at (book_state entries parents loaders) e ≡ Running → slice_index owners e ≡ r → row ≡ get_or loaders r row → awaited_by (book_state entries parents loaders) (slice_index owners e) ≡ row.awaited
   waits_read e r row runs own read =
       let low : slice_index owners e < length loaders = below_loaders e runs in

@@ -1,4 +1,4 @@
--- A book in which nothing has been asked is lawful.
+-- A new book is lawful.
 use Rattle.std.proofs.Common.{◌≡◌, ◌+◌, ◌*◌, ◌++◌, ◌≤◌, ℕ, List, [], ◌∷◌, Option, Some, None, length, get_or, sum_by, count_by, replicate, refl, sym, subst, ap, ◌∙◌, arith}
 use native.Mathlib.Decide.{dec_lt}
 use Rattle.std.proofs.lemmas.List.{length-replicate, get_or-replicate, get_or_past, replicate-append-replicate}
@@ -10,7 +10,7 @@ use Rattle.star_cache.specs.State.{LoaderState, IsLawful, IsLoadPath, IsIn, IsSe
 use Rattle.star_cache.specs.Step.{fresh_book}
 use Rattle.star_cache.proofs.RowsLemmas.{Represents, StandsFor, row_at, no_row}
 
--- each element of a row of equal ones, and what stands past its end
+-- each element of a row of equal ones, and past its end
 at_replicate : {X : Type 0} (n i : ℕ) (x : X) → get_or (replicate n x) i x ≡ x
 at_replicate n i x =
     elim (dec_lt i n) [ yes h ↦ get_or-replicate n i x x h | no h ↦ get_or_past (replicate n x) i x (omega (arith, length-replicate n x)) ]
@@ -75,7 +75,7 @@ module _ {P : Type 0} (loads : ℕ → List ℕ) (Reached : ℕ → Type 0) (Rig
 pub replicate-push : {X : Type 0} (n : ℕ) (x : X) (xs : List X) → xs ≡ replicate n x → xs ++ x ∷ [] ≡ replicate (n + 1) x
 replicate-push n x xs e = ap (λ v. v ++ x ∷ []) e ∙ replicate-append-replicate n 1 x
 
--- rows made by pushing stand for the fresh book
+-- rows made by pushing are those of the fresh book
 pub StandsFor-new : {P : Type 0} (loads : ℕ → List ℕ) (Reached : ℕ → Type 0) (Right : ℕ → P → Type 0) (files n seats i j : ℕ) (entries : List (Entry P)) (parents : List (Option ℕ)) (owners : List ℕ) (loaders : List Loader) → n ≡ files → n ≤ 10000 → seats ≤ 64 → i ≡ n → j ≡ seats → entries ≡ replicate i Fresh → parents ≡ replicate i None → owners ≡ replicate i 0 → loaders ≡ replicate j no_row → StandsFor loads Reached Right files entries parents owners loaders (fresh_book n seats)
 StandsFor-new {P} loads Reached Right files n seats i j entries parents owners loaders same few seats_few done_i done_j e p o l =
     let Row : ℕ → List (Entry P) = λ k. replicate k Fresh in

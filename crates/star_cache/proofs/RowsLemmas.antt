@@ -1,4 +1,4 @@
--- The rows, and the book that they stand for.
+-- The rows, and the book that they represent.
 use Rattle.std.proofs.Common.{◌≡◌, ◌≢◌, ◌<◌, ◌≤◌, ℕ, zero, suc, List, [], ◌∷◌, Option, None, length, map, slice_index, get_or, set, refl, sym, subst, ap, ◌∙◌, inl, inr, arith}
 use Rattle.std.proofs.lemmas.List.{get_or-map, length-map, ext_get_or, get_or-set_other}
 use Rattle.std.proofs.lemmas.List.Sums.{count_by-le-length}
@@ -15,7 +15,7 @@ no_row = record { top = None; awaited = None; count = 0 }
 abbrev pub row_at : List Loader → ℕ → Loader
 row_at loaders s = get_or loaders s no_row
 
--- the row stands for the loader
+-- the row represents the loader
 pub record Represents (parents : List (Option ℕ)) (row : Loader) (state : LoaderState) : Type 0 where
   pub stack : IsChain parents row.top state.stack
   pub awaited : row.awaited ≡ state.awaited
@@ -29,7 +29,7 @@ chain-is zero parents top (e ∷ below) is h = absurd (omega arith)
 chain-is (suc k) parents top (e ∷ below) is h =
     subst (λ v. chain (suc k) parents v ≡ e ∷ below) (sym is.0) (ap (λ st. e ∷ st) (chain-is k parents (parent_of parents e) below is.1 (omega arith)))
 
--- another parent of what isn't in the stack
+-- another parent of an entry that isn't in the stack
 pub IsChain-set : (parents : List (Option ℕ)) (n : ℕ) (v top : Option ℕ) (stack : List ℕ) → (IsIn n stack → ⊥) → IsChain parents top stack → IsChain (set parents n v) top stack
 IsChain-set parents n v top [] out is = is
 IsChain-set parents n v top (e ∷ below) out is =
@@ -45,7 +45,7 @@ loader_state-is parents row state rep h =
     let MakeCount : ℕ → LoaderState = λ k. record { stack = state.stack; awaited = state.awaited; count = k } in
     ap MakeStack stacks ∙ (ap MakeAwaited rep.awaited ∙ ap MakeCount rep.count)
 
--- rows stand for a book, if each stands for its loader
+-- rows represent a book, if each represents its loader
 pub book_state-is : {P : Type 0} (entries : List (Entry P)) (parents : List (Option ℕ)) (loaders : List Loader) (b : BookState P) → entries ≡ b.entries → length loaders ≡ length b.loaders → ((t : ℕ) → t < length loaders → Represents parents (row_at loaders t) (loader_at b t)) → ((t : ℕ) → length (stack_of b t) ≤ length parents) → book_state entries parents loaders ≡ b
 book_state-is {P} entries parents loaders b same_entries same_length rep short =
     let MakeLoaders : List LoaderState → BookState P = λ ls. record { entries = entries; loaders = ls } in
@@ -57,7 +57,7 @@ book_state-is {P} entries parents loaders b same_entries same_length rep short =
         let low : t < length loaders = omega (arith, length-map loaders (loader_state parents)) in
         get_or-map (loader_state parents) loaders t no_row idle low ∙ loader_state-is parents (row_at loaders t) (loader_at b t) (rep t low) (short t)
 
--- the rows of a kept book stand for its loaders
+-- the rows of a kept book represent its loaders
 pub Represents-kept : {P : Type 0} (loads : ℕ → List ℕ) (Reached : ℕ → Type 0) (Right : ℕ → P → Type 0) (files : ℕ) (entries : List (Entry P)) (parents : List (Option ℕ)) (owners : List ℕ) (loaders : List Loader) → IsKept loads Reached Right files entries parents owners loaders → (t : ℕ) → t < length loaders → Represents parents (row_at loaders t) (loader_at (book_state entries parents loaders) t)
 Represents-kept loads Reached Right files entries parents owners loaders kept t h =
     let same : loader_at (book_state entries parents loaders) t ≡ loader_state parents (row_at loaders t) = get_or-map (loader_state parents) loaders t no_row idle h in
@@ -67,7 +67,7 @@ Represents-kept loads Reached Right files entries parents owners loaders kept t 
       count = sym (ap (λ (l : LoaderState). l.count) same);
     }
 
--- the facts on rows and on the book that they stand for, from which a book is kept
+-- the facts on rows and on the book that they represent, which keep a book
 pub record StandsFor {P : Type 0} (loads : ℕ → List ℕ) (Reached : ℕ → Type 0) (Right : ℕ → P → Type 0) (files : ℕ) (entries : List (Entry P)) (parents : List (Option ℕ)) (owners : List ℕ) (loaders : List Loader) (b : BookState P) : Type 0 where
   pub size : length entries ≡ files
   pub few : files ≤ 10000

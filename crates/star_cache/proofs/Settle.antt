@@ -66,7 +66,7 @@ module _ {P : Type 0} (loads : ℕ → List ℕ) (Reached : ℕ → Type 0) (Rig
         | inr apart ↦ ap (λ (l : LoaderState). l.awaited) (loader_old t apart)
       ]
 
-  -- the rest of the stack doesn't hold what was on top
+  -- the rest of the stack doesn't hold the old top
   not_below : IsIn n (below_top (stack_of b s)) → ⊥
   not_below = (subst (λ st. IsSet st) shape (lawful.once s)).0
 
@@ -97,7 +97,7 @@ module _ {P : Type 0} (loads : ℕ → List ℕ) (Reached : ℕ → Type 0) (Rig
       drop_top (inl i) = absurd (apart i)
       drop_top (inr i) = i
 
-  -- what runs now ran, and is another entry
+  -- an entry that runs now ran, and is another one
   ran : (e : ℕ) → entry_at (after_end b s n v) e ≡ Running → (e ≢ n) × (entry_at b e ≡ Running)
   ran e runs =
       let apart : e ≢ n = λ same. not_running (sym entry_new ∙ subst (λ w. entry_at (after_end b s n v) w ≡ Running) same runs) in
@@ -106,7 +106,7 @@ module _ {P : Type 0} (loads : ℕ → List ℕ) (Reached : ℕ → Type 0) (Rig
   fewer : (x y : ℕ) → Links (after_end b s n v) x y → Links b x y
   fewer x y link = (link.0, sym (awaited_old x) ∙ link.1, (ran link.0 link.2).1, member_old y link.0 link.3)
 
-  -- what is fresh now was fresh
+  -- an entry that is fresh now was fresh
   was_fresh : (e : ℕ) → entry_at (after_end b s n v) e ≡ Fresh → entry_at b e ≡ Fresh
   was_fresh e fresh =
       elim (same_or_apart e n) [

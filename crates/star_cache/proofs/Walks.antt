@@ -1,4 +1,4 @@
--- Walks along a relation: joined, cut, and what one more step does to them.
+-- Walks along a relation: joined, cut, and with one more step.
 use Rattle.std.proofs.Common.{◌≡◌, ◌⊎◌, ℕ, zero, suc, refl, sym, subst, inl, inr}
 use Rattle.star_cache.specs.Walk.{Walk, LeadsTo, EndsBefore, IsAcyclic}
 
@@ -42,7 +42,7 @@ Walk-avoids R S s t adds (suc k) x y away w =
     ]
 
 module _ (R S : ℕ → ℕ → Type 0) (s t : ℕ) (adds : AddsStep R S s t) (away : LeadsTo R t s → ⊥) where
-  -- every walk of S that starts at x ends, where t's walks of R end before m steps
+  -- every walk of S that starts at x ends, if t's walks of R end before m steps
   pub EndsBefore-adds : (m : ℕ) → EndsBefore R m t → (k : ℕ) (x : ℕ) → EndsBefore R k x → EndsBefore S (plus k m) x
   EndsBefore-adds m ends_t zero x ends = absurd (ends x refl)
   EndsBefore-adds m ends_t (suc k) x ends = λ y w.
@@ -53,7 +53,7 @@ module _ (R S : ℕ → ℕ → Type 0) (s t : ℕ) (adds : AddsStep R S s t) (a
             EndsBefore-plus S k m w.0 (subst (λ u. EndsBefore S m u) (sym new.1) from_t) y w.2
       ]
 
-  -- one more step keeps a relation acyclic, where its end doesn't lead back to its start
+  -- one more step keeps a relation acyclic, if its end doesn't lead back to its start
   pub IsAcyclic-adds : IsAcyclic R → IsAcyclic S
   IsAcyclic-adds acyclic x =
       (plus (acyclic x).0 (acyclic t).0, EndsBefore-adds (acyclic t).0 (acyclic t).1 (acyclic x).0 x (acyclic x).1)
@@ -79,7 +79,7 @@ Walk-returns R (suc k) x y step back ends =
     first_step R zero y x e step = (y, (subst (λ v. R v y) (sym e) step, (0, refl)))
     first_step R (suc j) y x w step = (w.0, (w.1, LeadsTo-join R j w.0 x y w.2 (1, (y, step, refl))))
 
--- what lies on a cycle has a next step that does too
+-- a step on a cycle has a next one that is on it too
 pub next_on_cycle : (R : ℕ → ℕ → Type 0) (x y : ℕ) → R x y → LeadsTo R y x → (z : ℕ) × (R y z × LeadsTo R z y)
 next_on_cycle R x y step back = turn back.0 y back.1 step
   where
@@ -87,7 +87,7 @@ next_on_cycle R x y step back = turn back.0 y back.1 step
     turn zero u e st = (u, (subst (λ v. R v u) (sym e) st, (0, refl)))
     turn (suc j) u w st = (w.0, (w.1, LeadsTo-join R j w.0 x u w.2 (1, (u, st, refl))))
 
--- what needs every next one to be good at a smaller depth is good at no depth on a cycle
+-- on a cycle nothing is good at any depth, if it needs every next one to be good at a smaller depth
 pub cycle-not_good : (R : ℕ → ℕ → Type 0) (good : ℕ → ℕ → Type 0) → ((n : ℕ) → good zero n → ⊥) → ((d n m : ℕ) → good (suc d) n → R n m → good d m) → (d n m : ℕ) → R n m → LeadsTo R m n → good d n → ⊥
 cycle-not_good R good never next zero n m step back g = never n g
 cycle-not_good R good never next (suc d) n m step back g =

@@ -1,4 +1,4 @@
--- The headline: what holds of a cache's book whenever its lock is free.
+-- The headline: the promise on a cache's book, which holds whenever its lock is free.
 use Rattle.std.specs.Prelude.{◌≡◌, ◌≢◌, ◌<◌, ℕ, length, sum_by}
 use Rattle.star_cache.specs.declared.entry.Entry.TheVariants.{Fresh, Running, Done}
 use Rattle.star_cache.specs.Walk.{IsOnCycle}
@@ -9,7 +9,7 @@ module _ {P : Type 0} where
   abbrev pub Runs : BookState P → ℕ → ℕ → Type 0
   Runs b s e = (s < length b.loaders) × IsIn e (stack_of b s)
 
--- over which files are reached, and which products are right for a file
+-- parameters: which files are reached, and which products are right for a file
 pub record Headline {P : Type 0} (Reached : ℕ → Type 0) (Right : ℕ → P → Type 0) (b : BookState P) : Type 0 where
   -- loaders that wait for one another form no ring
   pub no_ring : (s t : ℕ) → IsOnCycle (Links b) s t → ⊥

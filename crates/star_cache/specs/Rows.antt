@@ -1,4 +1,4 @@
--- How the book's rows stand for its stacks.
+-- The rows of the code, which are the stacks and counts of the book.
 use Rattle.std.specs.Prelude.{◌≡◌, ◌<◌, ◌≤◌, ℕ, List, [], ◌∷◌, Option, None, Some, length, slice_index, map}
 use Rattle.std.specs.List.{slice_index_or}
 use Rattle.std.proofs.Common.{zero, suc}
@@ -21,16 +21,16 @@ abbrev pub IsChain : List (Option ℕ) → Option ℕ → List ℕ → Type 0
 IsChain parents top [] = top ≡ None
 IsChain parents top (e ∷ below) = (top ≡ Some e) × IsChain parents (parent_of parents e) below
 
--- the loader that a row stands for, its stack as deep as there are entries at most
+-- the loader that a row is, its stack as deep as there are entries at most
 abbrev pub loader_state : List (Option ℕ) → Loader → LoaderState
 loader_state parents l = record { stack = chain (length parents) parents l.top; awaited = l.awaited; count = l.count }
 
 module _ {P : Type 0} where
-  -- the book that the rows stand for
+  -- the book that the rows are
   abbrev pub book_state : List (Entry P) → List (Option ℕ) → List Loader → BookState P
   book_state entries parents loaders = record { entries = entries; loaders = map (loader_state parents) loaders }
 
--- the rows fit each other, and stand for a lawful book
+-- the rows fit each other, and are a lawful book
 pub record IsKept {P : Type 0} (loads : ℕ → List ℕ) (Reached : ℕ → Type 0) (Right : ℕ → P → Type 0) (files : ℕ)
     (entries : List (Entry P)) (parents : List (Option ℕ)) (owners : List ℕ) (loaders : List Loader) : Type 0 where
   pub size : length entries ≡ files
@@ -44,6 +44,6 @@ pub record IsKept {P : Type 0} (loads : ℕ → List ℕ) (Reached : ℕ → Typ
       (stack_of (book_state entries parents loaders) s)
   pub short : (s : ℕ) → length (stack_of (book_state entries parents loaders) s)
       ≤ begun_count (book_state entries parents loaders)
-  -- the owner of what stands in a stack is its seat
+  -- the owner of an entry in a stack is the seat of that stack
   pub owned : (s e : ℕ) → IsIn e (stack_of (book_state entries parents loaders) s) → slice_index owners e ≡ s
   pub lawful : IsLawful loads Reached Right (book_state entries parents loaders)

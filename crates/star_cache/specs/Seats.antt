@@ -1,4 +1,4 @@
--- The seats of a cache, and what it is closed with.
+-- The seats of a cache, and the closing of a cache.
 use Rattle.std.specs.Prelude.{◌≡◌, ◌<◌, ◌-◌, ◌++◌, ℕ, List, length, map, replicate, sum, sum_by, slice_index_or}
 use Rattle.std.specs.List.{Any}
 use Rattle.star_cache.specs.State.{BookState, LoaderState, begun_count}
@@ -23,8 +23,7 @@ module _ {P : Type 0} where
   abbrev pub counts_of : BookState P → List ℕ
   counts_of b = map (λ (l : LoaderState). l.count) b.loaders ++ replicate (64 - length b.loaders) 0
 
--- what a closed cache gives: a loader for each seat, and the counts, which sum to the entries begun, as do the seats'
--- shares
+-- a closed cache has a loader for each seat, and the counts, which sum to the entries begun, as do the seats' shares
 pub record IsClosing {P : Type 0} (seats : List SeatState) (b : BookState P) (counts : List ℕ) : Type 0 where
   pub loaders_are : length b.loaders ≡ length seats
   pub counts_are : counts ≡ counts_of b

@@ -25,7 +25,7 @@ abbrev pub IsIn : ℕ → List ℕ → Type 0
 IsIn x [] = ⊥
 IsIn x (y ∷ ys) = (x ≡ y) ⊎ IsIn x ys
 
--- no element stands twice
+-- no element occurs twice
 abbrev pub IsSet : List ℕ → Type 0
 IsSet [] = Unit {0}
 IsSet (x ∷ xs) = (IsIn x xs → ⊥) × IsSet xs
@@ -86,14 +86,14 @@ pub record IsLawful {P : Type 0} (loads : ℕ → List ℕ) (Reached : ℕ → T
     (b : BookState P) : Type 0 where
   -- no loader waits, over any number of others, for itself
   pub acyclic : IsAcyclic (Links b)
-  -- what runs stands in a stack, what stands in a stack runs, and it stands there once, in one stack
+  -- an entry runs exactly if it is in a stack; it is there once, in one stack
   pub stacked : (e : ℕ) → entry_at b e ≡ Running → (s : ℕ) × IsIn e (stack_of b s)
   pub runs : (s e : ℕ) → IsIn e (stack_of b s) → entry_at b e ≡ Running
   pub once : (s : ℕ) → IsSet (stack_of b s)
   pub one_loader : (s t e : ℕ) → IsIn e (stack_of b s) → IsIn e (stack_of b t) → s ≡ t
   -- a stack goes along loads
   pub path : (s : ℕ) → IsLoadPath loads (stack_of b s)
-  -- what is awaited has been begun, and the waiter's top loads it
+  -- an awaited entry has been begun, and the waiter's top loads it
   pub awaits_begun : (s e : ℕ) → awaited_by b s ≡ Some e → entry_at b e ≢ Fresh
   pub awaits_load : (s e x : ℕ) → awaited_by b s ≡ Some e → top_of (stack_of b s) ≡ Some x → Loads loads x e
   -- a product is right for its file

@@ -1,4 +1,4 @@
--- What one call of the book answers and leaves.
+-- A table of the book's calls: the answer of each, and the book that it leaves.
 use Rattle.std.specs.Prelude.{◌≡◌, ◌≢◌, ◌<◌, ◌≤◌, ℕ, ◌+◌, Bool, true, false, List, [], ◌∷◌, Option, None, Some, length, slice_set, replicate}
 use Rattle.star_cache.specs.declared.entry.Entry.{Entry}
 use Rattle.star_cache.specs.declared.entry.Entry.TheVariants.{Fresh, Running, Done, Spoiled as SpoiledEntry}
@@ -11,7 +11,7 @@ use Rattle.star_cache.specs.declared.entry.Standing.TheVariants.{Fresh as Stands
 use Rattle.star_cache.specs.Walk.{LeadsTo}
 use Rattle.star_cache.specs.State.{BookState, LoaderState, IsLawful, Links, IsIn, top_of, idle, entry_at, loader_at, stack_of, awaited_by}
 
--- what holds of every book: its size and limits, and that it is lawful
+-- true of every book: its size and limits, and that it is lawful
 pub record IsBook {P : Type 0} (loads : ℕ → List ℕ) (Reached : ℕ → Type 0) (Right : ℕ → P → Type 0) (files : ℕ)
     (b : BookState P) : Type 0 where
   pub size : length b.entries ≡ files
@@ -69,7 +69,7 @@ module _ {P : Type 0} where
   spoiled [] entries = entries
   spoiled (n ∷ below) entries = spoiled below (slice_set entries n SpoiledEntry)
 
-  -- the book in which nothing has been asked
+  -- the new book
   abbrev pub fresh_book : ℕ → ℕ → BookState P
   fresh_book files seats = record { entries = replicate files Fresh; loaders = replicate seats idle }
 
@@ -80,7 +80,7 @@ module _ {P : Type 0} where
     loaders = slice_set b.loaders s (record { stack = []; awaited = None; count = (loader_at b s).count });
   }
 
-  -- the target stands in the stack of a loader that is the seat or walks to it
+  -- the target is in the stack of a loader that is the seat or walks to it
   abbrev pub MeetsSeat : BookState P → ℕ → ℕ → Type 0
   MeetsSeat b n s = (t : ℕ) × IsIn n (stack_of b t) × LeadsTo (Links b) t s
 
@@ -107,13 +107,13 @@ module _ {P : Type 0} where
   IsEndReply good entry Cycle = ⊥
   IsEndReply good entry Wait = ⊥
 
-  -- how an entry stands for who asks
+  -- the state of an entry for the seat that asks
   abbrev pub IsStanding : (P → Bool) → Entry P → Standing P → Type 0
   IsStanding good entry StandsFresh = entry ≡ Fresh
   IsStanding good entry StandsRunning = entry ≡ Running
   IsStanding good entry (Ended reply) = IsEndReply good entry reply
 
-  -- what `ask` answers and leaves, where it isn't refused
+  -- the answer of `ask` and the book that it leaves, if it is not refused
   abbrev pub IsAsked : (P → Bool) → BookState P → ℕ → ℕ → Reply P → BookState P → Type 0
   IsAsked good b s n Begun after = (entry_at b n ≡ Fresh) × (after ≡ after_begin b s n)
   IsAsked good b s n (Ready p) after = IsEndReply good (entry_at b n) (Ready p) × (after ≡ b)
@@ -130,7 +130,7 @@ module _ {P : Type 0} where
   IsAskRefused always b s parent n NotTop = IsTurnRefused b s parent NotTop
   IsAskRefused always b s parent n NotWaiting = ⊥
 
-  -- what `wake` answers and leaves, where it isn't refused
+  -- the answer of `wake` and the book that it leaves, if it is not refused
   abbrev pub IsWoken : (P → Bool) → BookState P → ℕ → Reply P → BookState P → Type 0
   IsWoken good b s Wait after = (e : ℕ) × (awaited_by b s ≡ Some e) × (entry_at b e ≡ Running) × (after ≡ b)
   IsWoken good b s (Ready p) after =

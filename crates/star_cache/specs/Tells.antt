@@ -1,4 +1,4 @@
--- What a reply tells of the file that was asked for.
+-- The information that a reply has of the file that was asked for.
 use Rattle.std.specs.Prelude.{ℕ, List, Option, Some, None}
 use Rattle.star_cache.specs.declared.reply.Reply.{Reply}
 use Rattle.star_cache.specs.declared.reply.Reply.TheVariants.{Begun, Ready, Failed, Spoiled, Cycle, Wait}
@@ -10,8 +10,8 @@ abbrev pub IsCyclic : (ℕ → List ℕ) → Option ℕ → ℕ → Type 0
 IsCyclic loads None n = ⊥
 IsCyclic loads (Some parent) n = IsOnCycle (Loads loads) parent n
 
--- a product is right for the file and answered as what the file is; the replies Cycle and Wait tell what is given for
--- them
+-- a product is right for the file, and `Ready` exactly if the file is good; the replies Cycle and Wait carry the facts
+-- that are given for them
 abbrev pub Tells : {P : Type 0} (IsRight : ℕ → P → Type 0) (IsGood : ℕ → Type 0) (IsRefused : Type 0) (MayWait : Type 0)
     → ℕ → Reply P → Type 0
 Tells IsRight IsGood IsRefused MayWait n Begun = Unit {0}

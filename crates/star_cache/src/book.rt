@@ -1,4 +1,7 @@
-//! The book: which file was begun by which loader, who waits for which, and what has come of it.
+//! The book: which loader runs which file, who waits for which file, and how each file ended. It has no lock.
+//!
+//! A stack has its top first, so "the top" and "all below it" are a list's head and tail. The number of entries begun
+//! is kept, so `begun` takes constant time.
 
 ghost use Rattle.std.specs.Prelude.{◌≡◌, ◌≢◌, ℕ, true, false, ◌<◌, ◌≤◌, ◌↔◌, All, length, vec_len, IfOk, MatchResult, MatchOption, IsTrue, Option, Some, None};
 ghost use Rattle.star_cache.specs.Tells.{Tells, IsCyclic};
@@ -17,11 +20,11 @@ struct Loader {
     count: u32,
 }
 
-/// Which loader runs which file, who awaits what, and what has come of each file.
+/// The state of the cache: which loader runs which file, who waits for which, and how each file ended.
 ///
 /// Contracts see a book as a list of entries and a list of loaders, each with its stack of running entries (the top
-/// first), the entry that it awaits and its count. Every book is lawful: the loaders that await one another form no
-/// cycle, each running entry stands once in one stack, and each product is right for its file. A call that is refused
+/// first), the entry that it waits for and its count. Every book is lawful: the loaders that wait for one another form
+/// no cycle, each running entry is once in one stack, and each product is right for its file. A call that is refused
 /// changes nothing. Only `new` and the product's `share` take memory.
 #[derive(Drop)]
 pub struct Book<P: Product> {
@@ -54,7 +57,7 @@ impl<P: Product> Book<P> {
     ghost use Rattle.star_cache.specs.Headline.{Headline};
     ghost use Rattle.star_cache.specs.Step.{IsBook, MayAsk, IsTurnRefused, IsStanding, MeetsSeat, IsAsked, IsAskRefused, IsWoken, IsWakeRefused, after_begin, after_wait, after_wake, after_end, after_abandon, fresh_book};
 
-    /// The book of so many files, none of which has been asked for, and of 1 to 64 loaders that have done nothing.
+    /// The book of `files` files, none of which has been asked for, and of 1 to 64 loaders that have done nothing.
     pub fn new(alloc: Global, files: usize, loaders: usize) -> Result<Self, AllocError>
         requires files { files ≡ P.files }
         requires few { files ≤ 10000 }
@@ -114,7 +117,7 @@ impl<P: Product> Book<P> {
         Ok(())
     }
 
-    // How the entry of a file stands.
+    // The state of the entry of a file.
     fn standing(&mut self, n: usize) -> Result<Standing<P>, BookError>
         requires { n < length self.old.entries }
         ensures standing { MatchResult result (λ it. IsStanding P.is_good (entry_at self.old n) it)
@@ -190,10 +193,11 @@ impl<P: Product> Book<P> {
 
     /// The seat asks for a file: for the file on top of its stack, which loads it, or as a reached file of its own.
     ///
-    /// A fresh file is begun, and stands on top of the seat's stack until `finish` or `abandon`. A file that has ended
-    /// is answered with a share of its product. Where a file runs, the links from its loader are walked, from each
-    /// loader to the one that runs the entry that it awaits: if they reach the seat the load is a `Cycle`, else the
-    /// seat awaits the file. The walk and the new link are one step, so nothing happens between them.
+    /// A fresh file is begun, and stays on top of the seat's stack until `finish` or `abandon`. A file that has ended
+    /// is answered with a share of its product. If the file is running, the links are followed: from its loader to the
+    /// entry that this one waits for, to the loader that runs that entry, and so on. If they reach the seat, the load
+    /// is a `Cycle`, else the seat waits for the file. The walk and the new link are one step, so nothing happens
+    /// between them.
     ///
     /// Refused as `NoSuch`, `Waiting`, `NotTop` (`None` is for an empty stack) and `Memory`, the first that applies.
     pub fn ask(
@@ -316,7 +320,7 @@ impl<P: Product> Book<P> {
         Ok(())
     }
 
-    /// Gives up a seat's whole stack, and what it awaits: each entry of the stack is spoiled, and stays counted.
+    /// Gives up a seat's whole stack, and its wait: each entry of the stack is spoiled, and stays counted.
     ///
     /// Refused as `NoSuch`.
     pub fn abandon(&mut self, seat: usize) -> Result<(), BookError>

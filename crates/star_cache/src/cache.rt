@@ -1,4 +1,12 @@
-//! The cache: the book under its lock, with the ledger of what the seats have begun.
+//! The cache: the book under its lock, with the ledger of how many files the seats have begun.
+//!
+//! All work under the lock is a method of `State` with a full contract; `LoadCache` only locks, calls and notifies. A
+//! waiting thread loops over `wait` and not `wait_while`, since the answer must come from the hold of the lock that
+//! tested it.
+//!
+//! The ledger's total is tied to the sum of the loaders' counts, and to the entries begun only by the book's own law:
+//! each step changes the sum at one loader, and none counts entries. "All seats" means as many as there are loaders,
+//! with each number among them. Their shares are merged into an empty one, so `close` needs no first seat.
 
 ghost use Rattle.std.specs.Prelude.{◌≡◌, ◌≢◌, ◌+◌, ◌-◌, ◌<◌, ◌≤◌, ◌↔◌, ◌⊎◌, true, false, All, List, length, sum_by, vec_len, IfOk, IfErr, IsTrue, MatchOption, MatchResult, Option, Some};
 ghost use Rattle.std.specs.List.{Any};
@@ -18,7 +26,7 @@ use std::marker::Model;
 use std::sync::ledger::{Blank, Book as Ledger, Share};
 use std::sync::{Condvar, Mutex, Wait};
 
-// What lies under the lock: the book, and the ledger of what the seats have begun.
+// The state under the lock: the book, and the ledger of how many files the seats have begun.
 #[derive(Drop)]
 struct State<P: Product> {
     book: Book<P>,
@@ -46,7 +54,7 @@ impl<P: Product> State<P> {
         self.book.loaders()
     }
 
-    // The book's `ask`; where the target is begun, the seat's share goes up by one.
+    // The book's `ask`; if the target is begun, the seat's share goes up by one.
     fn ask(
         &mut self,
         seat: &mut Seat<P>,
@@ -198,7 +206,7 @@ pub struct LoadCache<P: Product> {
 }
 
 impl<P: Product> LoadCache<P> {
-    /// A cache of so many files, none of which has been asked for, and its seats, numbered in order.
+    /// A cache of `files` files, none of which has been asked for, and its seats, numbered in order.
     pub fn new(
         alloc: Global,
         blank: Blank,
@@ -226,9 +234,8 @@ impl<P: Product> LoadCache<P> {
 
     /// The seat asks for a file as with `Book::ask`, and waits until the reply is not `Wait`.
     ///
-    /// Refused as the book refuses it; `NotWaiting` also where the book does not have the seat awaiting the target
-    /// after a wait. Where it is refused memory after a wait the seat still awaits the file, and only `abandon` frees
-    /// it.
+    /// Refused as the book refuses it; `NotWaiting` also if the book does not have the seat awaiting the target after a
+    /// wait. If it is refused memory after a wait the seat still awaits the file, and only `abandon` frees it.
     pub fn ask<R: Wait>(
         &self,
         rt: &R,
@@ -277,7 +284,7 @@ impl<P: Product> LoadCache<P> {
         done
     }
 
-    /// Gives up the seat's whole stack, and what it awaits. All that wait are woken.
+    /// Gives up the seat's whole stack, and its wait. All that wait are woken.
     ///
     /// Refused as the book refuses it.
     pub fn abandon<R: Wait>(&self, rt: &R, seat: &mut Seat<P>) -> Result<(), BookError>
@@ -291,7 +298,7 @@ impl<P: Product> LoadCache<P> {
     /// Takes the seats back, and answers the book with the loaders' counts in the order of their seats, 0 after the
     /// last.
     ///
-    /// Refused where the seats are not all of the cache's; everything comes back then.
+    /// Refused if the seats are not all of the cache's; everything comes back then.
     pub fn close(
         mut self,
         seats: Vec<Seat<P>>,
@@ -309,9 +316,9 @@ impl<P: Product> LoadCache<P> {
         Ok(state.into_inner().closed(seats))
     }
 
-    /// Closes as `close` does, with all the cache's seats, where each of these files has ended with a product.
+    /// Closes as `close` does, with all the cache's seats, if each of these files has ended with a product.
     ///
-    /// Refused where one of them has not; everything comes back then.
+    /// Refused if one of them has not; everything comes back then.
     pub fn close_ended(
         self,
         seats: Vec<Seat<P>>,

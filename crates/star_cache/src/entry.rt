@@ -1,4 +1,4 @@
-//! The entry of a file in the book.
+//! The entry of a file in the book: fresh, running, done or spoiled.
 
 ghost use Rattle.std.specs.Prelude.{◌≡◌, ◌≢◌, true, MatchResult};
 ghost use Rattle.star_cache.specs.Step.{IsStanding};
@@ -19,7 +19,7 @@ pub enum Entry<P> {
     Spoiled,
 }
 
-// How an entry stands for who asks, with the reply where it has ended.
+// The state of an entry for the seat that asks, with the reply if it has ended.
 #[derive(Drop)]
 pub enum Standing<P> {
     Fresh,
@@ -27,7 +27,7 @@ pub enum Standing<P> {
     Ended(Reply<P>),
 }
 
-// How an entry stands, with a share of its product where it is done.
+// The state of an entry, with a share of its product if it is done.
 pub fn standing_of<P: Product>(entry: &mut Entry<P>) -> Result<Standing<P>, BookError>
     ensures standing { MatchResult result (λ it. IsStanding P.is_good entry.old it)
         (λ e. (e ≡ BookError.Memory) × ((p : P) × (entry.old ≡ Entry.Done p)) × (P.always_shares ≢ true)) }

@@ -8,7 +8,7 @@ ghost use Rattle.star_cache.specs.Walk.{IsOnCycle};
 use crate::product::Product;
 use std::marker::PhantomData;
 
-/// What is meant by a good file, counted by depth. Only contracts see it.
+/// The files that may be called good, counted by depth. Only contracts see it.
 pub trait ByDepth {
     // the files that a file loads
     ghost loads: { ℕ → List ℕ };
@@ -25,7 +25,7 @@ pub trait ByDepth {
 
 /// A file on a load cycle is good at no depth, nor is the next file on it.
 ///
-/// So a load that is refused as a cycle is refused only where neither the file that loads nor its target could be good.
+/// So a load that is refused as a cycle is refused only if neither the file that loads nor its target could be good.
 pub fn no_cycle_is_good<D: ByDepth>(_depths: PhantomData<D>)
     ensures { (d n m : ℕ) → IsOnCycle (Loads D.loads) n m → (D.GoodAt d n → ⊥) × (D.GoodAt d m → ⊥) }
 {}

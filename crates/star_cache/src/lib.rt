@@ -1,16 +1,21 @@
-//! The cache of a loader, in three layers:
+//! The cache of modules, shared by the loaders: which file is being loaded by whom, and the result of each file. It
+//! runs nothing itself. (A loader is a thread of the host, `star_host`.)
 //!
-//! - `Book` is the cache without a lock: one entry for each file (fresh, running, done or spoiled), and for each
-//!   loader the files that it runs and the entry that it waits for. Its calls `ask`, `wake`, `finish` and `abandon`
-//!   are one step each; its invariant is that it is lawful: no ring of waits, one loader for each running file, right
-//!   products, honest counts.
-//! - `LoadCache` puts a book under a lock. A `Seat` is a loader's token for it: it cannot be copied, and it knows how
-//!   many files its loader has begun.
-//! - `Product` is what a file leaves in its entry when it has ended. The cache is generic over it; the host's own
-//!   product is `star_outcome::told::Told`.
+//! - `Book` is the cache without a lock. It has one `Entry` for each file (fresh, running, done or spoiled, that is
+//!   given up for want of memory), and for each loader the stack of files that it runs, and the entry that it waits
+//!   for. Its calls `ask`, `wake`, `finish` and `abandon` are one step each.
+//! - `LoadCache` is a book under a lock. Its `ask` waits until the book has an answer.
+//! - `Seat` is a loader's token for the cache. It cannot be copied, and it knows how many files its loader has begun.
+//! - `Product` is the result that a file leaves in its entry. The cache is generic over it; the host uses
+//!   `star_outcome::told::Told`.
 //!
-//! `specs/Headline` has the main promise, `specs/Step` what each call answers, in a table. `docs/LOADING.md` tells
-//! the protocol in words.
+//! Begin at `Book::ask` in `book.rt`, and read its comment first: it finds a cycle of loads by following the loaders
+//! that wait for one another.
+//!
+//! Invariant: every book is lawful. No loaders wait for one another in a ring, each running file is on the stack of one
+//! loader, each product is right for its file, and the counts are honest. The type `Book` carries it, so it holds
+//! whenever the lock is free. The main promise is `Headline` in `specs/Headline`; `specs/Step` is a table of what each
+//! call answers and changes. `docs/LOADING.md` tells the protocol in words.
 #![tactic(auto)]
 
 mod book;

@@ -1,4 +1,4 @@
-//! What a file leaves in its entry when it has ended.
+//! Products: the result that a file leaves in its entry of the cache.
 
 ghost use Rattle.std.specs.Prelude.{◌≡◌, ◌<◌, ◌↔◌, ℕ, Bool, true, List, IfOk, IsOk};
 ghost use Rattle.star_cache.specs.State.{Loads};
@@ -6,10 +6,10 @@ ghost use Rattle.star_cache.specs.State.{Loads};
 use std::alloc::AllocError;
 use std::sync::ledger::Ledger;
 
-/// What a file that has ended leaves in its entry.
+/// The result that a file leaves in its entry when it has ended.
 ///
-/// The ghost members say what a cache is for: its files and what each loads, which of them are good, and which products
-/// are right for a file. Each program fixes them once, for all that it keeps in one cache.
+/// The ghost members define the promise of a cache: its files and the loads of each, which of them are good, and which
+/// products are right for a file. Each program fixes them once, for all that it keeps in one cache.
 pub trait Product: Drop {
     /// The ledger of the cache, in which each seat keeps its share.
     type Name: Ledger;
@@ -29,7 +29,7 @@ pub trait Product: Drop {
     // the files that may be begun
     ghost IsReached: { ℕ → Type 0 };
 
-    // the products that say what has come of a file
+    // the products that are right for a file
     ghost IsRight: { ℕ → Self → Type 0 };
 
     ghost number_of: { Self → ℕ };

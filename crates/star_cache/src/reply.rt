@@ -1,8 +1,11 @@
 //! The answers of the book, and its refusals.
+//!
+//! `Book::new` and `share` answer `AllocError`, since only memory refuses them; calls with other refusals answer
+//! `BookError`.
 
 use thiserror::Error;
 
-/// What the book answers to a seat that asks for a file.
+/// The book's reply to a seat that asks for a file.
 #[derive(Drop)]
 pub enum Reply<P> {
     /// The file was fresh: the seat runs it now, and is the only one that does.

@@ -1,4 +1,4 @@
-//! A loader's token for the cache.
+//! A loader's token for the cache. It cannot be copied, and it knows how many files its loader has begun.
 
 ghost use Rattle.std.specs.Prelude.{◌≡◌, ◌<◌};
 ghost use Rattle.star_cache.specs.Seats.{SeatState};

@@ -33,7 +33,7 @@ some_first : (b : Bool) (v : Value) (o : Option Value) → is_some (cond b (Some
 some_first true v o = refl
 some_first false v o = refl
 
--- a name is given where it has a value
+-- a name is given if it has a value
 pub given_found : (q : List ℕ) (ns : List NamedValue) → is_some (value_named q ns) ≡ is_given q ns
 given_found q [] = refl
 given_found q (n ∷ ns) =
@@ -85,7 +85,7 @@ one_name old new name o names e u q =
 pub no_name : (names : BTreeMap (Bor (List ℕ)) (Unit {0})) (o : Option (List ℕ)) (ns : List (List ℕ)) → None ≡ o → (q : List ℕ) → (has names q || list_any (same_name q) ns) ≡ (has names q || list_any (same_name q) (before_names o ns))
 no_name names o ns e q = ap (λ p. has names q || list_any (same_name q) (before_names p ns)) e
 
--- a value by name that is no parameter's, and one that is
+-- a keyword value that is not a parameter's, and one that is
 pub one_left : (ps : List Parameter) (left : List (Bor NamedValue)) (x : Bor NamedValue) (ns : List NamedValue) → list_any (same_name x.now.name) (own_names ps) ≡ false
     → all_named (left ++ x ∷ []) ++ unclaimed ps ns ≡ all_named left ++ unclaimed ps (x.now ∷ ns)
 one_left ps left x ns h =

@@ -49,7 +49,7 @@ has_more old new name q u =
     ap is_some (btree_map_updates_str name.now old new (Some tt) u q) ∙ with_one (bytes_eq name.now q) (get_by (λ k. slice_cmp nat_cmp q k.now) old)
     ∙ ap (λ b. b || has old q) (same name.now q)
 
--- where no name was seen
+-- if no name was seen
 pub none_seen : (seen : BTreeMap (Bor (List ℕ)) (Unit {0})) (ns : List NamedValue) → IsEmpty seen → twice_after seen ns ≡ comes_twice ns
 none_seen seen ns h =
     let none : (q : List ℕ) → has seen q ≡ false = λ q. ap (λ es. is_some (lookup (is_at (λ k. slice_cmp nat_cmp q k.now)) es)) h in

@@ -1,4 +1,4 @@
--- What a callee of the code shows.
+-- Callees of the code, as contracts see them.
 use Rattle.std.specs.Prelude.{◌≡◌, ℕ, not, Result, List, [], Option, Some, None}
 use Rattle.std.specs.Option.{option_and_then}
 use Rattle.star_store.specs.declared.values.Value.{Value}
@@ -25,12 +25,12 @@ abbrev pub defaults_in : Content → List Value
 defaults_in (Held (cell.Func f)) = f.defaults
 defaults_in _ = []
 
--- a function that is called: its name and its defaults are what the value leads to
+-- a function that is called: its value leads to its name and its defaults
 abbrev pub function_of : Content → Called → Function
 function_of c f =
     record { file = f.file; definition = f.number; name = name_in c; defaults = defaults_in c; frame = f.frame }
 
--- a callee, from what the value of a function leads to
+-- a callee, from the function that the value leads to
 abbrev pub shown : (Value → Content) → HeldCallee → Callee
 shown read (held.AFunction f) = AFunction (function_of (read f.value) f) (definition_of f.definition)
 shown read (held.ABuiltIn b) = ABuiltIn b
@@ -43,7 +43,7 @@ with_definition line f d = do
   e ← found code.BadType line d
   give (AFunction f e)
 
--- What a function gave shows this wherever its value leads to it.
+-- The answer of a function is this one in each state in which its value leads to it.
 abbrev pub GivesCallee : Value → Function → Outcome Callee → Result HeldCallee Stop → State → Type 0
 GivesCallee v f o result new =
     (read : Value → Content) → read v ≡ Held (cell.Func f) → GivesBy (shown read) o result new
@@ -72,7 +72,7 @@ IsFound w (held.AFunction c) = IsDefined w c
 IsFound w (held.ABuiltIn b) = Unit {0}
 IsFound w (held.AMethod m v) = Unit {0}
 
--- what may be called, where this is the definition of a function, if it has one
+-- the callee that a value is, if this is the definition of a function, if it has one
 abbrev pub callee_in : ℕ → Option Definition → Content → Action Callee
 callee_in line d (Held (cell.Func f)) = with_definition line f d
 callee_in line d (BuiltInFunction b) = give (ABuiltIn b)

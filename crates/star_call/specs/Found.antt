@@ -1,4 +1,4 @@
--- Named values that are found by their names.
+-- Keyword arguments that are found by their names.
 use Rattle.std.specs.Prelude.{◌≡◌, ℕ, List, Option, Some, None}
 use denote.Ref.{Bor}
 use Rattle.std.specs.Ordering.{nat_cmp}
@@ -12,7 +12,7 @@ use Rattle.star_meaning.specs.Binding.{value_named}
 abbrev pub value_in : BTreeMap (Bor (List ℕ)) Value → List ℕ → Option Value
 value_in first name = get_by (λ k. slice_cmp nat_cmp name k.now) first
 
--- the value of a name among these: by the map, where there is one
+-- the value of a name among these: by the map, if there is one
 abbrev pub found_in : List NamedValue → Option (BTreeMap (Bor (List ℕ)) Value) → List ℕ → Option Value
 found_in ns None name = value_named name ns
 found_in ns (Some first) name = value_in first name

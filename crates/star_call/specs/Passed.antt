@@ -1,4 +1,4 @@
--- What an argument of the code shows.
+-- Arguments of the code, as contracts see them.
 use Rattle.std.specs.Prelude.{List, map}
 use Rattle.star_call.specs.declared.passed.Passed.{Passed as HeldPassed}
 use Rattle.star_call.specs.declared.passed.Passed.TheVariants as held

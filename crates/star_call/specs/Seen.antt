@@ -1,4 +1,4 @@
--- Names that were seen.
+-- The names of keyword arguments that have been seen, to find one that comes twice.
 use Rattle.std.specs.Prelude.{ℕ, Bool, ◌||◌, List}
 use denote.Ref.{Bor}
 use Rattle.std.specs.List.{list_any}

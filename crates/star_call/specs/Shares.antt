@@ -1,4 +1,4 @@
--- What the shares of the code show.
+-- Bound arguments of the code, as contracts see them.
 use denote.Ref.{Bor}
 use Rattle.std.specs.Prelude.{List, map}
 use Rattle.star_store.specs.declared.values.Value.{Value}
@@ -12,7 +12,7 @@ use Rattle.star_call.specs.declared.shares.Share.TheVariants as held
 abbrev pub all_named : List (Bor NamedValue) → List NamedValue
 all_named ns = map (λ n. n.now) ns
 
--- a share, where these values by name are no parameter's
+-- a share, if these keyword values are not a parameter's
 abbrev pub share_of : List NamedValue → HeldShare → Share
 share_of left (held.One v) = One v
 share_of left (held.Rest xs) = Rest xs.now

@@ -1,4 +1,4 @@
--- What a step of binding of the code shows.
+-- The state of binding of the code, as contracts see it.
 use denote.Ref.{Bor}
 use Rattle.std.specs.Prelude.{List, [], ◌∷◌, Option, Some, None}
 use Rattle.star_tree.specs.declared.tree.Name.{Name}

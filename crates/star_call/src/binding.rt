@@ -1,4 +1,4 @@
-//! How the values of a call are bound to the parameters of a definition.
+//! Binding the arguments of a call to the parameters of a definition. Begin at `bound_to`, the last function.
 
 ghost use Rattle.std.specs.Prelude.{◌≡◌, ℕ, IfOk, List, map};
 ghost use Rattle.std.specs.List.{list_any};
@@ -18,8 +18,8 @@ use star_tree::tree::{Name, Parameter};
 use std::alloc::{AllocError, Global};
 use std::collections::BTreeMap;
 
-/// Where binding stands: whether values by place can still be taken, those that are left, and the defaults that are
-/// left.
+/// The state of binding between two parameters: whether a star has been passed, so that positional arguments fill no
+/// more parameters; the positional arguments that are left; and the defaults that are left.
 #[derive(Clone, Copy)]
 struct Progress<'g, 'd> {
     by_name: bool,
@@ -27,21 +27,21 @@ struct Progress<'g, 'd> {
     defaults: &'d [Value],
 }
 
-/// A parameter's share, if it gets one, and where binding stands after it.
+/// A parameter's argument, if it gets one, and the state after it.
 #[derive(Clone, Copy)]
 struct Turn<'t, 'g, 'd> {
     share: Option<(&'t Name, Share<'g>)>,
     progress: Progress<'g, 'd>,
 }
 
-/// The values by name, and those of them that are no parameter's.
+/// The keyword arguments, and those of them that name no parameter.
 #[derive(Drop)]
 struct Names<'g> {
     all: ByName<'g>,
     left: Vec<&'g NamedValue>,
 }
 
-/// The name of a parameter that can be given by name.
+/// The keyword of a parameter that takes one.
 fn own_name<'t>(parameter: &'t Parameter) -> Option<&'t str>
     ensures { option_map (λ n. n.now) result ≡ spec.own_name (form.parameter parameter.now) }
 {
@@ -68,7 +68,7 @@ fn is_own(parameters: &[Parameter], name: &str) -> bool
     false
 }
 
-/// The names by which parameters can be given.
+/// The keywords of the parameters that take one.
 fn names_of<'t>(
     alloc: Global,
     parameters: &'t [Parameter],
@@ -85,7 +85,7 @@ fn names_of<'t>(
     Ok(names)
 }
 
-/// The values by name that are no parameter's, where they or the parameters are few: each is compared with all
+/// The keyword arguments that name no parameter, if these or the parameters are few: each is compared with all
 /// parameters.
 fn few_unclaimed<'g>(
     alloc: Global,
@@ -103,7 +103,7 @@ fn few_unclaimed<'g>(
     Ok(left)
 }
 
-/// The values by name that are no parameter's: many are looked for in a map of the parameters' names.
+/// The keyword arguments that name no parameter: many are looked for in a map of the parameters' names.
 fn unclaimed<'g>(
     alloc: Global,
     parameters: &[Parameter],
@@ -124,7 +124,7 @@ fn unclaimed<'g>(
     Ok(left)
 }
 
-/// Whether values by name that are no parameter's are taken.
+/// Whether there is a parameter `**name`, so that keyword arguments that name no parameter are taken.
 fn take_names(parameters: &[Parameter]) -> bool
     ensures { result ≡ list_any (λ p. spec.takes_names (form.parameter p)) parameters.now }
 {
@@ -156,8 +156,8 @@ impl<'g> Names<'g> {
         }
     }
 
-    /// The share of a parameter with a name: the next value by place, which must not be given by name too; else the one
-    /// by name; else the default.
+    /// The argument of a parameter that takes one value: the next positional one, which must not be given by keyword
+    /// too; else the keyword argument; else the default.
     fn share_by<'t, 'd>(
         &self,
         name: &'t Name,
@@ -183,7 +183,7 @@ impl<'g> Names<'g> {
         }
     }
 
-    /// A parameter's share, and where binding stands after it: none where the arguments do not fit.
+    /// A parameter's argument, and the state after it; `None` if the arguments do not fit.
     fn step<'t, 'd>(
         &self,
         parameter: &'t Parameter,
@@ -240,8 +240,7 @@ impl<'g> Names<'g> {
         }
     }
 
-    /// The shares of parameters in order: none where the arguments do not fit. In the end no value by place may be
-    /// left.
+    /// The arguments of parameters in order; `None` if they do not fit. In the end no positional argument may be left.
     fn shares<'t, 'd>(
         self,
         alloc: Global,
@@ -269,7 +268,22 @@ impl<'g> Names<'g> {
     }
 }
 
-/// What each parameter gets: none where a value is missing, left over, unknown or given twice.
+/// Binds the arguments of a call to the parameters of a definition:
+///
+///     def f(a, b=1, *rest, c, d=2, **names)
+///
+/// - Positional arguments fill `a` and `b` from the left; those left over go to `*rest`.
+/// - A keyword argument fills the parameter of its name, before or after the star; one that names no parameter goes to
+///   `**names`.
+/// - A parameter that got nothing takes its default. `defaults` are those of `b` and `d`, in order.
+///
+/// `None` if a parameter without a default gets nothing, if one gets a positional and a keyword argument, or if an
+/// argument is left over without a `*rest` or `**names` for it.
+///
+/// This way takes every call. Two shorter ways are proved to give the same: `enter_by_place` of `star_enter`, if all
+/// arguments are positional and all parameters plain names, puts them straight into the frame; `bound_of` of
+/// `star_enter`, for definitions with more than 16 parameters, fills a frame that begins with the defaults.
+/// `call_function` of `star_eval` chooses among the three.
 #[tactic(auto, unfolding(star_meaning::specs::Binding::bound_to))]
 pub fn bound_to<'t, 'g>(
     alloc: Global,

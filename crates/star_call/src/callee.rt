@@ -1,4 +1,7 @@
-//! What may be called.
+//! The callee of a call: a function, a built-in function or a bound method; and the binding of its parameters.
+//!
+//! A function's definition is handed to `Callee::of`, which so needs no table of programs. A called function is kept as
+//! the value that leads to it, so a call copies neither names nor defaults.
 
 ghost use Rattle.std.specs.Prelude.{◌≡◌, IfOk};
 ghost use Rattle.std.specs.Option.{option_map};
@@ -22,8 +25,8 @@ use star_scope::outline::Definition;
 use star_store::names::{BuiltIn, Method};
 use star_store::values::{Cell, Function, Value};
 
-/// A function that is called: the value that leads to it, the file and the number of its definition, the frame in which
-/// it was defined, and the definition.
+/// A function that is called: the value that leads to it, the file and the number of its definition, its defining
+/// frame, and the definition.
 #[derive(Clone, Copy)]
 pub struct Called<'t> {
     pub value: Value,
@@ -33,7 +36,7 @@ pub struct Called<'t> {
     pub definition: Definition<'t>,
 }
 
-/// What may be called.
+/// The callee of a call.
 #[derive(Clone, Copy)]
 pub enum Callee<'t> {
     AFunction(Called<'t>),
@@ -42,7 +45,7 @@ pub enum Callee<'t> {
     AMethod(Method, Value),
 }
 
-/// The defaults of a function: none of another value.
+/// The defaults of a function; those of another value are empty.
 fn defaults_of<'a>(machine: &'a Machine, setting: &'a Setting<'a>, value: Value) -> &'a [Value]
     ensures { result.now ≡ defaults_in (content setting.now machine.now value) }
 {
@@ -53,7 +56,8 @@ fn defaults_of<'a>(machine: &'a Machine, setting: &'a Setting<'a>, value: Value)
 }
 
 impl<'t> Called<'t> {
-    /// What each parameter of the function gets. `Args` where a value is missing, left over, unknown or given twice.
+    /// Binds the arguments of a call to the function's parameters. `Args` if a parameter gets no value or two, or an
+    /// argument is left over.
     pub fn bind<'g>(
         &self,
         machine: &Machine,
@@ -75,8 +79,8 @@ impl<'t> Called<'t> {
     }
 }
 
-/// A function that is called, with its definition, if it has one. `Recursion` where the definition is active, `BadType`
-/// where there is none.
+/// A function that is called, with its definition, if it has one. `Recursion` if the definition is active, `BadType` if
+/// there is none.
 fn function_callee<'t>(
     machine: &Machine,
     line: usize,
@@ -103,7 +107,7 @@ fn function_callee<'t>(
     }
 }
 
-/// The file and the number of the definition of a function: none of another value.
+/// The file and the number of the definition of a function; `None` for another value.
 pub fn definition_number(machine: &Machine, setting: &Setting, value: Value) -> Option<(u32, u32)>
     ensures { result ≡ number_in (content setting.now machine.now value) }
 {
@@ -117,8 +121,8 @@ pub fn definition_number(machine: &Machine, setting: &Setting, value: Value) -> 
 }
 
 impl<'t> Callee<'t> {
-    /// What is called by a value, where `definition` is what the setting has at its `definition_number`. `BadType`
-    /// where it may not be called or has no definition, `Recursion` where its definition is active.
+    /// The callee that a value is, if `definition` is the one that the setting has at its `definition_number`.
+    /// `BadType` if it may not be called or has no definition, `Recursion` if its definition is active.
     #[tactic(auto, unfolding(star_meaning::specs::Calls::callee))]
     pub fn of(
         machine: &Machine,

@@ -1,18 +1,19 @@
-//! The call of a function, up to the point where its body would run. Nothing here runs a body.
+//! The call of a function, up to its body, which does not run here.
 //!
 //!     def f(a, b=1, *rest, c, d=2, **names)
 //!
-//! 1. `passed::given` takes the evaluated arguments apart: those by position, those by keyword, and what `*` and `**`
-//!    add.
-//! 2. `callee::Callee::of` says what is called: a function, a built-in function, a bound method, or nothing that can
-//!    be.
-//! 3. `binding::bound_to` binds what is given to the parameters. Values by position fill `a` and `b` from the left,
-//!    and those left over go to `rest`. A value by keyword goes to the parameter of its name; one that names none
-//!    goes to `names`. A parameter that got nothing takes its default. It answers nothing where a parameter without a
-//!    default gets no value, where one gets two, or where a value is left over.
-//! 4. `shares::make_shares` makes the tuple of `*rest` and the dictionary of `**names`.
+//! - `passed::given` makes `Given` of the evaluated arguments: the positional ones, the keyword ones, with those that
+//!   `*` and `**` add.
+//! - `callee::Callee::of` says what is called: a function, a built-in function, a bound method, or nothing that can be.
+//! - `binding::bound_to` binds the arguments to the parameters; its comment has the rules. The result is `Shares`: for
+//!   each parameter the argument that it is bound to.
+//! - `shares::make_shares` makes the tuple of `*rest` and the dictionary of `**names`.
 //!
-//! `star_enter` has two faster ways that give the same.
+//! Begin at `bound_to`. `star_enter` has two shorter ways for common calls, which are proved to give the same;
+//! `star_eval` chooses.
+//!
+//! The promise of each step is that of its definition in `star_meaning` (`Arguments`, `Calls`, `Binding`). The law
+//! `bound_where_they_fit` of `star_laws` says in plain words when arguments fit. See `docs/LANGUAGE.md`, "Calls".
 #![tactic(auto)]
 
 pub mod binding;

@@ -1,4 +1,4 @@
-//! Values that are given by name.
+//! Looking keyword arguments up by their names: few by going through them, many by a map.
 
 ghost use Rattle.std.specs.Prelude.{◌≡◌, ℕ, IfOk, List};
 ghost use Rattle.star_meaning.specs.Arguments as spec;
@@ -11,7 +11,7 @@ use std::alloc::{AllocError, Global};
 use std::collections::BTreeMap;
 use std::marker::Model;
 
-/// So many names are compared one by one; more are looked for in a map.
+/// Up to this many names are compared one by one; more are looked for in a map.
 pub(crate) const FEW: usize = 8;
 
 /// Whether a name is among those given.
@@ -26,7 +26,7 @@ pub(crate) fn is_given(name: &str, named: &[NamedValue]) -> bool
     false
 }
 
-/// The value that is given by name: the first of this name.
+/// The keyword argument with this name: the first one.
 pub(crate) fn value_named(name: &str, named: &[NamedValue]) -> Option<Value>
     ensures { result ≡ value_named name.now named.now }
 {
@@ -85,7 +85,7 @@ fn first_values<'g>(
     Ok(first)
 }
 
-/// Values that are given by name, which are found by their names: few by going through them, many by a map.
+/// Keyword arguments that are looked up by their names: few by going through them, many by a map.
 #[derive(Drop)]
 pub(crate) struct ByName<'g> {
     all: &'g [NamedValue],
@@ -105,7 +105,7 @@ impl<'g> Model for ByName<'g> {
 }
 
 impl<'g> ByName<'g> {
-    /// These values, in their order, among which so many names are looked for.
+    /// These keyword arguments, in their order; `names` names will be looked up.
     pub(crate) fn of(
         alloc: Global,
         all: &'g [NamedValue],
@@ -120,7 +120,7 @@ impl<'g> ByName<'g> {
         Ok(ByName { all, first })
     }
 
-    /// The value that is given by name: the first of this name.
+    /// The keyword argument with this name: the first one.
     pub(crate) fn value(&self, name: &str) -> Option<Value>
         ensures { result ≡ value_named name.now self.now }
     {

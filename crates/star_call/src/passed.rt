@@ -1,4 +1,7 @@
-//! What a call gives.
+//! The arguments of a call, evaluated: those of `*` and `**` are unpacked among the others.
+//!
+//! The names of a `**` dictionary are copied before their steps are paid, since all keys are checked before any
+//! payment.
 
 ghost use Rattle.std.specs.Prelude.{◌≡◌, ◌++◌, IfOk, OnOk};
 ghost use Rattle.std.specs.Option.{option_map};
@@ -19,7 +22,7 @@ use star_store::values::{Cell, Value, Values};
 use star_text::Text;
 use std::alloc::{AllocError, Global};
 
-/// An argument with its value, as it stands in the call.
+/// An argument with its value, in its form in the call.
 #[derive(Clone, Copy)]
 pub enum Passed<'a> {
     Plain(Value),
@@ -30,7 +33,7 @@ pub enum Passed<'a> {
     StarStar(Value),
 }
 
-/// The values that stand by place.
+/// The positional arguments.
 fn plain_of(alloc: Global, passed: &[Passed]) -> Result<Vec<Value>, AllocError>
     ensures { IfOk result (λ v. v.items ≡ spec.plain_of (all_shown passed.now)) }
 {
@@ -43,7 +46,7 @@ fn plain_of(alloc: Global, passed: &[Passed]) -> Result<Vec<Value>, AllocError>
     Ok(plain)
 }
 
-/// The values that stand by name.
+/// The keyword arguments.
 fn named_of(alloc: Global, passed: &[Passed]) -> Result<Vec<NamedValue>, AllocError>
     ensures { IfOk result (λ v. v.items ≡ spec.named_of (all_shown passed.now)) }
 {
@@ -61,7 +64,7 @@ fn named_of(alloc: Global, passed: &[Passed]) -> Result<Vec<NamedValue>, AllocEr
     Ok(named)
 }
 
-/// What stands after `*`.
+/// The value after `*`.
 fn star_of(passed: &[Passed]) -> Option<Value>
     ensures { result ≡ spec.star_of (all_shown passed.now) }
 {
@@ -73,7 +76,7 @@ fn star_of(passed: &[Passed]) -> Option<Value>
     None
 }
 
-/// What stands after `**`.
+/// The value after `**`.
 fn star_star_of(passed: &[Passed]) -> Option<Value>
     ensures { result ≡ spec.star_star_of (all_shown passed.now) }
 {
@@ -85,7 +88,7 @@ fn star_star_of(passed: &[Passed]) -> Option<Value>
     None
 }
 
-/// The number of items after `*`. `BadType` where it is not iterable.
+/// The number of items after `*`. `BadType` if it is not iterable.
 fn star_count(
     machine: &Machine,
     setting: &Setting,
@@ -116,7 +119,7 @@ fn take_star(
     }
 }
 
-/// An entry of a dictionary by name: none where its key is no string.
+/// An entry of a dictionary as a keyword argument; `None` if its key is not a string.
 fn named_entry(
     machine: &Machine,
     setting: &Setting,
@@ -139,7 +142,7 @@ fn named_entry(
     }
 }
 
-/// The entries of a dictionary by name: none where a key is no string.
+/// The entries of a dictionary as keyword arguments; `None` if a key is not a string.
 fn named_entries(
     machine: &Machine,
     setting: &Setting,
@@ -157,7 +160,7 @@ fn named_entries(
     Ok(Some(names))
 }
 
-/// The entries of a dictionary by name: none for another value, and where a key is no string.
+/// The entries of a dictionary as keyword arguments; `None` for another value, and if a key is not a string.
 fn names_in(
     machine: &Machine,
     setting: &Setting,
@@ -172,7 +175,7 @@ fn names_in(
     }
 }
 
-/// What stands after `**`, by name. `BadType` unless it is a dictionary whose keys are all strings.
+/// The value after `**` as keyword arguments. `BadType` unless it is a dictionary whose keys are all strings.
 fn star_star_names(
     machine: &Machine,
     setting: &Setting,
@@ -204,7 +207,7 @@ fn take_names(
     Ok(names)
 }
 
-/// The values that stand by place, and after them these.
+/// The positional arguments, and after them these.
 fn with_plain(alloc: Global, passed: &[Passed], items: &Values) -> Result<Values, AllocError>
     ensures { IfOk result (λ v. v ≡ spec.plain_of (all_shown passed.now) ++ items.now) }
 {
@@ -213,7 +216,7 @@ fn with_plain(alloc: Global, passed: &[Passed], items: &Values) -> Result<Values
     Ok(Values::new(plain))
 }
 
-/// The values that stand by name, and after them these.
+/// The keyword arguments, and after them these.
 fn with_named(
     alloc: Global,
     passed: &[Passed],
@@ -227,9 +230,9 @@ fn with_named(
     Ok(Items::from_vec(named))
 }
 
-/// What a call gives: first what stands after `*` and `**` is checked, then their items and entries are taken, 1
-/// before each, and then no name may come twice. `BadType` where `*` has no iterable, or `**` no dictionary whose keys
-/// are all strings; `Steps` where a payment is too large; `Args` where a name comes twice.
+/// The arguments of a call. First the values after `*` and `**` are checked, then their items and entries are taken, 1
+/// before each, and then no name may come twice. `BadType` if `*` has no iterable, or `**` no dictionary whose keys are
+/// all strings; `Steps` if a payment is too large; `Args` if a name comes twice.
 #[tactic(auto, unfolding(star_meaning::specs::Arguments::given))]
 pub fn given(
     machine: &mut Machine,

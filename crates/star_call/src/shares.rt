@@ -1,4 +1,7 @@
-//! What parameters get.
+//! The arguments that parameters are bound to, and the new tuple and dictionary of `*name` and `**name`.
+//!
+//! A share borrows: `Rest` has the positional values that are left in place. Extra keyword values are kept once, beside
+//! the shares.
 
 ghost use Rattle.std.specs.Prelude.{◌≡◌, map};
 ghost use Rattle.star_meaning.specs.Binding as spec;
@@ -13,18 +16,18 @@ use star_store::values::{Entries, Value, Values};
 use star_tree::tree::Name;
 use std::marker::Model;
 
-/// What a parameter gets.
+/// The argument that a parameter is bound to.
 #[derive(Clone, Copy)]
 pub enum Share<'g> {
     /// A value.
     One(Value),
-    /// The values by place that are left.
+    /// The positional arguments that are left, for `*name`.
     Rest(&'g [Value]),
-    /// The values by name that are no parameter's.
+    /// The keyword arguments that name no parameter, for `**name`.
     Names,
 }
 
-/// What each parameter gets, in their order, under its name.
+/// The argument of each parameter, in their order, under its name.
 #[derive(Drop)]
 pub struct Shares<'t, 'g> {
     shares: Vec<(&'t Name, Share<'g>)>,
@@ -43,7 +46,7 @@ impl<'t, 'g> Model for Shares<'t, 'g> {
 }
 
 impl<'t, 'g> Shares<'t, 'g> {
-    /// These shares, where these values by name are no parameter's.
+    /// These arguments, if `left` are the keyword arguments that name no parameter.
     pub(crate) fn new(
         shares: Vec<(&'t Name, Share<'g>)>,
         left: Vec<&'g NamedValue>,
@@ -70,7 +73,8 @@ fn keys_and_values(
     Ok(entries)
 }
 
-/// A share as a value: `*name` is a new tuple, `**name` a new dictionary of the values by name that are left.
+/// The value of a bound argument: `*name` is a new tuple, `**name` a new dictionary of the keyword arguments that are
+/// left.
 pub fn made_of(
     machine: &mut Machine,
     line: usize,

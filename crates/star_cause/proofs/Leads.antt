@@ -1,4 +1,4 @@
--- What the ends of ways say of a plan: the causes of its files.
+-- The ends of ways are the causes of the files of a plan.
 use Rattle.std.proofs.Common.{arith, ◌≡◌, ◌<◌, inl, inr, ℕ, List, [], ◌∷◌, length, get_or, Option, Some, None, ap, sym, subst, ◌∙◌}
 use Rattle.std.specs.Prelude.{All}
 use Rattle.std.proofs.lemmas.List.Elements.{All-cons, All-nil}
@@ -72,7 +72,7 @@ cause_below nexts within n (Culprit m) less (way, leads, last) = way_below nexts
 cause_below nexts within n (Cycle []) less ends = absurd ends
 cause_below nexts within n (Cycle (m ∷ ms)) less (way, leads, ring, differ) = files_below nexts m m (m ∷ ms) ring
 
--- ---- what was found
+-- ---- the result
 
 pub end_read : (nexts : Nexts) (ends : Ends) (n : ℕ) (o : Option End) (e : End) → AreAllEnds nexts ends → n < length nexts → o ≡ get_or ends n o → o ≡ Some e → HasEnd nexts n e
 end_read nexts ends n o e are less read is =

@@ -17,7 +17,7 @@ use Rattle.star_cause.proofs.Ways.{joined, onward, split, upto}
 
 -- ---- a way that is back at one of its files
 
--- a file on a cycle, from which it is listed
+-- a file on a cycle, the first of its list
 on_ring : (nexts : Nexts) (m : ℕ) (ring : List ℕ) (j : ℕ) → j < length ring → Way nexts m ring m → AllDiffer ring → HasEnd nexts (get_or ring j 0) (Around (get_or ring j 0) (length ring))
 on_ring nexts m ring j less way differ =
     let x : ℕ = get_or ring j 0 in
@@ -31,7 +31,7 @@ on_ring nexts m ring j less way differ =
     let size : length ((x ∷ back) ++ front) ≡ length ring = omega (arith, long, also) in
     (back ++ front, size, ([], refl, turn, apart))
 
--- a file before the place at which the way is back
+-- a file before the place of the return
 before_ring : (nexts : Nexts) (n m : ℕ) (files : List ℕ) (p i : ℕ) → i < p → p < length files → get_or files p 0 ≡ m → Way nexts n files m → AllDiffer files
     → HasEnd nexts (get_or files i 0) (Around (get_or files p 0) (length files - p))
 before_ring nexts n m files p i low less back way differ =
@@ -107,7 +107,7 @@ known_along nexts ends are n m (x ∷ xs) way known y h = turn (λ i. known_alon
     turn others (inl same) = subst (IsKnown ends) (way.0 ∙ same) known
     turn others (inr i) = others i
 
--- a way to a file ends as that file's does, where none of its files is known
+-- a way to a file ends as that file's does, if none of its files is known
 extended : (nexts : Nexts) (ends : Ends) → AreEnds nexts ends → (x m : ℕ) (xs : List ℕ) → Way nexts x xs m → AllDiffer xs → ((z : ℕ) → Contains xs z → IsFresh ends z) → IsKnown ends m → (e : End) → HasEnd nexts m e → HasEnd nexts x e
 extended nexts ends are x m xs way differ fresh known (Last z) (w, a, none) = (xs ++ w, joined nexts x m z xs w way a, none)
 extended nexts ends are x m xs way differ fresh known (Around first count) (ms, size, (w, a, ring, apart)) = (ms, size, (xs ++ w, joined nexts x m first xs w way a, ring, whole))

@@ -1,4 +1,4 @@
--- A way as it grows, and what is known where it stops.
+-- A way as it grows, and the facts at its end.
 use Rattle.std.proofs.Common.{arith, ◌≡◌, ◌≢◌, ◌<◌, ◌≤◌, ◌+◌, ◌⊎◌, inl, inr, ℕ, List, [], ◌∷◌, ◌++◌, length, get_or, Some, None, refl, ap, sym, subst, ◌∙◌}
 use Rattle.std.specs.Prelude.{All, Contains, slice_get, slice_set}
 use Rattle.std.proofs.lemmas.Bool.{cases_lt}
@@ -16,7 +16,7 @@ use Rattle.star_cause.proofs.Apart.{differ_short}
 use Rattle.star_cause.proofs.Rings.{known_ends, last_ends, met_ends}
 use Rattle.star_cause.proofs.Ways.{joined, next_on}
 
--- the way from the file n has these files, of which no end is known, and has come to the file `at`
+-- the way from the file n has these files, whose ends are not known, and has come to the file `at`
 pub record OnWay (nexts : Nexts) (ends : Ends) (n : ℕ) (files places : List ℕ) (at : ℕ) : Type 0 where
   pub way : Way nexts n files at
   pub differ : AllDiffer files
@@ -87,9 +87,9 @@ room nexts ends n files places at off is =
     let long : length (files ++ at ∷ []) ≡ length files + 1 = length_push files at in
     omega (arith, more, long)
 
--- ---- where it stops
+-- ---- its end
 
--- a way begins at its first file, where it has one
+-- a way begins at its first file, if it has one
 begins : (nexts : Nexts) (n m : ℕ) (files : List ℕ) → Way nexts n files m → (n ≡ m → ⊥) ⊎ (0 < length files) → Contains files n
 begins nexts n m [] way (inl other) = absurd (other way)
 begins nexts n m [] way (inr some) = absurd (let no : ⊥ = omega (arith, some) in no)

@@ -1,4 +1,4 @@
--- Ways along next files: joined, cut, and what they lead by.
+-- Ways along next files: joined, cut, and their files.
 use Rattle.std.proofs.Common.{arith, ◌≡◌, ◌<◌, ◌+◌, ◌⊎◌, inl, inr, ℕ, List, [], ◌∷◌, ◌++◌, length, take, drop, get_or, Some, refl, ap, sym, subst, ◌∙◌, take-append-drop}
 use Rattle.std.specs.Prelude.{Contains, slice_get}
 use Rattle.std.proofs.lemmas.List.{drop_more}
@@ -53,7 +53,7 @@ same_way nexts n a b (x ∷ xs) (y ∷ ys) e p q =
     let rest : xs ≡ ys = same_way nexts p.1.0 a b xs ys (omega (arith, e)) p.1.2 (subst (λ z. Way nexts z ys b) next q.1.2) in
     ap (λ zs. x ∷ zs) rest ∙ ap (λ z. z ∷ ys) (sym p.0 ∙ q.0)
 
--- where a way is longer than another from the same file, that other one goes on
+-- if a way is longer than another from the same file, that other one goes on
 pub goes_on : (nexts : Nexts) (n a b : ℕ) (xs ys : List ℕ) → length xs < length ys → Way nexts n xs a → Way nexts n ys b → (k : ℕ) × Goes nexts a k
 goes_on nexts n a b xs [] less p q = absurd (let no : ⊥ = omega (arith, less) in no)
 goes_on nexts n a b [] (y ∷ ys) less p q = (q.1.0, subst (λ z. Goes nexts z q.1.0) p q.1.1)
@@ -87,6 +87,6 @@ goes_inside nexts n count a xs (ys, (b, q, size)) less p = goes_on nexts n a b x
 pub goes_below : (nexts : Nexts) (a k : ℕ) → Goes nexts a k → a < length nexts
 goes_below nexts a k goes = slice_get_within nexts a (Some k) goes
 
--- what was read at a place stands there
+-- the file read at a place is there
 pub read_at : {X : Type 0} (xs : List X) (i : ℕ) (d x : X) → i < length xs → get_or xs i d ≡ x → slice_get xs i ≡ Some x
 read_at xs i d x less e = slice_get-get_or xs i d less ∙ ap Some e

@@ -1,4 +1,4 @@
--- What is known of where ways end.
+-- The ends of paths: known for some files while they are looked for, and in the end for all.
 use Rattle.std.specs.Prelude.{◌≡◌, ◌<◌, ◌-◌, ◌⊎◌, ℕ, List, ◌∷◌, length, Option, Some, None, All, Contains, if◌then◌else◌, nat_lt, slice_get, slice_index}
 use Rattle.star_plan.specs.Causes.{Culprit, Cycle}
 use Rattle.star_cause.specs.declared.ends.End.{End}
@@ -17,7 +17,7 @@ HasEnd nexts n (Last m) = EndsIn nexts n (Culprit m)
 HasEnd nexts n (Around first count) =
     (ms : List ℕ) × (length (first ∷ ms) ≡ count) × EndsIn nexts n (Cycle (first ∷ ms))
 
--- for each file the end of its way, where it is known
+-- for each file the end of its way, if it is known
 abbrev pub Ends : Type 0
 Ends = List (Option End)
 
@@ -27,7 +27,7 @@ IsKnown ends n = (e : End) × (slice_get ends n ≡ Some (Some e))
 abbrev pub IsFresh : Ends → ℕ → Type 0
 IsFresh ends n = slice_get ends n ≡ Some None
 
--- what is known is right, and with a file its next file is known
+-- a known end is right, and if a file's end is known, that of its next file is
 pub record AreEnds (nexts : Nexts) (ends : Ends) : Type 0 where
   pub size : length ends ≡ length nexts
   pub right : (n : ℕ) (e : End) → slice_get ends n ≡ Some (Some e) → HasEnd nexts n e
@@ -67,7 +67,7 @@ pub record IsWalked (nexts : Nexts) (ends : Ends) (n : ℕ) (files : List ℕ) (
   pub right : (i : ℕ) → i < length files → HasEnd nexts (slice_index files i) (end_on files stop i)
   pub closed : (x k : ℕ) → Contains files x → Goes nexts x k → Contains files k ⊎ IsKnown ends k
 
--- the ends of the first so many files of a way are known as well
+-- the ends of the first `count` files of a path are known as well
 pub record AreSettled (before : Ends) (files : List ℕ) (stop : Stop) (count : ℕ) (after : Ends) : Type 0 where
   pub size : length after ≡ length before
   pub kept : (x : ℕ) → IsKnown before x → IsKnown after x

@@ -1,4 +1,4 @@
-//! The causes of all files.
+//! The causes of all files that fail by their loads, found at once.
 
 ghost use Rattle.std.specs.Prelude.{◌≡◌, ◌<◌, ℕ, IfOk, length};
 ghost use Rattle.star_cause.specs.Causes.{IsBelow, IsCauseBy, cause_of};
@@ -10,7 +10,7 @@ use crate::ends::{End, ends_of, trail};
 use std::alloc::{AllocError, Global};
 use std::marker::Model;
 
-/// For each file the file by which it fails, where there is one, and where the way along these leads: seen as the
+/// For each file, the file by which it fails, if there is one, and the end of the path along these. Contracts see the
 /// former.
 #[derive(Drop)]
 pub struct Causes {
@@ -29,7 +29,7 @@ impl Model for Causes {
     ghost invariant = { λ c. AreAllEnds c.nexts.items c.ends.items };
 }
 
-/// The cause of the files whose ways end so.
+/// The cause at this end of a path.
 fn cause_at(alloc: Global, nexts: &[Option<usize>], end: End) -> Result<Cause, AllocError>
     requires { (n : ℕ) × HasEnd nexts.now n end }
     ensures { IfOk result (λ c. (n : ℕ) → HasEnd nexts.now n end → EndsIn nexts.now n (cause_of c)) }
@@ -41,7 +41,7 @@ fn cause_at(alloc: Global, nexts: &[Option<usize>], end: End) -> Result<Cause, A
 }
 
 impl Causes {
-    /// Finds where the ways of all files lead, in time in proportion to their number.
+    /// Finds the ends of the paths of all files, in time in proportion to their number.
     pub fn new(alloc: Global, nexts: Vec<Option<usize>>) -> Result<Causes, AllocError>
         requires { AreWithin nexts.items }
         ensures { IfOk result (λ c. c ≡ nexts.items) }
@@ -50,8 +50,7 @@ impl Causes {
         Ok(Causes { nexts, ends })
     }
 
-    /// The cause of a file: the file without a next one to which the way from it leads, or the cycle into which it
-    /// does.
+    /// The cause of a file: the last file of its path, or the cycle in which its path ends.
     pub fn of(&self, alloc: Global, n: usize) -> Result<Cause, AllocError>
         requires { n < length self.now }
         ensures way { IfOk result (λ c. EndsIn self.now n (cause_of c)) }

@@ -1,4 +1,7 @@
-//! Where the ways from files end, along next files.
+//! Follows the path of each file, from failing load to failing load, to its last file or its cycle.
+//!
+//! It goes over a row with at most one next file for each file, and knows nothing of plans. Of each file only the end
+//! of its path is kept: a file, or a cycle by its first file and length.
 
 ghost use Rattle.std.specs.Prelude.{◌≡◌, ◌<◌, ℕ, All, Contains, Some, IfOk, MatchOption, OnOk, length, slice_index, vec_len};
 ghost use Rattle.star_cause.specs.Ends.{AreAllEnds, AreEnds, AreNoted, AreSettled, AreWithin, IsFresh, IsKnown, IsPlaceOn, IsWalked, end_on, ring_end};
@@ -6,8 +9,8 @@ ghost use Rattle.star_cause.specs.Ways.{HasWay, IsTrail};
 
 use std::alloc::{AllocError, Global};
 
-/// Where the way from a file ends: at a file without a next one, or in a cycle of so many files, by the first of them
-/// that is met.
+/// The end of a file's path: a file without a next one, or a cycle of `count` files, named by the first of them that is
+/// met.
 #[derive(Clone, Copy, Debug, PartialEq, Eq)]
 pub(crate) enum End {
     Last(usize),
@@ -169,7 +172,7 @@ pub(crate) fn ends_of(
     Ok(ends)
 }
 
-/// The first so many files of the way from a file.
+/// The first `count` files of the path from a file.
 pub(crate) fn trail(
     alloc: Global,
     nexts: &[Option<usize>],

@@ -1,18 +1,16 @@
 -- Equal values have the same data.
-use Rattle.std.proofs.Common.{arith, eqb-true, ◌≡◌, ◌<◌, ◌≤◌, ◌+◌, ◌-◌, ℕ, zero, suc, ℤ, pos, negsuc, nat_eq, nat_lt, Bool, true, false, ◌&&◌, List, [], ◌∷◌, length, get_or, Option, Some, None, refl, ap, sym, subst, ◌∙◌, if◌then◌else◌}
+use Rattle.std.proofs.Common.{arith, eqb-true, ◌≡◌, ◌<◌, ◌≤◌, ◌+◌, ◌-◌, ℕ, zero, suc, nat_eq, nat_lt, Bool, true, false, ◌&&◌, List, [], ◌∷◌, length, get_or, Option, Some, None, refl, ap, sym, subst, ◌∙◌, if◌then◌else◌}
 use Rattle.std.specs.Prelude.{slice_get}
 use Rattle.std.specs.Bool.{beq}
 use Rattle.std.proofs.lemmas.Bool.Decides.{Decides-int_eq}
-use Rattle.std.specs.Ordering.{int_eq, match_ordering, nat_cmp, ordering_reverse}
+use Rattle.std.specs.Ordering.{int_eq, nat_cmp}
 use Rattle.std.specs.Option.{option_and_then, option_map}
-use Rattle.std.specs.Cmp.{IsTotalOrder}
 use Rattle.std.specs.Cmp.Lexicographic.{pointwise, slice_cmp}
 use Rattle.std.specs.declared.cmp.Ordering.{Ordering}
 use Rattle.std.specs.declared.cmp.Ordering.TheVariants.{Less, Equal, Greater}
-use Rattle.std.proofs.lemmas.Cmp.{nat_list_cmp_total}
 use Rattle.std.proofs.lemmas.Map.Lookups.{exact_bytes}
 use Rattle.std.proofs.lemmas.List.Quantifiers.{position-Some}
-use Rattle.serde_json.specs.Data.{Data, Items, Members, array, boolean, item, no_items, no_members, null, number, object, put, string}
+use Rattle.serde_json.specs.Data.{Data, Items, Members, array, boolean, item, no_members, null, number, object, put, string}
 use Rattle.serde_json.specs.Find.{get_member, of_integer}
 use Rattle.star_store.specs.declared.values.Value.{Value}
 use Rattle.star_store.specs.declared.values.Value.TheVariants as value
@@ -23,6 +21,7 @@ use Rattle.star_store.specs.Key.{key_levels, place_of, same_key, same_key_cell, 
 use Rattle.star_store.specs.Spend.{Enough, Lacks, Spend, Spent, all_places, answer, spend_then, visited}
 use Rattle.star_data.specs.Data.{cell_data, cell_of, data_of, entries_data, items_data, text_in, value_data}
 use Rattle.star_data.specs.Laws.{EqualAreSame, KeysStandOnce}
+use Rattle.star_data.proofs.Ints.{int_is}
 use Rattle.star_data.proofs.Rising.{Rises, count, count_new, count_put, equal_bytes, rises_put, same_members}
 use Rattle.serde_json.proofs.Views.{get_member-put, get_member-put_other}
 use Rattle.star_data.proofs.Options.{chained, mapped}
@@ -122,7 +121,7 @@ entered_by look a x xs ms f =
     let rest = mapped (put k.0 d.0) (entries_data look a xs) ms d.2 in
     record { key = k.0; value = d.0; others = rest.0; text = k.1; is_data = d.1; rest = rest.1; all = rest.2 }
 
-sorted_entries : (look : Value → Option Cell) (a : Value → Option Data) (xs : List (Value × Value)) (ms : Members) → entries_data look a xs ≡ Some ms → Rises ms
+pub sorted_entries : (look : Value → Option Cell) (a : Value → Option Data) (xs : List (Value × Value)) (ms : Members) → entries_data look a xs ≡ Some ms → Rises ms
 sorted_entries look a [] ms f = let e : no_members ≡ ms = cc in subst Rises e tt
 sorted_entries look a (x ∷ xs) ms f =
     let it = entered_by look a x xs ms f in
@@ -304,7 +303,9 @@ values look f a b once h (value.Bool u) (value.Bool v) n left is d e p q =
     data_is (boolean u) (boolean v) d e p q (ap boolean (same_bool u v equal))
 values look f a b once h (value.Int u) (value.Int v) n left is d e p q =
     let equal : int_eq u v ≡ true = cc in
-    data_is (number (of_integer u)) (number (of_integer v)) d e p q (ap (λ z. number (of_integer z)) ((Decides-int_eq u v).0 equal))
+    let one = int_is u d p in
+    let two = int_is v e q in
+    sym one.1 ∙ (ap (λ z. number (of_integer z)) ((Decides-int_eq u v).0 equal) ∙ two.1)
 values look f a b once h (value.Ref k i) (value.Ref l j) n left is d e p q = cells look f a b h (nat_eq k l && nat_eq i j) (look (value.Ref k i)) (look (value.Ref l j)) n left (once (value.Ref k i)) is d e p q
 values look f a b once h (value.Builtin u) y n left is d e p q = absurd (let no : ⊥ = cc in no)
 values look f a b once h x y n left is d e p q = absurd (let no : ⊥ = cc in no)

@@ -3,5 +3,9 @@ pub mod Stays
 pub mod Parts
 pub mod Builds
 pub mod Sent
+pub mod Ints
 mod Rising
 mod Equal
+mod Back
+mod Reading
+mod Size

@@ -1,8 +1,9 @@
--- Values as data: the JSON that stands for a value, where one does.
-use Rattle.std.specs.Prelude.{ℕ, zero, suc, List, [], ◌∷◌, Option, Some, None, slice_get}
+-- Values as data: the JSON of a value, if it has one.
+use Rattle.std.specs.Prelude.{ℕ, zero, suc, ℤ, if◌then◌else◌, List, [], ◌∷◌, Option, Some, None, slice_get}
 use Rattle.std.specs.Option.{option_and_then, option_map}
 use Rattle.serde_json.specs.Data.{Data, Items, Members, array, boolean, item, no_items, no_members, null, number, object, put, string}
 use Rattle.serde_json.specs.Find.{of_integer}
+use Rattle.star_store.specs.Arithmetic.{fits}
 use Rattle.star_store.specs.declared.values.Value.{Value}
 use Rattle.star_store.specs.declared.values.Value.TheVariants as value
 use Rattle.star_store.specs.declared.values.Cell.{Cell}
@@ -39,11 +40,15 @@ cell_data look f (Some (cell.List xs)) = option_map array (items_data f xs)
 cell_data look f (Some (cell.Dict es)) = option_map object (entries_data look f es)
 cell_data look f _ = None
 
+-- ints of 64 bits, which all ints of a run are
+abbrev pub int_data : ℤ → Option Data
+int_data n = if fits n then Some (number (of_integer n)) else None
+
 -- None, bools, ints, and what has a cell that is data; a built-in function is none
 abbrev pub value_data : (Value → Option Cell) → (Value → Option Data) → Value → Option Data
 value_data look f value.NoneValue = Some null
 value_data look f (value.Bool b) = Some (boolean b)
-value_data look f (value.Int n) = Some (number (of_integer n))
+value_data look f (value.Int n) = int_data n
 value_data look f (value.Ref h a) = cell_data look f (look (value.Ref h a))
 value_data look f _ = None
 

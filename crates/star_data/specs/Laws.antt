@@ -1,13 +1,17 @@
 -- Laws of values as data.
-use Rattle.std.specs.Prelude.{◌≡◌, ◌≤◌, ℕ, suc, true, List, Option, Some, slice_get}
-use Rattle.serde_json.specs.Data.{Data}
+use Rattle.std.specs.Prelude.{◌≡◌, ◌≤◌, ◌*◌, ℕ, suc, true, List, [], Option, Some, length, slice_get}
+use Rattle.serde_json.specs.Data.{Data, depth}
+use Rattle.serde_json.specs.Read.{max_depth, read}
+use Rattle.serde_json.specs.Written.{compact_text}
 use Rattle.star_store.specs.declared.values.Value.{Value}
 use Rattle.star_store.specs.declared.values.Cell.{Cell}
 use Rattle.star_store.specs.declared.values.Cell.TheVariants as cell
 use Rattle.star_store.specs.Equal.{same}
 use Rattle.star_store.specs.Spend.{Enough}
+use Rattle.star_store.specs.Text.{text}
 use Rattle.star_data.specs.Data.{cell_of, data_of, text_in}
 use Rattle.star_data.specs.Parts.{IsOpaque, IsPart, StandsIn}
+use Rattle.star_data.specs.Reading.{AreUtf8, read_within}
 
 -- data stays where cells stay, and at every greater depth
 abbrev pub DataStays : Type 0
@@ -47,3 +51,26 @@ abbrev pub EqualAreSame : Type 0
 EqualAreSame =
     (look : Value → Option Cell) → KeysStandOnce look → (levels steps left n m : ℕ) (x y : Value) (d e : Data)
     → same look levels x y steps ≡ Enough true left → data_of look n x ≡ Some d → data_of look m y ≡ Some e → d ≡ e
+
+-- the text of a value's JSON is read back as its data, by a reader that opens as many levels
+abbrev pub ReadsBack : Type 0
+ReadsBack =
+    (look : Value → Option Cell) (n m : ℕ) (v : Value) (d : Data) → data_of look n v ≡ Some d → n ≤ m → read_within m (compact_text d) ≡ Some d
+
+-- and by serde_json's own reader, where it nests no deeper than that reads
+abbrev pub SerdeReadsBack : Type 0
+SerdeReadsBack =
+    (look : Value → Option Cell) (n : ℕ) (v : Value) (d : Data) → data_of look n v ≡ Some d
+    → depth d ≤ max_depth → read (compact_text d) ≡ Some d
+
+-- so the text determines the data
+abbrev pub TextTells : Type 0
+TextTells =
+    (look see : Value → Option Cell) (n m : ℕ) (v w : Value) (d e : Data) → data_of look n v ≡ Some d → data_of see m w ≡ Some e → compact_text d ≡ compact_text e → d ≡ e
+
+-- the JSON of a value is at most one and a half times as long as its text
+abbrev pub IsNoLonger : Type 0
+IsNoLonger =
+    (look : Value → Option Cell) → AreUtf8 look → (levels steps left n : ℕ) (v : Value) (t : List ℕ) (d : Data)
+    → text look levels [] v [] steps ≡ Enough t left → data_of look n v ≡ Some d
+    → 2 * length (compact_text d) ≤ 3 * length t

@@ -1,5 +1,7 @@
+-- The JSON of values, and laws of it. Begin at Data.
 pub mod Data
 pub mod Parts
 pub mod Paths
 pub mod Texts
+pub mod Reading
 pub mod Laws

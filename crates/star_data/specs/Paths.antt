@@ -1,4 +1,4 @@
--- The lists and dictionaries in which values stand.
+-- Paths of lists and dictionaries, each inside the one before, down to a value.
 use Rattle.std.specs.Prelude.{◌≡◌, ℕ, suc, List, Option, Some, slice_get}
 use Rattle.star_store.specs.declared.values.Value.{Value}
 use Rattle.star_store.specs.declared.values.Cell.{Cell}

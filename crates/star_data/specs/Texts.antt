@@ -1,4 +1,4 @@
--- The JSON of values as it is written.
+-- The JSON of values, as it is written.
 use Rattle.std.specs.Prelude.{◌≡◌, ℕ, List, [], ◌∷◌, ◌++◌, Bool, true, false, Option, Some, None}
 use Rattle.std.specs.Option.{option_and_then, option_map}
 use denote.Ref.{Bor}

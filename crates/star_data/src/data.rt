@@ -1,11 +1,11 @@
-//! The JSON of a value, written after a text.
+//! `write_data`: writes the JSON of a value after a text, or finds that it has none.
 
 ghost use Rattle.std.specs.Prelude.{◌≡◌, ◌-◌, IfOk, OnOk, Some, map, take, vec_len};
 ghost use Rattle.std.specs.Option.{option_copied, option_map};
 ghost use Rattle.serde_json.specs.Data.{array, object};
 ghost use Rattle.star_store.specs.Store.{look};
 ghost use Rattle.star_store.specs.Text.{on_path, same_address};
-ghost use Rattle.star_data.specs.Data.{cell_data, cell_of, data_of, entries_data, items_data, text_in};
+ghost use Rattle.star_data.specs.Data.{cell_data, cell_of, data_of, entries_data, int_data, items_data, text_in};
 ghost use Rattle.star_data.specs.Texts.{IsJson, Says, Sends, row_data};
 ghost use Rattle.star_store.specs.declared.values.Cell.TheVariants as cell;
 ghost use Rattle.star_data.specs.Paths.{AllStandInEach, StandsInEach};
@@ -24,8 +24,8 @@ pub struct Written {
 }
 
 /// The text with the JSON of a value that nests less deep than so many levels after it: None, bools, ints and strings,
-/// lists and tuples as arrays, dictionaries whose keys are all strings as objects, with their members in byte order. The
-/// text alone for what has anything else in it, or itself.
+/// lists and tuples as arrays, dictionaries whose keys are all strings as objects, with their members in byte order.
+/// The text alone for what has anything else in it, or itself.
 ///
 /// It visits no more than the text of the value does.
 pub fn write_data<'a>(
@@ -68,6 +68,15 @@ fn is_data<'a>(
     write_value(alloc, arena, homes, levels, path, value, &mut out)
 }
 
+/// An int is data: it has 64 bits.
+fn write_int(number: i64, out: &mut Writer) -> Result<bool, AllocError>
+    ensures data { IfOk result (λ b. Sends (int_data number) b out.old.tokens out.new.tokens) }
+    ensures before { out.new.before ≡ out.old.before }
+{
+    out.i64(number)?;
+    Ok(true)
+}
+
 #[cycle(write)]
 fn write_value<'a>(
     alloc: Global,
@@ -79,7 +88,8 @@ fn write_value<'a>(
     out: &mut Writer,
 ) -> Result<bool, AllocError>
     requires { StandsInEach (look arena.now homes.now) path.old.items value }
-    ensures data { IfOk result (λ b. Sends (data_of (look arena.now homes.now) levels value) b out.old.tokens out.new.tokens) }
+    ensures data { IfOk result (λ b. Sends (data_of (look arena.now homes.now) levels value) b out.old.tokens
+        out.new.tokens) }
     ensures path { OnOk result (path.new.items ≡ path.old.items) }
     ensures before { out.new.before ≡ out.old.before }
 {
@@ -95,10 +105,7 @@ fn write_value<'a>(
             out.boolean(truth)?;
             Ok(true)
         }
-        Value::Int(number) => {
-            out.i64(number)?;
-            Ok(true)
-        }
+        Value::Int(number) => write_int(number, out),
         Value::Builtin(_) => Ok(false),
         Value::Ref { .. } => {
             let cell = arena.read(homes, value);
@@ -177,7 +184,8 @@ fn write_list<'a>(
     requires path { StandsInEach (look arena.now homes.now) path.old.items value }
     requires cell { cell_of (look arena.now homes.now) value ≡ Some (cell.List items.now) }
     ensures data { IfOk result (λ b. Sends
-        (option_map array (items_data (data_of (look arena.now homes.now) levels) items.now)) b out.old.tokens out.new.tokens) }
+        (option_map array (items_data (data_of (look arena.now homes.now) levels) items.now)) b
+        out.old.tokens out.new.tokens) }
     ensures path { OnOk result (path.new.items ≡ path.old.items) }
     ensures before { out.new.before ≡ out.old.before }
 {
@@ -205,7 +213,8 @@ fn write_dict<'a>(
     requires path { StandsInEach (look arena.now homes.now) path.old.items value }
     requires cell { cell_of (look arena.now homes.now) value ≡ Some (cell.Dict entries.now) }
     ensures data { IfOk result (λ b. Sends
-        (option_map object (entries_data (look arena.now homes.now) (data_of (look arena.now homes.now) levels) entries.now)) b
+        (option_map object
+        (entries_data (look arena.now homes.now) (data_of (look arena.now homes.now) levels) entries.now)) b
         out.old.tokens out.new.tokens) }
     ensures path { OnOk result (path.new.items ≡ path.old.items) }
     ensures before { out.new.before ≡ out.old.before }
@@ -231,7 +240,8 @@ fn write_items<'a>(
 ) -> Result<bool, AllocError>
     requires { AllStandInEach (look arena.now homes.now) path.old.items items.now }
     ensures data { IfOk result (λ b. Sends
-        (option_map array (items_data (data_of (look arena.now homes.now) levels) items.now)) b out.old.tokens out.new.tokens) }
+        (option_map array (items_data (data_of (look arena.now homes.now) levels) items.now)) b
+        out.old.tokens out.new.tokens) }
     ensures path { OnOk result (path.new.items ≡ path.old.items) }
     ensures before { out.new.before ≡ out.old.before }
 {
@@ -257,7 +267,8 @@ fn write_entries<'a>(
 ) -> Result<bool, AllocError>
     requires { AllStandInEach (look arena.now homes.now) path.old.items (map (λ e. e.1) entries.now) }
     ensures data { IfOk result (λ b. Sends
-        (option_map object (entries_data (look arena.now homes.now) (data_of (look arena.now homes.now) levels) entries.now)) b
+        (option_map object
+        (entries_data (look arena.now homes.now) (data_of (look arena.now homes.now) levels) entries.now)) b
         out.old.tokens out.new.tokens) }
     ensures path { OnOk result (path.new.items ≡ path.old.items) }
     ensures before { out.new.before ≡ out.old.before }

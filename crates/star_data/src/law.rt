@@ -1,6 +1,6 @@
-//! Laws of values as data.
+//! Laws of values as JSON: more cells and freezing keep it, equal values have the same, and it is read back.
 
-ghost use Rattle.star_data.specs.Laws.{DataIsPlain, DataStays, EqualAreSame, NoCycleIsData, OneData, PartsAreData};
+ghost use Rattle.star_data.specs.Laws.{DataIsPlain, DataStays, EqualAreSame, IsNoLonger, NoCycleIsData, OneData, PartsAreData, ReadsBack, SerdeReadsBack, TextTells};
 
 /// Data stays where cells stay, and at every greater depth.
 pub fn data_stays()
@@ -30,4 +30,24 @@ pub fn no_cycle_is_data()
 /// Values of which equality answers true, and which are data, have the same JSON.
 pub fn equal_are_same()
     ensures { EqualAreSame }
+{}
+
+/// The text of a value's JSON is read back as its data.
+pub fn reads_back()
+    ensures { ReadsBack }
+{}
+
+/// So it is by serde_json's own reader, where the value nests no deeper than that reads.
+pub fn serde_reads_back()
+    ensures { SerdeReadsBack }
+{}
+
+/// The text of a value's JSON determines its data.
+pub fn text_tells()
+    ensures { TextTells }
+{}
+
+/// The JSON of a value is at most one and a half times as long as its text.
+pub fn is_no_longer()
+    ensures { IsNoLonger }
 {}

@@ -1,15 +1,21 @@
-//! Values as data: the JSON of a value, or that it has none.
+//! Values as data: the JSON of a value, or that it has none (`docs/REPORT.md`).
 //!
-//! `data_of` visits what the text of the value visits. None, bools, ints and strings are themselves, lists and tuples
-//! are arrays, dictionaries whose keys are all strings are objects with their members in byte order. Any other value,
-//! and any value that holds one or holds itself, has no JSON. `law` has what follows from the definition
-//! (`specs/Data`): data stays data when cells are added or frozen, no value that holds itself has JSON,
-//! and equal values have the same.
+//! Begin at `write_data` in `data.rt`. It visits no more values than the text of the value does. None, bools, ints and
+//! strings are themselves, lists and tuples are arrays, and a dictionary whose keys are all strings is an object with
+//! its members in byte order. Any other value has no JSON, and neither has a value that contains one, or contains
+//! itself.
+//!
+//! - `Written` is the result: the text, and whether the JSON of the value was written after it.
+//! - `law` has what follows from the definition (`specs/Data`): a value keeps its JSON if cells are added or the store
+//!   is frozen, no value that contains itself has JSON, and equal values have the same.
+//!
+//! The promise is the contract of `write_data`: exactly the JSON of the definition.
 #![tactic(auto)]
 
 pub mod data;
 mod law;
 
 pub use law::{
-    data_is_plain, data_stays, equal_are_same, no_cycle_is_data, one_data, parts_are_data,
+    data_is_plain, data_stays, equal_are_same, is_no_longer, no_cycle_is_data, one_data,
+    parts_are_data, reads_back, serde_reads_back, text_tells,
 };

@@ -1,4 +1,4 @@
--- Arguments by place, of parameters that have names alone.
+-- Positional arguments, of parameters that have names alone.
 use Rattle.std.proofs.Common.{◌≡◌, ℕ, Bool, true, false, ◌&&◌, List, [], ◌∷◌, ◌++◌, length, map, Some, None, Result, refl, ap, sym, subst, ◌∙◌, arith}
 use Rattle.std.specs.List.{list_all}
 use Rattle.std.specs.Option.{option_and_then}
@@ -31,7 +31,7 @@ both : (a b : Bool) → (a && b) ≡ true → (a ≡ true) × (b ≡ true)
 both true b h = (refl, h)
 both false b h = cc
 
--- what is given by place alone
+-- positional arguments alone
 no_star : (vs : List Value) → star_of (map Plain vs) ≡ None
 no_star [] = refl
 no_star (v ∷ vs) = no_star vs
@@ -52,7 +52,7 @@ given_plain : (w : Setting) (line : ℕ) (vs : List Value) (s : State) → given
 unfolding given
 given_plain w line vs s = simp (no_star vs, no_star_star vs, no_names vs, all_plain vs)
 
--- values by place are passed as they are
+-- positional values are passed as they are
 after_both : (o : Outcome (List Value)) (v : Value) (q : Outcome (List Passed)) → q ≡ and_then o (λ vs. give (map Plain vs))
     → and_then q (λ ys. give (Plain v ∷ ys)) ≡ and_then (and_then o (λ vs. give (v ∷ vs))) (λ vs. give (map Plain vs))
 after_both (Done vs t) v q h = ap (λ (r : Outcome (List Passed)). and_then r (λ ys. give (Plain v ∷ ys))) h
@@ -82,7 +82,7 @@ passed_alike m p (a ∷ es) s h =
     let q = both (is_positional a) (list_all is_positional es) h in
     pass_more m p (argument a) es s q.0 (λ t. passed_alike m p es t q.1)
 
--- what is left of a call once the value of its callee is known
+-- the rest of a call once the value of its callee is known
 by_callee : (o : Outcome Callee) (w : Setting) (levels : ℕ) (m : Meaning) (p : Place) (vs : List Value)
     → and_then o (λ c u. and_then (given w p.line (map Plain vs) u) (λ g. called w levels m p c g)) ≡ and_then o (λ c. called w levels m p c (record { plain = vs; named = [] }))
 by_callee (Done c u) w levels m p vs = ap (λ (r : Outcome Given). and_then r (λ g. called w levels m p c g)) (given_plain w p.line vs u)
@@ -99,14 +99,14 @@ by_place_is w levels p v es s h =
     sym (ap (λ (r : Outcome (List Passed)). and_then r (λ ps t. and_then (callee w.setting p.line v t) (λ c u. and_then (given w.setting p.line ps u) (λ g. called w.setting levels m p c g)))) (passed_alike m p es s h)
     ∙ by_values (each (value m p) es s) w.setting levels m p v)
 
--- what a call gives that goes by place
+-- the arguments of a positional call
 pub call_gives : (w : World) (levels : ℕ) (p : Place) (f : Expression) (es : List Argument) (v : Value) (s u : State) (r : Result Value Stop) (t : State) → list_all is_positional es ≡ true → (meant w levels).expr p f s ≡ Done v u
     → Gives (called_by_place w levels p v es u) r t → Gives (call_node w.setting levels (meant w levels) p f es s) r t
 call_gives w levels p f es v s u r t h run g =
     let e = ap (λ (o : Outcome Value). and_then o (λ x. called_with w levels p x es)) run in
     subst (λ (o : Outcome Value). Gives o r t) (by_place_is w levels p v es u h ∙ sym e) g
 
--- values by place are the shares of parameters that have names alone
+-- positional values are the shares of parameters that have names alone
 abbrev progress : List Value → List Value → Progress
 progress vs ds = record { by_name = false; plain = vs; defaults = ds }
 

@@ -1,4 +1,4 @@
--- What a value leads to is the same in states with one store.
+-- A value leads to the same cell in states with one store.
 use Rattle.std.proofs.Common.{◌≡◌, ap, refl}
 use Rattle.star_store.specs.declared.values.Value.{Value}
 use Rattle.star_store.specs.declared.values.Value.TheVariants as value

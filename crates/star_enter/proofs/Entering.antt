@@ -1,4 +1,4 @@
--- A call is its part up to the body, and what is left of it.
+-- A call is its part up to the body, and the rest.
 use Rattle.std.proofs.Common.{◌≡◌, ℕ, List, refl, ◌∙◌}
 use Rattle.star_store.specs.declared.values.Value.{Value}
 use Rattle.star_store.specs.declared.values.Function.{Function}

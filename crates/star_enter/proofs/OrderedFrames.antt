@@ -42,7 +42,7 @@ use Rattle.star_enter.proofs.OrderedMade.{bound_name, bound_names, made_share, s
 use Rattle.star_enter.proofs.OrderedRows.{made_slots}
 use Rattle.star_enter.proofs.OrderedShares.{few_taken, share_names, shares_bound, side, two_slots}
 
--- ---- rows of which the first so many slots are bound
+-- ---- rows whose first slots are bound
 
 abbrev first_of : (ℕ → Option Value) → ℕ → ℕ → Option Value
 first_of f i j = if nat_lt j i then f j else None
@@ -86,7 +86,7 @@ bound_last s file block parent slots i v =
     ap (λ b. if b then record s { cells = changed_at (λ e. record e { cell = bound_cell i v e.cell }) (s.cells ++ old ∷ []) (length s.cells) } else made (cell.Frame (with_slots file block parent slots)) s) (eq-eqb s.home s.home refl)
     ∙ ap (λ cs. record s { cells = cs }) (last_changed (λ e. record e { cell = bound_cell i v e.cell }) s.cells old)
 
--- the state in which it has these slots
+-- the state with these slots of it
 abbrev framed_state : State → ℕ → ℕ → Option Value → List (Option Value) → State
 framed_state s file block parent slots = record s { store = made (cell.Frame (with_slots file block parent slots)) s.store }
 
@@ -116,7 +116,7 @@ none_more f n i h = row_same (first_of f i) (first_of f (suc i)) n (λ j. by j (
     by j (inl e) = ap (λ b. if b then f j else None) (lt-ltb j i e ∙ sym (lt-ltb j (suc i) (omega (arith, e))))
     by j (inr e) = here j e
 
--- a name with the next slot is bound to what the slot has
+-- a name with the next slot is bound to the value of the slot
 abbrev before_value : Name → Option Value → List (Name × Value) → List (Name × Value)
 before_value n (Some v) more = (n, v) ∷ more
 before_value n None more = more
@@ -233,7 +233,7 @@ framed_is w names l line file number parent ps f s h none c = by (pay line 1 s)
     by (Done x t) = within_is w names l line file number parent ps f t h none c
     by (Failed e lines) = refl
 
--- a frame with what was made for `*name` and `**name`
+-- a frame with the values made for `*name` and `**name`
 made_bound : (w : World) (names : Names) (l : Layout) (line file number : ℕ) (parent : Value) (ps : List Parameter) (ds : List Value) (g : Given) (t d : Option Value) (s : State)
     → AreLaidOut ((tables_of w.files).spots file) names l ps → length names ≡ (tables_of w.files).slots file (1 + number)
     → framed w line file number parent (bound_names (with_made l t d (bound_at l names ds g)) start ps) give s
@@ -243,7 +243,7 @@ made_bound w names l line file number parent ps ds g t d s h c =
     ∙ ap (λ r. entering_with line file number parent r give s)
     (sym (made_slots l t d (bound_at l names ds g) (length names) (λ i e. two_slots ((tables_of w.files).spots file) names l start ps i tt h.0 e)))
 
--- an action before which a share is set
+-- an action after a share is set
 set_before : {A : Type 0} (line : ℕ) (o : Option ℕ) (x : Share) (slots : List (Option Value)) (k : List (Option Value) → Action A) (s : State)
     → and_then (with_share line o x slots s) k ≡ and_then (made_share line o x s) (λ v. k (with_value o v slots))
 set_before line o x slots k s = ap (λ r. and_then r k) (share_set line o x slots s) ∙ by (made_share line o x s)
@@ -252,7 +252,7 @@ set_before line o x slots k s = ap (λ r. and_then r k) (share_set line o x slot
     by (Done v t) = refl
     by (Failed e ls) = refl
 
--- a call whose parameters get these shares is entered with what is bound
+-- a call whose parameters get these shares is entered with their values
 laid_out : (w : World) (names : Names) (l : Layout) (line file number : ℕ) (parent : Value) (ps : List Parameter) (ds : List Value) (g : Given) (s : State)
     → AreLaidOut ((tables_of w.files).spots file) names l ps → length names ≡ (tables_of w.files).slots file (1 + number)
     → entering w line file number parent (share_names (bound_at l names ds g) (unplaced l g) (unowned l names g.named) start ps) give s
@@ -277,11 +277,11 @@ laid_out w names l line file number parent ps ds g s h c =
         ∙ sym (set_before line l.names (share.Names (unowned l names g.named)) (with_value l.rest t (bound_row l names ds g)) (λ all. entering_with line file number parent all give) st)
     outer (Failed e ls) = refl
 
--- what is done after the share of `*name` is set
+-- the rest after the share of `*name` is set
 abbrev then_names : ℕ → ℕ → ℕ → Value → Option ℕ → List NamedValue → List (Option Value) → Action Place
 then_names line file number parent o ns slots = with_share line o (share.Names ns) slots >>= λ all. entering_with line file number parent all give
 
--- so is one for which that was bound
+-- so is one with that bound
 pub are_bound : (w : World) (names : Names) (l : Layout) (file number : ℕ) (parent : Value) (ps : List Parameter) (ds : List Value) (g : Given) (b : Bound)
     → AreLaidOut ((tables_of w.files).spots file) names l ps → length names ≡ (tables_of w.files).slots file (1 + number) → IsBoundBy l names ds g b
     → AreBound w file number parent ps ds g b
@@ -303,7 +303,7 @@ pub run_bound_is : (w : World) (m : Meaning) (p : Place) (f : Function) (d : Def
     → run (variables w) m p f d shares s ≡ and_then (entering_bound p.line f.file f.definition f.frame b give s) (left m d)
 run_bound_is w m p f d shares b s h = run_is w m p f d shares s ∙ ap (λ (r : Outcome Place). and_then r (left m d)) (h p.line s)
 
--- what was bound, where it was
+-- the bound value, if there was one
 pub bound_there : {E : Type 0} (w : World) (names : Names) (l : Layout) (file number : ℕ) (parent : Value) (ps : List Parameter) (ds es : List Value) (g : Given) (r : Result (Option Bound) E)
     → AreLaidOut ((tables_of w.files).spots file) names l ps → length names ≡ (tables_of w.files).slots file (1 + number) → es ≡ ds
     → IfOk r (λ o. IfSome o (IsBoundBy l names es g)) → IfOk r (λ o. IfSome o (AreBound w file number parent ps ds g))

@@ -25,11 +25,11 @@ abbrev pub made_share : ℕ → Option ℕ → Share → Action (Option Value)
 made_share line None x = give None
 made_share line (Some i) x = made_of line x >>= λ v. give (Some v)
 
--- what slots have, with the values of `*name` and `**name`
+-- the values of slots, with those of `*name` and `**name`
 abbrev pub with_made : Layout → Option Value → Option Value → (ℕ → Option Value) → ℕ → Option Value
 with_made l rest names f i = if is_at l.rest i then rest else (if is_at l.names i then names else f i)
 
--- the names of parameters from the cursor on, each with what its slot has
+-- the names of parameters from the cursor on, each with the value of its slot
 abbrev pub bound_name : ParameterForm → Option Value → List (Name × Value) → List (Name × Value)
 bound_name (tree.Plain n) (Some v) more = (n, v) ∷ more
 bound_name (tree.Plain n) None more = more
@@ -45,7 +45,7 @@ abbrev pub bound_names : (ℕ → Option Value) → Cursor → List Parameter �
 bound_names f c [] = []
 bound_names f c (p ∷ ps) = bound_name (parameter p) (f c.slot) (bound_names f (after c (parameter p)) ps)
 
--- ---- what a slot has of these
+-- ---- the value of a slot among these
 
 not_true : (b c : Bool) → (not b && c) ≡ true → b ≡ false
 not_true false c h = refl
@@ -83,12 +83,12 @@ one_more : {A : Type 0} (o : Outcome A) (f : A → Action (List (Name × Value))
 one_more (Done a s) f x = refl
 one_more (Failed e ls) f x = refl
 
--- outcomes after which the same is done
+-- outcomes with the same rest
 same_after : {A B : Type 0} (o : Outcome A) (f g : A → Action B) → ((a : A) (s : State) → f a s ≡ g a s) → and_then o f ≡ and_then o g
 same_after (Done a s) f g h = h a s
 same_after (Failed e ls) f g h = refl
 
--- what is still to be made before a parameter, of `*name` and `**name`
+-- the values of `*name` and `**name` that are not made yet before a parameter
 abbrev made_from : Layout → ℕ → List Value → List NamedValue → Stage → Option Value → Option Value → Action (Option Value × Option Value)
 made_from l line rest left stage.ByPlace t d = made_share line l.rest (share.Rest rest) >>= λ u. made_share line l.names (share.Names left) >>= λ v. give (u, v)
 made_from l line rest left stage.ByName t d = made_share line l.names (share.Names left) >>= λ v. give (t, v)
@@ -106,7 +106,7 @@ bare_made l line rest left stage.ByPlace i t d st h = ap (λ o. and_then (made_s
 bare_made l line rest left stage.ByName i t d st h = absurd h
 bare_made l line rest left stage.Ended i t d st h = absurd h
 
--- the value of `*name` where only `**name` may follow
+-- the value of `*name` if only `**name` may follow
 abbrev rest_then : Stage → Option Value → Option Value
 rest_then stage.ByPlace t = None
 rest_then stage.ByName t = t
@@ -194,7 +194,7 @@ double_made l line n f t i (Done v s) more shares e h k =
     ∙ ap (λ b. give (bound_name (tree.Parameter-F.Parameter::StarStar n) b (more (t, Some v))) s) (sym (names_have l t (Some v) f i e h))
 double_made l line n f t i (Failed e ls) more shares q h k = refl
 
--- one parameter, after which the others are made
+-- one parameter, and then the others
 made_next : (spots : Spots) (names : Names) (l : Layout) (line : ℕ) (f : ℕ → Option Value) (rest : List Value) (left : List NamedValue) (c : Cursor) (p : ParameterForm) (t d : Option Value) (st : State)
     (shares : List (Name × Share)) (more : Pair → List (Name × Value)) → StandsAt spots names l c p
     → ((t d : Option Value) (s : State) → all_made line shares s ≡ and_then (made_from l line rest left (after c p).stage t d s) (λ x. give (more x)))
@@ -221,7 +221,7 @@ made_all spots names l line f rest left c (p ∷ ps) t d st h =
     made_next spots names l line f rest left c (parameter p) t d st (share_names f rest left (after c (parameter p)) ps) (λ x. bound_names (with_made l x.0 x.1 f) (after c (parameter p)) ps) h.0
     (λ t d s. made_all spots names l line f rest left (after c (parameter p)) ps t d s h.1)
 
--- the shares of all parameters are made where the values of `*name` and `**name` are
+-- the shares of all parameters are made if the values of `*name` and `**name` are
 pub shares_made : (spots : Spots) (names : Names) (l : Layout) (line : ℕ) (f : ℕ → Option Value) (rest : List Value) (left : List NamedValue) (ps : List Parameter) (st : State) → InOrder spots names l start ps
     → make_shares line (share_names f rest left start ps) st
     ≡ and_then (made_share line l.rest (share.Rest rest) st) (λ t. made_share line l.names (share.Names left) >>= λ d. give (bound_names (with_made l t d f) start ps))
@@ -238,7 +238,7 @@ shares_made spots names l line f rest left ps st h =
     by (Done t s) = inner t (made_share line l.names (share.Names left) s)
     by (Failed e ls) = refl
 
--- slots with what is made for one of them
+-- slots with the value made for one of them
 abbrev pub with_value : Option ℕ → Option Value → List (Option Value) → List (Option Value)
 with_value None v xs = xs
 with_value (Some i) v xs = slice_set xs i v

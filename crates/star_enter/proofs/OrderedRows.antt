@@ -1,4 +1,4 @@
--- Calls of functions whose parameters have a layout: slots over the defaults, to which values by name and by place are given.
+-- Calls of functions whose parameters have a layout: slots over the defaults, with keyword and positional values.
 use Rattle.std.proofs.Common.{◌≡◌, ◌<◌, ◌≤◌, ◌⊎◌, inl, inr, ℕ, zero, suc, ◌-◌, nat_eq, Bool, true, false, List, [], ◌∷◌, ◌++◌, drop, length, take, slice_get, slice_set, Option, Some, None, if◌then◌else◌, cond, refl, ap, sym, subst, ◌∙◌, arith, ◌&&◌, eq-eqb, eqb-true, ne_eqb, le-ltb, lt-ltb}
 use Rattle.std.specs.Prelude.{is_some, nat_lt}
 use Rattle.std.specs.List.{find, list_all}
@@ -27,7 +27,7 @@ slot_row : (o : Option ℕ) (v : Value) (f : ℕ → Option Value) (n : ℕ) →
 slot_row None v f n = value_row None (Some v) f n
 slot_row (Some j) v f n = value_row (Some j) (Some v) f n
 
--- values by name
+-- keyword values
 named_first : (b : Bool) (m : NamedValue) (o : Option NamedValue) (x : Option Value)
     → (if b then Some m.value else option_or (option_map (λ n. n.value) o) x) ≡ option_or (option_map (λ n. n.value) (cond b (Some m) o)) x
 named_first true m o x = refl
@@ -42,7 +42,7 @@ named_row l names (m ∷ ns) f n =
     ∙ row_same (λ i. if is_at (own_slot l names m) i then Some m.value else rest i) (λ i. option_or (named_at l names (m ∷ ns) i) (f i)) n
     (λ i. named_first (is_at (own_slot l names m) i) m (find (λ n. is_at (own_slot l names n) i) ns) (f i))
 
--- values by place
+-- positional values
 get_from : ℕ → List Value → ℕ → Option Value
 get_from k vs i = if nat_lt i k then None else slice_get vs (i - k)
 
@@ -94,7 +94,7 @@ unfolding get_from
 plain_row vs f n = plain_from 0 vs f n ∙ row_same (λ i. option_or (get_from 0 vs i) (f i)) (λ i. option_or (slice_get vs i) (f i)) n (λ i.
     ap (λ b. option_or (if b then None else slice_get vs (i - 0)) (f i)) (le-ltb i 0 (omega arith)) ∙ ap (λ m. option_or (slice_get vs m) (f i)) (let z : i - 0 ≡ i = omega arith in z))
 
--- defaults, then values by name, then those by place
+-- defaults, then keyword values, then positional ones
 pub bound_slots : (l : Layout) (names : Names) (ds : List Value) (g : Given) → with_plain 0 (placed l g) (with_named l names g.named (row (default_at l.ranks ds) (length names))) ≡ bound_row l names ds g
 bound_slots l names ds g =
     ap (with_plain 0 (placed l g)) (named_row l names g.named (default_at l.ranks ds) (length names))
@@ -139,7 +139,7 @@ pub fits : (l : Layout) (names : Names) (ds : List Value) (g : Given) → (l.res
 fits l names ds g h k d s =
     record { places = h; taken = k; defaults = d; needed = λ k i e. set_in (bound_at l names ds g) (length names) i (all_set (is_set (bound_row l names ds g)) l.needed s k i e) }
 
--- the last of the values by name is given its slot first, where it has one
+-- the last keyword value is given its slot first, if it has one
 pub named_end : (l : Layout) (names : Names) (before : List NamedValue) (m : NamedValue) (i : ℕ) (xs : List (Option Value)) → own_slot l names m ≡ Some i
     → with_named l names (before ++ m ∷ []) xs ≡ with_named l names before (slice_set xs i (Some m.value))
 named_end l names [] m i xs h = ap (λ o. with_slot o m.value xs) h
@@ -162,7 +162,7 @@ pub untaken_end : (l : Layout) (names : Names) (from : ℕ) (before : List Named
     → AreTaken l names from before → AreTaken l names from (before ++ m ∷ [])
 untaken_end l names from before m h k b = taken_last l names from before m (subst (IsTaken l from) (sym h) k) b
 
--- where there are fewer values by place than parameters that take them
+-- if there are fewer positional values than parameters that take them
 pub all_placed : (vs : List Value) (n : ℕ) → length vs < n → (vs ≡ take n vs) × ([] ≡ drop n vs)
 all_placed [] zero h = (refl, refl)
 all_placed [] (suc n) h = (refl, refl)

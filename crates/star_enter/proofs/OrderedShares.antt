@@ -1,4 +1,4 @@
--- Calls of functions whose parameters have a layout: what is bound to them.
+-- Calls of functions whose parameters have a layout: the bound values.
 use Rattle.std.proofs.Common.{◌≡◌, ◌<◌, ◌≤◌, ◌⊎◌, inl, inr, ℕ, zero, suc, nat_eq, Bool, true, false, ◌||◌, ◌&&◌, not, List, [], ◌∷◌, length, drop, take, slice_get, Option, Some, None, if◌then◌else◌, cond, refl, ap, sym, ◌∙◌, arith, eq-eqb, eqb-true, le-ltb, lt-ltb, ne_eqb}
 use Rattle.std.specs.Prelude.{is_some, nat_lt}
 use Rattle.std.specs.List.{find, list_any}
@@ -37,7 +37,7 @@ there false None i n name ns e h k = absurd cc
 there false (Some j) zero n name ns e h k = absurd cc
 there false (Some j) (suc i) n name ns e h k = let q : j ≡ i = cc in k i (ap Some q)
 
--- a name stands at its slot
+-- a name is at its slot
 slot_there : (names : Names) (name : List ℕ) (i : ℕ) → slot_of name names ≡ Some i → slice_get names i ≡ Some name
 slot_there [] name i h = absurd cc
 slot_there (n ∷ ns) name i h = there (same_name name n) (slot_of name ns) i n name ns refl (sym (position_next (same_name name) n ns) ∙ h) (λ j e. slot_there ns name j e)
@@ -46,7 +46,7 @@ slot_there (n ∷ ns) name i h = there (same_name name n) (slot_of name ns) i n 
 same_slot : (names : Names) (a b : List ℕ) (i : ℕ) → slot_of a names ≡ Some i → slot_of b names ≡ Some i → a ≡ b
 same_slot names a b i h k = let e : Some a ≡ Some b = sym (slot_there names a i h) ∙ slot_there names b i k in cc
 
--- another name has a slot just where it is the name with that slot
+-- another name has a slot exactly if it is the name with that slot
 alike_by : (names : Names) (name other : List ℕ) (i : ℕ) (b : Bool) (o : Option ℕ) → slot_of name names ≡ Some i → same_name other name ≡ b → slot_of other names ≡ o → b ≡ is_at o i
 alike_by names name other i true o h e f =
     let q : o ≡ Some i = sym f ∙ ap (λ x. slot_of x names) ((bytes_eq-Decides other name).0 e) ∙ h in
@@ -64,7 +64,7 @@ alike_by names name other i false (Some j) h e f = by (nat_eq j i) refl
 alike : (names : Names) (name other : List ℕ) (i : ℕ) → slot_of name names ≡ Some i → same_name other name ≡ is_at (slot_of other names) i
 alike names name other i h = alike_by names name other i (same_name other name) (slot_of other names) h refl refl
 
--- what has the slot of a parameter, can be given by its name
+-- the name with the slot of a parameter takes a keyword argument
 own_same : (l : Layout) (o : Option ℕ) (i : ℕ) → is_own l i ≡ true → is_at o i ≡ is_at (own_in l o) i
 own_same l None i h = refl
 own_same l (Some j) i h = by (nat_eq j i) (is_own l j) refl refl
@@ -86,7 +86,7 @@ value_there : (l : Layout) (names : Names) (name : List ℕ) (i : ℕ) (ns : Lis
 value_there l names name i ns h k =
     ap (option_map (λ n. n.value)) (find_same (λ (n : NamedValue). same_name n.name name) (λ (n : NamedValue). is_at (own_slot l names n) i) ns (λ n. alike_own l names name n i h k))
 
--- no value by name is that of a slot which has one by place
+-- no keyword value is that of a slot which has a positional one
 before_all : (l : Layout) (o : Option ℕ) (from i : ℕ) → IsTaken l from o → i < from → is_at o i ≡ false
 before_all l None from i h k = refl
 before_all l (Some j) from i h k = ne_eqb j i (λ e. omega (arith, e, h, k))
@@ -96,9 +96,9 @@ not_given l names name from i [] h s o k = refl
 not_given l names name from i (n ∷ ns) h s o k =
     ap (λ b. b || is_given name ns) (alike_own l names name n i s o ∙ before_all l (own_slot l names n) from i h.0 k) ∙ not_given l names name from i ns h.1 s o k
 
--- ---- which values by name are some parameter's
+-- ---- which keyword values are some parameter's
 
--- whether a slot from so many on is that of a parameter which can be given by name
+-- whether a slot from a number on is that of a parameter which takes a keyword argument
 own_from : Layout → ℕ → Option ℕ → Bool
 own_from l i None = false
 own_from l i (Some j) = not (nat_lt j i) && is_own l j
@@ -144,7 +144,7 @@ own_here l i (Some j) h = by (side j i)
         ∙ ap (λ b. not b && is_own l j) (lt-ltb j (suc i) (omega (arith, e)) ∙ sym (lt-ltb j i e))
     by (inr e) = later (same_or_more e) e
 
--- a slot that is no such parameter's
+-- a slot that is not such a parameter's
 own_past : (l : Layout) (i : ℕ) (o : Option ℕ) → is_own l i ≡ false → own_from l (suc i) o ≡ own_from l i o
 unfolding own_from
 own_past l i None h = refl
@@ -191,7 +191,7 @@ names_are_no_own l i h =
     ap (λ b. nat_lt i l.count && (not (is_at l.rest i) && not b)) (ap (λ o. is_at o i) h ∙ eq-eqb i i refl)
     ∙ ap (λ b. nat_lt i l.count && b) (and_false (not (is_at l.rest i))) ∙ and_false (nat_lt i l.count)
 
--- where those that take values by place end, a layout has this slot of `*name`, or none
+-- at the end of those that take positional values, a layout has this slot of `*name`, or none
 pub places_end : (l : Layout) (s : Stage) (i : ℕ) (o : Option ℕ) → PlacesEnd l s i o → l.rest ≡ o
 places_end l stage.ByPlace i o h = h.1
 places_end l stage.ByName i o h = absurd h
@@ -212,14 +212,14 @@ own_any : (spots : Spots) (names : Names) (l : Layout) (c : Cursor) (ps : List P
 own_any spots names l c [] name h = sym (ap (λ i. own_from l i (slot_of name names)) h.0 ∙ own_none l (slot_of name names))
 own_any spots names l c (p ∷ ps) name h = own_step spots names l c (parameter p) name (own_names ps) h.0 (own_any spots names l (after c (parameter p)) ps name h.1)
 
--- the values by name that are no parameter's are those without such a slot
+-- the keyword values that are not a parameter's are those without such a slot
 unclaimed_is : (spots : Spots) (names : Names) (l : Layout) (ps : List Parameter) (ns : List NamedValue) → InOrder spots names l start ps → unclaimed ps ns ≡ unowned l names ns
 unclaimed_is spots names l ps [] h = refl
 unclaimed_is spots names l ps (n ∷ ns) h =
     ap (λ b. cond (not b) (n ∷ unclaimed ps ns) (unclaimed ps ns)) (own_any spots names l start ps n.name h ∙ own_all l (slot_of n.name names))
     ∙ ap (λ us. cond (not (is_some (own_slot l names n))) (n ∷ us) us) (unclaimed_is spots names l ps ns h)
 
--- ---- whether the values by name are taken
+-- ---- whether the keyword values are taken
 
 some_names : (i : ℕ) (o : Option ℕ) → o ≡ Some i → o ≡ None → ⊥
 some_names i o h k = let e : Some i ≡ None = sym h ∙ k in cc
@@ -330,7 +330,7 @@ either : (a b : Option Value) → else_default a b ≡ option_or a b
 either None b = refl
 either (Some v) b = refl
 
--- in its turn by place
+-- in its turn, positional
 share_at : (l : Layout) (names : Names) (g : Given) (i : ℕ) (n : Name) (d : Option Value) (es xs : List Value) (v : Value) → AreTaken l names (length (placed l g)) g.named
     → slot_of n.text names ≡ Some i → is_own l i ≡ true → i < l.by_place → drop i g.plain ≡ xs
     → option_or (slice_get (placed l g) i) (option_or (named_at l names g.named i) d) ≡ Some v
@@ -350,7 +350,7 @@ share_at l names g i n d es (x ∷ xs) v known s o k e b =
     ∙ ap (λ y. Some ((n, share.One y) ∷ [], record { by_name = false; plain = xs; defaults = es })) same
     ∙ ap (λ ys. Some ((n, share.One v) ∷ [], record { by_name = false; plain = ys; defaults = es })) (sym q.1)
 
--- by name
+-- a keyword one
 share_named : (l : Layout) (names : Names) (g : Given) (i : ℕ) (n : Name) (d : Option Value) (es : List Value) (v : Value) → slot_of n.text names ≡ Some i → is_own l i ≡ true → l.by_place ≤ i
     → option_or (slice_get (placed l g) i) (option_or (named_at l names g.named i) d) ≡ Some v
     → share_by n g.named d (record { by_name = true; plain = []; defaults = es }) ≡ Some ((n, share.One v) ∷ [], record { by_name = true; plain = []; defaults = es })
@@ -360,7 +360,7 @@ share_named l names g i n d es v s o k b =
     ∙ ap (λ o. option_or o (option_or (named_at l names g.named i) d)) (sym (taken_past g.plain l.by_place i k)) ∙ b in
     ap (shared n (record { by_name = true; plain = []; defaults = es })) named
 
--- ---- what a parameter with a name gets
+-- ---- the value of a parameter with a name
 
 some_default : (ds : List Value) (i : ℕ) → i < length ds → is_some (slice_get ds i) ≡ true
 some_default [] i h = absurd (omega arith)
@@ -395,12 +395,13 @@ share_name (tree.Parameter-F.Parameter::Star n) o rest left more = (n, share.Res
 share_name tree.BareStar o rest left more = more
 share_name (tree.Parameter-F.Parameter::StarStar n) o rest left more = (n, share.Names left) ∷ more
 
--- the names of parameters from the cursor on, each with its share: the value for its slot, the values by place that are left, or the values by name that are no parameter's
+-- the names of parameters from the cursor on, each with its share: the value for its slot, the positional values that
+-- are left, or the keyword values that are not a parameter's
 abbrev pub share_names : (ℕ → Option Value) → List Value → List NamedValue → Cursor → List Parameter → List (Name × Share)
 share_names f rest left c [] = []
 share_names f rest left c (p ∷ ps) = share_name (parameter p) (f c.slot) rest left (share_names f rest left (after c (parameter p)) ps)
 
--- where binding stands before a parameter, where these values by place and these defaults are left
+-- the state of binding before a parameter, with these positional values and these defaults left
 abbrev stands : Stage → List Value → List Value → Progress
 stands stage.ByPlace xs es = record { by_name = false; plain = xs; defaults = es }
 stands stage.ByName xs es = record { by_name = true; plain = []; defaults = es }
@@ -431,7 +432,7 @@ own_defaults stage.ByPlace xs es = refl
 own_defaults stage.ByName xs es = refl
 own_defaults stage.Ended xs es = refl
 
--- no value by place is left where none may be
+-- no positional value is left if none may be
 none_left : (l : Layout) (names : Names) (ds : List Value) (g : Given) (i : ℕ) → FitsLayout l names ds g → i ≡ l.by_place → l.rest ≡ None → drop i g.plain ≡ []
 none_left l names ds g i f e h = ap (λ j. drop j g.plain) e ∙ f.places h
 
@@ -492,7 +493,7 @@ step_bare l names ds g ns left stage.ByPlace i es q f p h =
 step_bare l names ds g ns left stage.ByName i es q f p h = absurd p
 step_bare l names ds g ns left stage.Ended i es q f p h = absurd p
 
--- the shares from a cursor on, where `rest` makes those after the next parameter
+-- the shares from a cursor on, if `rest` makes those after the next parameter
 also_more : (o : Option (List (Name × Share) × Progress)) (xs more : List (Name × Share)) (q : Progress) (rest : Progress → Option (List (Name × Share))) → o ≡ Some (xs, q) → rest q ≡ Some more
     → option_and_then (λ r. also r.0 (rest r.1)) o ≡ also xs (Some more)
 also_more o xs more q rest h k = ap (option_and_then (λ r. also r.0 (rest r.1))) h ∙ ap (also xs) k
@@ -529,7 +530,7 @@ shares_from spots names l ds g left c (p ∷ ps) q h f e =
     stepped spots names l ds g left c (parameter p) (share_names (bound_at l names ds g) (unplaced l g) left (after c (parameter p)) ps) q h.0 f e
     (λ u. shares g.named left ps u) (λ u k. shares_from spots names l ds g left (after c (parameter p)) ps u h.1 f k)
 
--- what is given is bound to the parameters
+-- the arguments are bound to the parameters
 pub shares_bound : (spots : Spots) (names : Names) (l : Layout) (ps : List Parameter) (ds : List Value) (g : Given) → InOrder spots names l start ps → FitsLayout l names ds g
     → bound_to ps ds g ≡ Some (share_names (bound_at l names ds g) (unplaced l g) (unowned l names g.named) start ps)
 unfolding bound_to

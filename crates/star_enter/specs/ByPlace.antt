@@ -1,4 +1,4 @@
--- Calls whose arguments all stand by place, of functions whose parameters all have names alone.
+-- Calls whose arguments are all positional, of functions whose parameters are all plain names.
 use Rattle.std.specs.Prelude.{◌≡◌, ℕ, Bool, true, false, List, [], ◌∷◌, length, map}
 use Rattle.std.specs.List.{list_all}
 use Rattle.star_store.specs.declared.values.Value.{Value}
@@ -16,7 +16,7 @@ use Rattle.star_meaning.specs.Calls.{callee, called, pass}
 use Rattle.star_meaning.specs.Run.{Action, ◌>>=◌, each}
 use Rattle.star_world.specs.World.{World, meant}
 
--- the expression of an argument, and whether the argument stands by place
+-- the expression of an argument, and whether the argument is positional
 abbrev pub expression_in : ArgumentForm → Expression
 expression_in (tree.Positional e) = e
 expression_in (tree.Named n e) = e
@@ -33,7 +33,7 @@ is_positional_form _ = false
 abbrev pub is_positional : Argument → Bool
 is_positional a = is_positional_form (argument a)
 
--- what is left of a call once the value of its callee is known
+-- the rest of a call once the value of its callee is known
 abbrev pub called_with : World → ℕ → Place → Value → List Argument → Action Value
 called_with w levels p v es = do
   ps ← each (pass (meant w levels) p) es
@@ -41,7 +41,7 @@ called_with w levels p v es = do
   g ← given w.setting p.line ps
   called w.setting levels (meant w levels) p c g
 
--- the same where all arguments stand by place: their values are what is given
+-- the same if all arguments are positional: their values are the arguments
 abbrev pub called_by_place : World → ℕ → Place → Value → List Argument → Action Value
 called_by_place w levels p v es = do
   vs ← each (λ a. (meant w levels).expr p (expression_of a)) es
@@ -56,7 +56,7 @@ is_plain_form _ = false
 abbrev pub is_plain : Parameter → Bool
 is_plain p = is_plain_form (parameter p)
 
--- parameters with names alone, a value by place for each, and no value by name
+-- parameters with names alone, a positional value for each, and no keyword value
 pub record FitByPlace (ps : List Parameter) (g : Given) : Type 0 where
   pub plain : list_all is_plain ps ≡ true
   pub as_many : length ps ≡ length g.plain

@@ -1,4 +1,4 @@
--- How a call is entered: a frame, the parameters in it, and the definition that becomes active.
+-- Entering a call: a frame, the parameters in it, and the definition that becomes active.
 use Rattle.std.specs.Prelude.{ℕ, ◌+◌, List, ◌∷◌, Some}
 use Rattle.star_store.specs.declared.values.Value.{Value}
 use Rattle.star_tree.specs.declared.tree.Name.{Name}
@@ -38,6 +38,6 @@ abbrev pub entering : {A : Type 0} → World → ℕ → ℕ → ℕ → Value �
 entering w line file number parent shares k =
     make_shares line shares >>= λ values. framed w line file number parent values k
 
--- what is left of a call: the body runs, and its definition ceases to be active
+-- the rest of a call: the body runs, and its definition ceases to be active
 abbrev pub left : Meaning → Definition → Place → Action Value
 left m d q = run_body m q d.body >>= λ v. deactivate >>= λ _. give v

@@ -1,4 +1,4 @@
--- Calls of functions whose parameters have a layout: what the slots of a frame have once the parameters are bound.
+-- Calls of functions whose parameters have a layout: the slots of the frame, once the parameters are bound.
 use Rattle.std.specs.Prelude.{◌≡◌, ◌≤◌, ◌+◌, ℕ, suc, Bool, true, not, List, [], ◌∷◌, drop, filter, length, take, Option, Some, None, is_some, slice_get, slice_set, if◌then◌else◌}
 use Rattle.std.specs.List.{find}
 use Rattle.std.specs.Option.{option_map, option_or}
@@ -21,7 +21,7 @@ use Rattle.star_world.specs.World.{World}
 use Rattle.star_enter.specs.declared.ordered.Bound.{Bound}
 use Rattle.star_enter.specs.Entering.{begin, entering}
 
--- the slot of a value that is given by name: none where no parameter can be given by that name
+-- the slot of a keyword argument; none if no parameter can be given under that keyword
 abbrev pub own_in : Layout → Option ℕ → Option ℕ
 own_in l None = None
 own_in l (Some i) = if is_own l i then Some i else None
@@ -29,22 +29,22 @@ own_in l (Some i) = if is_own l i then Some i else None
 abbrev pub own_slot : Layout → Names → NamedValue → Option ℕ
 own_slot l names n = own_in l (slot_of n.name names)
 
--- the value by name that a slot gets
+-- the keyword value that a slot gets
 abbrev pub named_at : Layout → Names → List NamedValue → ℕ → Option Value
 named_at l names ns i = option_map (λ n. n.value) (find (λ n. is_at (own_slot l names n) i) ns)
 
--- the values by name that are no parameter's
+-- the keyword arguments that name no parameter
 abbrev pub unowned : Layout → Names → List NamedValue → List NamedValue
 unowned l names ns = filter (λ n. not (is_some (own_slot l names n))) ns
 
--- the values by place that parameters get, each its own; and those that are left
+-- the positional values that parameters get, each its own; and those that are left
 abbrev pub placed : Layout → Given → List Value
 placed l g = take l.by_place g.plain
 
 abbrev pub unplaced : Layout → Given → List Value
 unplaced l g = drop l.by_place g.plain
 
--- what the slot of a parameter gets: the value at its place, else the one by name, else its default
+-- the value of a parameter's slot: the positional argument at its place, else the keyword argument, else its default
 abbrev pub bound_at : Layout → Names → List Value → Given → ℕ → Option Value
 bound_at l names ds g i =
     option_or (slice_get (placed l g) i) (option_or (named_at l names g.named i) (default_at l.ranks ds i))
@@ -53,7 +53,7 @@ bound_at l names ds g i =
 abbrev pub bound_row : Layout → Names → List Value → Given → List (Option Value)
 bound_row l names ds g = row (bound_at l names ds g) (length names)
 
--- a value by name can be taken: by its parameter, which gets none by place, or by `**name`
+-- a keyword value can be taken: by its parameter, which gets no positional one, or by `**name`
 abbrev pub IsTaken : Layout → ℕ → Option ℕ → Type 0
 IsTaken l from None = is_some l.names ≡ true
 IsTaken l from (Some i) = from ≤ i
@@ -62,14 +62,14 @@ abbrev pub AreTaken : Layout → Names → ℕ → List NamedValue → Type 0
 AreTaken l names from [] = Unit {0}
 AreTaken l names from (n ∷ ns) = IsTaken l from (own_slot l names n) × AreTaken l names from ns
 
--- what a call gives fits a layout: no value is left over, no parameter gets two, each that needs one gets it
+-- the arguments of a call fit a layout: none is left over, no parameter gets two, each that needs one gets it
 pub record FitsLayout (l : Layout) (names : Names) (ds : List Value) (g : Given) : Type 0 where
   pub places : l.rest ≡ None → unplaced l g ≡ []
   pub taken : AreTaken l names (length (placed l g)) g.named
   pub defaults : l.defaults ≤ length ds
   pub needed : (k i : ℕ) → slice_get l.needed k ≡ Some i → is_some (bound_at l names ds g i) ≡ true
 
--- what is bound so: the slots, and what is left for `*name` and `**name`, where there are such parameters
+-- arguments bound so: the slots, and the arguments that are left for `*name` and `**name`, if there are such parameters
 pub record IsBoundBy (l : Layout) (names : Names) (ds : List Value) (g : Given) (b : Bound) : Type 0 where
   pub fits : FitsLayout l names ds g
   pub slots : b.slots ≡ bound_row l names ds g
@@ -78,7 +78,7 @@ pub record IsBoundBy (l : Layout) (names : Names) (ds : List Value) (g : Given) 
   pub others : b.names ≡ l.names
   pub left : all_named b.left.items ≡ unowned l names g.named
 
--- slots in which one has a share, if there is such a slot: the share is made first
+-- slots with a share in one, if there is such a slot: the share is made first
 abbrev pub with_share : ℕ → Option ℕ → Share → List (Option Value) → Action (List (Option Value))
 with_share line None x slots = give slots
 with_share line (Some i) x slots = made_of line x >>= λ v. give (slice_set slots i (Some v))
@@ -90,7 +90,7 @@ entering_with line file number parent slots k = do
   _ ← begin file number
   k (record { file = file; frame = frame; line = line })
 
--- the same of what is bound, after the tuple of `*name` and the dictionary of `**name` are made
+-- the same of bound arguments, after the tuple of `*name` and the dictionary of `**name` are made
 abbrev pub entering_bound : {A : Type 0} → ℕ → ℕ → ℕ → Value → Bound → (Place → Action A) → Action A
 entering_bound line file number parent b k = do
   slots ← with_share line b.rest (share.Rest b.more.now) b.slots
@@ -103,12 +103,12 @@ HasBound w file number parent shares b =
     (line : ℕ) (s : State) → entering w line file number parent shares give s
     ≡ entering_bound line file number parent b give s
 
--- and these shares are what the parameters get
+-- and the parameters get these shares
 abbrev pub AreBound : World → ℕ → ℕ → Value → List Parameter → List Value → Given → Bound → Type 0
 AreBound w file number parent ps ds g b =
     (shares : List (Name × Share)) × (bound_to ps ds g ≡ Some shares) × HasBound w file number parent shares b
 
--- slots with values by name: the first of each name
+-- slots with keyword values: the first of each name
 abbrev pub with_slot : Option ℕ → Value → List (Option Value) → List (Option Value)
 with_slot None v xs = xs
 with_slot (Some i) v xs = slice_set xs i (Some v)
@@ -117,7 +117,7 @@ abbrev pub with_named : Layout → Names → List NamedValue → List (Option Va
 with_named l names [] xs = xs
 with_named l names (n ∷ ns) xs = with_slot (own_slot l names n) n.value (with_named l names ns xs)
 
--- slots with values by place, from a slot on
+-- slots with positional values, from a slot on
 abbrev pub with_plain : ℕ → List Value → List (Option Value) → List (Option Value)
 with_plain i [] xs = xs
 with_plain i (v ∷ vs) xs = with_plain (suc i) vs (slice_set xs i (Some v))

@@ -1,4 +1,4 @@
-//! Parts of calls that run nothing themselves.
+//! Entering a call: the callee, the frame with the parameters, the active definition. No body runs here.
 
 ghost use Rattle.std.specs.Prelude.{◌≡◌, map, true, IfOk};
 ghost use Rattle.std.specs.Option.{option_map};
@@ -26,7 +26,7 @@ use star_world::parts::split_first;
 use star_world::variables::{bind, paid_frame};
 use star_world::world::World;
 
-/// The definition of a function: none of another value, or where its file has none.
+/// The definition of a function; `None` for another value, or if its file has none.
 fn definition_of<'t>(
     machine: &Machine,
     world: &World<'_, 't>,
@@ -41,7 +41,7 @@ fn definition_of<'t>(
     }
 }
 
-/// What is called by a value. `BadType` where it may not be called, then `Recursion` where its definition is active.
+/// The callee that a value is. `BadType` if it may not be called, then `Recursion` if its definition is active.
 pub fn callee_of<'t>(
     machine: &Machine,
     world: &World<'_, 't>,
@@ -81,7 +81,7 @@ pub fn expression_of(argument: &Argument) -> &Expression
     }
 }
 
-/// Whether all arguments of a call stand by place.
+/// Whether all arguments of a call are positional.
 pub fn are_positional(arguments: &[Argument]) -> bool
     ensures { result ≡ list_all is_positional arguments.now }
 {
@@ -105,7 +105,7 @@ fn are_plain(parameters: &[Parameter]) -> bool
     true
 }
 
-/// Whether a call gives a value by place for each parameter, which all have names alone, and nothing else.
+/// Whether all parameters are plain names, and the call gives a positional argument for each of them and nothing else.
 pub fn fit_by_place(parameters: &[Parameter], given: &Given) -> bool
     ensures { result ≡ true → FitByPlace parameters.now given.now }
 {
@@ -135,8 +135,8 @@ fn bind_by_place(
     Ok(())
 }
 
-/// The place in which the body of a call runs, each of whose parameters gets the value at its own place: its frame,
-/// which pays 1, with the parameters in it; then its definition is active.
+/// Enters a call whose parameters each get the argument at their own position: makes the frame, which pays 1, with the
+/// parameters in it; then the definition is active. Returns the place of the body.
 #[tactic(auto, unfolding(crate::specs::Entering::begin))]
 pub fn enter_by_place(
     machine: &mut Machine,
@@ -160,8 +160,8 @@ pub fn enter_by_place(
     Ok(place)
 }
 
-/// The place in which the body of a call runs, whose parameters have these values: its frame, which pays 1, with the
-/// parameters in it; then its definition is active.
+/// Enters a call whose parameters have these values: makes the frame, which pays 1, with the parameters in it; then the
+/// definition is active. Returns the place of the body.
 #[tactic(auto, unfolding(crate::specs::Entering::begin))]
 fn enter_with(
     machine: &mut Machine,
@@ -185,7 +185,8 @@ fn enter_with(
     Ok(place)
 }
 
-/// The place in which the body of a call runs: the values of its parameters are made, then it is entered with them.
+/// Enters a call: makes the values of its parameters, then the frame, which pays 1; then the definition is active.
+/// Returns the place of the body.
 pub fn enter_call(
     machine: &mut Machine,
     world: &World,

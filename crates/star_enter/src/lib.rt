@@ -1,11 +1,17 @@
-//! What is called, and how a call is entered: the frame in which a body runs.
+//! Entering a call: from the callee and the arguments to the frame of the body. Two shorter ways to bind arguments are
+//! here; the general one is `star_call::binding::bound_to`.
 //!
-//! - `calls::fit_by_place` binds positional arguments straight into the frame, where all parameters are plain names.
-//! - `ordered::bound_of` binds the arguments of a definition with more than 16 parameters by its layout: the frame
-//!   stands on the row of the defaults, and only what is given is looked at.
-//! - `calls::enter_call` takes any other call, after `star_call::binding::bound_to`.
+//! - `calls::fit_by_place` asks whether all arguments are positional and all parameters plain names; if so,
+//!   `enter_by_place` puts the values straight into the frame.
+//! - `ordered::bound_of` binds the arguments of a definition with more than 16 parameters by its layout, which is made
+//!   once for each definition: the frame begins as the row of the defaults, and only the arguments are looked at.
+//! - `calls::enter_call` takes every other call, after `bound_to`.
 //!
-//! All three give what `bound_to` and `make_shares` give, by contract.
+//! Begin at `calls.rt`. `Bound` (in `ordered`) is the only type: the slots of the frame, and the arguments that are
+//! left for `*name` and `**name`.
+//!
+//! The promise: all three ways give what `bound_to` and `make_shares` give, the payments included. Frames are made here
+//! and not in `star_call`, since they need the programs of `star_world`.
 #![tactic(auto)]
 
 pub mod calls;

@@ -1,5 +1,6 @@
-//! Calls of functions whose parameters have a layout. Their frames stand on the row of the defaults, and the time of a
-//! call follows what is given, however many parameters there are.
+//! Calls of functions whose parameters have a layout. Their frames begin as the row of the defaults, and the time of a
+//! call is in proportion to its arguments, however many parameters there are.
+//! Arguments that do not fit go through `bound_to`, which says what is wrong with them.
 
 ghost use Rattle.std.specs.Prelude.{◌≡◌, ℕ, [], drop, take, true, IfOk, IfSome, None, OnOk};
 ghost use Rattle.std.specs.List.{list_all};
@@ -26,8 +27,8 @@ use star_world::variables::frame_with;
 use star_world::world::World;
 use std::alloc::{AllocError, Global};
 
-/// What is bound to parameters that have a layout: the slots of the frame, but for those of `*name` and `**name`; and
-/// what is left for these, where there are such parameters.
+/// The arguments of a call, bound to parameters that have a layout: the slots of the frame, except for those of `*name`
+/// and `**name`; and the arguments that are left for these two, if there are such parameters.
 #[derive(Drop)]
 pub struct Bound<'g> {
     slots: Slots,
@@ -37,7 +38,7 @@ pub struct Bound<'g> {
     left: Vec<&'g NamedValue>,
 }
 
-/// The slot of a value by name: none where no parameter can be given by that name.
+/// The slot of a keyword argument; `None` if no parameter can be given under that keyword.
 fn own_slot(order: &Order<'_, '_>, value: &NamedValue) -> Option<usize>
     ensures { result ≡ own_slot order.now.layout.now order.now.names.now value.now }
 {
@@ -47,8 +48,8 @@ fn own_slot(order: &Order<'_, '_>, value: &NamedValue) -> Option<usize>
     }
 }
 
-/// Gives values by name their slots: of two with one name the first is taken. Whether each can be taken: by its
-/// parameter, which has the slot `from` or a later one, or by `**name`.
+/// Puts keyword arguments into their slots: of two with one name the first is taken. Returns whether each can be taken:
+/// by its parameter, which has the slot `from` or a later one, or by `**name`.
 #[tactic(auto, using(crate::proofs::OrderedRows::named_end, crate::proofs::OrderedRows::unnamed_end, crate::proofs::OrderedRows::taken_end, crate::proofs::OrderedRows::untaken_end))]
 fn set_named(
     slots: &mut Slots,
@@ -112,7 +113,7 @@ fn are_set(slots: &Slots, needed: &[usize]) -> bool
     true
 }
 
-/// The values by place that parameters get, each its own; and those that are left.
+/// The positional arguments that parameters get, each its own; and those that are left.
 #[tactic(auto, using(crate::proofs::OrderedRows::all_placed))]
 fn split_plain(values: &[Value], by_place: usize) -> (&[Value], &[Value])
     ensures placed { result.0.now ≡ take by_place values.now }
@@ -124,14 +125,14 @@ fn split_plain(values: &[Value], by_place: usize) -> (&[Value], &[Value])
     }
 }
 
-/// Whether no value by place is left over.
+/// Whether no positional argument is left over.
 fn are_all_placed(layout: &Layout, more: &[Value]) -> bool
     ensures { result ≡ true → layout.now.rest ≡ None → more.now ≡ [] }
 {
     layout.rest().is_some() || more.is_empty()
 }
 
-/// The values by name that are no parameter's, in order.
+/// The keyword arguments that name no parameter, in order.
 fn all_unowned<'g>(
     alloc: Global,
     order: &Order<'_, '_>,
@@ -148,7 +149,8 @@ fn all_unowned<'g>(
     Ok(left)
 }
 
-/// The same where each value by name can be taken: where there is no `**name`, none is left.
+/// The keyword arguments that name no parameter, if each keyword argument can be taken: without a `**name` there is
+/// none.
 #[tactic(auto, using(crate::proofs::OrderedShares::all_own))]
 fn left_of<'g>(
     alloc: Global,
@@ -164,7 +166,7 @@ fn left_of<'g>(
     }
 }
 
-/// What is bound to parameters that stand so. None where what is given does not fit them.
+/// The arguments of a call, bound to parameters with this layout. `None` if they do not fit.
 #[tactic(auto, using(crate::proofs::OrderedRows::bound_slots, crate::proofs::OrderedRows::fits))]
 fn bind_in_order<'g>(
     alloc: Global,
@@ -200,7 +202,8 @@ fn bind_in_order<'g>(
     }))
 }
 
-/// What is bound to the parameters of a call, where they have a layout and what is given fits it: else none.
+/// The arguments of a call, bound to the function's parameters, if these have a layout and the arguments fit it; else
+/// `None`.
 pub fn bound_of<'g>(
     machine: &Machine,
     world: &World,
@@ -226,7 +229,7 @@ pub fn bound_of<'g>(
     }
 }
 
-/// Slots in which one has a share, if there is such a slot: the share is made first.
+/// Sets a slot to a bound argument, if there is such a slot: the argument's value is made first.
 fn with_share(
     machine: &mut Machine,
     line: usize,
@@ -247,8 +250,8 @@ fn with_share(
     Ok(slots)
 }
 
-/// The place in which the body of a call runs to whose parameters this is bound: the tuple of `*name` is made, then the
-/// dictionary of `**name`, then the frame, which pays 1; then its definition is active.
+/// Enters a call whose arguments are bound: makes the tuple of `*name`, then the dictionary of `**name`, then the
+/// frame, which pays 1; then the definition is active. Returns the place of the body.
 #[tactic(auto, unfolding(crate::specs::Entering::begin))]
 pub fn enter_bound(
     machine: &mut Machine,

@@ -1,4 +1,4 @@
--- Calls that are entered with what is bound to their parameters.
+-- Calls that are entered with the values of their parameters.
 use Rattle.std.proofs.Common.{◌≡◌, ◌<◌, ◌-◌, ℕ, List, Option, Result, Err, ap, sym, subst, ◌∙◌}
 use Rattle.star_store.specs.declared.values.Value.{Value}
 use Rattle.star_store.specs.declared.values.Function.{Function}
@@ -17,13 +17,13 @@ use Rattle.star_enter.specs.Entering.{left}
 use Rattle.star_enter.specs.Ordered.{HasBound, entering_bound}
 use Rattle.star_enter.proofs.OrderedFrames.{run_bound_is}
 
--- such a call is its entering, and what is left of it
+-- such a call is its entering, and the rest
 call_is : (w : World) (levels : ℕ) (p : Place) (f : Function) (d : Definition) (shares : List (Name × Share)) (b : Bound) (s : State) → 0 < levels → HasBound w f.file f.definition f.frame shares b
     → (meant w levels).call p f d shares s ≡ and_then (entering_bound p.line f.file f.definition f.frame b give s) (left (meant w (levels - 1)) d)
 call_is w levels p f d shares b s h k =
     call_at (variables w) w.setting levels p f d shares s h ∙ run_bound_is w (meant w (levels - 1)) p f d shares b s k
 
--- it ends where its entering ends
+-- it ends if its entering ends
 pub call_stops : (w : World) (levels : ℕ) (p : Place) (f : Function) (d : Definition) (b : Bound) (s t : State) (e : Stop) → 0 < levels
     → Gives (entering_bound p.line f.file f.definition f.frame b give s) (Err e) t
     → (shares : List (Name × Share)) → HasBound w f.file f.definition f.frame shares b → Gives ((meant w levels).call p f d shares s) (Err e) t
@@ -31,7 +31,7 @@ call_stops w levels p f d b s t Memory h g shares k = tt
 call_stops w levels p f d b s t (Faulted c line) h g shares k =
     call_is w levels p f d shares b s h k ∙ ap (λ (o : Outcome Place). and_then o (left (meant w (levels - 1)) d)) g
 
--- and gives what is left of it
+-- and gives the result of the rest
 pub call_goes : (w : World) (levels : ℕ) (p : Place) (f : Function) (d : Definition) (b : Bound) (s u t : State) (q : Place) (r : Result Value Stop) → 0 < levels
     → entering_bound p.line f.file f.definition f.frame b give s ≡ Done q u → Gives (left (meant w (levels - 1)) d q u) r t
     → (shares : List (Name × Share)) → HasBound w f.file f.definition f.frame shares b → Gives ((meant w levels).call p f d shares s) r t

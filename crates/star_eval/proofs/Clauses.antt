@@ -1,4 +1,4 @@
--- What is left of open clauses, from one turn to the next.
+-- The rest of open clauses, from one turn to the next.
 use Rattle.std.proofs.Common.{◌≡◌, ℕ, ◌+◌, ◌-◌, ◌<◌, ◌≤◌, List, [], ◌∷◌, ◌++◌, Option, Some, None, Bool, true, false, if◌then◌else◌, length, take, drop, get_or, refl, ap, sym, subst, ◌∙◌, arith}
 use Rattle.std.proofs.lemmas.List.{take_rest}
 use denote.Ref.{Bor}
@@ -48,7 +48,7 @@ one_inside c levels p o (g ∷ fs) f s =
     ap (λ (r : Outcome (Unit {0})). and_then r (λ _. turns_left c levels p o g)) (one_inside c levels p o fs f s)
     ∙ again (turns_left c levels p o f s) (all_left c levels p o fs) (turns_left c levels p o g)
 
--- where items are left, the next turn comes first
+-- if items are left, the next turn comes first
 first_turn : (c : World) (levels : ℕ) (p : Place) (o : Output) (f : OpenClause) (s : State) → f.next < f.count → turns_left c levels p o f s ≡ and_then (turn_of c levels p o f f.next s) (λ _. turns_left c levels p o (taken f))
 first_turn c levels p o f s h =
     ap (λ (r : Outcome (Unit {0})). and_then r (λ _. leave f.value)) (repeat_next (turn_of c levels p o f) f.count f.next s h)
@@ -76,7 +76,7 @@ pub turn_failed : (c : World) (levels : ℕ) (p : Place) (o : Output) (fs : List
 turn_failed c levels p o fs f s e lines h k =
     ap (λ (r : Outcome (Unit {0})). and_then r (λ _. all_left c levels p o fs)) (first_turn c levels p o f s h ∙ ap (λ (r : Outcome (Unit {0})). and_then r (λ _. turns_left c levels p o (taken f))) k)
 
--- where no item is left, the clause is left, and the one around it goes on
+-- if no item is left, the clause ends, and the one around it goes on
 none_more : (f : ℕ → Action (Unit {0})) (n i : ℕ) (s : State) → n ≤ i → repeat f (n - i) i s ≡ Done tt s
 none_more f n i s h = ap (λ k. repeat f k i s) (let e : n - i ≡ 0 = omega arith in e)
 
@@ -161,7 +161,7 @@ pub if_fails : (c : World) (levels : ℕ) (p : Place) (o : Output) (ks : List Cl
     → (meant c levels).expr p e s ≡ Done v u → is_true c.setting v u ≡ Done false u → after c levels p ks o s ≡ Done tt u
 if_fails c levels p o ks k more e v s u split is run test = if_leads c levels p o ks k more e v false s u split is run test
 
--- all turns of a clause that goes over a value with so many items
+-- all turns of a clause that goes over a value with this number of items
 abbrev all_turns : World → ℕ → Place → Output → Target → Value → List Clause → ℕ → Action (Unit {0})
 all_turns c levels p o g v more n = λ s. and_then (repeat (clause_turn (variables c) c.setting (meant c levels) p g v (after c levels p more o)) n 0 s) (λ _. leave v)
 

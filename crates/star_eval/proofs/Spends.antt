@@ -1,4 +1,4 @@
--- Steps only fall: what the parts of a comprehension's turn spend.
+-- Steps only fall in the parts of a comprehension's turn.
 use Rattle.std.proofs.Common.{◌≡◌, ◌<◌, ◌≤◌, ◌-◌, ℕ, zero, suc, Bool, true, false, if◌then◌else◌, List, Option, Some, None, nat_lt, refl, ap, subst, arith}
 use Rattle.std.proofs.lemmas.Bool.{ltb-false}
 use Rattle.star_store.specs.declared.values.Value.{Value}
@@ -35,7 +35,7 @@ use Rattle.star_world.specs.World.{World, meant, variables}
 spent : {A : Type 0} (m : Action A) (s t : State) (x : A) → growth.Keeps m → m s ≡ Done x t → t.steps ≤ s.steps
 spent m s t x k e = let g : Grows s t = subst (Grown s) e (k.holds s) in g.steps
 
--- what is read at a spot does not depend on the steps
+-- the value at a spot does not depend on the steps
 same_above : (w : Setting) (k : ℕ) (s : State) (up : ℕ) (frame : Option Value) → frame_above w (with_more k s) up frame ≡ frame_above w s up frame
 same_above w k s zero frame = refl
 same_above w k s (suc up) frame = same_above w k s up (option_and_then (λ f. f.parent) (option_and_then (λ v. frame_of (seen w s v)) frame))
@@ -46,7 +46,7 @@ same_spot w k s p name (Some spot.Prelude) = refl
 same_spot w k s p name (Some spot.Outermost) = refl
 same_spot w k s p name None = refl
 
--- variables by their places keep what every run keeps
+-- variables by their places keep the invariants of every run
 keeps-read_spot : (tables : Tables) (w : Setting) (p : Place) (n : Name) → Keeps false (read_spot tables w p n)
 unfolding read_spot
 keeps-read_spot tables w p n =

@@ -1,4 +1,4 @@
--- What a statement of each form does in a run by places.
+-- The statements of each form, run with variables by their spots.
 use Rattle.std.specs.Prelude.{ℕ, List}
 use Rattle.star_tree.specs.declared.tree.BinaryOperator.{BinaryOperator}
 use Rattle.star_tree.specs.declared.tree.Expression.{Expression}
@@ -18,7 +18,7 @@ use Rattle.star_meaning.specs.Statements.{augment, load_name, loop, module_of}
 use Rattle.star_meaning.specs.Targets.{to_target}
 use Rattle.star_world.specs.World.{World, meant, variables}
 
--- an expression that stands alone: its value is dropped
+-- an expression statement: its value is dropped
 abbrev pub alone : World → ℕ → Place → Expression → Action Flow
 alone w levels p e = (meant w levels).expr p e >>= λ _. give flow.Next
 

@@ -1,4 +1,4 @@
--- What the parts of a run by places are, in the words of the meaning.
+-- Words for the rest of the loops of the evaluator.
 use denote.Ref.{Bor}
 use Rattle.std.specs.Prelude.{◌≡◌, ℕ, ◌-◌, List, [], ◌∷◌, Option, Some, None, Result, Ok, Err}
 use Rattle.star_store.specs.declared.values.Value.{Value}
@@ -20,12 +20,12 @@ use Rattle.star_eval.specs.declared.open_clause.OpenClause.{OpenClause}
 use Rattle.star_eval.specs.declared.targets.TargetParts.{TargetParts}
 use Rattle.star_world.specs.World.{World, meant, variables}
 
--- what a comprehension adds after its clauses
+-- the addition of a comprehension after its clauses
 abbrev pub last : World → ℕ → Place → Output → Action (Unit {0})
 last c levels p (output.Element e l) = add_element c.setting (meant c levels) p e.now l
 last c levels p (output.Entry e d) = add_entry c.setting levels (meant c levels) p e.now d
 
--- the clauses of a comprehension from one on, and what is added after them
+-- the clauses of a comprehension from one on, and the addition after them
 abbrev pub after : World → ℕ → Place → List Clause → Output → Action (Unit {0})
 after c levels p cs o = clauses (variables c) c.setting (meant c levels) p cs (last c levels p o)
 
@@ -34,41 +34,41 @@ abbrev pub turn_of : World → ℕ → Place → Output → OpenClause → ℕ �
 turn_of c levels p o f i =
     clause_turn (variables c) c.setting (meant c levels) p f.target.now f.value (after c levels p f.more.now o) i
 
--- what is left of an open clause: its turns from the next item on, and then its value is left
+-- the rest of an open clause: its turns from the next item on, and then its iteration ends
 abbrev pub turns_left : World → ℕ → Place → Output → OpenClause → Action (Unit {0})
 turns_left c levels p o f = repeat (turn_of c levels p o f) (f.count - f.next) f.next >>= λ _. leave f.value
 
--- what is left of a clause that may have been opened
+-- the rest of a clause that may have been opened
 abbrev pub opened_left : World → ℕ → Place → Output → Option OpenClause → Action (Unit {0})
 opened_left c levels p o None = give tt
 opened_left c levels p o (Some f) = turns_left c levels p o f
 
--- what is left of open clauses, each opened in a turn of the one before it: the innermost ends first
+-- the rest of open clauses, each opened in a turn of the one before it: the innermost ends first
 abbrev pub all_left : World → ℕ → Place → Output → List OpenClause → Action (Unit {0})
 all_left c levels p o [] = give tt
 all_left c levels p o (f ∷ fs) = all_left c levels p o fs >>= λ _. turns_left c levels p o f
 
--- What was to be done is what the answer leaves to do. Where it stopped: as a run ends that stops.
+-- The rest before the call is the rest after its answer. If it stopped: the end of a run that stops.
 abbrev pub Leads : {A B : Type 0} → (A → Action B) → Outcome B → Result A Stop → State → Type 0
 Leads rest o (Ok x) new = o ≡ rest x new
 Leads rest o (Err e) new = Ends o e new
 
--- the parts of an index target, and what stood there
+-- the parts of an index target, and the old value there
 abbrev pub shown_parts : TargetParts → Read
 shown_parts r = record { base = r.base; index = r.index; old = r.old }
 
--- the list or dictionary to which a comprehension adds
+-- the list or dictionary that a comprehension fills
 abbrev pub container : Output → Value
 container (output.Element e l) = l
 container (output.Entry e d) = d
 
--- all clauses of a comprehension over the first iterable, and then what they added to
+-- all clauses of a comprehension over the first iterable, and then the list or dictionary that they filled
 abbrev pub filled : World → ℕ → Place → Clauses → Value → Output → Action Value
 filled w levels p cs v o = do
   _ ← all_clauses (variables w) w.setting (meant w levels) p cs v (last w levels p o)
   give (container o)
 
--- a new list to which the clauses of a comprehension add, over the first iterable; and a new dictionary
+-- a new list that the clauses of a comprehension fill, over the first iterable; and a new dictionary
 abbrev pub filled_list : World → ℕ → ℕ → Place → Bor Expression → Clauses → Value → Action Value
 filled_list w levels line p e cs v = do
   l ← build line 1 (cell.List [])

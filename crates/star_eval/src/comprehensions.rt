@@ -1,4 +1,7 @@
-//! Comprehensions.
+//! Comprehensions: their clauses run in two loops, without recursion, since a text can nest thousands of them.
+//!
+//! Each turn lowers twice the steps plus the open `for` clauses, which are a row on the heap, so the loop ends without
+//! a bound that could be met.
 
 ghost use Rattle.std.specs.Prelude.{◌+◌, ◌<◌, ◌≤◌, OnOk};
 ghost use Rattle.star_machine.specs.Gives.{Gives};
@@ -42,7 +45,7 @@ pub(crate) fn make_list(
     )
 }
 
-/// A new list to which the clauses add, over the first iterable.
+/// A new list that the clauses fill, over the first iterable.
 #[cycle(run)]
 fn fill_list(
     machine: &mut Machine,
@@ -82,7 +85,7 @@ pub(crate) fn make_dict(
     fill_dict(machine, world, levels, &place, line, entry, clauses, value)
 }
 
-/// A new dictionary to which the clauses add, over the first iterable.
+/// A new dictionary that the clauses fill, over the first iterable.
 #[cycle(run)]
 fn fill_dict(
     machine: &mut Machine,
@@ -102,7 +105,7 @@ fn fill_dict(
     fill(machine, world, levels, place, clauses, value, output)
 }
 
-/// All clauses over the first iterable; then the list or dictionary to which they add.
+/// All clauses over the first iterable; then the list or dictionary that they fill.
 #[cycle(run)]
 #[tactic(auto, using(crate::proofs::Clauses::just_opened))]
 fn fill(
@@ -185,8 +188,8 @@ fn run_turn<'t>(
     Ok(opened)
 }
 
-/// The clauses in order up to the next `for`, which is opened, and what is added after the last: nothing is opened
-/// then, nor where a condition is false.
+/// The clauses in order up to the next `for`, which is opened, or up to the last, with the addition after it. Nothing
+/// is opened after the last, nor if a condition is false.
 #[cycle(run)]
 #[tactic(auto, using(crate::proofs::Clauses::just_opened, crate::proofs::Spends::expression_spends, crate::proofs::Spends::iterate_spends, crate::proofs::Spends::last_spends))]
 fn run_clauses<'t>(
@@ -228,8 +231,7 @@ fn run_clauses<'t>(
     Ok(None)
 }
 
-/// What a comprehension adds after its clauses: an element, then 1; or an entry, whose key is checked, then 1 where
-/// the key is new.
+/// Adds after the clauses: an element, then pays 1; or an entry, whose key is checked, then pays 1 if the key is new.
 #[cycle(run)]
 fn add(
     machine: &mut Machine,

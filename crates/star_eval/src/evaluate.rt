@@ -1,4 +1,9 @@
-//! Expressions and calls.
+//! Expressions (`evaluate`) and calls (`call`, with its three ways to bind arguments). The forms of expressions are in
+//! `nodes`.
+//!
+//! Frequent forms come first: `evaluate` is inlined and has names and ints, `evaluate_any`, never inlined, the rest, so
+//! leaves do not pay for its large frame. (`execute` and `execute_any` do so for assignments and plain expressions.)
+//! Each `match` has one arm for each form, so these functions are longer than others.
 
 ghost use Rattle.std.specs.Prelude.{◌≡◌, List};
 ghost use Rattle.star_machine.specs.Gives.{Gives, GivesBy};
@@ -48,8 +53,8 @@ use star_world::parts::{answer_of, new_closure, new_string};
 use star_world::variables::read;
 use star_world::world::World;
 
-/// The value of an expression. `Deep` where no level is left; a node pays 1 as it begins. A name and an int have their
-/// values at once, where the node stands, so that these are not copied through memory.
+/// Evaluates an expression. `Deep` if no level is left; a node pays 1 as it begins. Names and ints are evaluated here,
+/// in the code of the caller, so that their values are not copied through memory.
 #[inline(always)]
 #[cycle(run)]
 #[tactic(auto, using(star_meaning::proofs::Levels::expr_at, star_meaning::proofs::Levels::expr_at_none))]
@@ -69,7 +74,7 @@ pub fn evaluate(
     evaluate_node(machine, world, levels - 1, place, expression)
 }
 
-/// The value of a node, whose parts may open so many levels: of a name or an int at once.
+/// Evaluates a node whose parts may open `levels` levels: a name or an int here, all else by `evaluate_any`.
 #[inline(always)]
 #[cycle(run)]
 fn evaluate_node(
@@ -89,7 +94,7 @@ fn evaluate_node(
     }
 }
 
-/// The value of a node of any kind, whose parts may open so many levels.
+/// Evaluates a node of any kind, whose parts may open `levels` levels.
 #[inline(never)]
 #[cycle(run)]
 fn evaluate_any(
@@ -126,7 +131,7 @@ fn evaluate_any(
             place,
             position.token,
             element.get(),
-            clauses,
+            clauses.get(),
         ),
         Expression::DictComprehension {
             position,
@@ -139,7 +144,7 @@ fn evaluate_any(
             place,
             position.token,
             entry.get(),
-            clauses,
+            clauses.get(),
         ),
         Expression::Unary { operator, operand } => {
             evaluate_unary(machine, world, levels, place, *operator, operand.get())
@@ -200,7 +205,7 @@ fn evaluate_any(
             place,
             position.token,
             "lambda",
-            parameters.as_slice(),
+            parameters.get().as_slice(),
         ),
         Expression::Call {
             function,
@@ -287,8 +292,8 @@ pub(crate) fn evaluate_entry(
 ) -> Result<(Value, Value), Stop>
     ensures { Gives (entry_of (meant world.now levels) place.now entry.now machine.old) result machine.new }
 {
-    let key = evaluate(machine, world, levels, place, entry.key.get())?;
-    let value = evaluate(machine, world, levels, place, entry.value.get())?;
+    let key = evaluate(machine, world, levels, place, &entry.key)?;
+    let value = evaluate(machine, world, levels, place, &entry.value)?;
     Ok((key, value))
 }
 
@@ -417,7 +422,7 @@ fn pass_each<'t>(
     Ok(values)
 }
 
-/// A fault leaves a call of what this expression names.
+/// A fault leaves a call of the function that this expression names.
 #[inline(never)]
 fn leave_call(machine: &mut Machine, place: &Place, function: &Expression)
     ensures { machine.new ≡ machine.old }
@@ -447,8 +452,7 @@ fn call(
     call_with(machine, world, levels, place, function, value, arguments)
 }
 
-/// A call of a value, which a function names, whose arguments all stand by place: they are what is given, as they are. A
-/// fault leaves it.
+/// A call of a value, named by `function`, with positional arguments alone, which need no unpacking. A fault leaves it.
 #[cycle(run)]
 fn call_by_place(
     machine: &mut Machine,
@@ -499,7 +503,7 @@ fn call_with(
     answer
 }
 
-/// A call on what is given: a function's arguments are bound, or `Args`; then it runs, at a level of its own.
+/// A call with evaluated arguments: a function's are bound, or `Args`; then it runs, at a level of its own.
 #[cycle(run)]
 fn call_on(
     machine: &mut Machine,
@@ -567,7 +571,7 @@ fn call_function(
     run_function(machine, world, levels, place, called, &shares)
 }
 
-/// The run of a function each of whose parameters gets the value at its own place. `Deep` where no level is left.
+/// The run of a function each of whose parameters gets the value at its own position. `Deep` if no level is left.
 #[cycle(run)]
 #[tactic(auto, using(star_meaning::proofs::Levels::call_at, star_meaning::proofs::Levels::call_at_none, star_enter::proofs::ByPlace::run_by_place_is))]
 fn run_by_place(
@@ -590,7 +594,7 @@ fn run_by_place(
     run_left(machine, world, levels - 1, &place, called.definition)
 }
 
-/// The run of a function to whose parameters this is bound. `Deep` where no level is left.
+/// The run of a function whose parameters are bound to these arguments. `Deep` if no level is left.
 #[cycle(run)]
 #[tactic(auto, using(star_meaning::proofs::Levels::call_at, star_meaning::proofs::Levels::call_at_none, star_enter::proofs::OrderedFrames::run_bound_is))]
 fn run_bound(
@@ -614,8 +618,8 @@ fn run_bound(
     run_left(machine, world, levels - 1, &place, called.definition)
 }
 
-/// The run of a function: the values of its parameters, its frame, the parameters in it, its body. `Deep` where no
-/// level is left.
+/// The run of a function: the values of its parameters, its frame, the parameters in it, its body. `Deep` if no level
+/// is left.
 #[cycle(run)]
 #[tactic(auto, using(star_meaning::proofs::Levels::call_at, star_meaning::proofs::Levels::call_at_none, star_enter::proofs::Entering::run_is))]
 fn run_function(
@@ -637,7 +641,7 @@ fn run_function(
     run_left(machine, world, levels - 1, &place, called.definition)
 }
 
-/// What is left of a call: the body runs, and its definition ceases to be active; or a fault leaves it.
+/// The rest of a call: the body runs, and its definition ceases to be active; or a fault leaves it.
 #[cycle(run)]
 fn run_left(
     machine: &mut Machine,
@@ -658,8 +662,7 @@ fn run_left(
     answer
 }
 
-/// What a body answers: its statements return a value, or the None of a body that ends; a lambda's expression is the
-/// answer.
+/// The answer of a body: the returned value, or None if the statements end; of a lambda, the value of its expression.
 #[cycle(run)]
 fn run_body(
     machine: &mut Machine,

@@ -1,4 +1,4 @@
-//! Statements, and what values are assigned to.
+//! Statements, and assignment to targets. Begin at `execute`; `execute_for` has the loop.
 
 ghost use Rattle.std.specs.Prelude.{Some};
 ghost use Rattle.star_machine.specs.Gives.{Gives, GivesBy};
@@ -27,8 +27,8 @@ use star_world::parts::{place_of, split_first};
 use star_world::variables::{bind, read};
 use star_world::world::World;
 
-/// How a statement ends. `Deep` where no level is left; it pays 1 as it begins. One of the running module's own file
-/// gives a fault its line.
+/// Executes a statement, and returns how it ends. `Deep` if no level is left; it pays 1 as it begins. A fault gets the
+/// line of the innermost statement of the running module's own file.
 #[cycle(run)]
 #[tactic(auto, using(star_meaning::proofs::Levels::stmt_at, star_meaning::proofs::Levels::stmt_at_none))]
 pub fn execute(
@@ -48,8 +48,8 @@ pub fn execute(
     execute_form(machine, world, levels - 1, &place, statement)
 }
 
-/// How a statement ends, whose parts may open so many levels: an expression that stands alone, or an assignment, at
-/// once.
+/// Executes a statement whose parts may open `levels` levels: an expression statement or an assignment here, all else
+/// by `execute_any`.
 #[inline(always)]
 #[cycle(run)]
 fn execute_form(
@@ -71,7 +71,7 @@ fn execute_form(
     }
 }
 
-/// How a statement of any kind ends, whose parts may open so many levels.
+/// Executes a statement of any kind, whose parts may open `levels` levels.
 #[inline(never)]
 #[cycle(run)]
 fn execute_any(
@@ -144,7 +144,7 @@ fn execute_any(
     }
 }
 
-/// An expression that stands alone: its value is dropped.
+/// An expression statement: its value is dropped.
 #[inline(always)]
 #[cycle(run)]
 fn execute_expression(
@@ -262,7 +262,7 @@ fn execute_def(
     Ok(Flow::Next)
 }
 
-/// Statements in order, up to the first after which the next one does not follow. A fault leaves its statement.
+/// Statements in order, up to the first that ends the row. A fault leaves its statement.
 #[cycle(run)]
 pub fn execute_each(
     machine: &mut Machine,
@@ -329,7 +329,7 @@ fn execute_loop(
     Ok(flow)
 }
 
-/// So many turns of a loop, up to the first that ends it.
+/// `count` turns of a loop, up to the first that ends it.
 #[cycle(run)]
 #[tactic(auto, using(crate::proofs::Turns::turns_next))]
 fn execute_turns(
@@ -417,7 +417,7 @@ fn augment_target(
     }
 }
 
-/// A value to a target: a plain name is bound, and is no node.
+/// Assigns a value to a target: a plain name is bound, and costs nothing.
 #[inline(always)]
 #[cycle(run)]
 pub(crate) fn assign_to(
@@ -437,7 +437,7 @@ pub(crate) fn assign_to(
     assign(machine, world, levels, place, target, value)
 }
 
-/// A value to a target that is no plain name. `Deep` where no level is left; it pays 1 as it begins.
+/// Assigns a value to a target that is not a plain name. `Deep` if no level is left; it pays 1 as it begins.
 #[cycle(run)]
 #[tactic(auto, using(star_meaning::proofs::Levels::assign_at, star_meaning::proofs::Levels::assign_at_none))]
 fn assign(
@@ -457,7 +457,7 @@ fn assign(
     assign_node(machine, world, levels - 1, place, target, value)
 }
 
-/// The node of a target that is no plain name.
+/// Assigns a value to the node of a target that is not a plain name.
 #[cycle(run)]
 fn assign_node(
     machine: &mut Machine,
@@ -539,7 +539,7 @@ fn assign_each(
     Ok(())
 }
 
-/// The parts of an index target with what stands there. `Deep` where no level is left; it pays 1 as it begins.
+/// The parts of an index target with the value there. `Deep` if no level is left; it pays 1 as it begins.
 #[cycle(run)]
 #[tactic(auto, using(star_meaning::proofs::Levels::parts_at, star_meaning::proofs::Levels::parts_at_none))]
 fn read_target(

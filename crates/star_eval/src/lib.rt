@@ -1,14 +1,20 @@
-//! The evaluator: what runs a program.
+//! The evaluator: it walks over the tree and runs a program.
 //!
-//! - `evaluate` has expressions and calls: a name and an int at once, all other forms in one `match`
-//!   (`evaluate_any`), and `call` with its three ways. `nodes` has the forms of expressions, one function each.
-//! - `execute` has statements and targets, `targets` and `parts` what an augmented assignment keeps and computes.
+//! - `evaluate` has expressions and calls: names and literals at once, all other forms in one `match` (`evaluate_any`),
+//!   and `call` with its three ways to bind arguments. `nodes` has a function for each form of expression.
+//! - `execute` has statements and assignment to targets; `targets` and `parts` help augmented assignments.
 //! - `comprehensions` runs the clauses of a comprehension in two loops, without recursion; `open_clause` and `output`
 //!   are their state.
 //!
-//! Every function takes the `Machine`, the `World`, the levels that may still be opened, and the `Place` (file,
-//! frame, line). They call one another, and end because the levels decrease. Each contract is the meaning of that
-//! part with variables by their places (`meant` of `star_world/specs/World`).
+//! Begin at `execute.rt`, with `execute_for`, then `evaluate.rt` from its end.
+//!
+//! Every function takes the `Machine` (the state), the `World` (the environment), the levels, that is the depth that is
+//! left, and the `Place` (file, frame, line). The functions call one another, and end because the levels decrease
+//! (`#[cycle(run)]`).
+//!
+//! The promise of each is `Gives` of `star_machine`: it does what the definition of that part in `star_meaning` does,
+//! with variables by their spots (`meant`, in `star_world/specs/World`). See `docs/LANGUAGE.md`, "Statements" and
+//! "Expressions".
 #![tactic(auto)]
 
 mod comprehensions;

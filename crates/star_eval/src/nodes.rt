@@ -1,4 +1,4 @@
-//! The nodes of expressions, form by form.
+//! The forms of expressions, a function for each: it evaluates the operands in order and then does the operation.
 
 ghost use Rattle.star_machine.specs.Gives.{Gives};
 ghost use Rattle.star_meaning.specs.Expressions.{node};
@@ -126,7 +126,7 @@ pub(crate) fn evaluate_comparison(
     compared(machine, world.setting(), levels, line, comparator, x, y)
 }
 
-/// `and`: the right operand only where the left one is true.
+/// `and`: the right operand only if the left one is true.
 #[cycle(run)]
 pub(crate) fn evaluate_and(
     machine: &mut Machine,
@@ -146,7 +146,7 @@ pub(crate) fn evaluate_and(
     Ok(x)
 }
 
-/// `or`: the right operand only where the left one is false.
+/// `or`: the right operand only if the left one is false.
 #[cycle(run)]
 pub(crate) fn evaluate_or(
     machine: &mut Machine,

@@ -1,4 +1,4 @@
-//! What a comprehension adds after its clauses.
+//! The innermost part of a comprehension: adds an item or an entry after all clauses.
 
 ghost use Rattle.std.specs.Prelude.{◌≡◌};
 ghost use Rattle.star_eval.specs.Steps.{container};
@@ -6,7 +6,7 @@ ghost use Rattle.star_eval.specs.Steps.{container};
 use star_store::values::Value;
 use star_tree::tree::{Entry, Expression};
 
-/// What a comprehension adds after its clauses, and to which list or dictionary.
+/// The element or entry that a comprehension adds after its clauses, and the list or dictionary that it fills.
 #[derive(Clone, Copy)]
 pub enum Output<'t> {
     Element {

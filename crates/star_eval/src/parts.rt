@@ -1,4 +1,4 @@
-//! The entries of a display, and what an augmented assignment computes.
+//! The entries of a dictionary display, and the new value of an augmented assignment.
 
 ghost use Rattle.std.specs.Prelude.{[], OnOk};
 ghost use Rattle.star_builtin.specs.Dicts.{Puts};
@@ -43,7 +43,7 @@ fn put_fresh(
     }
 }
 
-/// The entries of a display. `BadType` for what is no key, `Key` for one that comes twice.
+/// The entries of a display. `BadType` for a value that is not a key, `Key` for a key that comes twice.
 pub(crate) fn fresh_entries(
     machine: &mut Machine,
     world: &World,
@@ -60,8 +60,8 @@ pub(crate) fn fresh_entries(
     Ok(gathered.into_entries())
 }
 
-/// What an augmented assignment computes: `+=` on a list works as `extend`, `|=` on a dictionary as `update`; else it
-/// computes as the operator does.
+/// The new value of an augmented assignment: `+=` on a list works as `extend`, `|=` on a dictionary as `update`; else
+/// as the operator.
 pub(crate) fn augmented(
     machine: &mut Machine,
     world: &World,

@@ -1,4 +1,4 @@
-//! Cycles of loads.
+//! Cycles of loads, as text: the load statements along each, one after another.
 
 use crate::ends::{End, Ends};
 use crate::entry::Entry;
@@ -152,6 +152,7 @@ impl Cycles {
                 "move what both need into a file of its own, which loads none of them",
             )?),
             root: Some(last),
+            more: Vec::new(alloc),
         }))
     }
 }

@@ -1,11 +1,19 @@
-//! What has become of the files of a run, and by which each fails at last.
+//! How each file of a run ended, or what is told of it where none was run; and for a file that fails by a load, the file
+//! or cycle that its loads lead to.
 
+use crate::texts::{Said, Saying};
+use crate::words::{Words, tokens_of};
+use star_check::verdict::{Judged, Verdict};
+use star_found::about::Found;
+use star_label::files::Files;
 use star_meaning::fault::Code;
 use star_meaning::story::Step;
-use star_mistakes::place::shown;
-use star_outcome::module::{Ended, Module};
+use star_mistakes::place::{Mark, shown, text_of};
+use star_outcome::module::{Ended, Left, Module};
 use star_outcome::outcome::Run;
 use star_reading::code::StaticFault;
+use star_reading::reading::{Read, Reads};
+use star_scope::loads::Load;
 use std::alloc::{AllocError, Global};
 
 /// How often the ways from files are doubled: that leads over 16,384 files, and there are at most 10,000.
@@ -16,6 +24,7 @@ const DOUBLINGS: usize = 14;
 pub(crate) enum End {
     /// It was not reached.
     Unknown,
+    /// It ran to its end; or it was not run, and there is nothing against it.
     Good,
     Static(StaticFault),
     Stopped { code: Code, line: usize },
@@ -30,6 +39,51 @@ pub(crate) struct Stop {
     pub said: Option<String>,
     /// What its fault has left on its way out, the innermost first.
     pub trail: Vec<Step>,
+    /// The word that its fault is about, where that is known.
+    pub mark: Option<Mark>,
+    /// What is said of its fault, where more is known than its code.
+    pub told: Option<Said>,
+}
+
+impl Stop {
+    /// Nothing.
+    fn new(alloc: Global) -> Stop {
+        Stop {
+            said: None,
+            trail: Vec::new(alloc),
+            mark: None,
+            told: None,
+        }
+    }
+
+    /// What is known of what a fault is about is told.
+    fn tell(
+        &mut self,
+        alloc: Global,
+        files: &Files,
+        code: Code,
+        found: &Found,
+    ) -> Result<(), AllocError> {
+        let Some((file, tokens)) = tokens_of(alloc, files, self.trail.as_slice())? else {
+            return Ok(());
+        };
+        let words = Words {
+            file,
+            text: text_of(files, file),
+            tokens: tokens.as_slice(),
+        };
+        let saying = Saying {
+            alloc,
+            code,
+            found,
+            module: words.module(found.at),
+        };
+        self.told = saying.said()?;
+        if self.told.is_some() {
+            self.mark = words.of(found);
+        }
+        Ok(())
+    }
 }
 
 /// What has become of all files, by their numbers.
@@ -42,6 +96,8 @@ pub(crate) struct Ends {
     pub reached: Vec<usize>,
     /// What the run of each one has left, where it stopped.
     pub stops: Vec<Stop>,
+    /// Whether files were run.
+    pub are_run: bool,
 }
 
 /// What has become of a module.
@@ -63,16 +119,21 @@ fn end_of(module: &Module) -> End {
     }
 }
 
+/// The loads of a file that was read: none where it has a static fault.
+fn loads_in<'s, 't>(reads: &'s Reads<'t>, n: usize) -> &'s [Load] {
+    match reads.all.get(n) {
+        Some(Some(Read::Program(program))) => program.loads(),
+        _ => &[],
+    }
+}
+
 /// What the run of a module has left. What `fail` said is its last line.
-fn stop_of(alloc: Global, module: &Module) -> Result<Stop, AllocError> {
-    let mut stop = Stop {
-        said: None,
-        trail: Vec::new(alloc),
-    };
+fn stop_of(alloc: Global, files: &Files, module: &Module) -> Result<Stop, AllocError> {
+    let mut stop = Stop::new(alloc);
     let Ended::Stopped {
         code,
         lines,
-        trail,
+        left: Left { trail, found },
         ..
     } = &module.ended
     else {
@@ -84,6 +145,9 @@ fn stop_of(alloc: Global, module: &Module) -> Result<Stop, AllocError> {
             stop.said = Some(shown(alloc, line.as_str())?);
         }
     }
+    if let Some(found) = found {
+        stop.tell(alloc, files, *code, found)?;
+    }
     Ok(stop)
 }
 
@@ -94,42 +158,95 @@ impl Ends {
         let mut stops = Vec::with_capacity(alloc, files)?;
         for _ in 0..files {
             loads.push(Vec::new(alloc))?;
-            stops.push(Stop {
-                said: None,
-                trail: Vec::new(alloc),
-            })?;
+            stops.push(Stop::new(alloc))?;
         }
         Ok(Ends {
             ends: vec![in alloc; End::Unknown; files]?,
             loads,
             reached: Vec::new(alloc),
             stops,
+            are_run: true,
         })
     }
 
     /// What has become of the files of a run.
-    pub(crate) fn of(alloc: Global, files: usize, run: &mut Run) -> Result<Ends, AllocError> {
-        let mut all = Ends::new(alloc, files)?;
+    pub(crate) fn of(alloc: Global, files: &Files, run: &mut Run) -> Result<Ends, AllocError> {
+        let mut all = Ends::new(alloc, files.len())?;
         for i in 0..run.len() {
             let note = run.note(i);
             let module = run.module(i, note);
-            all.add(alloc, module)?;
+            all.add(alloc, files, module)?;
         }
         Ok(all)
     }
 
-    fn add(&mut self, alloc: Global, module: &Module) -> Result<(), AllocError> {
+    fn add(&mut self, alloc: Global, files: &Files, module: &Module) -> Result<(), AllocError> {
         let n = module.number;
         self.set(n, end_of(module));
         self.reached.push(n)?;
         if let Some(loads) = self.loads.get_mut(n) {
             loads.extend_from_slice(module.loads.as_slice())?;
         }
-        let stop = stop_of(alloc, module)?;
+        let stop = stop_of(alloc, files, module)?;
         if let Some(place) = self.stops.get_mut(n) {
             *place = stop;
         }
         Ok(())
+    }
+
+    /// What is told of files none of which was run.
+    pub(crate) fn of_check(
+        alloc: Global,
+        files: &Files,
+        reads: &Reads,
+        judged: &[Judged],
+    ) -> Result<Ends, AllocError> {
+        let mut all = Ends::new(alloc, files.len())?;
+        all.are_run = false;
+        all.set_unrun(judged);
+        for it in judged {
+            all.add_judged(loads_in(reads, it.file), it)?;
+        }
+        Ok(all)
+    }
+
+    /// There is nothing against some of these files.
+    fn set_unrun(&mut self, judged: &[Judged]) {
+        for it in judged {
+            if matches!(it.verdict, Verdict::Unrun) {
+                self.set(it.file, End::Good);
+            }
+        }
+    }
+
+    /// What is told of a file with these loads, after those against which there is nothing.
+    fn add_judged(&mut self, loads: &[Load], it: &Judged) -> Result<(), AllocError> {
+        let n = it.file;
+        match it.verdict {
+            Verdict::AtFault(fault) => self.set(n, End::Static(fault)),
+            Verdict::Fails { .. } => self.set(n, self.first_bad(loads)),
+            Verdict::Unrun => {}
+        }
+        self.reached.push(n)?;
+        if let Some(place) = self.loads.get_mut(n) {
+            for load in loads {
+                place.push(load.file)?;
+            }
+        }
+        Ok(())
+    }
+
+    /// The end of a file with these loads: the first of them against which there is something.
+    fn first_bad(&self, loads: &[Load]) -> End {
+        for load in loads {
+            if self.end(load.file) != End::Good {
+                return End::Load {
+                    next: load.file,
+                    line: load.line,
+                };
+            }
+        }
+        End::Unknown
     }
 
     /// The end of a file.

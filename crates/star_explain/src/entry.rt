@@ -1,11 +1,13 @@
-//! An entry: one thing to be mended.
+//! An entry: one thing to be mended, with its place, message, notes and help, as text.
 
+use crate::explain::Form;
+use crate::paint::{Color, push_colored, push_lines};
 use star_label::files::Files;
 use star_mistakes::mistake::Mistake;
-use star_mistakes::place::{Mark, Naming, label_of, push_place, push_source};
+use star_mistakes::place::{Mark, label_of, push_place, push_source};
 use std::alloc::{AllocError, Global};
 
-/// How many of the files that fail by an entry are named.
+/// How many of some files are named.
 const NAMED: usize = 3;
 
 /// One thing to be mended.
@@ -19,6 +21,8 @@ pub(crate) struct Entry {
     pub help: Option<String>,
     /// The file whose fault it is, where other files may fail by it.
     pub root: Option<usize>,
+    /// Further files whose runs stop here, for the same reason.
+    pub more: Vec<usize>,
 }
 
 impl Entry {
@@ -37,6 +41,7 @@ impl Entry {
             notes: String::new(alloc),
             help,
             root,
+            more: Vec::new(alloc),
         }
     }
 
@@ -46,36 +51,54 @@ impl Entry {
         all: &mut String,
         alloc: Global,
         files: &Files,
-        naming: Naming,
+        form: Form,
         failing: &[usize],
     ) -> Result<(), AllocError> {
-        push_place(all, files, self.mark, naming)?;
-        write!(all, ": error: {} [{}]\n", self.text, self.code)?;
-        push_source(all, alloc, files, self.mark)?;
+        push_place(all, files, self.mark, form.naming)?;
+        all.push_str(": ")?;
+        push_colored(all, "error", Color::Red, form.is_colored)?;
+        write!(all, ": {} [{}]\n", self.text, self.code)?;
+        let mut lines = String::new(alloc);
+        push_source(&mut lines, alloc, files, self.mark)?;
+        push_lines(all, lines.as_str(), form.is_colored)?;
         all.push_str(self.notes.as_str())?;
         if let Some(help) = &self.help {
-            write!(all, "  help: {help}\n")?;
+            all.push_str("  ")?;
+            push_colored(all, "help", Color::Cyan, form.is_colored)?;
+            write!(all, ": {help}\n")?;
         }
-        push_failing(all, files, failing)?;
+        push_files(all, files, self.more.as_slice(), MORE)?;
+        push_files(all, files, failing, FAIL)?;
         all.push('\n')
     }
 }
 
+/// What is said of one file, and of several.
+const MORE: [&str; 2] = ["more run stops here", "more runs stop here"];
+
+const FAIL: [&str; 2] = ["file fails by it", "files fail by it"];
+
 /// `N files fail by it: ..`: nothing where there is none.
-fn push_failing(all: &mut String, files: &Files, failing: &[usize]) -> Result<(), AllocError> {
-    let fail = match failing.len() {
+fn push_files(
+    all: &mut String,
+    files: &Files,
+    numbers: &[usize],
+    said: [&str; 2],
+) -> Result<(), AllocError> {
+    let [of_one, of_several] = said;
+    let said = match numbers.len() {
         0 => return Ok(()),
-        1 => "file fails",
-        _ => "files fail",
+        1 => of_one,
+        _ => of_several,
     };
-    write!(all, "  {} {fail} by it: ", failing.len())?;
-    for (i, n) in failing.iter().take(NAMED).enumerate() {
+    write!(all, "  {} {said}: ", numbers.len())?;
+    for (i, n) in numbers.iter().take(NAMED).enumerate() {
         if i > 0 {
             all.push_str(", ")?;
         }
         all.push_str(label_of(files, *n))?;
     }
-    if failing.len() > NAMED {
+    if numbers.len() > NAMED {
         all.push_str(", ..")?;
     }
     all.push('\n')

@@ -1,27 +1,32 @@
-//! What a person is told of a run.
+//! The whole text for a person: an entry for each cause, and a count of the files that fail by it.
 
 use crate::cycles::Cycles;
 use crate::ends::{End, Ends, Stop};
 use crate::entry::Entry;
 use crate::pages::page_of;
 use crate::trail::{callers, innermost};
+use star_check::verdict::Judged;
 use star_label::files::Files;
 use star_meaning::fault::Code;
-use star_mistakes::place::Naming;
+use star_mistakes::place::{Mark, Naming};
 use star_mistakes::statics::Sources;
 use star_outcome::outcome::Run;
 use star_reading::code::{StaticCode, StaticFault, code_text};
+use star_reading::reading::Reads;
 use std::alloc::{AllocError, Global};
 
 /// How many entries are shown, unless all are asked for.
 const ENTRIES: usize = 20;
 
-/// Which entries are shown, and how files are named.
+/// Which entries are shown, and how.
 #[derive(Clone, Copy, Debug, PartialEq, Eq)]
 pub struct Form {
+    /// How files are named.
     pub naming: Naming,
     /// All entries are shown.
     pub is_whole: bool,
+    /// Words, signs and lines have the colours of a terminal.
+    pub is_colored: bool,
 }
 
 /// What is told, so far.
@@ -47,6 +52,45 @@ fn text_of_code(alloc: Global, code: Code, said: Option<&String>) -> Result<Stri
     String::from_str(alloc, page_of(code).map_or(code, |page| page.short))
 }
 
+/// What to do about a fault whose word is named, where its code says that.
+fn cure_of(alloc: Global, code: Code) -> Result<Option<String>, AllocError> {
+    let has_cure = matches!(
+        code,
+        Code::Frozen
+            | Code::Iterating
+            | Code::Overflow
+            | Code::Unbound
+            | Code::Recursion
+            | Code::Zero
+            | Code::Cut
+    );
+    match page_of(code_text(code)) {
+        Some(page) if has_cure => Ok(Some(String::from_str(alloc, page.cure)?)),
+        _ => Ok(None),
+    }
+}
+
+/// What is said of a run that stopped, and what to do.
+fn text_and_help(
+    alloc: Global,
+    code: Code,
+    stop: &Stop,
+) -> Result<(String, Option<String>), AllocError> {
+    let said = stop.said.as_ref();
+    let Some(told) = &stop.told else {
+        let help = match page_of(code_text(code)) {
+            Some(page) if said.is_none() => Some(String::from_str(alloc, page.cure)?),
+            _ => None,
+        };
+        return Ok((text_of_code(alloc, code, said)?, help));
+    };
+    let help = match &told.help {
+        Some(help) => Some(String::from_str(alloc, help.as_str())?),
+        None => cure_of(alloc, code)?,
+    };
+    Ok((String::from_str(alloc, told.text.as_str())?, help))
+}
+
 impl<'a> Telling<'a> {
     /// Whether there is room for another entry. Where there is none, it is counted.
     fn has_room(&mut self) -> bool {
@@ -55,6 +99,17 @@ impl<'a> Telling<'a> {
             self.more = self.more.saturating_add(1);
         }
         has_room
+    }
+
+    /// Whether the run of a file stops where another one did, for the same reason. Then it is added there.
+    fn is_added(&mut self, n: usize, mark: Mark, text: &str) -> Result<bool, AllocError> {
+        for entry in &mut self.entries {
+            if entry.root.is_some() && entry.mark == mark && entry.text.as_str() == text {
+                entry.more.push(n)?;
+                return Ok(true);
+            }
+        }
+        Ok(false)
     }
 
     /// The entry of a run that stopped at a line.
@@ -66,20 +121,20 @@ impl<'a> Telling<'a> {
         stop: &Stop,
     ) -> Result<(), AllocError> {
         let (alloc, files) = (self.sources.alloc, self.sources.files);
-        let said = stop.said.as_ref();
         let trail = stop.trail.as_slice();
-        let word = code_text(code);
-        let help = match page_of(word) {
-            Some(page) if said.is_none() => Some(String::from_str(alloc, page.cure)?),
-            _ => None,
-        };
+        let mark = stop.mark.unwrap_or(innermost(files, trail, n, line));
+        let (text, help) = text_and_help(alloc, code, stop)?;
+        if self.is_added(n, mark, text.as_str())? || !self.has_room() {
+            return Ok(());
+        }
         self.entries.push(Entry {
-            mark: innermost(files, trail, n, line),
-            code: word,
-            text: text_of_code(alloc, code, said)?,
+            mark,
+            code: code_text(code),
+            text,
             notes: callers(alloc, files, self.form.naming, trail)?,
             help,
             root: Some(n),
+            more: Vec::new(alloc),
         })?;
         Ok(())
     }
@@ -132,15 +187,10 @@ impl<'a> Telling<'a> {
                 }
                 Ok(())
             }
-            End::Stopped { code, line } => {
-                if !self.has_room() {
-                    return Ok(());
-                }
-                match ends.stops.get(n) {
-                    Some(stop) => self.stopped(n, code, line, stop),
-                    None => Ok(()),
-                }
-            }
+            End::Stopped { code, line } => match ends.stops.get(n) {
+                Some(stop) => self.stopped(n, code, line, stop),
+                None => Ok(()),
+            },
             _ => Ok(()),
         }
     }
@@ -178,16 +228,20 @@ impl Ways {
             .unwrap_or(root)
     }
 
-    /// The files that fail by this one, or by the cycle on which it lies.
-    fn failing(&self, alloc: Global, root: Option<usize>) -> Result<Vec<usize>, AllocError> {
+    /// The files that fail by an entry, or by the cycle of which it tells.
+    fn failing(&self, alloc: Global, entry: &Entry) -> Result<Vec<usize>, AllocError> {
         let mut failing = Vec::new(alloc);
-        let Some(root) = root else {
+        let Some(root) = entry.root else {
             return Ok(failing);
         };
         let cause = self.cause(root);
         for n in &self.ends.reached {
             let fails = matches!(self.ends.end(*n), End::Load { .. });
-            if fails && self.cycles.number(*n).is_none() && self.cause(*n) == cause {
+            if !fails || self.cycles.number(*n).is_some() {
+                continue;
+            }
+            let its = self.cause(*n);
+            if its == cause || entry.more.contains(&its) {
                 failing.push(*n)?;
             }
         }
@@ -204,6 +258,12 @@ impl Ways {
         let count = self.ends.reached.len();
         let files = if count == 1 { "file" } else { "files" };
         let whose = if by_loads == 1 { "its" } else { "their" };
+        if !self.ends.are_run {
+            return write!(
+                all,
+                "{count} {files} checked: {own} at fault, {by_loads} by {whose} loads\n"
+            );
+        }
         write!(
             all,
             "{count} {files}: {good} ok, {own} at fault, {by_loads} by {whose} loads\n"
@@ -236,8 +296,8 @@ impl<'a> Telling<'a> {
             return Ok(all);
         }
         for entry in &self.entries {
-            let failing = ways.failing(alloc, entry.root)?;
-            entry.push(&mut all, alloc, files, self.form.naming, failing.as_slice())?;
+            let failing = ways.failing(alloc, entry)?;
+            entry.push(&mut all, alloc, files, self.form, failing.as_slice())?;
         }
         if self.more > 0 {
             write!(all, "and {} more; --explain=all shows them\n\n", self.more)?;
@@ -261,6 +321,31 @@ pub fn explain(
         files,
         prelude,
     };
+    told(sources, Ends::of(alloc, files, run)?, roots, form)
+}
+
+/// What a person is told of files that were read, and none of which was run: nothing where there is nothing against any.
+pub fn explain_check(
+    alloc: Global,
+    files: &Files,
+    reads: &Reads,
+    judged: &[Judged],
+    roots: &[usize],
+    prelude: Option<usize>,
+    form: Form,
+) -> Result<String, AllocError> {
+    let sources = Sources {
+        alloc,
+        files,
+        prelude,
+    };
+    let ends = Ends::of_check(alloc, files, reads, judged)?;
+    told(sources, ends, roots, form)
+}
+
+/// What a person is told of files with these ends.
+fn told(sources: Sources, ends: Ends, roots: &[usize], form: Form) -> Result<String, AllocError> {
+    let alloc = sources.alloc;
     let mut telling = Telling {
         sources,
         form,
@@ -269,7 +354,7 @@ pub fn explain(
         is_blind: sources.is_blind()?,
         has_prelude: false,
     };
-    let mut ends = Ends::of(alloc, files.len(), run)?;
+    let mut ends = ends;
     for i in 0..ends.reached.len() {
         let n = ends.reached.get(i).copied().unwrap_or(0);
         telling.tell(&mut ends, n)?;

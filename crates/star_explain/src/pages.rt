@@ -1,4 +1,4 @@
-//! What the codes of faults mean: a page for each, which `--explain-code` prints and docs/DIAGNOSTICS.md has.
+//! The pages of the codes of faults: their meaning, as `--explain-code` prints it and `docs/DIAGNOSTICS.md` has it.
 
 /// A code of a fault.
 #[derive(Clone, Copy, Debug, PartialEq, Eq)]

@@ -1,4 +1,4 @@
-//! Where a run stopped, and the calls that led there.
+//! The place where a run stopped, and the calls that led there.
 
 use star_label::files::Files;
 use star_meaning::story::Step;

@@ -1,4 +1,4 @@
--- What becomes ready.
+-- The files that become ready.
 use Rattle.std.proofs.Common.{Bool, true, false, ◌≡◌, ◌<◌, ◌⊎◌, inl, inr, ℕ, zero, suc, List, [], ◌∷◌, ◌++◌, length, get_or, refl, ap, sym, ◌∙◌, subst, arith}
 use Rattle.std.specs.Prelude.{All, Contains, if◌then◌else◌}
 use Rattle.std.proofs.lemmas.List.{get_or_default}
@@ -28,7 +28,7 @@ ready_more old among new n here before m c = by_cases (Contains-append_cases new
     by_cases (inl a) = before m a
     by_cases (inr b) = inr (subst (Contains among) (one_of n m b) here)
 
--- what became ready in two steps
+-- the files that became ready in two steps
 pub ready_then : (first middle last among : List ℕ) (n : ℕ) → Contains among n → IsReadyOf first among middle → IsReadyOf middle (n ∷ []) last → IsReadyOf first among last
 ready_then first middle last among n here before more m c = by_cases (more m c)
   where

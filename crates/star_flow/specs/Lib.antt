@@ -1,1 +1,2 @@
+-- The schedule of files.
 pub mod Schedules

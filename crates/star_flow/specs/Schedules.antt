@@ -1,4 +1,4 @@
--- What is ready to run.
+-- The files that are ready to run, as the schedule counts them.
 use Rattle.std.specs.Prelude.{◌≡◌, ◌++◌, ◌∷◌, ◌≤◌, ◌-◌, ◌⊎◌, ℕ, List, [], All, Contains, slice_index_or}
 use Rattle.star_flow.specs.declared.schedule.Next.{Next}
 use Rattle.star_flow.specs.declared.schedule.Next.TheVariants.{Run, Sleep, Over}
@@ -19,7 +19,7 @@ IsNext old (Run n) new = (old.ready ≡ new.ready ++ n ∷ []) × (new.missing �
 IsNext old Sleep new = (old.ready ≡ []) × (1 ≤ old.running) × (new ≡ old)
 IsNext old Over new = (old.ready ≡ []) × (old.running ≡ 0) × (new ≡ old)
 
--- what is ready was so before, or is one of these
+-- a ready file was ready before, or is one of these
 abbrev pub IsReadyOf : List ℕ → List ℕ → List ℕ → Type 0
 IsReadyOf old more new = (n : ℕ) → Contains new n → Contains old n ⊎ Contains more n
 

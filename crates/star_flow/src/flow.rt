@@ -1,4 +1,6 @@
-//! The schedule under its lock.
+//! The schedule under a lock: loaders take files from it, and sleep while none is ready.
+//!
+//! A loader says which file it ended when it takes the next, so along a chain no loader wakes another.
 
 ghost use Rattle.std.specs.Prelude.{◌<◌};
 
@@ -12,7 +14,7 @@ pub struct Flow {
     // For each file those that load it.
     importers: Vec<Vec<usize>>,
     state: Mutex<Schedule>,
-    // Notified where a file is ready, and at the end.
+    // Notified when a file is ready, and at the end.
     changed: Condvar,
 }
 
@@ -35,7 +37,7 @@ impl Flow {
     }
 
     /// The next file for a loader, which has ended the one that it was given before. It waits while no file is ready
-    /// and some run. `None` where no file is ready, and none runs.
+    /// and some run. `None` if no file is ready, and none runs.
     pub fn take<R: Wait>(&self, rt: &R, ended: Option<usize>) -> Option<usize> {
         match ended {
             Some(n) => self.take_after(rt, Some(self.importers_of(n))),
@@ -43,7 +45,7 @@ impl Flow {
         }
     }
 
-    /// The same for a loader that itself knows which files wait for the one that it has ended.
+    /// As `take`, for a loader that itself knows which files wait for the one that it has ended.
     pub fn take_after<R: Wait>(&self, rt: &R, ended: Option<&[usize]>) -> Option<usize> {
         let mut state = self.state.lock(rt);
         if let Some(waiting) = ended {

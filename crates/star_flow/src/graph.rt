@@ -1,4 +1,4 @@
-//! Which files load which.
+//! The graph of loads: for each file how many loads it has, and which files load it.
 
 ghost use Rattle.std.specs.Prelude.{◌≡◌, ◌+◌, ◌<◌, ◌^◌, ◌-◌, ◌++◌, ◌∷◌, [], All, IfOk, OnOk, length, min, replicate, slice_index_or};
 ghost use Rattle.star_flow.specs.Schedules.{HasAll, IsReadyOf};
@@ -28,7 +28,7 @@ impl Model for Graph {
 }
 
 impl Graph {
-    /// So many numbers, of which none is a file yet.
+    /// A graph for the numbers below `count`, none of which is a file yet.
     pub fn new(alloc: Global, count: usize) -> Result<Graph, AllocError>
         ensures { IfOk result (λ g. g ≡ record { loads = replicate count 0; files = [] }) }
     {
@@ -51,7 +51,7 @@ impl Graph {
         Ok(())
     }
 
-    /// The file `n` loads the file `m`, once more. A number that is none of these is passed by.
+    /// The file `n` loads the file `m`, once more. Nothing happens if one of the numbers is not below `count`.
     pub fn add_load(&mut self, n: usize, m: usize) -> Result<(), AllocError>
         ensures files { self.new.files ≡ self.old.files }
         ensures size { length self.new.loads ≡ length self.old.loads }

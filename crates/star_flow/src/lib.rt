@@ -1,8 +1,12 @@
-//! Which file a loader runs next: one all of whose loads have ended.
+//! The order in which loaders take files: a file is handed out when all files that it loads have ended. It saves
+//! waiting, and no promise of the host rests on it, since the cache refuses a file that may not run yet.
 //!
-//! `Graph` says which file loads which, `Schedule` what is ready, `Flow` puts the schedule under a lock and lets idle
-//! loaders sleep. All of it is a hint: no promise of the host rests on it, since the cache refuses what may not run
-//! yet.
+//! - `Graph` says which file loads which.
+//! - `Schedule` has the files that are ready, and counts the loads that each other file still waits for.
+//! - `Flow` puts the schedule under a lock, and lets loaders sleep while no file is ready.
+//!
+//! Begin at `schedule.rt`. It promises that a file which is handed out has no load that has not ended
+//! (`Schedule::next`). `docs/LOADING.md` says how the host uses it.
 #![tactic(auto)]
 
 mod flow;

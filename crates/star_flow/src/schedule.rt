@@ -1,18 +1,18 @@
-//! What is ready to run.
+//! The schedule: the files that are ready to run, since all of their loads have ended.
 
 ghost use Rattle.std.specs.Prelude.{◌≡◌, ◌-◌, ◌∷◌, [], All, false};
 ghost use Rattle.star_flow.specs.Schedules.{HasAll, IsNext, IsReadyOf};
 
 use std::marker::Model;
 
-/// What a loader that asks for a file does next.
+/// The next thing to do for a loader that asks for a file.
 #[derive(Clone, Copy, Debug, PartialEq, Eq)]
 pub enum Next {
     /// It runs this file.
     Run(usize),
     /// It waits until a file has ended.
     Sleep,
-    /// No file is ready, and none runs: what is left waits for itself.
+    /// No file is ready, and none runs: the files that are left wait for themselves.
     Over,
 }
 
@@ -36,7 +36,7 @@ impl Model for Schedule {
 }
 
 impl Schedule {
-    /// The schedule of files of which none has begun: for each how many loads it has, and which have none.
+    /// The schedule of files none of which has begun: it counts the loads of each, and those without loads are ready.
     pub fn new(missing: Vec<usize>, ready: Vec<usize>) -> Schedule
         requires { All (HasAll missing.items) ready.items }
         ensures { result ≡ record { missing = missing.items; ready = ready.items; running = 0 } }
@@ -48,7 +48,7 @@ impl Schedule {
         }
     }
 
-    /// What a loader does next. A file that it runs has no load that has not ended.
+    /// The next thing to do for a loader. A file that it is to run has no load that has not ended.
     pub fn next(&mut self) -> Next
         ensures next { IsNext self.old result self.new }
         ensures whole { All (HasAll self.old.missing) self.old.ready }
@@ -90,7 +90,7 @@ impl Schedule {
         }
     }
 
-    /// A file has ended: one load of each of these, as often as it stands here.
+    /// A file has ended: for each of these files one load has, as often as the file is listed.
     pub fn ended(&mut self, importers: &[usize])
         ensures ready { IsReadyOf self.old.ready importers.now self.new.ready }
         ensures running { self.new.running ≡ self.old.running - 1 }

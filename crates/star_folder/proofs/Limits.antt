@@ -1,4 +1,4 @@
--- What a walk finds is within the limits of files.
+-- The files of a walk are within the limits.
 use Rattle.std.proofs.Common.{◌≡◌, ℕ, ◌+◌, ◌≤◌, List, [], ◌∷◌, length, length-append, Bool, true, false, ◌||◌, refl, sym, ◌∙◌, arith, Some, None}
 use Rattle.std.specs.declared.cmp.Ordering.{Ordering}
 use Rattle.std.specs.declared.cmp.Ordering.TheVariants.{Less, Equal, Greater}
@@ -55,7 +55,7 @@ short_inserted (e ∷ es) k v h s =
     from Equal a b c = or_none (is_too_long (e.0, v)) (list_any is_too_long es) s b
     from Greater a b c = or_none (is_too_long e) (list_any is_too_long (insert_entry order es k v)) a c
 
--- no file that is too long, where none was put in
+-- no file that is too long, if none was put in
 short_with : (made fs : List File) → list_any is_too_long made ≡ false → list_any is_too_long fs ≡ false → list_any is_too_long (with_files made fs) ≡ false
 unfolding with_files
 short_with made [] h k = h

@@ -23,18 +23,18 @@ unfolding IsStrictlySortedBy
 sorted_names [] h = tt
 sorted_names (e ∷ es) h = (sorted_all e.0 es h.0, sorted_names es h.1)
 
--- what is read of a file is a front of it
+-- the bytes read of a file are a front of it
 pub front : (o : Option (List ℕ)) (bytes : List ℕ) → Reads o bytes → (all : List ℕ) × Says o all × (bytes ≡ take 1048577 all)
 front None bytes h = (bytes, tt, sym (take_all 1048577 bytes h))
 front (Some all) bytes h = (all, refl, h)
 
--- too long where the file is
+-- too long if the file is
 pub long_front : (all bytes : List ℕ) → bytes ≡ take 1048577 all → 1048576 < length bytes → 1048576 < length all
 long_front all bytes e h = omega (arith, ap length e, length-take 1048577 all, h)
 
 short_front : (all bytes : List ℕ) → bytes ≡ take 1048577 all → length bytes ≤ 1048576 → length all ≤ 1048577
 short_front all bytes e h = omega (arith, ap length e, length-take 1048577 all, h)
 
--- and it is the file where it is not
+-- and it is the file if it is not
 pub whole_front : (all bytes : List ℕ) → bytes ≡ take 1048577 all → length bytes ≤ 1048576 → bytes ≡ all
 whole_front all bytes e h = e ∙ take_all 1048577 all (short_front all bytes e h)

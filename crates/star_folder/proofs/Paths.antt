@@ -53,7 +53,7 @@ no_colon n p m h = cc
 same_name : (n m : List ℕ) → 58 ∷ n ≡ 58 ∷ m → n ≡ m
 same_name n m h = cc
 
--- what is read as `:` and a name
+-- a text that is read as `:` and a name
 named : (text here name p n : List ℕ) → text ≡ 58 ∷ name → (text ≡ label_text p n) ⊎ ((text ≡ 58 ∷ n) × (p ≡ here)) → (n ≡ name) × (p ≡ here)
 named text here name p n e (inl h) = absurd (no_colon name p n (sym e ∙ h))
 named text here name p n e (inr h) = (same_name n name (sym h.0 ∙ e), h.1)

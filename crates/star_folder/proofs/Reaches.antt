@@ -1,4 +1,4 @@
--- What walks visit.
+-- The visits of walks.
 use Rattle.std.proofs.Common.{◌≡◌, ◌⊎◌, inl, inr, List, [], ◌∷◌, ◌++◌, sym, subst}
 use Rattle.star_folder.specs.Folder.{Contents}
 use Rattle.star_folder.specs.Laws.{IsIn, IsLedTo, IsVisited, VisitsAll}

@@ -14,7 +14,7 @@ use Rattle.star_folder.specs.Walk.{FolderAt, IsWalk, Passes, Place, Visit, bytes
 use Rattle.star_folder.specs.declared.state.Walk.{Walk}
 use Rattle.star_folder.proofs.Stacks.{few_opened, length-left}
 
--- what a walk has counted and kept is that of its visits
+-- the counts and the files of a walk are those of its visits
 pub record Counted (vs : List Visit) (files : List File) (entries number bytes : ℕ) : Type 0 where
   pub found : files ≡ with_files [] (files_in vs)
   pub listed : entries ≡ entries_in vs
@@ -61,7 +61,7 @@ stopped_at held now vs w place before e same c h is s =
     (subst (λ n. StopsAt held w.listed w.count n place e) c.size (subst (λ x. StopsAt x w.listed w.count w.size place e) same s))) in
     (vs, place ∷ left_of w.places.items, subst (IsWalk held vs) is h, there)
 
--- what may still be visited grows less
+-- the places that may still be visited become fewer
 pub fewer : (held : Contents) (w u : Walk) (place : Place) (v : Visit) → Goes held w u place v → u.listed ≤ 100000 → (100000 - u.listed) + length u.places.items ≤ (100000 - w.listed) + length w.places.items
 fewer held w u place v g h =
     let few = few_opened v in

@@ -1,4 +1,4 @@
--- Where the disk has what a folder holds.
+-- The paths of the files of a folder on the disk, and the kinds of its entries.
 use Rattle.std.specs.Prelude.{ℕ, List, [], ◌∷◌, ◌++◌, if◌then◌else◌, ◌==◌}
 use Rattle.std.specs.Str.{bytes_eq}
 use Rattle.std.specs.declared.fs.attrs.FileType.{FileType}
@@ -14,6 +14,6 @@ folder_at top path = if bytes_eq top [] then path else top ++ 47 ∷ path
 abbrev pub file_at : List ℕ → List ℕ → List ℕ
 file_at top label = folder_at top (package_of label) ++ 47 ∷ name_of label
 
--- what an entry is, by the type that the disk gives it: a regular file, a directory, or something else
+-- the kind of an entry, by the type that the disk gives it: a regular file, a directory, or something else
 abbrev pub kind_of : FileType → Kind
 kind_of t = if t.bits == 0o100000 then kind.File else (if t.bits == 0o040000 then kind.Folder else kind.Other)

@@ -1,19 +1,19 @@
--- What a folder holds, where it says.
+-- The content of a folder: its entries and the bytes of its files, as far as it tells.
 use Rattle.std.specs.Prelude.{◌≡◌, ⊤, ℕ, ◌≤◌, List, length, take, Option, Some, None, Result, Err, String, string_bytes}
 use Rattle.std.specs.declared.alloc.Global.{Global}
 use Rattle.star_folder.specs.declared.folder.Kind.{Kind}
 use Rattle.star_folder.specs.declared.folder.FolderError.{FolderError}
 use Rattle.star_folder.specs.declared.folder.FolderError.TheVariants.{Failed}
 
--- an entry of a folder: its name, and what it is
+-- an entry of a folder: its name and its kind
 abbrev pub Entry : Type 0
 Entry = List ℕ × Kind
 
 abbrev pub entry_of : String Global × Kind → Entry
 entry_of e = (string_bytes e.0, e.1)
 
--- the entries of the folder at a path, in the byte order of their names, and the bytes of the file of a label; none
--- where nothing is said of them
+-- the entries of the folder at a path, in the byte order of their names, and the bytes of the file of a label; none if
+-- the folder does not tell
 pub record Contents : Type 0 where
   pub entries : List ℕ → Option (List Entry)
   pub bytes : List ℕ → Option (List ℕ)
@@ -27,12 +27,12 @@ abbrev pub Says : {A : Type 0} → Option A → A → Type 0
 Says None x = ⊤
 Says (Some y) x = x ≡ y
 
--- the bytes that are read of a file: all of them, or the first 1,048,577 where it has more
+-- the bytes that are read of a file: all of them, or the first 1,048,577 if it has more
 abbrev pub Reads : Option (List ℕ) → List ℕ → Type 0
 Reads None bytes = length bytes ≤ 1048577
 Reads (Some all) bytes = bytes ≡ take 1048577 all
 
--- one call failed where the answer is so, and else none
+-- one call failed if the answer is so, else none
 abbrev pub has_failed : {T : Type 0} → Result T FolderError → ℕ
 has_failed (Err Failed) = 1
 has_failed r = 0

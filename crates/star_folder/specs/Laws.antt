@@ -1,4 +1,4 @@
--- What a whole walk visits.
+-- Laws of whole walks.
 use Rattle.std.specs.Prelude.{◌≡◌, ◌↔◌, ◌⊎◌, List, [], ◌∷◌}
 use Rattle.star_folder.specs.Folder.{Contents}
 use Rattle.star_folder.specs.Walk.{FolderAt, IsWalk, Place, Visit, opened, place_of}
@@ -17,7 +17,7 @@ abbrev pub IsLedTo : List Visit → Place → Type 0
 IsLedTo [] place = ⊥
 IsLedTo (v ∷ vs) place = IsIn place (opened v) ⊎ IsLedTo vs place
 
--- a whole walk visits just the top, and what the folders that it visits lead to
+-- a whole walk visits exactly the top, and the places to which its visited folders lead
 abbrev pub VisitsAll : Type 0
 VisitsAll =
     (held : Contents) (visits : List Visit) (place : Place) → IsWalk held visits [] → IsVisited visits place

@@ -1,3 +1,4 @@
+-- The files of a folder by its whole walk, and the refusals of a walk. Begin at Walk.
 pub mod Folder
 pub mod Walk
 pub mod Refusal

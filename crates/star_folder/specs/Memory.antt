@@ -1,4 +1,4 @@
--- What a folder in memory holds.
+-- The content of a folder in memory.
 use Rattle.std.specs.Prelude.{ℕ, List, [], ◌∷◌, Some, if◌then◌else◌}
 use Rattle.std.specs.BTreeMap.{insert_entry}
 use Rattle.std.specs.Cmp.Lexicographic.{slice_cmp}
@@ -12,7 +12,7 @@ use Rattle.star_folder.specs.declared.memory.Row.{Row}
 abbrev pub rows_of : MemoryFolder → List Row
 rows_of folder = folder.rows.now
 
--- entries with that of a row, where it is one of the folder at the path
+-- entries with that of a row, if it is one of the folder at the path
 abbrev pub with_row : List ℕ → List Entry → Row → List Entry
 with_row path made r =
     if bytes_eq r.path.now path then insert_entry (slice_cmp nat_cmp) made r.name.now r.kind else made

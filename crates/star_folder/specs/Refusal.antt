@@ -1,4 +1,4 @@
--- Why a walk stops before its end.
+-- Refusals of a walk: the place and the reason of a stop before its end.
 use Rattle.std.specs.Prelude.{◌≡◌, ⊤, ℕ, ◌+◌, ◌<◌, ◌≤◌, List, [], ◌∷◌, length, Result, Ok, Err}
 use Rattle.std.specs.Str.{IsUtf8}
 use Rattle.star_bundle.specs.declared.error.ServeError.{ServeError}
@@ -6,7 +6,7 @@ use Rattle.star_bundle.specs.declared.error.ServeError.TheVariants.{BadDir, BadF
 use Rattle.star_folder.specs.Folder.{Contents, Entry, Says}
 use Rattle.star_folder.specs.Walk.{FileOf, FolderAt, IsWalk, Listed, Place, Tells, Visit, bytes_in, entries_in, files_in}
 
--- at a folder, after so many entries: its listing failed, or it has too many entries
+-- at a folder, after a number of entries: its listing failed, or it has too many entries
 abbrev pub FolderStops : Contents → ℕ → List ℕ → ServeError → Type 0
 FolderStops held listed path BadDir = ⊤
 FolderStops held listed path TooMany =
@@ -14,7 +14,7 @@ FolderStops held listed path TooMany =
 FolderStops held listed path Memory = ⊤
 FolderStops held listed path e = ⊥
 
--- a file's read failed, or it is too long, or it is no text
+-- a file's read failed, or it is too long, or it is not text
 abbrev pub IsUnread : Contents → List ℕ → ServeError → Type 0
 IsUnread held label BadFile = ⊤
 IsUnread held label TooLong = (bytes : List ℕ) × Says (held.bytes label) bytes × (1048576 < length bytes)
@@ -23,7 +23,7 @@ IsUnread held label NotText =
 IsUnread held label Memory = ⊤
 IsUnread held label e = ⊥
 
--- at a file, after so many files and bytes: it is one too many, or it is unread, or the texts together are too long
+-- at a file, after a number of files and bytes: it is one too many, or it is unread, or the texts together are too long
 abbrev pub FileStops : Contents → ℕ → ℕ → List ℕ → ServeError → Type 0
 FileStops held count size label TooMany = count ≡ 10000
 FileStops held count size label TooBig =
@@ -45,7 +45,7 @@ Stops held visits (place ∷ left) e =
 abbrev pub IsStopped : Contents → ServeError → Type 0
 IsStopped held e = (visits : List Visit) × (left : List Place) × IsWalk held visits left × Stops held visits left e
 
--- one listing failed where a walk stops so, and else none
+-- one listing failed if a walk stops so, else none
 abbrev pub failed_listing : ServeError → ℕ
 failed_listing BadDir = 1
 failed_listing e = 0
@@ -54,7 +54,7 @@ abbrev pub listings_failed : {T : Type 0} → Result T ServeError → ℕ
 listings_failed (Ok x) = 0
 listings_failed (Err e) = failed_listing e
 
--- one read of a file failed where a walk stops so, and else none
+-- one read of a file failed if a walk stops so, else none
 abbrev pub failed_read : ServeError → ℕ
 failed_read BadFile = 1
 failed_read e = 0

@@ -1,4 +1,4 @@
--- What the program's values stand for.
+-- The program's states of a walk, as contracts see them.
 use Rattle.std.specs.Prelude.{◌≡◌, ℕ, ◌+◌, List, ◌++◌, map, reverse, length, string_bytes}
 use Rattle.star_label.specs.Files.{file_of}
 use Rattle.star_label.specs.View.{text_of}
@@ -17,7 +17,7 @@ abbrev pub place_view : Found → Place
 place_view (to.File label) = FileOf (text_of label)
 place_view (to.Folder path) = FolderAt (path_of path)
 
--- a stack of places, the next of which lies on top, which is the end of the row
+-- a stack of places: the next one is on top, at the end of the row
 abbrev pub left_of : List Found → List Place
 left_of places = map place_view (reverse places)
 

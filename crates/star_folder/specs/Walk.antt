@@ -1,4 +1,4 @@
--- The walk through a folder: in which order it goes, what it finds, and where it stops.
+-- The walk through a folder: its order, its files, and its stops.
 use Rattle.std.specs.Prelude.{◌≡◌, ℕ, ◌+◌, ◌<◌, ◌≤◌, List, [], ◌∷◌, ◌++◌, length, map, Bool, true, false, not, ◌&&◌, Option, Some, None, if◌then◌else◌, codes}
 use Rattle.std.specs.Bool.{nat_eq}
 use Rattle.std.specs.Cmp.Lexicographic.{slice_cmp}
@@ -13,7 +13,7 @@ use Rattle.star_folder.specs.Folder.{Contents, Entry, Says}
 use Rattle.star_folder.specs.declared.folder.Kind.{Kind}
 use Rattle.star_folder.specs.declared.folder.Kind.TheVariants as kind
 
--- where a walk goes: to the folder at a path, or to the file of a label
+-- a place of a walk: the folder at a path, or the file of a label
 pub data Place : Type 0 where
   FolderAt : (path : List ℕ) → Place
   FileOf : (label : List ℕ) → Place
@@ -29,8 +29,8 @@ is_folder p = not (is_file p)
 abbrev pub is_star : List ℕ → Bool
 is_star name = ends_with nat_eq name (codes ".star")
 
--- where an entry of the folder at a path leads: a file whose name ends in `.star`, and a folder; nowhere where its name
--- is no segment
+-- the places to which an entry of the folder at a path leads: a file whose name ends in `.star`, and a folder; none if
+-- its name is not a segment
 abbrev pub leads_to : Kind → List ℕ → List ℕ → Option Place
 leads_to kind.File path name = if is_star name && is_segment name then Some (FileOf (label_text path name)) else None
 leads_to kind.Folder path name = if is_segment name then Some (FolderAt (with_folder path name)) else None
@@ -43,7 +43,7 @@ place_in path e = leads_to e.1 path e.0
 abbrev pub files_first : List Place → List Place
 files_first ps = filter is_file ps ++ filter is_folder ps
 
--- what a walk does at a place: it lists the entries of the folder, or it reads the bytes of the file
+-- the visit of a place by a walk: it lists the entries of the folder, or it reads the bytes of the file
 pub data Visit : Type 0 where
   Listed : (path : List ℕ) (entries : List Entry) → Visit
   Read : (label bytes : List ℕ) → Visit
@@ -52,7 +52,7 @@ abbrev pub place_of : Visit → Place
 place_of (Listed path entries) = FolderAt path
 place_of (Read label bytes) = FileOf label
 
--- where it goes next: to the files of the folder, and then to its folders
+-- the next places: the files of the folder, and then its folders
 abbrev pub opened : Visit → List Place
 opened (Listed path entries) = files_first (filter_map (place_in path) entries)
 opened (Read label bytes) = []
@@ -70,7 +70,7 @@ abbrev pub bytes_at : Visit → ℕ
 bytes_at (Listed path entries) = 0
 bytes_at (Read label bytes) = length bytes
 
--- the same of all visits, the last of which stands first; the files stand in the order in which they were read
+-- the same of all visits, the last one first; the files come in the order of their reading
 abbrev pub entries_in : List Visit → ℕ
 entries_in [] = 0
 entries_in (v ∷ vs) = entries_in vs + entries_at v
@@ -89,14 +89,14 @@ Tells held (Listed path entries) =
     Says (held.entries path) entries × IsStrictlySortedBy (slice_cmp nat_cmp) (map (λ e. e.0) entries)
 Tells held (Read label bytes) = Says (held.bytes label) bytes
 
--- the limits let a visit pass after so many entries, files and bytes
+-- the limits let a visit pass after a number of entries, files and bytes
 abbrev pub Passes : ℕ → ℕ → ℕ → Visit → Type 0
 Passes listed count size (Listed path entries) = listed + length entries ≤ 100000
 Passes listed count size (Read label bytes) =
     (count < 10000) × (length bytes ≤ 1048576) × IsUtf8 bytes × (size + length bytes ≤ 268435456)
 
--- A walk has made these visits, the last of which stands first, and has these places left, the next of which stands
--- first. It begins at the top; after a folder was listed its files come next, and then its folders.
+-- A walk has made these visits, the last one first, and has these places left, the next one first. It begins at the
+-- top; after a folder was listed its files come next, and then its folders.
 abbrev pub IsWalk : Contents → List Visit → List Place → Type 0
 IsWalk held [] left = left ≡ FolderAt [] ∷ []
 IsWalk held (v ∷ vs) left = (rest : List Place) × IsWalk held vs (place_of v ∷ rest) × Tells held v

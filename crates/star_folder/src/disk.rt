@@ -1,4 +1,7 @@
-//! A folder on the disk.
+//! A `Folder` on the disk.
+//!
+//! It is a thin wrapper of `fs::read_dir`, `file_type` and `File::open` with `take`, whose clauses are about its
+//! counts.
 
 ghost use Rattle.std.specs.Prelude.{◌≡◌, ◌≤◌, IfOk, string_bytes, vec_len};
 ghost use Rattle.std.specs.Fs.{dir_entry_name};
@@ -15,9 +18,9 @@ use std::fs::{self, DirEntry, File, FileType};
 use std::io::{self, ErrorKind, Read};
 use std::rt::Files;
 
-/// The folder at a path of the disk. It counts its failures, and says nothing of what it holds: no contract can say
-/// what a disk gives. A name that is not UTF-8 fails its folder's listing. A link is neither a file nor a folder, but
-/// the path itself may be one.
+/// The folder at a path of the disk. It counts its failures. It promises nothing of its content, since no contract can
+/// say what a disk gives. A name that is not UTF-8 makes the listing of its folder fail. A link is neither a file nor a
+/// folder, but the path itself may be one.
 #[derive(Drop)]
 pub struct DiskFolder<'a, R> {
     rt: &'a R,
@@ -95,7 +98,7 @@ fn below(alloc: Global, top: &str, path: &str) -> Result<String, AllocError>
     Ok(text)
 }
 
-/// What an entry is, by its type.
+/// The kind of an entry, by its type.
 fn kind_of(found: FileType) -> Kind
     ensures { result ≡ kind_of found }
 {
@@ -108,7 +111,7 @@ fn kind_of(found: FileType) -> Kind
     }
 }
 
-/// The name of an entry, and what it is.
+/// The name and the kind of an entry.
 fn entry_of<R: Files + AllocGlobal + Clone + Drop>(
     alloc: Global,
     entry: &DirEntry<R>,
@@ -161,7 +164,7 @@ pub fn path_of(alloc: Global, top: &str, label: &Label) -> Result<String, AllocE
     Ok(path)
 }
 
-/// The name of a label: what stands after its colon.
+/// The name of a label: the text after its colon.
 fn name_of(label: &Label) -> &str
     ensures { result.now ≡ name_of (text_of label.now) }
 {
@@ -178,7 +181,7 @@ pub struct Front {
     pub bytes: Vec<u8>,
 }
 
-/// Reads at most so many of the first bytes of the file at a path, which has `size` bytes or so.
+/// Reads at most `most` of the first bytes of the file at a path; `size` is a guess of how many bytes it has.
 pub fn front_of_size<R: Files + AllocGlobal>(
     rt: &R,
     path: String,
@@ -197,7 +200,7 @@ pub fn front_of_size<R: Files + AllocGlobal>(
     Ok(Front { path, bytes })
 }
 
-/// Reads at most so many of the first bytes of the file at a path.
+/// Reads at most `most` of the first bytes of the file at a path.
 pub fn front_at<R: Files + AllocGlobal>(rt: &R, path: String, most: usize) -> io::Result<Front>
     ensures path { IfOk result (λ front. string_bytes front.path ≡ string_bytes path) }
     ensures few { IfOk result (λ front. vec_len front.bytes ≤ most) }

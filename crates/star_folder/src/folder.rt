@@ -1,4 +1,6 @@
-//! A folder, as a walk through it sees it.
+//! The trait `Folder`: lists folders and reads files, and its ghost members are its content.
+//!
+//! A listing is a map, so its order is its type's and no walk sorts.
 
 ghost use Rattle.std.specs.Prelude.{◌≡◌, ℕ, ◌+◌, IfOk, map};
 ghost use Rattle.star_label.specs.View.{text_of};
@@ -12,7 +14,7 @@ use std::collections::BTreeMap;
 /// The most bytes that are read of a file: one more than a text may have.
 pub(crate) const FRONT: usize = 1_048_577;
 
-/// What an entry of a folder is.
+/// The kind of an entry of a folder.
 #[derive(Clone, Copy, Debug, PartialEq, Eq)]
 pub enum Kind {
     /// A file.
@@ -28,7 +30,7 @@ pub enum Kind {
 pub enum FolderError {
     /// The call failed.
     Failed,
-    /// A growth was refused.
+    /// An allocation failed.
     Memory,
 }
 
@@ -50,7 +52,7 @@ impl<T: Drop> From<AllocFailed<T>> for FolderError {
 
 /// A folder with files and folders in it.
 pub trait Folder {
-    /// What it holds, where it says.
+    /// Its content, if it tells.
     ghost holds: { Self → Contents };
 
     /// How many of its listings have failed.
@@ -67,7 +69,7 @@ pub trait Folder {
         ensures listings { failed_listings self.new ≡ failed_listings self.old + has_failed result }
         ensures reads { failed_reads self.new ≡ failed_reads self.old };
 
-    /// The bytes of the file of a label: all of them, or the first 1,048,577 where it has more.
+    /// The bytes of the file of a label: all of them, or the first 1,048,577 if it has more.
     fn read(&mut self, alloc: Global, label: &Label) -> Result<Vec<u8>, FolderError>
         ensures tells { IfOk result (λ bytes. Reads ((holds self.old).bytes (text_of label.now)) bytes.items) }
         ensures same { holds self.new ≡ holds self.old }

@@ -1,8 +1,8 @@
-//! The law of walks.
+//! Law of whole walks, true of every folder.
 
 ghost use Rattle.star_folder.specs.Laws.{VisitsAll};
 
-/// What a whole walk visits is the top, and what the folders that it visits lead to, and nothing else.
+/// A whole walk visits the top, and the places to which its visited folders lead, and nothing else.
 pub fn visits_all()
     ensures { VisitsAll }
 {}

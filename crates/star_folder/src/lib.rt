@@ -1,9 +1,13 @@
-//! The files of a folder: which they are, or why they are refused (`docs/FOLDERS.md`).
+//! The files of a folder by a walk through all of it (`docs/FOLDERS.md`).
 //!
-//! `walk::files_in` goes through a `Folder`, takes each file whose path is a label and whose name ends in `.star`,
-//! and stops at the first refusal. Folders that wait stand on a stack on the heap. `DiskFolder` is the disk,
-//! `MemoryFolder` a table for tests and for callers who have files in memory. The contract says what a whole walk
-//! finds, over any `Folder` that says what it holds; a disk says nothing.
+//! - `Folder` is a trait: it lists folders and reads files, and its ghost members, which only contracts see, are its
+//!   content. `DiskFolder` is the disk, whose content no contract can know; `MemoryFolder` is a table, for tests and
+//!   for callers who have files in memory.
+//! - `walk::files_in` takes each file whose path is a label and whose name ends in `.star`, and stops at the first
+//!   refusal. Folders that wait are on a stack on the heap (`state`), so a deep folder does no harm.
+//!
+//! Begin at `walk.rt`, from its end. The promise is the contract of `files_in`: the files are those of a whole walk
+//! (`specs/Walk`) through the content that the folder tells, or the refusal is the first that the walk meets.
 #![tactic(auto)]
 
 pub mod disk;

@@ -1,4 +1,4 @@
-//! A folder in memory.
+//! A `Folder` in memory, for tests and for callers who have the files at hand.
 
 ghost use Rattle.std.specs.Prelude.{◌≡◌, [], IfOk, IfErr, OnOk, map, string_bytes};
 ghost use Rattle.star_label.specs.Label.{label_text};
@@ -17,7 +17,7 @@ pub struct Row<'a> {
     pub path: &'a str,
     /// Its name.
     pub name: &'a str,
-    /// What it is.
+    /// Its kind: a file, a folder, or another.
     pub kind: Kind,
     /// The bytes of a file.
     pub bytes: &'a [u8],

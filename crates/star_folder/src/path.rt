@@ -1,4 +1,4 @@
-//! The path of a folder.
+//! The path of a folder, from the top of a walk.
 
 ghost use Rattle.std.specs.Prelude.{◌≡◌, [], true, IfOk, string_bytes};
 ghost use Rattle.star_label.specs.Label.{is_package, is_segment, with_folder};

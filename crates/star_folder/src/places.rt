@@ -1,4 +1,4 @@
-//! Where the entries of a folder lead.
+//! From the entries of a folder to labels of files and paths of folders.
 
 ghost use Rattle.std.specs.Prelude.{◌≡◌, [], ◌∷◌, ◌++◌, Some, None, IfOk, IfErr, OnOk, if◌then◌else◌, map, option_map, string_bytes};
 ghost use Rattle.std.specs.List.{cons_option, filter};
@@ -34,7 +34,7 @@ fn relative(alloc: Global, name: &str) -> Result<String, AllocError>
     Ok(text)
 }
 
-/// The label of a file in a folder: none where its name is no segment.
+/// The label of a file in a folder; `None` if its name is not a segment.
 fn label_in(alloc: Global, path: &FolderPath, name: &str) -> Result<Option<Label>, ServeError>
     ensures label { IfOk result (λ o. option_map text_of o
         ≡ (if is_segment name.now then Some (label_text (path_of path.now) name.now) else None)) }
@@ -109,8 +109,8 @@ fn push_place(
     }
 }
 
-/// Puts what the entries of the folder at a path lead to on the stack: the files on top of the folders, both in the
-/// order of their names.
+/// Puts the entries of the folder at a path on the stack: the files on top of the folders, both in the order of their
+/// names.
 pub(crate) fn push_entries(
     alloc: Global,
     path: &FolderPath,

@@ -1,4 +1,4 @@
-//! How far a walk has come.
+//! The state of a walk: the files found so far, and the folders that wait, on a stack.
 
 ghost use Rattle.std.specs.Prelude.{◌≤◌};
 

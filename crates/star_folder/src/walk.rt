@@ -1,4 +1,7 @@
-//! The walk through a folder.
+//! `files_in`: the walk through a folder, up to its end or the first refusal.
+//!
+//! Folders wait on a stack on the heap, so a deep folder needs no stack of the machine. The walk is a relation on its
+//! visits, the last one first, so no law about the end of a list is needed.
 
 ghost use Rattle.std.specs.Prelude.{◌≡◌, ◌+◌, ◌≤◌, ◌∷◌, [], None, IfOk, IfErr, length, map, string_bytes};
 ghost use Rattle.std.specs.Str.{IsUtf8};
@@ -50,8 +53,8 @@ fn begun(alloc: Global) -> Result<Walk, ServeError>
     })
 }
 
-/// The entries of a folder. `BadDir` where they cannot be listed, `TooMany` where more than 100,000 entries would then
-/// be listed.
+/// The entries of a folder. `BadDir` if they cannot be listed, `TooMany` if more than 100,000 entries would then be
+/// listed.
 fn list_folder<F: Folder>(
     alloc: Global,
     folder: &mut F,
@@ -77,8 +80,8 @@ fn list_folder<F: Folder>(
     Ok(listing)
 }
 
-/// The text of a file. `BadFile` where it cannot be read, `TooLong` where it has more than 1,048,576 bytes, `NotText`
-/// where they are not UTF-8.
+/// The text of a file. `BadFile` if it cannot be read, `TooLong` if it has more than 1,048,576 bytes, `NotText` if they
+/// are not UTF-8.
 fn read_text<F: Folder>(alloc: Global, folder: &mut F, label: &Label) -> Result<String, ServeError>
     ensures tells { IfOk result (λ t. Says ((F.holds folder.old).bytes (text_of label.now)) (string_bytes t)) }
     ensures short { IfOk result (λ t. length (string_bytes t) ≤ 1048576) }
@@ -206,13 +209,13 @@ fn numbered(alloc: Global, found: BTreeMap<Label, String>) -> Result<Files, Serv
     }
 }
 
-/// The files of a folder: those whose names end in `.star`, in it and in the folders below it. Names that are no
-/// segment are left out, a folder with all that it has, and so is what is neither a file nor a folder.
+/// The files of a folder: those whose names end in `.star`, in it and in the folders below it. Names that are not
+/// segments are left out, a folder with all that it has, and so are entries that are neither a file nor a folder.
 ///
 /// The walk goes through a folder's files and then through its folders, each in the byte order of their names, and
-/// stops where one of these is met first: `BadDir`, a folder cannot be listed; `TooMany`, more than 100,000 entries are
-/// listed, or a file is the 10,001st; `BadFile`, a file cannot be read; `TooLong`, it has more than 1,048,576 bytes;
-/// `NotText`, it is not UTF-8; `TooBig`, the texts together have more than 268,435,456 bytes.
+/// stops at the first of these: `BadDir`, a folder cannot be listed; `TooMany`, more than 100,000 entries are listed,
+/// or a file is the 10,001st; `BadFile`, a file cannot be read; `TooLong`, it has more than 1,048,576 bytes; `NotText`,
+/// it is not UTF-8; `TooBig`, the texts together have more than 268,435,456 bytes.
 pub fn files_in<F: Folder>(alloc: Global, folder: &mut F) -> Result<Files, ServeError>
     ensures files { IfOk result (AreFilesOf (F.holds folder.old)) }
     ensures stopped { IfErr result (IsStopped (F.holds folder.old)) }

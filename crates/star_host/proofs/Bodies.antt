@@ -46,7 +46,7 @@ loads_good plan n ms loads i m at =
     let one = loads.each i m inside at in
     module_good plan m one.0 one.2.0 one.2.1
 
--- a file all of whose loads are good may run over what was gathered for it
+-- a file all of whose loads are good may run over the stores that were gathered for it
 pub body_may_run : (files : List File) (plan : Plan) (table : Files) (row : Row) (n : ℕ) (p : Program) (shelf : Shelf) (ms : List Module) → IsPlanOf files plan → ArePlaced files plan table → readings row ≡ plan.reads
     → read_at row n ≡ Some (read.Program p) → AreGoodLoads plan n (length (loads_of plan n)) ms → IsTight shelf → HoldsNeeds plan n shelf → MayRun plan table n p.statements.now shelf
 body_may_run files plan table row n p shelf ms planned placed is e loads tight holds =
@@ -60,7 +60,7 @@ same_setting plan table n home shelf ls prelude e f g =
 
 own_in : (plan : Plan) (table : Files) (n : ℕ) (ss : List Statement) (shelf : Shelf) (o : Outcome) → MayRun plan table n ss shelf → meant (given_over table plan n shelf) o ≡ local (given_over table plan n shelf) plan.steps ss → IsOwnIn plan n o
 own_in plan table n ss shelf (outcome.Good frozen texts lines left) may e = may.own frozen frozen.globals (owned texts.items) lines.items (sym e)
-own_in plan table n ss shelf (outcome.Fault code line lines trail) may e = tt
+own_in plan table n ss shelf (outcome.Fault code line lines remains) may e = tt
 
 same_given : (plan : Plan) (table : Files) (n : ℕ) (ms : List Local) (shelf : Shelf) → trees_of table ≡ trees plan → shelf ≡ (given plan n ms).shelf → given_over table plan n shelf ≡ given plan n ms
 same_given plan table n ms shelf trees_are shelf_is =
@@ -70,11 +70,11 @@ same_given plan table n ms shelf trees_are shelf_is =
 paid_by : (plan : Plan) (n : ℕ) (ss : List Statement) (ms : List Local) (r : run.Outcome Ended) (o : Outcome) → tree_in (read_of plan n) ≡ Some ss → AreGood plan (loaded plan n) ms → plan_run plan n ss ms ≡ r → IsRun r o → IsPaidIn plan n o
 paid_by plan n ss ms (run.Done e s) (outcome.Good frozen texts lines left) sound good ran so =
     record { statements = ss; outcomes = ms; ended = e; state = s; sound = sound; good = good; run = ran; steps = ap (λ k. plan.steps - k) so.3 }
-paid_by plan n ss ms (run.Done e s) (outcome.Fault code line lines trail) sound good ran so = tt
+paid_by plan n ss ms (run.Done e s) (outcome.Fault code line lines remains) sound good ran so = tt
 paid_by plan n ss ms (run.Failed f printed) (outcome.Good frozen texts lines left) sound good ran so = absurd so
-paid_by plan n ss ms (run.Failed f printed) (outcome.Fault code line lines trail) sound good ran so = tt
+paid_by plan n ss ms (run.Failed f printed) (outcome.Fault code line lines remains) sound good ran so = tt
 
--- a good run over what was gathered has paid the steps that were given but those that are left
+-- a good run over the gathered stores has paid the steps that were given, less those that are left
 paid_in : (plan : Plan) (table : Files) (n : ℕ) (ss : List Statement) (shelf : Shelf) (o : Outcome) → trees_of table ≡ trees plan → tree_in (read_of plan n) ≡ Some ss → ((i m : ℕ) → slice_get (loaded plan n) i ≡ Some m → IsGood plan m) → IsTight shelf → HoldsNeeds plan n shelf
     → IsRun (run_by_names (given_over table plan n shelf) plan.steps ss) o → IsPaidIn plan n o
 paid_in plan table n ss shelf o trees_are sound good tight holds is =
@@ -83,7 +83,7 @@ paid_in plan table n ss shelf o trees_are sound good tight holds is =
     paid_by plan n ss outcomes.0 (plan_run plan n ss outcomes.0) o sound outcomes.1 refl
     (subst (λ (v : Setting). IsRun (run_by_names v plan.steps ss) o) same is)
 
--- what a run of the file n that ended so has paid
+-- a run of the file n with this outcome has paid its steps
 abbrev pub Pays : Plan → Files → ℕ → List Statement → Shelf → Type 0
 Pays plan table n ss shelf = (o : Outcome) → IsRun (run_by_names (given_over table plan n shelf) plan.steps ss) o → IsPaidIn plan n o
 
@@ -103,7 +103,7 @@ ran_is plan table n ss shelf w steps o may pays same count e named =
       paid = pays o (subst (λ (v : Setting). IsRun (run_by_names v plan.steps ss) o) same (subst (λ k. IsRun (run_by_names w k ss) o) count named));
     }
 
--- what the run of a body answers is the file's outcome
+-- the outcome of the run of a body is the file's outcome
 pub ran_so : (plan : Plan) (table : Files) (n home : ℕ) (ss : List Statement) (shelf : Shelf) (ls : List Load) (prelude : Option ℕ) (steps : ℕ) (r : Result Outcome AllocError) → MayRun plan table n ss shelf → Pays plan table n ss shelf
     → home ≡ n → ls ≡ loads_of plan n → prelude ≡ plan.prelude → steps ≡ plan.steps
     → (AreReady (world_over home shelf table ls prelude) steps → IfOk r (λ o. meant (world_over home shelf table ls prelude).setting o ≡ local (world_over home shelf table ls prelude).setting steps ss))
@@ -129,7 +129,7 @@ ran_so plan table n home ss shelf ls prelude steps r may pays at loads is count 
 pub loads_in_row : (plan : Plan) (row : Row) (n : ℕ) (p : Program) → readings row ≡ plan.reads → read_at row n ≡ Some (read.Program p) → p.loads.items ≡ loads_of plan n
 loads_in_row plan row n p is e = sym (loads_are plan row n is ∙ ap (λ o. loads_in (option_map reading_of o)) e)
 
--- what a good run left
+-- the result of a good run
 pub body_is : (plan : Plan) (n : ℕ) (o : Outcome) (frozen : Published) (left : ℕ) (b : Body) → o ≡ outcome.Good frozen b.shown b.lines left → b.paid ≡ plan.steps - left → IsRan plan n o → AreStores plan n (row_of b.stores) → IsBody plan n b
 body_is plan n o frozen left b e paid ran stores =
     let r : IsRan plan n (outcome.Good frozen b.shown b.lines left) = subst (IsRan plan n) e ran in

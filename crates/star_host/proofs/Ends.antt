@@ -1,4 +1,4 @@
--- How a file ends, by what was read of it.
+-- The end of a file, by its reading.
 use Rattle.std.proofs.Common.{◌≡◌, ◌<◌, ℕ, List, length, get_or, Option, Some, None, refl, ap, sym, ◌∙◌, subst, arith}
 use Rattle.std.specs.Prelude.{IfSome, slice_get}
 use Rattle.std.specs.Option.{option_flatten, option_map}
@@ -51,7 +51,7 @@ stands_read row table n p is e =
     ∙ ap option_flatten (slice_get-map placed_in row n)
     ∙ ap (λ o. option_flatten (option_map placed_in o)) (flat_some (slice_get row n) (read.Program p) e)
 
--- the statements of a placed file stand among the trees
+-- the statements of a placed file are among the trees
 pub stands_tree : (table : Files) (n : ℕ) (p : Program) → file_in table n ≡ Some (placed_file p) → Stands (trees_of table) n p.statements.now
 stands_tree table n p e =
     slice_get-map (option_map (λ (f : PlacedFile). f.statements)) table n ∙ ap (option_map (option_map (λ (f : PlacedFile). f.statements))) (flat_some (slice_get table n) (placed_file p) e)

@@ -1,4 +1,4 @@
--- The counts of fewer loaders are those of more, the last of which have begun nothing.
+-- The counts of fewer loaders are also counts of more loaders: the further loaders have begun nothing.
 use Rattle.std.proofs.Common.{◌≡◌, ◌+◌, ◌-◌, ◌*◌, ◌≤◌, ◌++◌, ℕ, List, length, length-append, replicate, ap, sym, ◌∙◌, arith}
 use Rattle.std.specs.Prelude.{IfOk, Result, Ok, Err, sum}
 use Rattle.std.proofs.lemmas.List.{append_assoc, length-replicate, replicate-append-replicate}

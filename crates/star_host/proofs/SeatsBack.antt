@@ -4,7 +4,7 @@ use Rattle.std.proofs.lemmas.List.{get_or_default, get_or-map, length-map}
 use Rattle.std.specs.List.{Any}
 use Rattle.star_cache.specs.Seats.{SeatState, AreAll, AreNew}
 
--- seats that came back from the loaders, each in its place, are all the seats
+-- seats that came back from the loaders, each at its index, are all the seats
 pub seats_back : {W : Type 0} (n : ℕ) (before : List SeatState) (ws : List W) (f : W → SeatState) (w : W) → AreNew n before → length ws ≡ n → ((i : ℕ) (d : W) (e : SeatState) → i < n → (f (get_or ws i d)).number ≡ (get_or before i e).number) → AreAll n (map f ws)
 seats_back n before ws f w row len each =
     let s : SeatState = record { number = 0; begun = 0 } in
@@ -21,7 +21,7 @@ seats_back n before ws f w row len each =
           ),
     )
 
--- so are they where each has the number that the seat had which went there
+-- seats that came back are all the seats if each has the number of the seat that was handed out
 pub all_back : {W : Type 0} (n : ℕ) (before : List SeatState) (ws : List W) (f : W → SeatState) (w : W) → AreNew n before → map (λ x. (f x).number) ws ≡ map (λ (s : SeatState). s.number) before → AreAll n (map f ws)
 all_back n before ws f w row same =
     let len : length ws ≡ length before = sym (length-map ws (λ x. (f x).number)) ∙ ap length same ∙ length-map before (λ (s : SeatState). s.number) in
@@ -31,7 +31,7 @@ all_back n before ws f w row same =
     let there : i < length before = omega (arith, h, row.0) in
     sym (get_or-map (λ x. (f x).number) ws i d 0 here) ∙ ap (λ ns. get_or ns i 0) same ∙ get_or-map (λ (s : SeatState). s.number) before i e 0 there)
 
--- rows have the same numbers where each place has
+-- two rows have the same numbers if they do at each index
 pub numbers_back : {A B : Type 0} (f : A → ℕ) (h : B → ℕ) (xs : List A) (ys : List B) → length ys ≡ length xs → ((i : ℕ) (d : B) (e : A) → i < length xs → h (slice_index_or ys i d) ≡ f (slice_index_or xs i e)) → map h ys ≡ map f xs
 numbers_back f h [] [] len each = refl
 numbers_back f h [] (y ∷ ys) len each = absurd (omega arith)

@@ -103,11 +103,11 @@ all_kept files plan n ks within end is = record {
   each = λ i d lt. (is.each i d lt).1;
 }
 
--- as many files as places in the row
+-- the row has an entry for each file
 pub row_long : (files : List File) (plan : Plan) (row : Row) → readings row ≡ plan.reads → IsPlanOf files plan → length row ≡ length files
 row_long files plan row is planned = sym (length-map row (option_map reading_of)) ∙ (ap length is ∙ planned.size)
 
--- what was read is reached
+-- a file that was read is reached
 pub read_reached : (files : List File) (plan : Plan) (row : Row) (n : ℕ) → readings row ≡ plan.reads → IsPlanOf files plan → IsSome (read_at row n) → IsReached plan n
 read_reached files plan row n is planned h =
     let s = some_of (read_at row n) h in
@@ -131,13 +131,13 @@ contains_more row n ns before m h is = by_cases (same_or_not m n)
     (λ e. Contains-append_right ns (n ∷ []) m (subst (Contains (n ∷ [])) (sym e) (contains_here n)))
     (λ ne. Contains-append_left ns (n ∷ []) m (before m (omega (arith, h, ne)) is))
 
--- a place at which nothing was read is passed by
+-- a file that was not read is passed by
 pub passed_by : (row : Row) (n : ℕ) (ns : List ℕ) → read_at row n ≡ None → ((m : ℕ) → m < n → IsSome (read_at row m) → Contains ns m) → (m : ℕ) → m < n + 1 → IsSome (read_at row m) → Contains ns m
 passed_by row n ns none before m h is = by_cases (same_or_not m n)
     (λ e. absurd (let there = some_of (read_at row m) is in let both : None ≡ Some there.0 = sym none ∙ (ap (read_at row) (sym e) ∙ there.1) in let no : ⊥ = cc in no))
     (λ ne. before m (omega (arith, h, ne)) is)
 
--- what is reached was read
+-- a reached file was read
 pub reached_read : (files : List File) (plan : Plan) (row : Row) (n : ℕ) → readings row ≡ plan.reads → IsPlanOf files plan → IsReached plan n → IsSome (read_at row n)
 reached_read files plan row n is planned r = split (read_at row n) refl
   where
@@ -145,7 +145,7 @@ reached_read files plan row n is planned r = split (read_at row n) refl
     split (Some x) e = refl
     split None e = absurd (unread_not_reached files plan row n is planned e r)
 
--- so all that holds of each file that was read holds of the reached ones
+-- a property of each file that was read is one of each reached file
 pub of_reached : (P : ℕ → Type 0) (files : List File) (plan : Plan) (row : Row) (ns : List ℕ) → readings row ≡ plan.reads → IsPlanOf files plan → ((n : ℕ) → IsSome (read_at row n) → Contains ns n) → All P ns
     → (n : ℕ) → IsReached plan n → P n
 of_reached P files plan row ns is planned there all n r = pick (there n (reached_read files plan row n is planned r))
@@ -153,7 +153,7 @@ of_reached P files plan row ns is planned there all n r = pick (there n (reached
     pick : Contains ns n → P n
     pick (i, less, e) = subst P e (all i n less)
 
--- how many of the first entries were begun, and one more
+-- the number of begun entries among the first, with one entry more
 pub begun_more : (es : List (Entry ToldView)) (n : ℕ) (d : Entry ToldView) → n < length es → count_by is_begun (take (n + 1) es) ≡ count_by is_begun (take n es) + cond (is_begun (get_or es n d)) 1 0
 begun_more es n d h = sum_by_more (λ e. cond (is_begun e) 1 0) es n d h
 

@@ -1,4 +1,4 @@
--- That several threads may use what loaders share.
+-- Several threads may use the data that loaders share.
 use Rattle.std.proofs.Common.{ℕ, List, [], ◌∷◌}
 use denote.Builtin.{usize}
 use denote.Hole.{shared_at}
@@ -53,8 +53,8 @@ common_sync κ ν μ ξ =
     let s = of_shelf.the_sync _ of_module.the_send of_module.the_sync in
     search (sendable, crosses) depth 40
 
--- a loader's closure: it captures the runtime R, what all loaders share, the gate G, the cache, how many loaders there are, the roots,
--- the trace and the flow
+-- a loader's closure: it captures the runtime R, the data that all loaders share, the gate G, the cache, the number of
+-- loaders, the roots, the trace and the flow
 module _ (J : RattleType) (n : Naming.Ghosts J.Denot) (l : Ledger.Ghosts J.Denot) (R G : RattleType) (α β γ δ ε ζ η θ ι κ ξ ο : NamedLft) where
   abbrev the_cache : RattleType
   the_cache = cache.the_row (told.the_row J n l) J (product.ghosts J n product.no_dict l product.no_dict) l

@@ -1,4 +1,4 @@
--- What a body is given of other files, and what it left.
+-- The world of a body, and the outcome of its run.
 use Rattle.std.specs.Prelude.{◌≡◌, ◌-◌, ℕ, List, Option}
 use Rattle.star_scope.specs.declared.loads.Load.{Load}
 use Rattle.star_store.specs.Store.{Shelf}
@@ -14,7 +14,7 @@ use Rattle.star_plan.specs.Plan.{Plan}
 use Rattle.star_plan.specs.Results.{IsOutcome, Ran}
 use Rattle.star_plan.specs.Shelves.{IsOwn}
 
--- what a body is given over a shelf
+-- the world of a body, over a shelf
 abbrev pub world_over : ℕ → Shelf → Files → List Load → Option ℕ → World
 world_over home shelf files loads prelude =
     record {
@@ -31,14 +31,14 @@ world_over home shelf files loads prelude =
 -- the module that a good run left is the file's own
 abbrev pub IsOwnIn : Plan → ℕ → Outcome → Type 0
 IsOwnIn plan n (outcome.Good frozen texts lines left) = IsOwn plan n frozen
-IsOwnIn plan n (outcome.Fault code line lines trail) = Unit {0}
+IsOwnIn plan n (outcome.Fault code line lines remains) = Unit {0}
 
--- a good run has paid the steps that were given but those that are left
+-- a good run has paid the steps that were given, less those that are left
 abbrev pub IsPaidIn : Plan → ℕ → Outcome → Type 0
 IsPaidIn plan n (outcome.Good frozen texts lines left) = HasPaid plan n (plan.steps - left)
-IsPaidIn plan n (outcome.Fault code line lines trail) = Unit {0}
+IsPaidIn plan n (outcome.Fault code line lines remains) = Unit {0}
 
--- a run of the file n ended so: with its outcome
+-- this is the outcome of a run of the file n: the file's outcome
 pub record IsRan (plan : Plan) (n : ℕ) (o : Outcome) : Type 0 where
   pub over : Setting
   pub outcome : IsOutcome plan n (Ran (meant over o))

@@ -1,4 +1,5 @@
--- What loaders share, and what lies under a turn of a file whose loads are asked for.
+-- The data that loaders share: `IsWorld` says that it is right for a plan; and the facts at a turn of a file whose
+-- loads are being asked for.
 use Rattle.std.specs.Prelude.{◌≡◌, ◌+◌, ◌^◌, ◌<◌, ◌≤◌, ℕ, List, IfSome, Some, length, slice_get}
 use Rattle.star_cache.specs.State.{Loads}
 use Rattle.star_cache.specs.Walk.{IsOnCycle}
@@ -14,8 +15,8 @@ use Rattle.star_host.specs.declared.common.Common.{Common}
 use Rattle.star_host.specs.declared.loading.Turn.{Turn}
 use Rattle.star_host.specs.declared.loading.Turn.TheVariants.{Again, Enter, Ended}
 
--- what loaders share is that of the cache: its files, what was read of them, their programs, its shelf, the prelude's
--- file and the steps; and what was read is the plan of the files
+-- the data that loaders share is right for the cache: its files, the read files, their programs, its shelf, the
+-- prelude's file and the steps; and the read files are the plan of the files
 pub record IsWorld (files : List File) (plan : Plan) (shelf : List ℕ) (c : Common) : Type 0 where
   pub files_are : c.files.now ≡ files
   pub row_is : readings c.reads.now ≡ plan.reads
@@ -29,7 +30,7 @@ pub record IsWorld (files : List File) (plan : Plan) (shelf : List ℕ) (c : Com
   pub planned : IsPlanOf files plan
   pub placed : ArePlaced files plan c.programs.now
 
--- the plan of what loaders share who load these roots
+-- the plan of loaders that load these roots and share this data
 abbrev pub plan_in : List ℕ → Common → Plan
 plan_in roots c = record { roots = roots; prelude = c.prelude; steps = c.steps; reads = readings c.reads.now }
 

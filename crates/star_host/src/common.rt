@@ -1,4 +1,4 @@
-//! What loaders share.
+//! The data that all loaders share.
 
 ghost use Rattle.std.specs.Prelude.{◌≡◌, ◌+◌, ◌^◌, ◌<◌, ◌≤◌, All, IfSome, length, slice_get};
 ghost use Rattle.star_outcome.specs.Fits.{IsAsked, IsWithin};
@@ -15,8 +15,8 @@ use star_scope::loads::Load;
 use star_world::files::Files;
 use std::alloc::Global;
 
-/// What all loaders share: what was read of each reached file, the programs of all files, a shelf for the module of
-/// each file, the prelude's file, and the steps that a body may take, which are 1 to 100,000,000.
+/// The data that all loaders share: the read files, the programs of all files, a shelf for the module of each file, the
+/// prelude's file, and the steps that a body may take. These are 1 to 100,000,000.
 #[derive(Drop)]
 pub struct Common<'s, 'r, 'p, 't> {
     pub alloc: Global,
@@ -38,7 +38,7 @@ pub(crate) fn file_number(files: &Labels, n: usize) -> u32
 }
 
 impl<'s, 'r, 'p, 't> Common<'s, 'r, 'p, 't> {
-    /// What loaders share who load these roots: all that `load` asks for.
+    /// The shared data for loading these roots: all that `load` needs.
     pub fn new(
         alloc: Global,
         files: &'s Labels,
@@ -73,7 +73,7 @@ impl<'s, 'r, 'p, 't> Common<'s, 'r, 'p, 't> {
         }
     }
 
-    /// The loads of a file: none where it has a static fault.
+    /// The loads of a file; none if it has a static fault.
     pub(crate) fn loads(&self, n: usize) -> &'r [Load]
         ensures { result.now ≡ loads_at self.now.reads.now n }
     {

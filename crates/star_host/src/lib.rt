@@ -1,16 +1,23 @@
-//! Loading by several loaders: the modules of all files that roots reach.
+//! The host: it loads and runs many files with several loaders (threads), and returns the modules of all files that the
+//! roots reach.
 //!
-//! 1. `common::read_files` reads the reached files, and `Common` has what all loaders share: what was read, the
-//!    programs, the shelf, the steps.
-//! 2. `running` starts a thread for each loader. It takes files whose loads have all ended (`star_flow`), and then
-//!    asks for the roots, one after another.
-//! 3. `loading::load` loads one root: a stack of frames, each a file whose loads are asked for in order. An `ask` of
-//!    the cache answers that the file is the loader's to run, that it has ended, that it would close a cycle, or
-//!    makes the loader wait.
-//! 4. `work` runs a body, with no lock held, and publishes its module; `settle` collects the modules once all loaders
-//!    are done.
+//! - `read_files` (of `star_reading`) reads the reached files before anything runs; `Common` is the data that all
+//!   loaders share: the read files, their programs, the shelf for modules, the steps.
+//! - `running::run` starts a thread for each loader. A loader first takes files all of whose loads have ended
+//!   (`star_flow`); then it asks for the roots, one after another, since the files that are left are on a cycle or lead
+//!   to one.
+//! - `loading::load` loads one root: a stack of frames, each a file whose loads are asked for in order. The cache
+//!   (`star_cache`) answers that the file is the loader's to run, that it has ended, that it would close a cycle, or
+//!   lets the loader wait.
+//! - `work` runs a body, with no lock held, and publishes its module; `settle` collects the modules when all loaders
+//!   are done.
+//! - `Gate` is a hook that is called before each body, for tests and for callers that watch.
 //!
-//! `Gate` is told of each body before it runs, for tests and hosts that watch.
+//! Begin at `loading.rt`, with `take_turn`, then `running.rt`.
+//!
+//! The promise is the contract of `run`: the modules of exactly the reached files, in order, each with its file's
+//! outcome (`star_plan`), for 1 to 64 loaders; as many files were begun as there are modules. Both public ways, `load`
+//! and `run`, are described in `docs/LIBRARY.md`, the protocol in `docs/LOADING.md`.
 #![tactic(auto)]
 
 mod common;

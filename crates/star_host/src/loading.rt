@@ -1,4 +1,4 @@
-//! The loading of a root by one loader.
+//! The loading of a root by one loader: a stack of files whose loads are asked for in order. Begin at `load`.
 
 ghost use Rattle.std.specs.Prelude.{◌≡◌, ◌<◌, IfOk, IfSome, MatchOption, length};
 ghost use Rattle.star_plan.specs.Plan.{loads_of};
@@ -22,14 +22,14 @@ use star_scope::loads::Load;
 use std::alloc::{AllocError, Global};
 use std::sync::Wait;
 
-/// Why nothing is told of a root.
+/// Why a load gets no answer.
 #[derive(Clone, Copy, Debug, PartialEq, Eq)]
 pub enum LoadError {
-    /// A growth was refused.
+    /// An allocation failed.
     Memory,
     /// An entry that was met is spoiled.
     Spoiled,
-    /// A cell did not take what was made.
+    /// A cell of the shelf was set already.
     Unpublished,
 }
 
@@ -39,14 +39,14 @@ impl From<AllocError> for LoadError {
     }
 }
 
-/// What a turn did: a load was told, a load was begun, or the file has ended.
+/// The effect of a turn: a load was answered, a load was begun, or the file has ended.
 pub(crate) enum Turn {
     Again,
     Enter(usize),
     Ended,
 }
 
-/// How a file ends whose loads have all been told.
+/// The result of a file after all its loads have been answered.
 fn ended<'s, 'r, 'p, 't, J: Naming, G: Gate>(
     common: &Common<'s, 'r, 'p, 't>,
     gate: &G,
@@ -78,7 +78,7 @@ fn ended<'s, 'r, 'p, 't, J: Naming, G: Gate>(
     }
 }
 
-/// The module of a file that ended so.
+/// The module of a file with this end.
 fn module_of<'s, 'r, 'p, 't, J: Naming>(
     common: &Common<'s, 'r, 'p, 't>,
     n: usize,
@@ -96,14 +96,14 @@ fn module_of<'s, 'r, 'p, 't, J: Naming>(
     })
 }
 
-/// A module in a block of its own.
+/// A module in a heap block.
 fn boxed(alloc: Global, made: Module) -> Result<Box<Module>, AllocError>
     ensures { IfOk result (λ b. b.value ≡ made) }
 {
     Box::new(alloc, made).map_err(AllocError::from)
 }
 
-/// Publishes how a file ended, and then says that it is done.
+/// Publishes the module of a file, and then tells the cache that the file has ended.
 fn end<'s, 'r, 'p, 't, J: Naming, R: Wait, G: Gate>(
     rt: &R,
     common: &Common<'s, 'r, 'p, 't>,
@@ -130,7 +130,7 @@ fn end<'s, 'r, 'p, 't, J: Naming, R: Wait, G: Gate>(
     }
 }
 
-/// The next load of a file that is to be asked for: none where all were told.
+/// The next load of a file to ask for; `None` if all were answered.
 fn next_load<'s, 'r, 'p, 't, J: Naming>(
     common: &Common<'s, 'r, 'p, 't>,
     frame: &Frame<'s, J>,
@@ -143,7 +143,7 @@ fn next_load<'s, 'r, 'p, 't, J: Naming>(
     common.load(frame.number(), frame.told())
 }
 
-/// The module of a file of which that was told.
+/// The module that an answer is about.
 fn told_module<'s, 'r, 'p, 't, J: Naming>(
     common: &Common<'s, 'r, 'p, 't>,
     n: usize,
@@ -202,7 +202,7 @@ fn take_turn<'s, 'r, 'p, 't, J: Naming, R: Wait, G: Gate>(
     Ok(Turn::Again)
 }
 
-/// Asks for a root: what is told of it, or nothing where it was begun.
+/// Asks for a root: the answer, or `None` if the root was begun.
 fn ask_root<J: Naming, R: Wait>(
     rt: &R,
     cache: &LoadCache<Told<J>>,
@@ -263,10 +263,10 @@ fn turns<'s, 'r, 'p, 't, J: Naming, R: Wait, G: Gate>(
     unreachable!()
 }
 
-/// Loads a file, and gives what is told of it: its module, which has its number, its loads, and its outcome. All loads
-/// of a file are asked for, also after one that is not good. `Memory` where a growth was refused, `Spoiled` where an
-/// entry that was met is spoiled, `Unpublished` where a cell of the shelf had something already. At `Err` the loader's
-/// stack was abandoned.
+/// Loads a file, and returns the answer: its module, which has its number, its loads, and its outcome. All loads of a
+/// file are asked for, also after one that is not good. `Memory` if an allocation failed, `Spoiled` if an entry that
+/// was met is spoiled, `Unpublished` if a cell of the shelf was set already. After an `Err` the loader's stack is
+/// abandoned.
 pub fn load<'s, 'r, 'p, 't, J: Naming, R: Wait, G: Gate>(
     rt: &R,
     common: &Common<'s, 'r, 'p, 't>,

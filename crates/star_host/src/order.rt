@@ -1,8 +1,8 @@
-//! The order in which a loader asks for the roots.
+//! A loader's order of the roots: each loader begins at another root.
 
 ghost use Rattle.std.specs.Prelude.{◌<◌, ◌≤◌};
 
-/// The place of the root at which a loader begins: loader k of N begins at place k * R / N of R.
+/// The index of a loader's first root: loader k of N begins at index k * R / N of R roots.
 pub(crate) fn first_place(loader: usize, loaders: usize, count: usize) -> usize
     requires loaders { (1 ≤ loaders) × (loaders ≤ 64) }
     requires count { 1 ≤ count }
@@ -12,7 +12,7 @@ pub(crate) fn first_place(loader: usize, loaders: usize, count: usize) -> usize
     (k * count / of) as usize
 }
 
-/// The place of the i-th root in the order of a loader that begins at a place.
+/// The index of the i-th root in the order of a loader that begins at index `first`.
 pub(crate) fn place(first: usize, i: usize, count: usize) -> usize
     requires first { first < count }
     requires i { i < count }

@@ -1,4 +1,4 @@
-//! The run: each loader asks for all roots.
+//! `run`: starts a thread for each loader, and collects the modules when all have ended.
 
 ghost use Rattle.std.specs.Prelude.{◌≡◌, ◌<◌, ◌≤◌, ◌⊎◌, ℕ, All, None, Some, count_by, is_some, length, map, max, sum, vec_len, IfOk, IfSome};
 ghost use Rattle.star_outcome.specs.Fits.{IsAsked, IsWithin};
@@ -38,10 +38,10 @@ use std::sync::ledger::Blank;
 use std::thread;
 use std::thread::Threads;
 
-/// Why there is no run.
+/// Why a run fails.
 #[derive(Clone, Copy, Debug, PartialEq, Eq)]
 pub enum RunError {
-    /// A growth was refused.
+    /// An allocation failed.
     Memory,
     /// A module was not published: a cell of the shelf did not take it, or its file was given up and no loader says
     /// why.
@@ -64,14 +64,14 @@ impl From<LoadError> for RunError {
     }
 }
 
-/// What a loader hands back.
+/// The result of a loader: its seat, and the first of its errors that is a cause, if it met an error.
 #[derive(Drop)]
 pub(crate) struct Worked<J: Naming> {
     seat: Seat<Told<J>>,
     error: Option<LoadError>,
 }
 
-/// A root may be asked for.
+/// The root at an index, which may be asked for.
 fn root_at<J: Naming>(roots: &[usize], i: usize) -> usize
     requires i { i < length roots.now }
     requires roots { roots.now ≡ J.plan.roots }
@@ -91,7 +91,7 @@ fn flow_of<'s, 'r, 'p, 't>(common: &Common<'s, 'r, 'p, 't>) -> Result<Flow, Allo
     graph.into_flow(common.alloc)
 }
 
-/// A file of the graph with its loads, where it is reached.
+/// A file of the graph with its loads, if it is reached.
 fn add_file<'s, 'r, 'p, 't>(
     graph: &mut Graph,
     common: &Common<'s, 'r, 'p, 't>,
@@ -107,8 +107,8 @@ fn add_file<'s, 'r, 'p, 't>(
     Ok(())
 }
 
-/// One loader takes files all of whose loads have ended, as long as there are some. Where it could not go on with one,
-/// the reason.
+/// One loader takes files all of whose loads have ended, as long as there are some. After an error it goes on with the
+/// next file. It answers the first error that is a cause, if there was an error.
 fn take_ready<'s, 'r, 'p, 't, J: Naming, R: Wait, G: Gate>(
     rt: &R,
     common: &Common<'s, 'r, 'p, 't>,
@@ -135,8 +135,8 @@ fn take_ready<'s, 'r, 'p, 't, J: Naming, R: Wait, G: Gate>(
     unreachable!()
 }
 
-/// One loader takes files all of whose loads have ended, where there are other loaders; then it asks for each root,
-/// since what is left lies on a cycle of loads or leads to one.
+/// The work of one loader. If there are other loaders, it first takes files all of whose loads have ended. Then it asks
+/// for each root, since the files that are left are on a cycle of loads or lead to one.
 fn work<'s, 'r, 'p, 't, J: Naming, R: Wait, G: Gate>(
     rt: &R,
     common: &Common<'s, 'r, 'p, 't>,
@@ -172,7 +172,7 @@ fn work<'s, 'r, 'p, 't, J: Naming, R: Wait, G: Gate>(
     Worked { seat, error }
 }
 
-/// Each seat goes to a loader in a thread of its own, and comes back.
+/// Starts a loader in its own thread for each seat: the results of all loaders, in the order of the seats.
 #[tactic(auto, using(crate::proofs::SeatsBack::numbers_back))]
 fn spread<'s, 'r, 'p, 't, J: Naming + Send + Sync, R: Threads + Wait + Sync, G: Gate + Sync>(
     rt: &R,
@@ -202,7 +202,7 @@ fn spread<'s, 'r, 'p, 't, J: Naming + Send + Sync, R: Threads + Wait + Sync, G: 
     )
 }
 
-/// The first error that says why: that a file was met which was given up before is no reason itself.
+/// The first error that is a cause. `Spoiled` only says that another loader gave up.
 fn reason(first: Option<LoadError>, next: Option<LoadError>) -> Option<LoadError>
     ensures none { result ≡ None → (first ≡ None) × (next ≡ None) }
     ensures one { (result ≡ first) ⊎ (result ≡ next) }
@@ -216,7 +216,7 @@ fn reason(first: Option<LoadError>, next: Option<LoadError>) -> Option<LoadError
     }
 }
 
-/// The seats of the loaders, in order, and the reason why they could not go on.
+/// The seats of the loaders, in order, and the first of their errors that is a cause, if they met an error.
 fn taken<J: Naming>(
     alloc: Global,
     worked: Vec<Worked<J>>,
@@ -233,7 +233,7 @@ fn taken<J: Naming>(
     Ok((seats, why))
 }
 
-/// What a closed cache tells, without the shelf.
+/// The results in a closed cache, without the shelf.
 #[derive(Drop)]
 pub(crate) struct Closed {
     kept: Vec<Kept>,
@@ -278,7 +278,7 @@ fn run_named<'s, 'r, 'p, 't, J: Naming + Send + Sync, R: Threads + Wait + Sync, 
     closed_of(alloc, closed, &trace)
 }
 
-/// What a cache tells that is closed when all reached files have ended.
+/// The results in a cache that is closed after all reached files have ended.
 fn closed_of<J: Naming>(
     alloc: Global,
     closed: (Book<Told<J>>, [u32; 64]),
@@ -308,7 +308,7 @@ fn closed_of<J: Naming>(
     })
 }
 
-/// The run over what was read, with a shelf for the modules.
+/// The run over files that are read, with a shelf for the modules.
 fn run_over<'s, 'r, 't, R: Threads + Wait + Sync, G: Gate + Sync>(
     rt: &R,
     alloc: Global,
@@ -342,10 +342,9 @@ fn run_over<'s, 'r, 't, R: Threads + Wait + Sync, G: Gate + Sync>(
     run_named::<Brand, R, G>(rt, &common, gate, roots, loaders, blank)
 }
 
-/// Loads the roots by so many loaders: the modules of exactly the reached files, in order, each with its outcome; and
-/// loads that were refused, each of which lies on a cycle of loads.
-/// `steps` is what each body may take; the roots and the prelude are numbers of files. `Memory` where a growth was
-/// refused.
+/// Loads the roots by `loaders` loaders: the modules of exactly the reached files, in order, each with its outcome; and
+/// loads that were refused, each on a cycle of loads. `steps` is the number of steps that each body may take; the roots
+/// and the prelude are numbers of files. `Memory` if an allocation failed, `Unpublished` as `RunError` says.
 pub fn run<R: Threads + Wait + Sync, G: Gate + Sync>(
     rt: &R,
     alloc: Global,
@@ -385,7 +384,8 @@ pub fn run<R: Threads + Wait + Sync, G: Gate + Sync>(
     )
 }
 
-/// At most as many loaders as there are files to run: one more would find none to begin.
+/// The number of loaders to start: no more than there are files to run, since a further loader would find no file to
+/// begin.
 fn enough(loaders: usize, reads: &Reads) -> usize
     requires { (1 ≤ loaders) × (loaders ≤ 64) }
     ensures some { 1 ≤ result }
@@ -395,9 +395,9 @@ fn enough(loaders: usize, reads: &Reads) -> usize
     loaders.min(read_count(reads)).max(1)
 }
 
-/// As `run`. What the parser has made of the first files is given: their texts are not parsed again. The trees and what
-/// was read of the files stay with the caller, who may leave them to the end of the process: to free them takes a tenth
-/// of the time of a run of many small files.
+/// As `run`, with the first files parsed already: their texts are not parsed again. The trees and the read files stay
+/// with the caller, who may leave them to the end of the process: to free them takes a tenth of the time of a run of
+/// many small files. The errors are those of `run`.
 pub fn run_in<'t, R: Threads + Wait + Sync, G: Gate + Sync>(
     rt: &R,
     alloc: Global,

@@ -24,7 +24,7 @@ use star_reading::reading::Read;
 use std::alloc::{AllocError, Global};
 use std::sync::Wait;
 
-/// The numbers of the files that were read, which are those that are reached.
+/// The numbers of the files that were read. They are the reached files.
 fn reached(alloc: Global, reads: &[Option<Read>]) -> Result<Vec<usize>, AllocError>
     ensures { IfOk result (λ v. (n : ℕ) → IsSome (read_at reads.now n) → Contains v.items n) }
 {
@@ -38,7 +38,7 @@ fn reached(alloc: Global, reads: &[Option<Read>]) -> Result<Vec<usize>, AllocErr
     Ok(numbers)
 }
 
-/// Asks for a file, where it is reached.
+/// Asks for a file, if it is reached.
 pub(crate) fn settle_one<'s, 'r, 'p, 't, J: Naming, R: Wait, G: Gate>(
     rt: &R,
     common: &Common<'s, 'r, 'p, 't>,
@@ -78,7 +78,7 @@ fn settle<'s, 'r, 'p, 't, J: Naming, R: Wait, G: Gate>(
     Ok(())
 }
 
-/// The same by the first of the loaders' seats.
+/// As `settle`, by the first of the loaders' seats.
 fn settle_first<'s, 'r, 'p, 't, J: Naming, R: Wait, G: Gate>(
     rt: &R,
     common: &Common<'s, 'r, 'p, 't>,
@@ -95,9 +95,9 @@ fn settle_first<'s, 'r, 'p, 't, J: Naming, R: Wait, G: Gate>(
     settle(rt, common, gate, cache, &mut seats[0], trace)
 }
 
-/// The book of a cache that is closed when all reached files have ended under one look at it, and the loaders' counts.
-/// They have when the loaders have; where one has not, each is asked for once more. `Unpublished` where one has not even
-/// then, and no loader says why.
+/// Closes the cache if all reached files have ended: its book, and the loaders' counts. They should have ended when the
+/// loaders have; if one has not, each is asked for once more. The error: the first that these requests meet,
+/// `Unpublished` if a file has still not ended, `Memory` if an allocation failed.
 pub(crate) fn closed<'s, 'r, 'p, 't, J: Naming, R: Wait, G: Gate>(
     rt: &R,
     common: &Common<'s, 'r, 'p, 't>,
@@ -127,7 +127,7 @@ pub(crate) fn closed<'s, 'r, 'p, 't, J: Naming, R: Wait, G: Gate>(
     }
 }
 
-/// Keeps what an entry of a closed book tells of its file, after the modules of all reached files below it.
+/// Adds the module of a file, as told in its entry of a closed book, after the modules of all reached files below it.
 fn keep<J: Naming>(
     kept: &mut Vec<Kept>,
     n: usize,
@@ -152,7 +152,7 @@ fn keep<J: Naming>(
     Ok(())
 }
 
-/// The modules of all reached files, in order, by the book in which each of them has ended.
+/// The modules of all reached files, in order, from a book where each of them has ended.
 pub(crate) fn kept_of<J: Naming>(
     alloc: Global,
     book: Book<Told<J>>,

@@ -1,4 +1,4 @@
-//! The rows of what was read: the programs of all files, and the loads of each.
+//! The programs of all read files, and the loads of each, by number.
 
 ghost use Rattle.std.specs.Prelude.{◌≡◌, All, IfOk, IsFalse, IsSome, IsTrue, MatchOption, None, Some, count_by, is_some, ⊤};
 ghost use Rattle.std.specs.Option.{option_map};
@@ -15,7 +15,7 @@ use star_scope::program::Program;
 use star_world::files::Files;
 use std::alloc::{AllocError, Global};
 
-/// The program of what was read.
+/// The program of a read file; `None` if it was not read or has a static fault.
 fn program_in<'s, 't>(read: &'s Option<Read<'t>>) -> Option<&'s Program<'t>>
     requires { IsPlaceable read.now }
     ensures of_file { MatchOption result ⊤ (λ p. IsOfFile p.now) }
@@ -27,7 +27,8 @@ fn program_in<'s, 't>(read: &'s Option<Read<'t>>) -> Option<&'s Program<'t>>
     }
 }
 
-/// The programs of what was read, by the files' numbers: none of a file that was not read or has a static fault.
+/// The programs of the read files, by the files' numbers; `None` for a file that was not read or has a static fault.
+/// The error: an allocation failed.
 pub fn programs<'s, 't>(alloc: Global, reads: &'s Reads<'t>) -> Result<Files<'s, 't>, AllocError>
     requires { All IsPlaceable reads.now.all.items }
     ensures { IfOk result (λ table. table ≡ table_of reads.now.all.items) }
@@ -40,7 +41,7 @@ pub fn programs<'s, 't>(alloc: Global, reads: &'s Reads<'t>) -> Result<Files<'s,
     Ok(table)
 }
 
-/// The program of a file.
+/// The program of a file; `None` if it was not read or has a static fault.
 pub(crate) fn program_at<'s, 't>(reads: &'s [Option<Read<'t>>], n: usize) -> Option<&'s Program<'t>>
     ensures { MatchOption result
         ((p : ProgramView) → read_at reads.now n ≡ Some (read.Program p) → ⊥)
@@ -52,7 +53,7 @@ pub(crate) fn program_at<'s, 't>(reads: &'s [Option<Read<'t>>], n: usize) -> Opt
     }
 }
 
-/// The static fault of a file.
+/// The static fault of a file; `None` if it was not read or has a program.
 pub(crate) fn fault_at(reads: &[Option<Read>], n: usize) -> Option<StaticFault>
     ensures { MatchOption result
         ((f : FaultView) → read_at reads.now n ≡ Some (read.Fault f) → ⊥)
@@ -64,7 +65,7 @@ pub(crate) fn fault_at(reads: &[Option<Read>], n: usize) -> Option<StaticFault>
     }
 }
 
-/// The loads of a file: none where it has a static fault.
+/// The loads of a file; none if it has a static fault.
 pub(crate) fn loads_in<'s, 't>(reads: &'s [Option<Read<'t>>], n: usize) -> &'s [Load]
     ensures { result.now ≡ loads_at reads.now n }
 {
@@ -85,7 +86,7 @@ pub(crate) fn is_read(reads: &[Option<Read>], n: usize) -> bool
     }
 }
 
-/// How many files were read.
+/// The number of files that were read.
 pub(crate) fn read_count(reads: &Reads) -> usize
     ensures { result ≡ count_by is_some reads.now.all.items }
 {

@@ -1,4 +1,4 @@
-//! What is done for one file: its body runs over the stores of all files that it needs.
+//! The run of one file: its body, over the stores of all files that it needs, and the publication of its module.
 
 ghost use Rattle.std.specs.Prelude.{◌≡◌, ◌<◌, ◌≤◌, Some, IfOk, ℕ, Contains, length, map};
 ghost use Rattle.star_meaning.specs.Module.{local};
@@ -16,18 +16,21 @@ ghost use Rattle.star_reading.specs.declared.reading.Read.TheVariants as read;
 
 use crate::common::{Common, file_number};
 use crate::gate::Gate;
-use star_module::{Outcome, run_body};
+use star_about::look::{Fault, seek};
+use star_found::about::Found;
+use star_module::{Outcome, Remains, run_body};
 use star_outcome::given::{gathered, stores_of};
-use star_outcome::module::{Body, Ended, Module};
+use star_outcome::module::{Body, Ended, Left, Module};
 use star_outcome::naming::Naming;
 use star_outcome::store_row::StoreRow;
+use star_scope::loads::Load;
 use star_scope::program::Program;
-use star_store::arena::Homes;
+use star_store::arena::{Frozen, Homes};
 use star_world::files::Files;
 use star_world::world::World;
 use std::alloc::{AllocError, Global};
 
-/// Runs the body of a file over these stores, with so many steps.
+/// Runs the body of a file over these stores, with `steps` steps.
 fn outcome_in(
     alloc: Global,
     home: u32,
@@ -48,13 +51,62 @@ fn outcome_in(
     run_body(alloc, &world, program, steps)
 }
 
-/// How a file ends whose run has ended so.
+/// Finds the part of the program that a fault is about, by a second look at the store of its run and the stores that it
+/// reaches.
+fn found_in<'s>(
+    alloc: Global,
+    fault: Fault<'_>,
+    store: &'s Frozen,
+    reaches: &'s StoreRow,
+    files: &Files,
+    loads: &[Load],
+    prelude: Option<u32>,
+) -> Result<Option<Found>, AllocError> {
+    let mut homes = reaches.homes(alloc)?;
+    homes.add(fault.home, store)?;
+    seek(alloc, fault, &homes, files, loads, prelude)
+}
+
+/// Finds the part of the program that the fault of a run is about; `None` if the run has no fault, or nothing is found,
+/// or an allocation failed.
+fn found_of(
+    alloc: Global,
+    home: u32,
+    outcome: &Outcome,
+    reaches: &StoreRow,
+    files: &Files,
+    loads: &[Load],
+    prelude: Option<u32>,
+) -> Option<Found> {
+    let Outcome::Fault {
+        code,
+        line,
+        remains,
+        ..
+    } = outcome
+    else {
+        return None;
+    };
+    let fault = Fault {
+        code: *code,
+        line: *line,
+        home,
+        trail: remains.trail.as_slice(),
+    };
+    match found_in(alloc, fault, &remains.store, reaches, files, loads, prelude) {
+        Ok(found) => found,
+        Err(_) => None,
+    }
+}
+
+/// The end of a file whose run has this outcome.
 fn ended_of<J: Naming>(
     alloc: Global,
     home: u32,
     outcome: Outcome,
     steps: u32,
     reaches: StoreRow,
+    found: Option<Found>,
 ) -> Result<Ended, AllocError>
     requires ran { IsRan J.plan home outcome }
     requires steps { steps ≡ J.plan.steps }
@@ -81,18 +133,21 @@ fn ended_of<J: Naming>(
             code,
             line,
             lines,
-            trail,
-        } => Ok(Ended::Stopped {
-            code,
-            line,
-            lines,
-            trail,
-        }),
+            remains,
+        } => {
+            let Remains { trail, .. } = remains;
+            Ok(Ended::Stopped {
+                code,
+                line,
+                lines,
+                left: Left { trail, found },
+            })
+        }
     }
 }
 
-/// Runs the body of a file all of whose loads are good, over their modules: how the file ends. The gate is told of it
-/// before.
+/// Calls the gate, then runs the body of a file over the modules of its loads, which are all good. Answers the end of
+/// the file.
 pub(crate) fn run<'s, 'r, 'p, 't, J: Naming, G: Gate>(
     common: &Common<'s, 'r, 'p, 't>,
     gate: &G,
@@ -121,5 +176,14 @@ pub(crate) fn run<'s, 'r, 'p, 't, J: Naming, G: Gate>(
         prelude,
         common.steps,
     )?;
-    ended_of::<J>(common.alloc, home, outcome, common.steps, reaches)
+    let found = found_of(
+        common.alloc,
+        home,
+        &outcome,
+        &reaches,
+        common.programs,
+        program.loads(),
+        prelude,
+    );
+    ended_of::<J>(common.alloc, home, outcome, common.steps, reaches, found)
 }

@@ -1,4 +1,4 @@
--- Calls: when what a call gives fits the parameters of a function.
+-- Calls: when the arguments of a call fit the parameters of a function.
 use Rattle.std.proofs.Common.{◌≡◌, ◌≢◌, ◌⊎◌, ◌↔◌, inl, inr, ℕ, zero, suc, ◌<◌, ◌≤◌, nat_eq, Bool, true, false, not, ◌&&◌, ◌||◌, List, [], ◌∷◌, length, take, slice_get, Option, Some, None, is_some, if◌then◌else◌, cond, refl, ap, sym, ◌∙◌, arith}
 use Rattle.std.specs.List.{list_any, filter, find}
 use Rattle.std.specs.Option.{option_map, option_and_then}
@@ -42,7 +42,7 @@ or_false : (a : Bool) → (a || false) ≡ a
 or_false true = refl
 or_false false = refl
 
--- what may still be given by place: nothing after a star
+-- the parameters that may still get a positional argument: none after a star
 
 unfoldable pub open_of : Bool → List Parameter → List Parameter
 open_of true ps = []
@@ -60,12 +60,12 @@ record FitsFrom (ns : List NamedValue) (b : Bool) (ps : List Parameter) (vs : Li
   once : (i : ℕ) (name : List ℕ) → named_at ps i ≡ Some name → Placed b ps vs i → is_given name ns ≡ false
   room : Room b ps vs
 
--- what it says of the first parameter
+-- `FitsFrom`, for the first parameter
 record Head (ns : List NamedValue) (b : Bool) (p : Parameter) (ps : List Parameter) (vs : List Value) : Type 0 where
   needed : (n : Name) → parameter p ≡ tree.Plain n → Placed b (p ∷ ps) vs 0 ⊎ (is_given n.text ns ≡ true)
   once : (name : List ℕ) → own_name (parameter p) ≡ Some name → Placed b (p ∷ ps) vs 0 → is_given name ns ≡ false
 
--- and how that goes on after it
+-- a step from the first parameter to those after it, and to the arguments left for them
 pub record Goes (p : Parameter) (ps : List Parameter) (b c : Bool) (vs ws : List Value) : Type 0 where
   pub down : (i : ℕ) → Placed b (p ∷ ps) vs (suc i) → Placed c ps ws i
   pub up : (i : ℕ) → Placed c ps ws i → Placed b (p ∷ ps) vs (suc i)
@@ -264,7 +264,7 @@ given_or : (o d : Option Value) → is_some d ≡ true → is_some (else_default
 given_or (Some v) d h = refl
 given_or None d h = h
 
--- success, and what fits
+-- arguments are bound exactly if they fit
 
 Suits : List NamedValue → List NamedValue → List Parameter → Bool → List Value → List Value → Type 0
 Suits ns left ps b vs ds = (is_some (shares ns left ps (prog b vs ds)) ≡ true) ↔ FitsFrom ns b ps vs
@@ -288,7 +288,7 @@ true_not : (b : Bool) → not b ≡ true → b ≡ false
 true_not true h = absurd cc
 true_not false h = refl
 
--- a parameter that takes the next value by place
+-- a parameter that takes the next positional argument
 taken_head : (ns : List NamedValue) (p : Parameter) (ps : List Parameter) (v : Value) (vs : List Value) (name : List ℕ) → own_name (parameter p) ≡ Some name → is_star (parameter p) ≡ false → (not (is_given name ns) ≡ true → Head ns false p ps (v ∷ vs)) × (Head ns false p ps (v ∷ vs) → not (is_given name ns) ≡ true)
 unfolding Placed open_of
 taken_head ns p ps v vs name k h = (there, (λ r. not_true (is_given name ns) (r.once name k at)))
@@ -302,7 +302,7 @@ taken_head ns p ps v vs name k h = (there, (λ r. not_true (is_given name ns) (r
     there : not (is_given name ns) ≡ true → Head ns false p ps (v ∷ vs)
     there q = record { needed = λ n e. inl at; once = λ m e r. let s : name ≡ m = cc in ap (λ m. is_given m ns) (sym s) ∙ true_not (is_given name ns) q }
 
--- one that takes a value by name
+-- a parameter without a default, when no positional argument is left for it
 plain_head : (ns : List NamedValue) (p : Parameter) (ps : List Parameter) (b : Bool) (vs : List Value) (n : Name) → parameter p ≡ tree.Plain n → (Placed b (p ∷ ps) vs 0 → ⊥) → (is_given n.text ns ≡ true → Head ns b p ps vs) × (Head ns b p ps vs → is_given n.text ns ≡ true)
 plain_head ns p ps b vs n e k = (there, (λ r. by (r.needed n e)))
   where
@@ -436,7 +436,7 @@ suits : (ns left : List NamedValue) (ps : List Parameter) (b : Bool) (vs ds : Li
 suits ns left [] b vs ds h = ended ns left b vs ds
 suits ns left (p ∷ ps) b vs ds h = one ns left p ps b vs ds (λ c ws es k. suits ns left ps c ws es k) h (parameter p) refl
 
--- values by name
+-- keyword arguments
 
 named_before : (o : Option (List ℕ)) (name : List ℕ) (p : Parameter) (ps : List Parameter) → own_name (parameter p) ≡ o → (list_any (same_name name) (own_names ps) ≡ true → (i : ℕ) × (named_at ps i ≡ Some name)) → list_any (same_name name) (before_names o (own_names ps)) ≡ true → (i : ℕ) × (named_at (p ∷ ps) i ≡ Some name)
 named_before None name p ps e r h = let w : (i : ℕ) × (named_at ps i ≡ Some name) = r h in (suc (w.0), w.1)

@@ -22,7 +22,7 @@ use Rattle.star_laws.specs.Iterations.{AreCounted, FilesBeginWithNoLoop, LoopsAr
 pub files_begin_with_no_loop : FilesBeginWithNoLoop
 files_begin_with_no_loop w steps = record { counted = λ at a h. cc; there = λ at h. refl }
 
--- a number where a cell is a list or a dictionary, and else 0
+-- a number if a cell is a list or a dictionary, else 0
 abbrev of_container : Cell → ℕ → ℕ
 of_container c n = if is_container c then n else 0
 
@@ -57,7 +57,7 @@ runs_end_their_loops w levels p s t loops c = (
   (λ x f h. kept_counted s t loops ((runs_keep w levels p s t).1 x f h) c),
 )
 
--- which cell a value leads to
+-- the cell that a value leads to
 
 self_place : (n : ℕ) → one_place n n ≡ true
 self_place zero = refl
@@ -169,7 +169,7 @@ left v s t loops c h = let same : record s { store = closed v s.store } ≡ t = 
 pub loops_are_counted : LoopsAreCounted
 loops_are_counted w line n v s t loops = (iterated w line n v s t loops, left v s t loops)
 
--- what the rules of writing ask for
+-- the open iterations that the rules of writing ask for
 
 own : (b x : Bool) (a : Counted) (n : ℕ) → b ≡ true → is_container a.cell ≡ x → x ≡ true → a.iterations ≡ (if x then n else 0) → (if b then iterations_in (Some a) else 0) ≡ n
 own true true a n e k l h = rw k h

@@ -15,7 +15,7 @@ use Rattle.star_store.specs.Key.{all_pass, is_key, key_cell, key_value, same_key
 use Rattle.star_store.specs.Equal.{same, same_cells, same_items, same_pair, same_place, same_values}
 use Rattle.star_laws.specs.Keys.{Costs, OneIsKey}
 
--- what joins a visiting test to an answer, and passes from the parts of a comparison to the whole
+-- a relation between a visiting test and an answer that passes from the parts of a comparison to the whole
 record Passes (P : Spend Bool → Bool → Type 0) : Type 0 where
   answers : (b : Bool) → P (answer b) b
   visits : (f : Spend Bool) (b : Bool) → P f b → P (visited f) b
@@ -53,7 +53,7 @@ of_lengths : (P : Spend Bool → Bool → Type 0) → Passes P → (e : Bool) (f
 of_lengths P k true f b h = h
 of_lengths P k false f b h = k.answers false
 
--- a comparison of the values below, and what it says of keys
+-- the relation holds for the values below, if one of the two is a key
 Below : (P : Spend Bool → Bool → Type 0) → (Value → Value → Spend Bool) → (Value → Value → Bool) → (Value → Bool) → Type 0
 Below P f s g = (x y : Value) → Either (g x) (g y) → P (f x y) (s x y)
 
@@ -144,7 +144,7 @@ unfolding is_key
 no_key look x y (inl e) = cc
 no_key look x y (inr e) = cc
 
--- what equality answers
+-- equality answers whether the keys are the same
 
 Agrees : Spend Bool → Bool → Type 0
 Agrees f b = (steps left : ℕ) (a : Bool) → f steps ≡ Enough a left → a ≡ b
@@ -179,7 +179,7 @@ pub equal_keys_are_the_same : (look : Value → Option Cell) (n levels steps lef
 unfolding Agrees
 equal_keys_are_the_same look n levels steps left x y b k e = equal_at look n levels x y k steps left b e
 
--- that it answers
+-- equality has a price
 
 Priced : Spend Bool → Bool → Type 0
 Priced f b = (price : ℕ) × Costs f price b

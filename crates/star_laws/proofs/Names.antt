@@ -1,4 +1,4 @@
--- The names of values that a call gives by name differ.
+-- The names of the keyword arguments of a call differ.
 use Rattle.std.proofs.Common.{◌≡◌, ℕ, zero, suc, Bool, true, false, not, ◌||◌, List, [], ◌∷◌, ◌++◌, slice_get, Some, refl, ap, sym, ◌∙◌}
 use Rattle.std.proofs.lemmas.Slice.Eq.{bytes_eq-Decides}
 use Rattle.star_store.specs.declared.values.Value.{Value}
@@ -43,7 +43,7 @@ all_differ (x ∷ xs) h (suc i) zero m n e f q =
     absurd cc
 all_differ (x ∷ xs) h (suc i) (suc j) m n e f q = ap suc (all_differ xs ((neither (is_given x.name xs) (comes_twice xs) h).1) i j m n e f q)
 
--- an action that gives no name twice where it ends well
+-- an action whose arguments have no name twice if it ends well
 NamesOnce : Action Given → Type 0
 NamesOnce m = (s t : State) (g : Given) → m s ≡ Done g t → comes_twice g.named ≡ false
 

@@ -1,4 +1,4 @@
--- Ranges: which ints they have, at which places, and when two are the same.
+-- Ranges: the ints that they have at each place, and when two are the same.
 use Rattle.std.proofs.Common.{◌≡◌, ◌≢◌, ◌↔◌, inl, inr, ℕ, zero, suc, ◌+◌, ◌-◌, ◌*◌, ◌/◌, ◌<◌, ◌≤◌, nat_eq, nat_lt, Bool, true, false, not, ◌&&◌, ◌||◌, Some, None, if◌then◌else◌, ℤ, pos, negsuc, ◌+ℤ◌, ◌-ℤ◌, ◌*ℤ◌, ◌<ℤ◌, int_eq, refl, ap, sym, ◌∙◌, arith}
 use Rattle.std.specs.Int.{int_gap}
 use Rattle.std.proofs.Math.Nat.{div-mul-le_self}
@@ -50,7 +50,7 @@ within (suc g) n i h =
 inside : (gap n i : ℕ) → 0 < n → i * n < gap → i < steps_within gap n
 inside gap n i h k = omega (arith, steps_are gap n (omega arith), le-div i (gap - 1) n h (omega arith))
 
--- what lies before the stop
+-- ints before the stop
 
 before : (a b c : ℤ) (i : ℕ) → i < length_by a b c → IsBefore c (a +ℤ pos i *ℤ c) b
 before a b (pos zero) i h = absurd (omega arith)

@@ -1,4 +1,4 @@
--- Calls: what each parameter gets.
+-- Calls: the argument that each parameter gets.
 use Rattle.std.proofs.Common.{◌≡◌, ℕ, zero, suc, ◌+◌, ◌++◌, nat_eq, Bool, true, false, ◌||◌, List, [], ◌∷◌, length, take, drop, slice_get, Option, Some, None, if◌then◌else◌, cond, refl, ap, sym, subst, ◌∙◌, arith}
 use Rattle.std.specs.List.{list_any, filter}
 use Rattle.std.proofs.lemmas.List.{length-append}
@@ -213,12 +213,12 @@ first_placed : (p : Parameter) (ps : List Parameter) (v : Value) (vs : List Valu
 unfolding Placed open_of
 first_placed p ps v vs h = (omega (arith, ap (λ (xs : List Parameter). length xs) (no_star p ps h)), omega arith)
 
--- a parameter that takes the next value by place
+-- a parameter that takes the next positional argument
 next_value : (ns : List NamedValue) (p : Parameter) (ps : List Parameter) (v : Value) (vs : List Value) (n : Name) (d : Option Value) (xs ys : List (Name × Share)) → is_star (parameter p) ≡ false → xs ≡ (n, One v) ∷ ys → OneFrom ns false (p ∷ ps) (v ∷ vs) 0 n d (slice_get xs 0)
 unfolding OneFrom names_at
 next_value ns p ps v vs n d xs ys h e = ((λ q. ap (λ xs. slice_get xs 0) e), (λ k. absurd (k (first_placed p ps v vs h))))
 
--- one that does not
+-- a parameter that takes no positional argument
 other_value : (ns : List NamedValue) (b : Bool) (p : Parameter) (ps : List Parameter) (vs : List Value) (n : Name) (d : Option Value) (v : Value) (xs ys : List (Name × Share)) → (Placed b (p ∷ ps) vs 0 → ⊥) → else_default (value_named n.text ns) d ≡ Some v → xs ≡ (n, One v) ∷ ys → OneFrom ns b (p ∷ ps) vs 0 n d (slice_get xs 0)
 unfolding OneFrom
 other_value ns b p ps vs n d v xs ys k f e = ((λ q. absurd (k q)), (λ l. ap (λ xs. slice_get xs 0) e ∙ ap (λ o. single n o) (sym f)))
@@ -307,7 +307,7 @@ whole ps ds g i (tree.Parameter-F.Parameter::Star n) x r = r
 whole ps ds g i tree.BareStar x r = tt
 whole ps ds g i (tree.Parameter-F.Parameter::StarStar n) x r = r
 
--- as many shares as parameters but a bare `*`
+-- one share for each parameter but a bare `*`
 
 share_front : (n : Name) (q : Progress) (o : Option Value) (r : List (Name × Share) × Progress) → shared n q o ≡ Some r → length r.0 ≡ 1
 share_front n q (Some v) r h = let e : ((n, One v) ∷ [], q) ≡ r = cc in ap (λ (r : List (Name × Share) × Progress). length r.0) (sym e)

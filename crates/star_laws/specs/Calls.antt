@@ -1,4 +1,4 @@
--- Calls: when what a call gives fits the parameters of a function.
+-- Calls: when the arguments of a call fit the parameters of a function.
 use Rattle.std.specs.Prelude.{◌≡◌, ◌≤◌, ◌<◌, ◌⊎◌, ◌↔◌, ℕ, Bool, true, false, List, [], ◌∷◌, length, take, Option, Some, is_some, slice_get, if◌then◌else◌}
 use Rattle.std.specs.List.{filter, list_any}
 use Rattle.std.specs.Option.{option_and_then, option_map}
@@ -20,7 +20,7 @@ is_star (tree.Parameter-F.Parameter::Star n) = true
 is_star tree.BareStar = true
 is_star _ = false
 
--- `*name`, which takes the values by place that are left
+-- `*name`, which takes the positional arguments that are left
 abbrev pub takes_rest : ParameterForm → Bool
 takes_rest (tree.Parameter-F.Parameter::Star n) = true
 takes_rest _ = false
@@ -42,33 +42,33 @@ parameter_at ps i = option_map parameter (slice_get ps i)
 abbrev pub named_at : List Parameter → ℕ → Option (List ℕ)
 named_at ps i = option_and_then own_name (parameter_at ps i)
 
--- a parameter gets a value by place where it stands before the star, and there are more of these values than names
--- before its own
+-- a parameter gets a positional argument if it comes before the star, and there are more of these than names before its
+-- own
 abbrev pub IsByPlace : List Parameter → List Value → ℕ → Type 0
 IsByPlace ps vs i = (i < length (before_star ps)) × (length (own_names (take i ps)) < length vs)
 
--- when what a call gives fits the parameters
+-- when the arguments of a call fit the parameters
 pub record Fits (ps : List Parameter) (g : Given) : Type 0 where
-  -- a parameter without a default gets a value by place or by name
+  -- a parameter without a default gets a positional or a keyword argument
   pub needed : (i : ℕ) (n : Name) → parameter_at ps i ≡ Some (tree.Plain n) → IsByPlace ps g.plain i
       ⊎ (is_given n.text g.named ≡ true)
-  -- no parameter gets one by place and one by name
+  -- no parameter gets both
   pub once : (i : ℕ) (name : List ℕ) → named_at ps i ≡ Some name → IsByPlace ps g.plain i → is_given name g.named
       ≡ false
-  -- each value by place has a name before the star, or `*name` takes it
+  -- each positional argument has a name before the star, or `*name` takes it
   pub placed : (length g.plain ≤ length (own_names (before_star ps)))
       ⊎ (list_any (λ p. takes_rest (parameter p)) ps ≡ true)
-  -- each value by name has the name of a parameter, or `**name` takes it
+  -- each keyword argument has the name of a parameter, or `**name` takes it
   pub known : ((j : ℕ) (n : NamedValue) → slice_get g.named j ≡ Some n → (i : ℕ) × (named_at ps i ≡ Some n.name))
       ⊎ (list_any (λ p. takes_names (parameter p)) ps ≡ true)
 
--- The law: values are bound to parameters, whose defaults are there, just where they fit them.
+-- The law: if the defaults of the parameters are there, arguments are bound to parameters exactly if they fit them.
 abbrev pub BoundWhereTheyFit : Type 0
 BoundWhereTheyFit = (ps : List Parameter) (defaults : List Value) (g : Given)
     → length (filter (λ p. has_default (parameter p)) ps) ≤ length defaults → is_some (bound_to ps defaults g) ≡ true
     ↔ Fits ps g
 
--- The law: of the values by name that a call gives, no two have the same name.
+-- The law: no two keyword arguments of a call have the same name.
 abbrev pub GivenNamesDiffer : Type 0
 GivenNamesDiffer = (w : Setting) (line : ℕ) (ps : List Passed) (s t : State) (g : Given) → given w line ps s ≡ Done g t
     → (i j : ℕ) (m n : NamedValue) → slice_get g.named i ≡ Some m → slice_get g.named j ≡ Some n → m.name ≡ n.name → i

@@ -19,12 +19,12 @@ abbrev pub leads_to : Value → ℕ → ℕ → Bool
 leads_to (value.Ref h i) home at = nat_eq h home && nat_eq i at
 leads_to _ home at = false
 
--- of loops over these values, how many go over that cell
+-- the number of loops over that cell, of loops over these values
 abbrev pub loops_over : ℕ → ℕ → List Value → ℕ
 loops_over home at [] = 0
 loops_over home at (v ∷ vs) = (if leads_to v home at then 1 else 0) + loops_over home at vs
 
--- the counters of a module are right for the loops that are open, of which these are the values, the innermost first
+-- the counters of a module are right for the open loops; these are the values that they go over, the innermost first
 pub record AreCounted (s : Store) (loops : List Value) : Type 0 where
   -- each list and dictionary has as many open iterations as loops go over it, and no other cell has any
   pub counted : (at : ℕ) (a : Counted) → slice_get s.cells at ≡ Some a
@@ -32,7 +32,7 @@ pub record AreCounted (s : Store) (loops : List Value) : Type 0 where
   -- no loop goes over a cell that the module does not have
   pub there : (at : ℕ) → slice_get s.cells at ≡ None → loops_over s.home at loops ≡ 0
 
--- The law: as a file begins no loop is open, and the counters are right.
+-- The law: as a file begins, no loop is open, and the counters are right.
 abbrev pub FilesBeginWithNoLoop : Type 0
 FilesBeginWithNoLoop = (w : Setting) (steps : ℕ) → AreCounted (start w steps).store []
 
@@ -43,13 +43,13 @@ RunsEndTheirLoops = (w : Setting) (levels : ℕ) (p : Place) (s t : State) (loop
     → ((e : Expression) (v : Value) → (meaning (by_names w) w levels).expr p e s ≡ Done v t → AreCounted t.store loops)
     × ((x : Statement) (f : Flow) → (meaning (by_names w) w levels).stmt p x s ≡ Done f t → AreCounted t.store loops)
 
--- The law: a loop that begins over a value is one more open loop, and as it ends it is open no more.
+-- The law: a loop that begins over a value is one more open loop, and one less as it ends.
 abbrev pub LoopsAreCounted : Type 0
 LoopsAreCounted = (w : Setting) (line n : ℕ) (v : Value) (s t : State) (loops : List Value)
     → (AreCounted s.store loops → iterate w line v s ≡ Done n t → AreCounted t.store (v ∷ loops))
     × (AreCounted s.store (v ∷ loops) → leave v s ≡ Done tt t → AreCounted t.store loops)
 
--- The law: the open iterations of a list or a dictionary, for which the rules of writing ask, are the open loops over
+-- The law: the rules of writing ask for the open iterations of a list or a dictionary; these are the open loops over
 -- it.
 abbrev pub OpenIterationsAreOpenLoops : Type 0
 OpenIterationsAreOpenLoops = (s : Store) (loops : List Value) (at : ℕ) (a : Counted) → AreCounted s loops

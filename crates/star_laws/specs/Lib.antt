@@ -1,3 +1,4 @@
+-- Laws of the definitions, in the subject's own words.
 pub mod Division
 pub mod Ranges
 pub mod Keys

@@ -1,4 +1,4 @@
--- Calls: what each parameter gets.
+-- Calls: the argument that each parameter gets.
 use Rattle.std.specs.Prelude.{◌≡◌, ℕ, Bool, true, false, List, length, take, drop, Option, Some, None, slice_get}
 use Rattle.std.specs.List.{filter}
 use Rattle.std.specs.Option.{option_map}
@@ -16,7 +16,7 @@ abbrev pub gets_some : ParameterForm → Bool
 gets_some tree.BareStar = false
 gets_some _ = true
 
--- the place of a parameter's share: after those of the parameters before it
+-- the index of a parameter's argument: after the arguments of the parameters before it
 abbrev pub place_at : List Parameter → ℕ → ℕ
 place_at ps i = length (filter (λ p. gets_some (parameter p)) (take i ps))
 
@@ -24,14 +24,14 @@ place_at ps i = length (filter (λ p. gets_some (parameter p)) (take i ps))
 abbrev pub single : Name → Option Value → Option (Name × Share)
 single n o = option_map (λ v. (n, One v)) o
 
--- the value by place that comes after those of the names before; else the one by name; else the default
+-- the positional argument that follows those of the names before; else the keyword argument; else the default
 abbrev pub GetsOne : List Parameter → Given → ℕ → Name → Option Value → Option (Name × Share) → Type 0
 GetsOne ps g i n d x =
     (IsByPlace ps g.plain i → x ≡ single n (slice_get g.plain (length (own_names (take i ps)))))
     × ((IsByPlace ps g.plain i → ⊥) → x ≡ single n (else_default (value_named n.text g.named) d))
 
--- what a parameter gets: `*name` the values by place after those of the names before it, `**name` the values by name
--- that are no parameter's
+-- the argument of a parameter: `*name` gets the positional arguments after those of the names before it, `**name` the
+-- keyword arguments that name no parameter
 abbrev pub Gets : List Parameter → List Value → Given → ℕ → ParameterForm → Option (Name × Share) → Type 0
 Gets ps ds g i (tree.Plain n) x = GetsOne ps g i n None x
 Gets ps ds g i (tree.Default n e) x =
@@ -41,8 +41,7 @@ Gets ps ds g i (tree.Parameter-F.Parameter::Star n) x =
 Gets ps ds g i tree.BareStar x = Unit {0}
 Gets ps ds g i (tree.Parameter-F.Parameter::StarStar n) x = x ≡ Some (n, Names (unclaimed ps g.named))
 
--- The law: where values are bound, there is a share for each parameter but a bare `*`, in order, and each gets what is
--- its own.
+-- The law: if arguments are bound, there is one for each parameter but a bare `*`, in order, and each gets its own.
 abbrev pub BoundAsGiven : Type 0
 BoundAsGiven =
     (ps : List Parameter) (defaults : List Value) (g : Given) (xs : List (Name × Share)) → bound_to ps defaults g

@@ -1,9 +1,12 @@
-//! Laws of arithmetic, ranges, keys, calls and open iterations, in the subject's own words (`docs/LANGUAGE.md`).
+//! Laws of the definitions, in the subject's own words: a check that the definitions have the intended meaning.
 //!
-//! The definitions that the evaluator is proved against are written as one computes. The laws here say what they
-//! mean: the quotient and the remainder make up the int again, a range has just the ints that its steps reach, equal
-//! keys are the same key, a call binds just when each parameter gets one value. Each law is an empty function in
-//! `law` whose contract is the statement; no code calls it.
+//! The definitions of `star_meaning` and `star_store` are written as computations. The laws state their consequences:
+//! quotient and remainder make up the int again; a range has just the ints that its steps reach; equal keys are the
+//! same key; a call binds its arguments exactly if each parameter gets one; the counter of a list counts the loops that
+//! are open over it.
+//!
+//! Begin at `law.rt`. Each law is an empty function whose contract is the statement, with the section of
+//! `docs/LANGUAGE.md` that it belongs to. `specs/` has a file for each subject. No code calls a law.
 #![tactic(auto)]
 
 mod law;

@@ -62,7 +62,7 @@ refused whole xs new r k (BadIndent n) w p = refused_at whole xs r k (BadIndent 
 refused whole xs new r k (TooNested n) w p = refused_at whole xs r k (TooNested n) w p
 refused whole xs new r k BadSyntax w p = refused_at whole xs r k BadSyntax w p
 
--- a line that is read, and what stands after it
+-- a line that is read, and the lines after it
 pub read : (whole : Result (List Token) SyntaxFault) (xs new : List Token) (r k : Result (List Token) SyntaxFault)
     → whole ≡ onto xs (r >>= (λ front. onto front k)) → onto xs r ≡ Ok new → whole ≡ onto new k
 read whole xs new (Ok ts) k w p = let e : xs ++ ts ≡ new = cc in w ∙ onto_onto xs ts k ∙ ap (λ t. onto t k) e

@@ -1,4 +1,4 @@
--- The spans of the tokens stand in order.
+-- The spans of the tokens are in order.
 use Rattle.std.proofs.Common.{◌≡◌, ℕ, zero, suc, ◌-◌, ◌≤◌, true, false, cond, List, [], ◌∷◌, ◌++◌, length, replicate, Option, Some, None, Result, Ok, Err, Vec, IfOk, refl, subst, arith, sym, ◌∙◌}
 use Rattle.std.specs.declared.alloc.Global.{Global}
 use Rattle.star_lex.specs.declared.cut.Cut.{Cut}
@@ -55,7 +55,7 @@ at_piece d before c cs p = elim p [
   | _ ↦ tokens d before cs
 ]
 
--- what holds of the pieces after one
+-- a fact of the pieces after one
 After : ℕ → List Cut → ℕ → ℕ → Type 0
 After d cs at hi = (before : Option Cut) (lo : ℕ) (ts : List Token) → Ended before lo → lo ≤ at → tokens d before cs ≡ Ok ts → InOrder lo ts hi
 
@@ -128,7 +128,7 @@ order_front opens line at front e = let same : mark k.Indent line at ∷ [] ≡ 
 order_front (closes n) line at front e = let same : replicate n (mark k.Outdent line at) ≡ front = cc in order_ok (replicate n (mark k.Outdent line at)) front at at same (order_marks n k.Outdent line at)
 order_front wrong line at front e = cc
 
--- the tokens of a line, from what its indentation and its pieces give
+-- the tokens of a line, from those of its indentation and its pieces
 order_put : (at start hi : ℕ) (m b : Result (List Token) SyntaxFault) (out : List Token) → at ≤ start
     → ((front : List Token) → m ≡ Ok front → InOrder start front start) → ((body : List Token) → b ≡ Ok body → InOrder start body hi)
     → m >>= (λ front. onto front b) ≡ Ok out → InOrder at out hi
@@ -167,7 +167,7 @@ order_line : (ts : List ℕ) (l : Line) (at hi : ℕ) (out : List Token) → Til
 unfolding line_with
 order_line ts l at hi out t w = order_line' ts l at hi out (leader l.cuts) t refl w
 
--- lines whose pieces stand one after the other, with a line end between two lines
+-- lines whose pieces follow one another, with a line end between two lines
 record Tiled (at : ℕ) (cs : List Cut) (P : ℕ → Type 0) : Type 0 where
   mid : ℕ
   next : ℕ

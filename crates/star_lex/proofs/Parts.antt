@@ -1,4 +1,4 @@
--- Ints and strings: what a loop over their bytes keeps.
+-- Ints and strings: the invariants of the loops over their bytes.
 use Rattle.std.proofs.Common.{◌≡◌, ℕ, zero, suc, ◌+◌, ◌-◌, ◌*◌, ◌<◌, ◌≤◌, Bool, true, false, cond, nat_le, [], ◌∷◌, ◌++◌, length, take, drop, Option, Some, None, refl, ap, arith, sym, ◌∙◌}
 use Rattle.std.specs.Char.{is_digit, digit_value}
 use Rattle.std.proofs.Math.Nat.{le-mul_of_pos_right}
@@ -90,7 +90,7 @@ drop_most (suc n) [] h = refl
 drop_most zero (b ∷ z) h = absurd (omega arith)
 drop_most (suc n) (b ∷ z) h = drop_most n z (omega arith)
 
--- a span that ends past the text takes what the text has
+-- a span that ends past the text takes the rest of the text
 pub taken_short : (z : Text) (start end : ℕ) → length z ≤ end → take (length z - start) (drop start z) ≡ take (end - start) (drop start z)
 taken_short z start end h =
     take_all (length z - start) (drop start z) (omega (arith, length-drop start z)) ∙ sym (take_all (end - start) (drop start z) (omega (arith, length-drop start z)))

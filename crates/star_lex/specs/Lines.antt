@@ -1,4 +1,4 @@
--- The tokens of a text.
+-- The tokens of a text: logical lines, their indentation, and the whole text (`lexed`).
 use Rattle.std.specs.Prelude.{◌≡◌, ◌≤◌, ℕ, zero, suc, ◌+◌, ◌-◌, Bool, false, if◌then◌else◌, ◌==◌, nat_lt, List, [], ◌∷◌, ◌++◌, length, drop, replicate, Option, Some, None, Result, Ok, Err, Vec}
 use Rattle.star_lex.specs.declared.token.Kind.{Kind}
 use Rattle.star_lex.specs.declared.token.Kind.TheVariants as k
@@ -43,7 +43,7 @@ abbrev pub put : Cut → List Line → List Line
 put c [] = []
 put c (l ∷ ls) = record { cuts = c ∷ l.cuts; depth = l.depth } ∷ ls
 
--- what stands between the line ends at depth 0; the number is the depth before the pieces
+-- the pieces between the line ends at depth 0; the number is the depth before the pieces
 abbrev pub lines : ℕ → List Cut → List Line
 lines d [] = record { cuts = []; depth = d } ∷ []
 lines d (c ∷ cs) =
@@ -61,7 +61,7 @@ abbrev pub more_closed : ℕ → Option ℕ → Option ℕ
 more_closed n None = None
 more_closed n (Some m) = Some (n + m)
 
--- how many of the open indentations a width closes, where one is equal to it
+-- how many of the open indentations a width closes, if one is equal to it
 abbrev pub closing : List ℕ → ℕ → Option ℕ
 closing [] w = None
 closing (t ∷ ts) w = if t == w then Some 0 else (if nat_lt t w then None else more_closed 1 (closing ts w))
@@ -74,7 +74,7 @@ abbrev pub layout : List ℕ → ℕ → Layout
 layout [] w = wrong
 layout (t ∷ ts) w = if nat_lt t w then opens else closes_some (closing (t ∷ ts) w)
 
--- the leading spaces, where there is no tab among the leading blanks
+-- the leading spaces, if there is no tab among the leading blanks
 abbrev pub width : List Cut → Option ℕ
 width [] = Some 0
 width (c ∷ cs) = elim c.piece [ Tabbed ↦ None | Blank ↦ Some (c.span.end - c.span.start) | _ ↦ Some 0 ]
@@ -123,7 +123,7 @@ newline _ _ = []
 abbrev pub token_of : Kind → Cut → Token
 token_of kind c = record { kind = kind; line = c.line; span = c.span }
 
--- the tokens of a line after its last token so far; a backslash and line end stand after a token
+-- the tokens of a line after its last token so far; a backslash and line end come after a token
 abbrev pub tokens : ℕ → Option Cut → List Cut → Result (List Token) SyntaxFault
 tokens depth before [] = Ok (newline depth before)
 tokens depth before (c ∷ cs) = elim c.piece [
@@ -133,7 +133,7 @@ tokens depth before (c ∷ cs) = elim c.piece [
   | _ ↦ tokens depth before cs
 ]
 
--- the tokens of a logical line: none where it has no piece that says something
+-- the tokens of a logical line; none if it has only blanks and comments
 abbrev pub line_tokens : List ℕ → Line → Result (List Token) SyntaxFault
 line_tokens ts l = elim (leader l.cuts) [
   | None ↦ Ok []
@@ -160,14 +160,14 @@ lay line at ts d (l ∷ ls) = line_tokens ts l >>= (λ front. onto front (lay li
 unfoldable pub lexed : Text → Result (List Token) SyntaxFault
 lexed z = lay (1 + line_ends z) (length z) (0 ∷ []) 0 (lines 0 (pieces z))
 
--- what `lex` answers: those, or want of memory
+-- the answer of `lex`: those tokens, or want of memory
 abbrev pub Answers : Result (List Token) SyntaxFault → Result (Vec Token Global) SyntaxFault → Type 0
 Answers r (Ok ts) = r ≡ Ok ts.items
 Answers r (Err Memory) = Unit {0}
 Answers r (Err e) = r ≡ Err e
 
--- what a function that pushes tokens answers: the list is what it was to become, or it answers the first fault, or want
--- of memory
+-- the answer of a function that pushes tokens: the list has become as stated, or it is the first fault, or want of
+-- memory
 abbrev pub Pushes : Result (List Token) SyntaxFault → Result (Unit {0}) SyntaxFault → List Token → Type 0
 Pushes r (Ok u) new = r ≡ Ok new
 Pushes r (Err Memory) new = Unit {0}
@@ -181,7 +181,7 @@ abbrev pub line_size : ℕ → List Cut → ℕ × ℕ
 line_size d [] = (0, d)
 line_size d (c ∷ cs) = if ends_line d c.piece then (0, 0) else counted 1 (line_size (depth_after d c.piece) cs)
 
--- the spans of tokens stand in order between two places: each begins where the one before it ends, or later
+-- the spans of tokens are in order between two places: each begins where the one before it ends, or later
 abbrev pub InOrder : ℕ → List Token → ℕ → Type 0
 InOrder lo [] hi = lo ≤ hi
 InOrder lo (t ∷ ts) hi = (lo ≤ t.span.start) × (t.span.start ≤ t.span.end) × InOrder t.span.end ts hi

@@ -1,4 +1,4 @@
--- The pieces of a text.
+-- The pieces of a text, cut one after another.
 use Rattle.std.specs.Prelude.{◌≡◌, ◌≤◌, ℕ, zero, suc, ◌+◌, ◌-◌, not, ◌&&◌, ◌||◌, if◌then◌else◌, ◌==◌, List, [], ◌∷◌, ◌++◌, length, take, drop, Option, Some, None}
 use Rattle.std.specs.Char.{is_ascii_digit}
 use Rattle.std.specs.List.{prefix_len}
@@ -17,14 +17,14 @@ use Rattle.star_lex.specs.Values.{Text, begins, is_in, is_line_end, line_end_siz
 abbrev pub First : Type 0
 First = Piece × ℕ
 
--- what fits nothing takes the rest
+-- bytes that begin no token are a bad piece, with all of the rest
 abbrev pub bad : Text → First
 bad z = (Bad, length z)
 
 abbrev pub blanks : Text → First
 blanks z = let n = prefix_len (is_in class.Blank) z in (if prefix_len (is_in class.Space) z == n then Blank else Tabbed, n)
 
--- a backslash stands right before a line end
+-- a backslash is right before a line end
 abbrev pub joint : Text → First
 joint [] = (Bad, 1)
 joint (b ∷ z) = if is_line_end b then (Joint, 1 + line_end_size (b ∷ z)) else (Bad, 1 + length (b ∷ z))
@@ -103,7 +103,7 @@ abbrev pub joined : Text → List Cut → Text
 joined z [] = []
 joined z (c ∷ cs) = text_at z c.span ++ joined z cs
 
--- the pieces stand one after the other between two places
+-- the pieces follow one after the other between two places
 abbrev pub Tiles : ℕ → List Cut → ℕ → Type 0
 Tiles at [] end = at ≡ end
 Tiles at (c ∷ cs) end = (c.span.start ≡ at) × (at ≤ c.span.end) × Tiles c.span.end cs end

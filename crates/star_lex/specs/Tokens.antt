@@ -1,4 +1,4 @@
--- The words and the signs of the language.
+-- The keywords and the signs of the language.
 use Rattle.std.specs.Prelude.{ℕ, Bool, true, false, ◌&&◌, if◌then◌else◌, ◌==◌, nat_lt, List, [], ◌∷◌, length, Option, Some, None, codes}
 use Rattle.star_lex.specs.declared.token.Keyword.{Keyword}
 use Rattle.star_lex.specs.declared.token.Keyword.TheVariants as w
@@ -58,7 +58,7 @@ longer false a best = best
 longer true a None = Some a
 longer true a (Some b) = if nat_lt b.1 a.1 then Some a else Some b
 
--- the longest of the signs that stand at the front
+-- the longest of the signs at the front
 abbrev pub longest : List (Text × Sign) → Text → Option Found
 longest [] z = None
 longest (r ∷ rows) z = longer (begins r.0 z) (r.1, length r.0) (longest rows z)

@@ -1,4 +1,4 @@
--- What the text of an int or of a string means.
+-- The values of ints and strings: digits, quotes, escapes.
 use Rattle.std.specs.Prelude.{◌≡◌, ◌≤◌, ℕ, zero, suc, ◌+◌, ◌-◌, ◌*◌, Bool, true, false, not, ◌&&◌, ◌||◌, if◌then◌else◌, ◌==◌, nat_lt, nat_le, List, [], ◌∷◌, ◌++◌, length, take, drop, slice_index, Option, Some, None, codes, encode_utf8, unwrap_or}
 use Rattle.std.specs.Char.{is_digit, digit_value, is_ascii_alphanumeric}
 use Rattle.std.specs.List.{prefix_len}
@@ -12,7 +12,7 @@ use Rattle.star_lex.specs.declared.value.Quoting.{Quoting}
 abbrev pub Text : Type 0
 Text = List ℕ
 
--- whether the first text stands at the front of the second
+-- whether the second text begins with the first
 abbrev pub begins : Text → Text → Bool
 begins [] z = true
 begins (a ∷ s) [] = false
@@ -46,7 +46,7 @@ Leads c z = (1 ≤ length z) × (is_in c (slice_index z 0) ≡ true)
 
 -- ---- ints
 
--- the value of digits that stand after others of the value n
+-- the value of digits that come after others of the value n
 abbrev pub number : ℕ → ℕ → Text → Option ℕ
 number base n [] = Some n
 number base n (b ∷ z) = if is_digit b base then number base (n * base + digit_value b) z else None
@@ -89,7 +89,7 @@ quoting_from raw (b ∷ z) =
 abbrev pub quoting : Text → Option Quoting
 quoting z = if begins (codes "r") z then quoting_from true (drop 1 z) else quoting_from false z
 
--- how many bytes stand before the inside
+-- the number of bytes before the inside
 abbrev pub opening : Quoting → ℕ
 opening q = (if q.raw then 1 else 0) + length (quotes q)
 
@@ -100,7 +100,7 @@ meant (Byte b) = b ∷ []
 meant (Kept b) = 92 ∷ b ∷ []
 meant (Scalar c) = encode_utf8 c
 
--- a part of the inside: how many bytes it takes, and what it means
+-- a part of the inside: the number of its bytes, and its meaning
 abbrev pub Part : Type 0
 Part = ℕ × Meaning
 
@@ -115,7 +115,7 @@ abbrev pub scalar_of : ℕ → Option ℕ → Option Part
 scalar_of size None = None
 scalar_of size (Some n) = if is_scalar n then Some (size, Scalar n) else None
 
--- the character whose number stands at the front, in so many digits
+-- the character whose number is at the front, in `size` digits
 abbrev pub numbered : ℕ → ℕ → ℕ → Text → Option Part
 numbered base size most z =
     if nat_lt (length z) size then None else scalar_of size (at_most most (number base 0 (take size z)))
@@ -140,7 +140,7 @@ escape (b ∷ z) =
     else (if b == 85 then after 1 (numbered 16 8 0x10FFFF z)
     else letter b))))
 
--- a byte that means itself, or a line end, which means LF and stands only in a string quoted three times
+-- a byte that means itself, or a line end, which means LF and may be only in a string quoted three times
 abbrev pub plain : Bool → Text → Option (ℕ × ℕ)
 plain triple [] = None
 plain triple (b ∷ z) =
@@ -164,8 +164,8 @@ abbrev pub more : ℕ → Option ℕ → Option ℕ
 more n None = None
 more n (Some m) = Some (n + m)
 
--- how many bytes there are up to the closing quotes and with them: the first that stand between parts; the number
--- counts the bytes that are left of a part
+-- the number of bytes up to the closing quotes and with them: the first quotes between parts; the number counts the
+-- bytes that are left of a part
 abbrev pub closed_from : ℕ → Quoting → Text → Option ℕ
 closed_from left q [] = None
 closed_from (suc left) q (b ∷ z) = closed_from left q z
@@ -188,7 +188,7 @@ decoded = decoded_from 0
 abbrev pub inside : Quoting → Text → Text
 inside q z = take (length z - (opening q + length (quotes q))) (drop (opening q) z)
 
--- the value of a string: what its inside means
+-- the value of a string: the meaning of its inside
 abbrev pub string_value : Text → Text
 string_value z = elim (quoting z) [ None ↦ [] | Some q ↦ decoded q (inside q z) ]
 

@@ -1,4 +1,7 @@
-//! Cuts a text into pieces.
+//! The first pass of the lexer: cuts a text into pieces. `first` chooses by the first byte, `pieces` has the loop.
+//!
+//! Signs are found by their first byte (`specs/Signs`), by the whole table in the definition; `proofs/Signs` proves
+//! that they agree.
 
 ghost use Rattle.std.specs.Prelude.{◌≡◌, ◌+◌, ◌≤◌, ◌∷◌, length, map, IfSome, IfOk};
 ghost use Rattle.star_lex.specs.Tokens as spec;
@@ -12,7 +15,7 @@ use crate::token::{Keyword, Kind, Sign, Span};
 use crate::value::{Quoting, closed, int_of, opening, quoting_of};
 use std::alloc::{AllocError, Global};
 
-/// What a piece of a text is.
+/// The kind of a piece.
 #[derive(Clone, Copy)]
 pub enum Piece {
     /// Spaces.
@@ -25,11 +28,11 @@ pub enum Piece {
     Joint,
     /// A token that is written.
     Lexeme(Kind),
-    /// What fits nothing.
+    /// Bytes that are not a token.
     Bad,
 }
 
-/// A piece, the lines on which it begins and ends, and its bytes.
+/// A piece: its kind, the lines on which it begins and ends, and its bytes.
 #[derive(Clone, Copy)]
 pub struct Cut {
     pub piece: Piece,
@@ -193,7 +196,7 @@ fn blanks(text: &[u8]) -> (Piece, usize)
     }
 }
 
-/// What a backslash begins.
+/// A backslash and the line end after it, or a bad piece.
 fn joint(rest: &[u8]) -> (Piece, usize)
     ensures value { result ≡ pieces.joint rest.now }
     ensures within { (1 ≤ result.1) × (result.1 ≤ 1 + length rest.now) }

@@ -1,4 +1,7 @@
-//! Lays out the pieces of a text: its logical lines, their indentation and their tokens.
+//! The second pass of the lexer: joins lines, judges indentation and makes tokens of pieces. `lay` has the loop.
+//!
+//! Open indentations are a list with the innermost first, as in the definition. Depth n takes a line of n spaces, so
+//! the pass stays linear.
 
 ghost use Rattle.std.specs.Prelude.{◌≡◌, ◌+◌, ◌-◌, ◌<◌, ◌≤◌, ◌^◌, ◌∷◌, ◌++◌, [], length, replicate, IfSome, IfOk};
 ghost use Rattle.star_lex.specs.Lines as spec;
@@ -47,7 +50,7 @@ fn line_size(cuts: &[Cut]) -> (usize, usize)
     (size, depth)
 }
 
-/// How many of the open indentations, the innermost first, a width closes; `None` where none of them is equal to it.
+/// How many of the open indentations, the innermost first, a width closes; `None` if none of them equals it.
 fn closing(opened: &[usize], width: usize) -> Option<usize>
     ensures value { result ≡ spec.closing opened.now width }
     ensures within { IfSome result (λ n. n < length opened.now) }
@@ -82,7 +85,7 @@ fn leader(line: &[Cut]) -> Option<Cut>
     None
 }
 
-/// How many spaces lead a line; `None` where there is a tab among them.
+/// How many spaces lead a line; `None` if there is a tab among them.
 fn width(line: &[Cut]) -> Option<usize>
     ensures { result ≡ spec.width line.now }
 {
@@ -103,7 +106,7 @@ fn empty_token(kind: Kind, line: usize, at: usize) -> Token
     Token { kind, line, span }
 }
 
-/// Pushes so many equal tokens.
+/// Pushes a token `times` times.
 fn push_times(out: &mut Vec<Token>, token: Token, times: usize) -> Result<(), SyntaxFault>
     ensures { Pushes (Ok (out.old.items ++ replicate times token)) result out.new.items }
 {
@@ -141,7 +144,7 @@ fn indent(
     push_times(out, empty_token(Kind::Outdent, line, at), count)
 }
 
-/// Pushes the tokens of a line, with the NEWLINE after the last where the line ends at depth 0.
+/// Pushes the tokens of a line, with the NEWLINE after the last if the line ends at depth 0.
 #[tactic(auto, using(crate::proofs::Layouts::onto_onto))]
 fn push_tokens(out: &mut Vec<Token>, line: &[Cut], depth: usize) -> Result<(), SyntaxFault>
     ensures { Pushes (spec.onto out.old.items (spec.tokens depth None line.now)) result out.new.items }
@@ -174,7 +177,7 @@ fn push_tokens(out: &mut Vec<Token>, line: &[Cut], depth: usize) -> Result<(), S
     }
 }
 
-/// Pushes the tokens of a logical line with those of its indentation; none where no piece says something.
+/// Pushes the tokens of a logical line with those of its indentation; nothing if the line has only blanks and comments.
 #[tactic(auto, using(crate::proofs::Layouts::onto_onto))]
 fn push_line(
     out: &mut Vec<Token>,
@@ -197,7 +200,7 @@ fn push_line(
     push_tokens(out, line, depth)
 }
 
-/// Pushes what stands at the end of the text.
+/// Pushes the tokens at the end of the text: the closing indentations and the end itself.
 fn finish(
     out: &mut Vec<Token>,
     opened: &[usize],

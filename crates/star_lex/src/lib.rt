@@ -1,15 +1,19 @@
-//! The lexer: the tokens of a Starlark file (`docs/LANGUAGE.md`, "Tokens").
+//! The lexer: the tokens of a Starlark file, or its first fault (`docs/LANGUAGE.md`, "Tokens").
 //!
-//! It works in two passes, each linear in the text, and neither copies it:
+//! It works in two passes. Each takes time in proportion to the text, and neither copies it:
 //!
-//! 1. `cut::pieces` goes over the bytes and cuts them into pieces: names, numbers, strings, signs, blanks, comments,
-//!    line ends.
-//! 2. `lay::lay` goes over the pieces: it joins logical lines, judges their indentation, and answers the tokens or
-//!    the first fault, with its line.
+//! - `cut::pieces` cuts the bytes into pieces: names, numbers, strings, signs, blanks, comments, line ends.
+//! - `lay::lay` joins the pieces into logical lines, judges their indentation, and returns the tokens, or the first
+//!   fault with its line.
 //!
-//! A `Token` has its kind, its line, and its `Span` in the text; `value` says what the text of an int or of a string
-//! means. The contract of `lex` is the definition `lexed` of `specs/Lines`: exactly these tokens, or exactly this
-//! fault.
+//! Begin at `lex`, below. The types are in `token`:
+//!
+//! - `Token` has its `Kind`, the line on which it begins, and its `Span` of bytes in the text. It does not hold its
+//!   value: `value` reads the value of an int or a string off the text.
+//! - `SyntaxFault` is a bad token, a bad indentation, one of the parser's faults, or want of memory.
+//!
+//! The promise is the contract of `lex`: exactly the tokens that the definition `lexed` (`specs/Lines`) gives, or
+//! exactly its fault; and the spans of the tokens come in order.
 #![tactic(auto)]
 
 pub mod cut;
@@ -25,7 +29,7 @@ use std::alloc::Global;
 use token::{SyntaxFault, Token};
 
 /// The tokens of a text, by the rules of `docs/LANGUAGE.md`, "Tokens" (this profile). Their spans count bytes of the
-/// text and stand in order.
+/// text and come in order.
 ///
 /// `BadToken` and `BadIndent` are for the text's first fault, with its line; `Memory` is for want of memory.
 #[tactic(auto, unfolding(crate::specs::Lines::lexed))]

@@ -1,4 +1,5 @@
-//! Bytes at the front of a text.
+//! Prefixes of a text: how many bytes of a class are at its front, whether it begins with a word, how long a line end
+//! is.
 
 ghost use Rattle.std.specs.Prelude.{◌≡◌, ◌≤◌, length, true};
 ghost use Rattle.std.specs.List.{prefix_len};
@@ -13,7 +14,7 @@ pub enum Class {
     Blank,
     /// A letter, a digit or `_`.
     Word,
-    /// What is no line end.
+    /// Any byte that does not end a line.
     Line,
     /// A digit from 0 to 7.
     Octal,
@@ -37,7 +38,7 @@ pub fn is_in(class: Class, byte: u8) -> bool
     }
 }
 
-/// How many bytes of the class stand at the front.
+/// How many bytes at the front are of the class.
 pub fn run(class: Class, text: &[u8]) -> usize
     ensures value { result ≡ prefix_len (spec.is_in class) text.now }
     ensures within { result ≤ length text.now }
@@ -50,7 +51,7 @@ pub fn run(class: Class, text: &[u8]) -> usize
     size
 }
 
-/// Whether `front` stands at the front of the text.
+/// Whether the text begins with `front`.
 pub fn begins(text: &[u8], front: &[u8]) -> bool
     ensures value { result ≡ spec.begins front.now text.now }
     ensures within { result ≡ true → length front.now ≤ length text.now }

@@ -1,4 +1,4 @@
-//! What a text is cut into: tokens, each with the line and the place where it stands.
+//! The tokens of a text, each with its line and its place in the text, and the faults of texts.
 
 ghost use Rattle.std.specs.Prelude.{◌≡◌};
 ghost use Rattle.star_lex.specs.declared.token.SyntaxFault.TheVariants.{Memory};
@@ -6,7 +6,7 @@ ghost use Rattle.star_lex.specs.declared.token.SyntaxFault.TheVariants.{Memory};
 use std::alloc::{AllocError, AllocFailed};
 use thiserror::Error;
 
-/// A word that is no name: one that the grammar uses, or one that is only reserved.
+/// A word that is not a name: the grammar uses it, or it is only reserved.
 #[derive(Clone, Copy, Debug, PartialEq, Eq)]
 pub enum Keyword {
     And,
@@ -72,10 +72,10 @@ pub enum Sign {
     ShiftRightAssign,
 }
 
-/// What a token is.
+/// The kind of a token.
 #[derive(Clone, Copy, Debug, PartialEq, Eq)]
 pub enum Kind {
-    /// A name that is no keyword.
+    /// A name that is not a keyword.
     Name,
     Keyword(Keyword),
     /// A literal of an int.
@@ -85,7 +85,7 @@ pub enum Kind {
     Sign(Sign),
     /// The end of a logical line.
     Newline,
-    /// A logical line that stands further to the right than the one before it.
+    /// A logical line is indented further than the one before it.
     Indent,
     /// The end of an indented block.
     Outdent,
@@ -100,7 +100,7 @@ pub struct Span {
     pub end: usize,
 }
 
-/// A token: what it is, the line on which it begins (the first line is 1), and its bytes of the source.
+/// A token: its kind, the line on which it begins (the first line is 1), and its bytes of the source.
 #[derive(Clone, Copy, Debug, PartialEq, Eq)]
 pub struct Token {
     pub kind: Kind,

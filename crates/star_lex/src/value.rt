@@ -1,4 +1,4 @@
-//! What the text of an int or of a string means.
+//! The values of ints and strings: digits with their base, quotes, escapes.
 
 ghost use Rattle.std.specs.Prelude.{◌≡◌, ◌+◌, ◌++◌, ◌-◌, ◌<◌, ◌≤◌, ◌^◌, length, take, IfSome, IfOk, pos, unwrap_or, true};
 ghost use Rattle.std.specs.List.{prefix_len};
@@ -11,15 +11,15 @@ use std::alloc::{AllocError, Global};
 /// How a string is quoted.
 #[derive(Clone, Copy)]
 pub struct Quoting {
-    /// An `r` stands before the quotes: backslashes stay.
+    /// An `r` before the quotes: backslashes stay.
     pub raw: bool,
     /// `'` or `"`.
     pub quote: u8,
-    /// Quoted three times: line ends may stand inside.
+    /// Quoted three times: the string may have line ends.
     pub triple: bool,
 }
 
-/// What a part of a string's inside means.
+/// The meaning of a part of a string's inside.
 #[derive(Clone, Copy)]
 pub enum Meaning {
     /// No byte, as a backslash and a line end.
@@ -65,7 +65,7 @@ fn digits(base: u32, text: &[u8]) -> Option<u64>
     number(base, GREATEST, text)
 }
 
-/// The value of an int; `None` where the text is no int, or one above the greatest.
+/// The value of an int; `None` if the text is not an int, or the int is above the greatest.
 pub fn int_of(text: &[u8]) -> Option<u64>
     ensures value { result ≡ spec.int_of text.now }
     ensures within { IfSome result (λ n. n < 2 ^ 63) }
@@ -105,7 +105,7 @@ pub fn int_value(text: &[u8]) -> i64
     int_of(text).unwrap_or(0) as i64
 }
 
-/// How the string at the front of a text is quoted; `None` where none begins.
+/// How the string at the front of a text is quoted; `None` if none begins.
 pub fn quoting_of(text: &[u8]) -> Option<Quoting>
     ensures value { result ≡ spec.quoting text.now }
     ensures within { IfSome result (λ q. (1 ≤ spec.opening q) × (spec.opening q ≤ length text.now)) }
@@ -123,7 +123,7 @@ pub fn quoting_of(text: &[u8]) -> Option<Quoting>
     Some(Quoting { raw, quote, triple })
 }
 
-/// How many bytes stand before a string's inside.
+/// The number of bytes before a string's inside.
 pub fn opening(quoting: Quoting) -> usize
     ensures value { result ≡ spec.opening quoting }
     ensures within { (1 ≤ result) × (result ≤ 4) }
@@ -250,8 +250,7 @@ fn part(quoting: Quoting, text: &[u8]) -> Option<(usize, Meaning)>
 }
 
 #[tactic(auto, using(crate::proofs::Parts::closed_here, crate::proofs::Parts::closed_never, crate::proofs::Parts::closed_later, crate::proofs::Parts::closed_nil, crate::proofs::Parts::more_more))]
-/// How many bytes of a text stand up to a string's closing quotes and with them, from its inside on;
-/// `None` where it does not end.
+/// The number of bytes from a string's inside up to its closing quotes, and with them; `None` if it does not end.
 pub fn closed(quoting: Quoting, text: &[u8]) -> Option<usize>
     ensures value { result ≡ spec.closed quoting text.now }
     ensures within { IfSome result (λ n. n ≤ length text.now) }

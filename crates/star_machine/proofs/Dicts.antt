@@ -30,7 +30,7 @@ entries_same w s (value.Int n) = refl
 entries_same w s (value.Builtin b) = refl
 entries_same w s (value.Ref h a) = held_entries (seen w s (value.Ref h a))
 
--- the place of a key, and its value, where the state is given by its parts
+-- the place of a key, and its value, if the state is given by its parts
 pub place_told : (w : Setting) (m s : State) (shelf : Shelf) (key dict : Value) (r : Option ℕ) → m ≡ s → shelf ≡ w.shelf → r ≡ place_of (look m.store shelf) key (entries_of (look m.store shelf dict)) → r ≡ place_in w s key (entries_in (content w s dict))
 place_told w m s shelf key dict r e h k =
     k

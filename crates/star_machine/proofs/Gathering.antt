@@ -1,4 +1,4 @@
--- Entries gathered for a new dictionary: the places that their contents tell, and how these follow what is put in.
+-- Entries gathered for a new dictionary: the places that their contents tell, and how these follow each put.
 use Rattle.std.proofs.Common.{◌≡◌, ℕ, nat_eq, Bool, true, false, List, [], ◌∷◌, ◌++◌, map, Option, Some, None, IfSome, slice_get, slice_set, if◌then◌else◌, refl, ap, sym, subst, ◌∙◌}
 use Rattle.std.specs.Option.{option_map}
 use Rattle.std.proofs.lemmas.List.{map-append}

@@ -1,4 +1,4 @@
--- What values hold, by their kinds.
+-- The contents of values, by their kinds.
 use Rattle.std.proofs.Common.{◌≡◌, Option, Some, None, refl}
 use Rattle.star_store.specs.declared.values.Value.{Value}
 use Rattle.star_store.specs.declared.values.Value.TheVariants as value
@@ -23,7 +23,7 @@ row_seen w s (value.Int n) = refl
 row_seen w s (value.Builtin b) = refl
 row_seen w s (value.Ref h a) = row_held (seen w s (value.Ref h a))
 
--- what a value of a kind holds
+-- the content of a value of a kind
 pub is_text : (c : Content) → kind_of c ≡ kind.Text → c ≡ Held (cell.Text (bytes_of c))
 is_text (Held (cell.Text t)) h = refl
 is_text Nothing h = cc

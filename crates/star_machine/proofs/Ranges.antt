@@ -15,7 +15,7 @@ use Rattle.star_store.specs.Range.{steps_within}
 pub below_zero : (q : ℕ) → nat_lt q 0 ≡ false
 below_zero q = le-ltb q 0 (omega arith)
 
--- a step begins within a gap just where the way to it is shorter than the gap
+-- a step begins within a gap exactly if the way to it is shorter than the gap
 fits_if : (b : Bool) (gap n i : ℕ) → nat_eq gap 0 ≡ b → nat_lt i (if b then 0 else (gap - 1) / suc n + 1) ≡ nat_lt (i * suc n) gap
 fits_if true gap n i e = let z : gap ≡ 0 = grind (arith, nat_tests) in below_zero i ∙ sym (ap (nat_lt (i * suc n)) z ∙ below_zero (i * suc n))
 fits_if false gap n i e =

@@ -3,7 +3,7 @@ use Rattle.std.proofs.Common.{◌≡◌, ℕ, zero, suc, ◌+◌, ◌-◌, ◌<�
 use Rattle.star_meaning.specs.Run.{State, Outcome, Done, Failed, Action, and_then, give, collect, until}
 use Rattle.star_machine.specs.Gives.{with_front}
 
--- so many turns more are one and those after it
+-- one turn more, and those after it
 collect_more : {B : Type 0} (f : ℕ → Action B) (n m i : ℕ) (s : State) → n ≡ m + 1 → collect f n i s ≡ and_then (f i s) (λ y. λ t. and_then (collect f m (i + 1) t) (λ ys. give (y ∷ ys)))
 collect_more f zero m i s h = absurd (omega arith)
 collect_more f (suc n) m i s h = ap (λ k. and_then (f i s) (λ y. λ t. and_then (collect f k (i + 1) t) (λ ys. give (y ∷ ys)))) (let e : n ≡ m = omega arith in e)

@@ -1,4 +1,4 @@
--- Where a string stands in another one, and what a search in a part of it finds.
+-- The places of a string in another one, and the result of a search in a part of it.
 use Rattle.std.proofs.Common.{◌≡◌, ℕ, zero, suc, ◌+◌, ◌-◌, ◌<◌, ◌≤◌, min, Bool, true, false, List, [], ◌∷◌, length, take, drop, slice_index, Option, Some, None, refl, ap, sym, subst, ◌∙◌, arith, inl, inr, if◌then◌else◌, length-take, length-drop, get_or-take, get_or-drop}
 use Rattle.std.specs.Option.{option_map}
 use Rattle.std.proofs.Math.Nat.{eq-or-lt_of_le}
@@ -67,7 +67,7 @@ module _ (t u : List ℕ) where
       reads = λ j l. reads k j (omega (arith, f, l)) ∙ h.reads j l;
     }
 
-    -- it stands at no place before one at which it is not found
+    -- it is at no place before one that does not have it
     apart : (k : ℕ) → 0 < length u → from ≤ k → k + length u ≤ end → (OccursAt part u (k - from) → ⊥) → stands_at t u k ≡ false
     apart k w a b never = is_not (stands_at t u k) (λ s.
         let e : from + (k - from) ≡ k = omega arith in
@@ -86,12 +86,12 @@ module _ (t u : List ℕ) where
         sym (first t u (to + 1 - (from + length u)) from (from + k) (omega arith) (omega (arith, width, e, f)) (stands (from + k) (wide k o))
         (λ j a b. apart j w a (omega (arith, width, f, b)) (h.0.before (j - from) (omega arith) (omega arith))))
 
--- nothing stands where no place is left
+-- nothing is found if no place is left
 pub past_all : (t u : List ℕ) (from to : ℕ) → 0 < length u → min to (length t) < from → None ≡ place_between t u from to
 past_all t u from to w h =
     sym (nowhere t u (to + 1 - (from + length u)) from (λ k a b. is_not (stands_at t u k) (λ s. let f = (occurs t u k w s).fits in absurd (omega (arith, h, f, a, b)))))
 
--- an empty string stands at each place
+-- an empty string is at each place
 pub empty_stands : (t u : List ℕ) (from to : ℕ) → length u ≡ 0 → from ≤ to → Some from ≡ place_between t u from to
 empty_stands t [] from to w h =
     let n : to + 1 - (from + 0) ≡ suc (to - from) = omega arith in

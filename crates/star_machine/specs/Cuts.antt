@@ -1,4 +1,4 @@
--- Where strings are cut.
+-- Places of cuts in strings.
 use Rattle.std.specs.Prelude.{ℕ, nat_eq, nat_lt, Bool, false, not, ◌||◌, List, [], ◌∷◌}
 
 -- whether a byte is neither of two

@@ -6,7 +6,7 @@ use Rattle.star_store.specs.Index.{contents_of}
 use Rattle.star_store.specs.Store.{Store, look}
 use Rattle.star_meaning.specs.Program.{Setting}
 
--- entries, and the contents of their keys, where these are at hand
+-- entries, and the contents of their keys, if these are at hand
 pub record Gathering : Type 0 where
   pub entries : List (Value × Value)
   pub contents : Option (List (List Atom))

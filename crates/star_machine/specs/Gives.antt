@@ -1,4 +1,5 @@
--- What a function of the evaluator answered, and the state that it left, are what was to be answered and left.
+-- `Gives`: a function of the evaluator has the result of its definition and leaves the same state, unless memory ran
+-- out.
 use Rattle.std.specs.Prelude.{◌≡◌, ℕ, List, ◌++◌, Result, Ok, Err}
 use Rattle.star_store.specs.declared.fault.StoreFault.{StoreFault}
 use Rattle.star_store.specs.declared.fault.StoreFault.TheVariants as refused
@@ -6,7 +7,7 @@ use Rattle.star_machine.specs.declared.fault.Stop.{Stop}
 use Rattle.star_machine.specs.declared.fault.Stop.TheVariants.{Memory, Faulted}
 use Rattle.star_meaning.specs.Run.{State, Outcome, Done, Failed, code_of}
 
--- why an evaluation stops at which the store refused a call: for want of memory, or at a fault
+-- why an evaluation stops if the store refuses a call: for want of memory, or at a fault
 abbrev pub stop_of : ℕ → StoreFault → Stop
 stop_of line refused.Memory = Memory
 stop_of line f = Faulted (code_of f) line
@@ -20,7 +21,7 @@ abbrev pub Gives : {A : Type 0} → Outcome A → Result A Stop → State → Ty
 Gives o (Ok x) new = o ≡ Done x new
 Gives o (Err e) new = Ends o e new
 
--- The same of a function that answers a reference, whose content is what was to be answered.
+-- The same of a function that answers a reference: the content of the reference is the answer.
 abbrev pub GivesBy : {A B : Type 0} → (B → A) → Outcome A → Result B Stop → State → Type 0
 GivesBy f o (Ok x) new = o ≡ Done (f x) new
 GivesBy f o (Err e) new = Ends o e new

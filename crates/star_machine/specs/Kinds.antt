@@ -1,4 +1,4 @@
--- The kinds of values, and what values of a kind hold.
+-- The kinds of values, and the contents of values of a kind.
 use Rattle.std.specs.Prelude.{ℕ, List, [], Option, Some}
 use Rattle.std.specs.Option.{unwrap_or}
 use Rattle.star_store.specs.declared.values.Value.{Value}
@@ -38,6 +38,6 @@ abbrev pub bytes_of : Content → List ℕ
 bytes_of (Held (cell.Text t)) = t
 bytes_of _ = []
 
--- how many items an iterable has, and none for what is no iterable
+-- how many items an iterable has; none for another value
 abbrev pub size_of : Content → ℕ
 size_of c = unwrap_or (count_in c) 0

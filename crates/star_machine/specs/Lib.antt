@@ -1,3 +1,4 @@
+-- Words of the contracts of the machine; `Gives` is in nearly all contracts above it.
 pub mod Cuts
 pub mod Gathered
 pub mod Gives

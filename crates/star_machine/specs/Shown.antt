@@ -1,4 +1,4 @@
--- What the evaluator's reading of a value shows.
+-- The code's views of a value, as contracts see them.
 use Rattle.star_machine.specs.declared.content.Content.{Content as Reading}
 use Rattle.star_machine.specs.declared.content.Content.TheVariants as reading
 use Rattle.star_meaning.specs.Values.{Content, Nothing, Truth, Number, BuiltInFunction, Held, Nowhere}

@@ -1,4 +1,6 @@
-//! What values are, or hold.
+//! Views of a value: `Content` is its heap object, borrowed; `Kind` is copied.
+//!
+//! The code matches on `Kind` if it then changes the machine, and on `Content` if it only reads.
 
 ghost use Rattle.std.specs.Prelude.{◌≡◌};
 ghost use Rattle.star_machine.specs.Kinds.{kind_of};
@@ -11,7 +13,7 @@ use star_store::names::{BuiltIn, Method};
 use star_store::range::Range;
 use star_store::values::{Cell, Value};
 
-/// What a value is, or holds.
+/// A value with its heap object looked up.
 #[derive(Clone, Copy)]
 pub enum Content<'a> {
     Nothing,
@@ -22,7 +24,7 @@ pub enum Content<'a> {
     Nowhere,
 }
 
-/// Of which kind a value is, with what stands in the value itself or is small.
+/// The kind of a value, with the parts that are in the value itself or small.
 #[derive(Clone, Copy)]
 pub enum Kind {
     Nothing,
@@ -55,7 +57,7 @@ impl<'a> Content<'a> {
         }
     }
 
-    /// What a cell holds, if there is one.
+    /// The content of a cell, if there is one.
     pub fn of_cell(cell: Option<&'a Cell>) -> Content<'a>
         ensures { shown result ≡ held (option_copied cell.entry) }
     {

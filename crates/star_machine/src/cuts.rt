@@ -1,10 +1,10 @@
-//! Strings, cut at ASCII bytes.
+//! Cuts strings at ASCII bytes, so that no character is cut.
 
 ghost use Rattle.std.specs.Prelude.{◌≡◌, ◌<◌, ◌+◌, ◌++◌, ◌∷◌, length, take, drop, get_or, MatchOption, true, false};
 ghost use Rattle.std.specs.List.{list_all};
 ghost use Rattle.star_machine.specs.Cuts.{is_neither, begins_plainly};
 
-/// What stands before the first of two ASCII bytes, which of them it is, and what stands after it.
+/// The text before the first of two ASCII bytes, which of them it is, and the text after it.
 #[tactic(auto, using(crate::proofs::Parts::cut_whole, crate::proofs::Parts::all_more))]
 pub fn cut_at(text: &str, first: u8, second: u8) -> Option<(&str, u8, &str)>
     requires first { first < 128 }
@@ -22,7 +22,7 @@ pub fn cut_at(text: &str, first: u8, second: u8) -> Option<(&str, u8, &str)>
     None
 }
 
-/// What stands before an ASCII byte, the byte, and what stands after it.
+/// The text before an ASCII byte, the byte, and the text after it.
 fn cut_here(text: &str, at: usize) -> (&str, u8, &str)
     requires within { at < length text.now }
     requires ascii { get_or text.now at 0 < 128 }
@@ -32,7 +32,7 @@ fn cut_here(text: &str, at: usize) -> (&str, u8, &str)
     (&text[..at], text.as_bytes()[at], &text[at + 1..])
 }
 
-/// The byte with which a text begins, if it is ASCII, and what stands after it.
+/// The first byte of a text, if it is ASCII, and the text after it.
 pub fn first_ascii(text: &str) -> Option<(u8, &str)>
     ensures { MatchOption result (begins_plainly text.now ≡ false) (λ x. (text.now ≡ x.0 ∷ x.1.now) × (x.0 < 128)) }
 {

@@ -1,4 +1,4 @@
-//! How a run ends where it does not end well.
+//! `Stop`: why a run stops, by a fault of the language or for want of memory.
 
 ghost use Rattle.std.specs.Prelude.{◌≡◌};
 ghost use Rattle.star_store.specs.declared.fault.StoreFault.TheVariants as refused;
@@ -25,7 +25,7 @@ pub fn faulted(code: Code, line: usize) -> Stop
     Stop::Faulted { code, line }
 }
 
-/// Why an evaluation stops at which the store refused a call.
+/// Converts a refusal of the store into the reason why the evaluation stops.
 pub fn refused(fault: StoreFault, line: usize) -> Stop
     ensures { result ≡ stop_of line fault }
 {

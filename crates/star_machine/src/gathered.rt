@@ -1,4 +1,6 @@
-//! Entries gathered for a new dictionary.
+//! `Gathered`: the entries of a dictionary that is being made, with an index from 16 entries on.
+//!
+//! It serves `dict(..)`, `|` and a display. If contents cannot be had, the entries are walked.
 
 ghost use Rattle.std.specs.Prelude.{◌≡◌, ◌++◌, ◌∷◌, [], None, Some, map, is_some, not, true, if◌then◌else◌, IfOk, IfSome, OnErr, OnOk};
 ghost use Rattle.std.specs.Bool.{OnTrue};
@@ -38,7 +40,7 @@ impl Model for Contents {
 }
 
 impl Contents {
-    /// No content yet, and room for so many.
+    /// No content yet, and room for `capacity`.
     fn with_capacity(alloc: Global, capacity: usize) -> Result<Contents, AllocError>
         ensures { IfOk result (λ contents. contents ≡ []) }
     {
@@ -54,7 +56,7 @@ impl Contents {
         self.keys.get_index_of(content)
     }
 
-    /// Adds a content after all others, and says whether it was added: else it stood there already, or memory was
+    /// Adds a content after all others, and says whether it was added: else it was there already, or memory was
     /// refused, and nothing has changed.
     fn push(&mut self, content: KeyContent) -> bool
         ensures { self.new ≡ (if result then self.old ++ content ∷ [] else self.old) }
@@ -66,8 +68,8 @@ impl Contents {
     }
 }
 
-/// Entries gathered for a new dictionary, with the contents of their keys where these are at hand: by them the place of
-/// a key is found at once, else by a walk.
+/// Entries gathered for a new dictionary, with the contents of their keys if these are at hand: by them the place of a
+/// key is found at once, else by a walk.
 #[derive(Drop)]
 pub struct Gathered {
     entries: Entries,
@@ -95,7 +97,7 @@ impl Gathered {
         }
     }
 
-    /// No entry yet, and room for so many.
+    /// No entry yet, and room for `capacity`.
     #[tactic(auto, unfolding(crate::specs::Gathered::IsGathered))]
     pub fn with_capacity(alloc: Global, capacity: usize) -> Result<Gathered, AllocError>
         ensures empty { IfOk result (λ g. g.entries ≡ []) }
@@ -107,7 +109,7 @@ impl Gathered {
         })
     }
 
-    /// Entries to which so many may be added.
+    /// These entries, to which about `more` will be added.
     #[tactic(auto, unfolding(crate::specs::Gathered::IsGathered))]
     pub fn of(machine: &Machine, setting: &Setting, entries: Entries, more: usize) -> Gathered
         ensures same { result.entries ≡ entries }
@@ -152,7 +154,7 @@ impl Gathered {
         Ok(())
     }
 
-    /// Puts an entry after all others where its key is not there yet, and says whether it was put.
+    /// Puts an entry after all others if its key is not there yet, and says whether it was put.
     pub fn put_new(
         &mut self,
         machine: &Machine,
@@ -175,7 +177,7 @@ impl Gathered {
         Ok(true)
     }
 
-    /// The content of a key, where contents are at hand.
+    /// The content of a key, if contents are at hand.
     fn content(&self, machine: &Machine, setting: &Setting, key: Value) -> Option<KeyContent>
         ensures { IfSome result (λ c. content_of (look machine.now.store setting.now.shelf) key_levels key ≡ Some c) }
     {
@@ -248,7 +250,7 @@ fn add(contents: &mut Contents, content: Option<KeyContent>) -> bool
     }
 }
 
-/// The contents of the keys of entries, where each has one, none stands twice, and memory suffices.
+/// The contents of the keys of entries, if each has one, none comes twice, and memory suffices.
 fn contents_of(machine: &Machine, setting: &Setting, entries: &Entries) -> Option<Contents>
     ensures { IfSome result (λ contents. contents_of (look machine.now.store setting.now.shelf) entries.now
         ≡ map Some contents) }

@@ -1,4 +1,7 @@
-//! What a call gives, and what a callee wants of it.
+//! Unpacks the arguments of a call of a built-in function or a method: none, one, one or two, and so on.
+//!
+//! The arguments are one type in the code and in the definitions (`Given`, `NamedValue`). The `Machine` unpacks them,
+//! since a fault keeps the machine's lines.
 
 ghost use Rattle.std.specs.Prelude.{◌≡◌};
 ghost use Rattle.std.specs.List.{list_all};
@@ -12,7 +15,7 @@ use star_meaning::fault::Code;
 use star_meaning::given::{Given, NamedValue};
 use star_store::values::Value;
 
-/// Whether each value given by name has this one.
+/// Whether each keyword argument has this name.
 fn have_name(named: &[NamedValue], name: &str) -> bool
     ensures { result ≡ list_all (λ n. same_name n.name name.now) named.now }
 {
@@ -25,7 +28,7 @@ fn have_name(named: &[NamedValue], name: &str) -> bool
 }
 
 impl Machine {
-    /// Values by place alone. `Args` where one is given by name.
+    /// Positional values alone. `Args` if there is a keyword one.
     pub fn by_place<'a>(&self, line: usize, given: &'a Given) -> Result<&'a [Value], Stop>
         ensures { GivesBy (λ xs. xs.now) (spec.by_place line given.now self.now) result self.now }
     {
@@ -35,7 +38,7 @@ impl Machine {
         Err(faulted(Code::Args, line))
     }
 
-    /// Values by place, and the value of this name, if one is given. `Args` where one of another name is.
+    /// Positional values, and the keyword value of this name, if there is one. `Args` if there is one of another name.
     pub fn with_name<'a>(
         &self,
         line: usize,
@@ -106,8 +109,7 @@ impl Machine {
         }
     }
 
-    /// The name of a value as a key: one that came by `**` is the key that stands there, another one a new string,
-    /// which is paid.
+    /// The name of a value as a key: one that came by `**` is the key there, another one a new string, which is paid.
     #[tactic(auto, unfolding(star_meaning::specs::Arguments::name_key))]
     pub fn key_for(&mut self, line: usize, named: &NamedValue) -> Result<Value, Stop>
         ensures { Gives (spec.key_for line named.now self.old) result self.new }

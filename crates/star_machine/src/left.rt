@@ -1,5 +1,5 @@
-//! What a fault leaves in the machine on its way out. No meaning knows of it: for those above, nothing changes. What
-//! cannot be kept for want of memory is left out.
+//! The trail that a fault leaves in the machine on its way out, for `--explain`. No contract knows of it. Parts that
+//! find no memory are left out.
 
 ghost use Rattle.std.specs.Prelude.{◌≡◌};
 
@@ -26,7 +26,7 @@ impl Machine {
         self.leave_step(Step::Call { file, number });
     }
 
-    /// A fault leaves a call whose name stands at a token of a file. Nothing is kept of a call whose body did not run.
+    /// A fault leaves a call whose name is at a token of a file. Nothing is kept of a call whose body did not run.
     #[inline(never)]
     pub fn leave_call(&mut self, file: u32, token: usize)
         ensures { self.new ≡ self.old }

@@ -1,18 +1,21 @@
 //! The state of a run, and its operations on values.
 //!
-//! `Machine` is what a run changes: the store of the running module, the active definitions, the steps left, the
-//! lines printed. `Setting` is what stays: the running file, the published stores, the loads, the prelude's file.
-//! Every operation is a method of `Machine` whose contract is `Gives`: it answers what the definition in
-//! `star_meaning` answers on the same state, and leaves the same state; at a fault (`fault::Stop`) the code, the line
-//! and the lines printed are the definition's.
+//! - `Machine` is the part that a run changes: the store of the running module, the active definitions, the steps that
+//!   are left, the lines that were printed. Nearly every operation is a method of it.
+//! - `Setting` is the part that stays: the running file, the published stores, the loads, the prelude's file.
+//! - `Content` is the heap object of a value, borrowed; `Kind` is copied, to match on.
+//! - `Stop` is why a run stops: a fault of the language with its line, or want of memory.
+//! - `Gathered` collects the entries of a new dictionary.
 //!
-//! - `machine` has payments, new cells, reading, iterating, equality, order, texts and writing.
-//! - `content` says what a value is or holds: `Content` borrows, `Kind` is copied.
-//! - `gathered` collects the entries of a new dictionary, `given` unpacks the arguments of a call, `search` finds an
-//!   equal item, `subscript` and `slices` turn indices into places, `cuts` and `texts` work on the bytes of strings.
-//! - `left` keeps what a fault leaves on its way out, of which no contract knows.
+//! Begin at `machine.rt`: payments, new cells, reading, iterating, equality, order, texts, writing. `given` unpacks the
+//! arguments of a call, `search` finds an equal item, `subscript` and `slices` turn indices into places, `cuts` and
+//! `texts` work on the bytes of strings, `left` keeps the trail of a fault, which no contract knows.
 //!
 //! Invariant: cells and steps left together are fewer than 2^32, so a new cell always has a number.
+//!
+//! The promise of each operation is `Gives` (`specs/Gives`), and so it is in the crates above: on the same state it has
+//! the result of its definition in `star_meaning` and leaves the same state, unless memory ran out. To pay is to take
+//! steps (`docs/LANGUAGE.md`, "Steps and levels").
 #![tactic(auto)]
 
 pub mod content;

@@ -1,4 +1,8 @@
-//! The machine: what a run changes.
+//! `Machine`: the state of a run, with its operations: payments, new cells, reading, iterating, comparing, writing.
+//!
+//! A payment comes before its object, so cells and steps together never grow. The frame of a file pays nothing, so
+//! `make` has a condition: cells and steps and one more stay below 2^32. Active definitions are a list, innermost
+//! first: at most 400 are active, and each call looks through them once anyway.
 
 ghost use Rattle.std.specs.Prelude.{◌≡◌, ◌<◌, ◌≤◌, ◌+◌, ◌^◌, ◌∷◌, ◌&&◌, [], length, nat_eq, pos, slice_get, Some, IfErr, IfOk, IfSome, OnOk};
 ghost use Rattle.std.specs.List.{list_any};
@@ -38,8 +42,9 @@ use std::alloc::{AllocError, Global};
 use std::cmp::Ordering;
 use std::marker::Model;
 
-/// What a run changes: the running module's store, the definitions that are active (file and number, the innermost
-/// first), the steps left, and the lines printed. Beside them stands what a fault has left on its way out.
+/// The part that a run changes: the running module's store, the definitions that are active (file and number, the
+/// innermost first), the steps left, and the lines printed. Beside them is the trail that a fault has left on its way
+/// out.
 #[derive(Drop)]
 pub struct Machine {
     alloc: Global,
@@ -63,7 +68,7 @@ impl Model for Machine {
 }
 
 impl Machine {
-    /// A machine of a file, with no cell, where so many steps are left.
+    /// A machine of a file, with no cell and these steps left.
     pub fn new(alloc: Global, home: u32, steps: u32) -> Machine
         requires { steps < 2 ^ 31 }
         ensures { result ≡ record {
@@ -80,13 +85,12 @@ impl Machine {
             steps: steps as u64,
             lines: Vec::new(alloc),
             left: Story {
-                about: None,
                 trail: Vec::new(alloc),
             },
         }
     }
 
-    /// Pays steps. `Steps` where they are more than are left.
+    /// Pays steps. `Steps` if they are more than are left.
     #[tactic(auto, unfolding(star_meaning::specs::Run::pay))]
     pub fn pay(&mut self, line: usize, steps: u128) -> Result<(), Stop>
         ensures answer { Gives (pay line steps self.old) result self.new }
@@ -99,7 +103,7 @@ impl Machine {
         Ok(())
     }
 
-    /// Pays 1, as each node of a tree does. `Steps` where none is left.
+    /// Pays 1, as each node of a tree does. `Steps` if none is left.
     #[inline(always)]
     #[tactic(auto, unfolding(star_meaning::specs::Run::pay))]
     pub fn pay_one(&mut self, line: usize) -> Result<(), Stop>
@@ -121,14 +125,14 @@ impl Machine {
         self.arena.near(frame, slot)
     }
 
-    /// What a value leads to: none for what is no `Ref` or leads nowhere.
+    /// The cell to which a value leads; `None` for another value than a `Ref`, and if it leads nowhere.
     pub fn read<'a>(&'a self, setting: &'a Setting<'a>, value: Value) -> Option<&'a Cell>
         ensures { option_copied result ≡ seen setting.now self.now value }
     {
         self.arena.read(setting.homes(), value)
     }
 
-    /// What a value is, or holds.
+    /// The value with its heap object looked up.
     #[inline(always)]
     pub fn content<'a>(&'a self, setting: &'a Setting<'a>, value: Value) -> Content<'a>
         ensures { shown result ≡ content setting.now self.now value }
@@ -150,7 +154,7 @@ impl Machine {
         self.content(setting, value).kind()
     }
 
-    /// How many items an iterable has: none for another value.
+    /// How many items an iterable has; `None` for another value.
     pub fn size(&self, setting: &Setting, value: Value) -> usize
         ensures { result ≡ size_of (content setting.now self.now value) }
     {
@@ -186,7 +190,7 @@ impl Machine {
         }
     }
 
-    /// Gives a slot of a frame of this module a value. Where there is no such slot, nothing changes.
+    /// Gives a slot of a frame of this module a value. If there is no such slot, nothing changes.
     #[tactic(auto, using(crate::proofs::Cells::length_bound))]
     pub fn bind(&mut self, frame: Value, slot: usize, value: Value) -> Result<(), Stop>
         ensures { Gives (storing (bound frame slot value) self.old) result self.new }
@@ -230,7 +234,7 @@ impl Machine {
         self.steps as u32
     }
 
-    /// Whether so many steps are left. `Steps` where they are not.
+    /// Checks that these steps are left. `Steps` if they are not.
     pub fn afford(&self, line: usize, steps: u128) -> Result<(), Stop>
         ensures enough { OnOk result (steps ≤ self.now.steps) }
         ensures lacking { IfErr result (λ e. (e ≡ Stop.Faulted Code.Steps line) × (self.now.steps < steps)) }
@@ -351,7 +355,7 @@ impl Machine {
         answer.map_err(|fault| refused(fault, line))
     }
 
-    /// The order of two values, which pays a step for each visit. `BadType` where they have none.
+    /// The order of two values, which pays a step for each visit. `BadType` if they have none.
     #[tactic(auto, unfolding(star_meaning::specs::Values::compare))]
     pub fn compare(
         &mut self,
@@ -373,7 +377,7 @@ impl Machine {
         answer.map_err(|fault| refused(fault, line))
     }
 
-    /// Checks that a value is a key, which pays a step for each visit. `BadType` where it is none.
+    /// Checks that a value is a key, which pays a step for each visit. `BadType` if it is not.
     #[inline(always)]
     #[tactic(auto, unfolding(star_meaning::specs::Values::check_key))]
     pub fn check_key(
@@ -416,7 +420,7 @@ impl Machine {
         answer.map_err(|fault| refused(fault, line))
     }
 
-    /// The write guard: `BadType` for what is no list or dictionary, then `Frozen`, then `Iterating`.
+    /// The write guard: `BadType` unless the value is a list or dictionary, then `Frozen`, then `Iterating`.
     #[tactic(auto, unfolding(star_meaning::specs::Values::guard))]
     pub fn guard(&self, setting: &Setting, line: usize, value: Value) -> Result<(), Stop>
         ensures { Gives (guard setting.now line value self.now) result self.now }
@@ -457,7 +461,7 @@ impl Machine {
         self.arena.close_iter(value);
     }
 
-    /// What stays of a run that has ended: its store, the lines printed, and what a fault has left.
+    /// The parts of a run that has ended: its store, the lines printed, and the trail of a fault.
     pub fn into_parts(self) -> (Arena, Vec<Text>, Story)
         ensures store { result.0 ≡ self.store }
         ensures lines { result.1.items ≡ self.lines }
@@ -489,7 +493,7 @@ impl Machine {
         }
     }
 
-    /// A count as a value. `Overflow` where it is outside 64 bits.
+    /// A count as a value. `Overflow` if it is outside 64 bits.
     pub fn new_count(&self, line: usize, count: usize) -> Result<Value, Stop>
         ensures { Gives (new_int line (pos count) self.now) result self.now }
     {
@@ -587,7 +591,7 @@ impl Machine {
         }
     }
 
-    /// A copy of the string that a value is: none for another value.
+    /// A copy of the string that a value is; `None` for another value.
     fn text_of(&self, setting: &Setting, value: Value) -> Result<Option<Text>, AllocError>
         ensures { IfOk result (λ t. t ≡ text_of (content setting.now self.now value)) }
     {
@@ -597,7 +601,7 @@ impl Machine {
         }
     }
 
-    /// Takes so many items, from the first on: 1 is paid before each.
+    /// Takes `count` items, from the first on: 1 is paid before each.
     #[tactic(auto, using(crate::proofs::Turns::collect_next))]
     pub fn take_items(
         &mut self,
@@ -623,7 +627,7 @@ impl Machine {
         self.take_items(setting, line, value, count)
     }
 
-    /// Opens an iteration, and gives the number of items. `BadType` for what is no iterable.
+    /// Opens an iteration, and returns the number of items. `BadType` unless the value is iterable.
     #[tactic(auto, unfolding(star_meaning::specs::Values::iterate), using(crate::proofs::Cells::length_opened))]
     pub fn iterate(&mut self, setting: &Setting, line: usize, value: Value) -> Result<usize, Stop>
         ensures { Gives (iterate setting.now line value self.old) result self.new }
@@ -659,7 +663,7 @@ impl Machine {
         answer.map_err(|fault| refused(fault, line))
     }
 
-    /// The int that a value is: none for another value.
+    /// The int that a value is; `None` for another value.
     pub fn int_of(&self, setting: &Setting, value: Value) -> Option<i64>
         ensures { result ≡ int_of (content setting.now self.now value) }
     {
@@ -669,7 +673,7 @@ impl Machine {
         }
     }
 
-    /// The bytes of a string: none for another value.
+    /// The bytes of a string; `None` for another value.
     pub fn bytes<'a>(&'a self, setting: &'a Setting<'a>, value: Value) -> &'a [u8]
         ensures { result.now ≡ bytes_of (content setting.now self.now value) }
     {
@@ -679,7 +683,7 @@ impl Machine {
         }
     }
 
-    /// How many bytes a string has: none for another value.
+    /// How many bytes a string has; `None` for another value.
     pub fn text_size(&self, setting: &Setting, value: Value) -> usize
         ensures { result ≡ length (bytes_of (content setting.now self.now value)) }
     {
@@ -700,7 +704,7 @@ impl Machine {
         place_of(&self.arena, setting.homes(), key, entries)
     }
 
-    /// The content of a key, where it has one and memory suffices.
+    /// The content of a key, if it has one and memory suffices.
     pub(crate) fn key_content(&self, setting: &Setting, key: Value) -> Option<KeyContent>
         ensures { IfSome result (λ c. key_content (look self.now.store setting.now.shelf) key_levels key ≡ Some c) }
     {

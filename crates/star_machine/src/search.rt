@@ -1,4 +1,4 @@
-//! The first of some values that is equal to another one.
+//! The first of some values that is equal to another one, for `in`, `index` and `remove`.
 
 ghost use Rattle.std.specs.Prelude.{◌≡◌, ◌≤◌};
 ghost use Rattle.star_store.specs.Equal.{same};

@@ -1,4 +1,9 @@
-//! What is given before a run.
+//! `Setting`: the part that a run reads and never changes: the running file, the published stores, the loads, the
+//! prelude's file.
+//!
+//! It has the statements of all files and not their programs, whose maps have borrowed names as keys and cannot be
+//! taken at a shorter lifetime. The programs are in `World` of `star_world`, whose invariant ties the two. `loaded`
+//! walks the loads of the file for the one at a token, so a load statement takes time in proportion to them.
 
 ghost use Rattle.std.specs.Prelude.{◌≡◌, [], None, Some, map, nat_eq};
 ghost use Rattle.std.specs.List.{find};
@@ -12,7 +17,7 @@ use star_store::arena::{Frozen, Homes};
 use star_tree::tree::Statement;
 use std::marker::Model;
 
-/// What is given before a run: the running file, the published stores that it reaches, the statements of all files by
+/// The environment of a run: the running file, the published stores that it reaches, the statements of all files by
 /// their numbers, the loads of the running file, and the prelude's file.
 #[derive(Drop)]
 pub struct Setting<'a> {
@@ -56,7 +61,7 @@ impl<'a> Setting<'a> {
         }
     }
 
-    /// The setting of a file among files with these statements (none for a file that has no program), with the loads of
+    /// The setting of a file among files with these statements (`None` for a file without a program), with the loads of
     /// its own, and the prelude's file.
     pub fn over(
         home: u32,
@@ -96,7 +101,7 @@ impl<'a> Setting<'a> {
         self.homes
     }
 
-    /// The store of a published module: none for another file.
+    /// The store of a published module; `None` for another file.
     pub fn published(&self, file: usize) -> Option<&Frozen>
         ensures { option_copied result ≡ published_of self.now file }
     {

@@ -1,4 +1,4 @@
-//! The parts of `x[a:b:c]`, and the bounds that they set.
+//! The parts of `x[a:b:c]` as ints, and the bounds that they set.
 
 ghost use Rattle.std.specs.Prelude.{◌≡◌, ◌≤ℤ◌};
 ghost use Rattle.std.specs.Int.{int_max, int_min};
@@ -12,8 +12,8 @@ use crate::setting::Setting;
 use star_meaning::fault::Code;
 use star_store::values::Value;
 
-/// A bound of a slice: a place below 0 gets the length added, and is then held within two places. An absent one stands
-/// at its end.
+/// A bound of a slice: a place below 0 gets the length added, and is then clamped to two places. An absent one is at
+/// its end.
 pub fn bound_of(len: usize, low: i128, high: i128, absent: i128, place: Option<i64>) -> i128
     requires low { low ≤ℤ absent }
     requires high { absent ≤ℤ high }

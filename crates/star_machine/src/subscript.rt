@@ -1,4 +1,4 @@
-//! Places of items, and an entry that is put in.
+//! The place that an index means, counted from either end; and an entry that is put into a dictionary.
 
 ghost use Rattle.std.specs.Prelude.{◌≡◌};
 ghost use Rattle.star_machine.specs.Gives.{Gives};
@@ -22,7 +22,7 @@ pub fn place_from(len: usize, int: i64) -> Option<usize>
     if back <= len { Some(len - back) } else { None }
 }
 
-/// Puts an entry into a dictionary that stands: 1 is paid where its key is new.
+/// Puts an entry into a dictionary: 1 is paid if its key is new.
 #[tactic(auto, unfolding(star_meaning::specs::Subscript::put_entry))]
 pub fn put_entry(
     machine: &mut Machine,

@@ -82,12 +82,12 @@ function_before w s t c _ f h = cc
 pub fit_follows : (trees : Trees) (w : Setting) (s t : State) → quiet.Follows s t → AllFit trees w s → AllFit trees w t
 fit_follows trees w s t c h v f e = function_carries trees w s t (carries_follows s t c) f (h v f (function_before w s t c v f e))
 
--- what holds after an action
+-- a fact that holds after an action
 abbrev pub Good : {A : Type 0} → Trees → Setting → State → Outcome A → Type 0
 Good trees w s (Done x t) = Carries s t × AllFit trees w t
 Good trees w s (Failed f lines) = Unit {0}
 
--- two actions do the same where the chain fits, and after them all functions fit
+-- two actions do the same if the chain fits, and after them all functions fit
 pub record Agree {A : Type 0} (trees : Trees) (w : Setting) (file : ℕ) (chain : List ℕ) (frame : Option Value) (a b : Action A) : Type 0 where
   pub holds : (s : State) → AllFit trees w s → FitsChain w s file chain frame → (a s ≡ b s) × Good trees w s (b s)
 
@@ -105,7 +105,7 @@ agree_quiet trees w file chain frame m k = record { holds = λ s fit fits. (refl
 pub agree_kept : {A : Type 0} (trees : Trees) (w : Setting) (file : ℕ) (chain : List ℕ) (frame : Option Value) (m : Action A) → Keeps true m → Agree trees w file chain frame m m
 agree_kept trees w file chain frame m k = agree_quiet trees w file chain frame m (k.follows refl)
 
--- what is known of the answer may be used after it
+-- a fact of the answer may be used after it
 agreed_then : {A B : Type 0} (trees : Trees) (w : Setting) (file : ℕ) (chain : List ℕ) (frame : Option Value) (s : State) (o : Outcome A) (f g : A → Action B)
     → FitsChain w s file chain frame → Good trees w s o
     → ((x : A) (t : State) → o ≡ Done x t → Agree trees w file chain frame (f x) (g x))
@@ -193,7 +193,7 @@ agree_repeat trees w file chain frame f g (suc n) i k = agree_then trees w file 
 
 -- ---- variables
 
--- what is known of a program: its outlines are those of its trees, and the tables are right for each
+-- the facts of a program: its outlines are those of its trees, and the tables are right for each
 pub record Resolved (tables : Tables) (trees : Trees) (w : Setting) : Type 0 where
   pub outlines : w.outlines ≡ outlines trees
   pub files : (file : ℕ) (ss : List Statement) → Stands trees file ss → IsResolved tables w file ss

@@ -40,7 +40,7 @@ use Rattle.star_meaning.proofs.KeepsBuiltIns.{keeps-call_built_in}
 use Rattle.star_meaning.proofs.KeepsMethods.{keeps-call_method}
 use Rattle.star_meaning.proofs.KeepsCallee.{keeps-callee}
 
--- ---- what an action that ends well has done
+-- ---- the effects of an action that ends well
 
 then_done : {A B : Type 0} (o : Outcome A) (f : A → Action B) (y : B) (t : State) → and_then o f ≡ Done y t → (x : A) × (u : State) × (o ≡ Done x u) × (f x u ≡ Done y t)
 then_done (Done x u) f y t h = (x, u, refl, h)
@@ -133,7 +133,7 @@ made_in : (P : Name → Type 0) (line : ℕ) (xs : List (Name × Share)) (ys : L
 unfolding make_shares
 made_in P line xs ys s t h e = each_made P line xs ys s t h e
 
--- ---- what is called
+-- ---- the callee
 
 abbrev Callable : Setting → State → Callee → Type 0
 Callable w s (AFunction f d) = ((v : Value) × (seen w s v ≡ Some (cell.Func f))) × (definition_of w f.file f.definition ≡ Some d)

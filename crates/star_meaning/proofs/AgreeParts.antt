@@ -1,4 +1,4 @@
--- The parts of a program, by places and by names: each does the same, where the parts of it do.
+-- The parts of a program, by places and by names: each does the same, if its parts do.
 use Rattle.std.proofs.Common.{◌≡◌, ℕ, ◌+◌, List, [], ◌∷◌, ◌++◌, length, nat_eq, Option, Some, None, refl, sym, ◌∙◌, subst}
 use Rattle.std.specs.List.{Contains}
 use Rattle.std.specs.Option.{option_map}
@@ -35,12 +35,12 @@ use Rattle.star_meaning.proofs.Quiet as quiet
 use Rattle.star_meaning.proofs.KeepsValues.{keeps-is_true, keeps-take_all, keeps-take_item, keeps-check_key}
 use Rattle.star_meaning.proofs.KeepsSubscript.{keeps-index, keeps-set_index, keeps-put_entry}
 
--- what a call runs, as names and definitions
+-- the body of a call, as names and definitions
 abbrev pub body_uses : Body → Within
 body_uses (Statements body) = all_uses in_statement body
 body_uses (Answer e) = in_expression e
 
--- a definition's parameters and body stand in its own block, in the chain in which the definition stands
+-- a definition's parameters and body are in its own block, in the chain of the definition
 abbrev pub DefinitionsStand : Trees → Setting → Type 0
 DefinitionsStand trees w = (file : ℕ) (ss : List Statement) (number : ℕ) (chain : List ℕ) (d : Definition)
     → Stands trees file ss → Contains (uses ss) (Defined number chain) → definition_of w file number ≡ Some d
@@ -131,7 +131,7 @@ assoc (Failed e lines) f g = refl
 abbrev at_frame : Place → Value → Action Place
 at_frame p v = give (record p { frame = v })
 
--- what follows what follows
+-- the actions after those that follow
 pub agree_assoc : {A B D : Type 0} (trees : Trees) (w : Setting) (file : ℕ) (chain : List ℕ) (frame : Option Value) (a b : Action A) (f g : A → Action B) (i j : B → Action D)
     → Agree trees w file chain frame (a >>= λ x. f x >>= i) (b >>= λ x. g x >>= j) → Agree trees w file chain frame (a >>= f >>= i) (b >>= g >>= j)
 agree_assoc trees w file chain frame a b f g i j k = record {

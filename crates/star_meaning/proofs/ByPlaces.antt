@@ -21,7 +21,7 @@ use Rattle.star_meaning.proofs.UsesOf.{Sub, all, by, every, of_expression, of_st
 use Rattle.star_meaning.proofs.Keeps.{Keeps, keeps, keeps_pay}
 use Rattle.star_meaning.proofs.KeepsModule.{keeps-global_text}
 
--- a statement of the running file has a line of its own, and stands at the same place
+-- a statement of the running file has a line of its own, and has the same place
 line_file : (b : Bool) (p : Place) (line : ℕ) → (if b then record p { line = line } else p).file ≡ p.file
 line_file true p line = refl
 line_file false p line = refl

@@ -1,4 +1,4 @@
--- The definition with a number stands where the number does, in a file.
+-- The definition with a number is at that number, in a file.
 use Rattle.std.proofs.Common.{◌≡◌, ℕ, zero, suc, ◌+◌, ◌<◌, List, [], ◌∷◌, ◌++◌, length, map, slice_get, slice_index_or, Option, Some, None, refl, ap, sym, ◌∙◌, subst, arith, nat_eq, Bool, true, false, if◌then◌else◌}
 use Rattle.std.specs.List.{Contains, find}
 use Rattle.std.specs.Option.{option_and_then, option_flatten, option_map}

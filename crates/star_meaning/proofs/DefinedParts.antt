@@ -1,4 +1,4 @@
--- The definition with a number stands where the number does: its parameters and its body are among the names of its file.
+-- The definition with a number is at that number: its parameters and its body are among the names of its file.
 use Rattle.std.proofs.Common.{◌≡◌, ◌⊎◌, inl, inr, ℕ, zero, suc, ◌+◌, ◌<◌, List, [], ◌∷◌, ◌++◌, length, map, slice_index_or, Some, None, refl, ap, sym, subst, arith}
 use Rattle.std.specs.List.{Contains}
 use Rattle.std.proofs.lemmas.List.Elements.{Contains-append_cases, Contains-append_left, Contains-append_right}
@@ -21,7 +21,7 @@ use Rattle.star_meaning.proofs.Agree.{Every}
 use Rattle.star_meaning.proofs.AgreeParts.{body_uses}
 use Rattle.star_meaning.proofs.UsesOf.{Sub, by, left, parameters_are, right}
 
--- among these definitions is one with the number, whose parameters and body stand in its own block, in a chain
+-- among these definitions is one with the number, whose parameters and body are in its own block, in a chain
 pub record Standing (ds : List Definition) (ws : List Use) (number : ℕ) (b : List ℕ) : Type 0 where
   pub one : Definition
   pub among : Contains ds one
@@ -29,7 +29,7 @@ pub record Standing (ds : List Definition) (ws : List Use) (number : ℕ) (b : L
   pub inner : Sub (inner_of (in_parameters one.parameters) ((1 + number) ∷ b)) ws
   pub body : Sub (body_uses one.body ((1 + number) ∷ b)) ws
 
--- all definitions that stand in a part are found in it
+-- all definitions in a part are found in it
 pub record Part (u : Within) (f : Found) : Type 0 where
   pub holds : (c : List ℕ) (ws : List Use) → Sub (u c) ws → (number : ℕ) (b : List ℕ) → Contains (u c) (Defined number b) → Standing f.definitions ws number b
 

@@ -28,11 +28,11 @@ use Rattle.star_meaning.specs.Calls.{activate, deactivate}
 use Rattle.std.proofs.lemmas.Bool.{ltb-false}
 use Rattle.star_meaning.proofs.Reaches.{NotForWant, further, Reaches}
 
--- the state with so many more steps
+-- the state with more steps
 abbrev pub with_more : ℕ → State → State
 with_more k s = record s { steps = s.steps + k }
 
--- an outcome with so many more steps left
+-- an outcome with more steps left
 abbrev pub later : {A : Type 0} → ℕ → Outcome A → Outcome A
 later k (Done x t) = Done x (with_more k t)
 later k (Failed f lines) = Failed f lines

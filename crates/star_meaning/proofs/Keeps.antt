@@ -1,6 +1,6 @@
--- What every run keeps, in one record: whatever an action does, the lines and the cells only grow in number and the steps only fall; where it
--- ends well, the cells and the active definitions stay as they were; with more steps it does the same; and, where it is quiet, no function
--- is new.
+-- The invariants of every run, in one record: by any action the lines and the cells only grow in number and the steps
+-- only fall. If it ends well, the cells and the active definitions stay as they were. With more steps it does the same.
+-- If it is quiet, no function is new.
 use Rattle.std.proofs.Common.{◌≡◌, ℕ, List, Option, Bool, true, false, if◌then◌else◌, Result, refl}
 use Rattle.star_store.specs.declared.values.Value.{Value}
 use Rattle.star_store.specs.declared.values.Cell.{Cell}
@@ -165,7 +165,7 @@ keeps_while w line v m k = record { grows = growth.keeps_then _ _ (grows_iterate
 pub keeps_looping : {q : Bool} {A : Type 0} (w : Setting) (line : ℕ) (v : Value) (m : ℕ → Action A) → ((n : ℕ) → Keeps q (m n)) → Keeps q (iterate w line v >>= λ n. m n >>= λ x. leave v >>= λ _. give x)
 keeps_looping w line v m k = record { grows = growth.keeps_then _ _ (grows_iterate w line v) (λ n. growth.keeps_then _ _ (k n).grows (λ x. growth.keeps_then _ _ (grows_leave v) (λ _. growth.keeps_give x))); stays = stays.keeps_looping w line v m (λ n. (k n).stays); extends = extends.extends_then _ _ (extends_iterate w line v) (λ n. extends.extends_then _ _ (k n).extends (λ x. extends.extends_then _ _ (extends_leave v) (λ _. extends.extends_give x))); follows = λ h. quiet.keeps_then _ _ (quiet.keeps_iterate w line v) (λ n. quiet.keeps_then _ _ ((k n).follows h) (λ x. quiet.keeps_then _ _ (quiet.keeps_leave v) (λ _. quiet.keeps_give x))) }
 
--- what is done while a definition is active
+-- an action while a definition is active
 pub keeps_active : {q : Bool} {A : Type 0} (f : Function) (m : Action A) → Keeps q m → Keeps q (activate f >>= λ _. m >>= λ v. deactivate >>= λ _. give v)
 keeps_active f m k = record { grows = growth.keeps_then _ _ (growth.keeps_activate f) (λ _. growth.keeps_then _ _ k.grows (λ v. growth.keeps_then _ _ growth.keeps_deactivate (λ _. growth.keeps_give v))); stays = stays.keeps_active f m k.stays; extends = extends.extends_then _ _ (extends.extends_activate f) (λ _. extends.extends_then _ _ k.extends (λ v. extends.extends_then _ _ extends.extends_deactivate (λ _. extends.extends_give v))); follows = λ h. quiet.keeps_then _ _ (quiet.keeps_activate f) (λ _. quiet.keeps_then _ _ (k.follows h) (λ v. quiet.keeps_then _ _ quiet.keeps_deactivate (λ _. quiet.keeps_give v))) }
 

@@ -1,4 +1,4 @@
--- What every run keeps: arguments.
+-- The invariants of every run: arguments.
 use Rattle.star_store.specs.declared.values.Value.{Value}
 use Rattle.star_meaning.specs.Program.{Setting}
 use Rattle.std.proofs.Common.{ℕ, List, [], ◌∷◌, Option, Some, None, Bool}

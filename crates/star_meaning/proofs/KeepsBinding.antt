@@ -1,4 +1,4 @@
--- What every run keeps: binding.
+-- The invariants of every run: binding.
 use Rattle.star_tree.specs.declared.tree.Name.{Name}
 use Rattle.star_meaning.specs.declared.given.NamedValue.{NamedValue}
 use Rattle.std.proofs.Common.{ℕ, List, Bool}

@@ -1,4 +1,4 @@
--- What every run keeps: callees.
+-- The invariants of every run: callees.
 use Rattle.star_store.specs.declared.values.Value.{Value}
 use Rattle.star_store.specs.declared.values.Cell.TheVariants as cell
 use Rattle.star_store.specs.declared.values.Function.{Function}

@@ -1,4 +1,4 @@
--- What every run keeps: calls.
+-- The invariants of every run: calls.
 use Rattle.star_store.specs.declared.values.Value.{Value}
 use Rattle.star_store.specs.declared.values.Cell.TheVariants as cell
 use Rattle.star_store.specs.declared.values.Function.{Function}

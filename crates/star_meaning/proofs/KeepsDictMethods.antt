@@ -1,4 +1,4 @@
--- What every run keeps: the methods of dictionaries.
+-- The invariants of every run: the methods of dictionaries.
 use Rattle.star_store.specs.declared.values.Value.{Value}
 use Rattle.star_meaning.specs.Program.{Setting}
 use Rattle.star_meaning.specs.declared.given.Given.{Given}

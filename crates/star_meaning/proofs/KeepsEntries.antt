@@ -1,4 +1,4 @@
--- What every run keeps: the entries of displays, and augmented assignments.
+-- The invariants of every run: the entries of displays, and augmented assignments.
 use Rattle.star_store.specs.declared.values.Value.{Value}
 use Rattle.star_store.specs.declared.values.Cell.TheVariants as cell
 use Rattle.star_tree.specs.declared.tree.BinaryOperator.{BinaryOperator}

@@ -1,4 +1,4 @@
--- What every run keeps: expressions.
+-- The invariants of every run: expressions.
 use Rattle.star_store.specs.declared.values.Value.{Value}
 use Rattle.star_tree.specs.declared.tree.Expression.{Expression}
 use Rattle.star_tree.specs.declared.tree.Entry.{Entry}

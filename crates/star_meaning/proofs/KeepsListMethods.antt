@@ -1,4 +1,4 @@
--- What every run keeps: the methods of lists.
+-- The invariants of every run: the methods of lists.
 use Rattle.star_store.specs.declared.values.Value.{Value}
 use Rattle.star_meaning.specs.Program.{Setting}
 use Rattle.star_meaning.specs.declared.given.Given.{Given}

@@ -1,4 +1,4 @@
--- What every run keeps: methods.
+-- The invariants of every run: methods.
 use Rattle.star_store.specs.declared.values.Value.{Value}
 use Rattle.star_store.specs.declared.names.Method.{Method}
 use Rattle.star_store.specs.declared.names.Method.TheVariants as method

@@ -1,4 +1,4 @@
--- What every run keeps: the end of a file.
+-- The invariants of every run: the end of a file.
 use Rattle.star_store.specs.declared.values.Value.{Value}
 use Rattle.star_meaning.specs.Program.{Setting}
 use Rattle.std.proofs.Common.{ℕ, List, Bool}

@@ -1,4 +1,4 @@
--- What every run keeps: operators.
+-- The invariants of every run: operators.
 use Rattle.std.specs.declared.cmp.Ordering.{Ordering}
 use Rattle.star_store.specs.declared.values.Value.{Value}
 use Rattle.star_store.specs.declared.values.Cell.TheVariants as cell

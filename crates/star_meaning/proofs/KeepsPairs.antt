@@ -1,4 +1,4 @@
--- What every run keeps: pairs.
+-- The invariants of every run: pairs.
 use Rattle.star_store.specs.declared.values.Value.{Value}
 use Rattle.star_store.specs.declared.values.Cell.TheVariants as cell
 use Rattle.star_meaning.specs.Program.{Setting}

@@ -1,4 +1,4 @@
--- What every run keeps: % on strings.
+-- The invariants of every run: % on strings.
 use Rattle.star_store.specs.declared.values.Value.{Value}
 use Rattle.star_meaning.specs.Program.{Setting}
 use Rattle.star_meaning.specs.Values.{Content}

@@ -1,4 +1,4 @@
--- What every run keeps: statements.
+-- The invariants of every run: statements.
 use Rattle.star_store.specs.declared.values.Value.{Value}
 use Rattle.star_store.specs.declared.values.Cell.TheVariants as cell
 use Rattle.star_store.specs.Store.{Published}

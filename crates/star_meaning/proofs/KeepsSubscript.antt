@@ -1,4 +1,4 @@
--- What every run keeps: subscripts.
+-- The invariants of every run: subscripts.
 use Rattle.star_store.specs.declared.values.Value.{Value}
 use Rattle.star_store.specs.declared.values.Cell.TheVariants as cell
 use Rattle.star_store.specs.declared.range.Range.{Range}

@@ -1,4 +1,4 @@
--- What every run keeps: targets.
+-- The invariants of every run: targets.
 use Rattle.star_store.specs.declared.values.Value.{Value}
 use Rattle.star_tree.specs.declared.tree.Target.{Target}
 use Rattle.star_tree.specs.declared.tree.Expression.{Expression}

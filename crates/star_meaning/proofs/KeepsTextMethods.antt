@@ -1,4 +1,4 @@
--- What every run keeps: the methods of strings.
+-- The invariants of every run: the methods of strings.
 use Rattle.star_store.specs.declared.values.Value.{Value}
 use Rattle.star_meaning.specs.Program.{Setting}
 use Rattle.star_meaning.specs.declared.given.Given.{Given}

@@ -1,4 +1,4 @@
--- What every run keeps: variables.
+-- The invariants of every run: variables.
 use Rattle.star_store.specs.declared.values.Value.{Value}
 use Rattle.star_tree.specs.declared.tree.Name.{Name}
 use Rattle.star_meaning.specs.declared.place.Place.{Place}

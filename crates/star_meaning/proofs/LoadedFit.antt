@@ -31,7 +31,7 @@ chain_too u w t s o k file (b ∷ bs) frame h =
 function_too : (trees : Trees) (u w : Setting) (t s : State) → u.outlines ≡ w.outlines → SeenToo u t w s → (f : Function) → FitsFunction trees u t f → FitsFunction trees w s f
 function_too trees u w t s o k f h = record { statements = h.statements; chain = h.chain; stands = h.stands; is_there = h.is_there; fits = chain_too u w t s o k f.file h.chain (Some f.frame) h.fits }
 
--- ---- what a module sees that loads another
+-- ---- the functions that a module sees which loads another
 
 abbrev cells_in : Option Published → List Counted
 cells_in None = []

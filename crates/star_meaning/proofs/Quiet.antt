@@ -208,7 +208,7 @@ keeps_deactivate = record { holds = λ s. follows_same s (rest_of s.active) s.st
 
 -- ---- changes of a cell
 
--- what may become of a cell where its kind is kept
+-- the changes of a cell that keep its kind
 kind_frame : (c d : Cell) (f : Frame) → KeepsKind c d → c ≡ cell.Frame f → (g : Frame) × (d ≡ cell.Frame g) × KeepsFrame f g
 kind_frame c d f h e = subst (λ z. KeepsKind z d) e h
 
@@ -286,7 +286,7 @@ keeps_change w line v c = record { holds = λ s. change_follows w line v c s ((s
 pub keeps_bound : (frame : Value) (slot : ℕ) (v : Value) → Keeps (storing (bound frame slot v))
 keeps_bound frame slot v = record { holds = λ s. follows_stays s _ ((stays.keeps_bound frame slot v).holds s) (not_longer _ _ (changed_length (λ e. record e { cell = bound_cell slot v e.cell }) frame s.store)) }
 
--- a change that leaves what each cell holds
+-- a change that leaves the content of each cell
 same_cells : (f : Counted → Counted) → ((e : Counted) → (f e).cell ≡ e.cell) → (xs : List Counted) (i at : ℕ) → cell_at (changed_at f xs i) at ≡ cell_at xs at
 same_cells f h [] i at = refl
 same_cells f h (x ∷ xs) zero zero = ap Some (h x)

@@ -20,7 +20,7 @@ abbrev pub NotForWant : {A : Type 0} → Spent A → Type 0
 NotForWant (Enough x left) = Unit {0}
 NotForWant (Lacks f left) = f ≢ refused.Steps
 
--- the same with so many more steps left
+-- the same with more steps left
 abbrev pub further : {A : Type 0} → ℕ → Spent A → Spent A
 further k (Enough x left) = Enough x (left + k)
 further k (Lacks f left) = Lacks f (left + k)

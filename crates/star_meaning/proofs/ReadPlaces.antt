@@ -24,14 +24,14 @@ use Rattle.star_meaning.specs.Program.{Setting, names_of, blocks_of, published_o
 use Rattle.star_meaning.specs.Variables.{frame_of, in_frame, bind_at, bind_name, else_in, nearest, own_slot, read_name, read_found, outside, outside_prelude, prelude_has, outermost}
 use Rattle.star_meaning.specs.Places.{Tables, SpotsMeanNames, bind_spot, frame_above, own_spot, read_spot, slot_in, joined, at_spot, outer_names, FitsBlock, FitsChain}
 
--- what a value leads to, if it is a frame
+-- the frame to which a value leads
 abbrev framed : Setting → State → Option Value → Option Frame
 framed w s frame = option_and_then (λ v. frame_of (seen w s v)) frame
 
 abbrev around : Option Frame → Option Value
 around f = option_and_then (λ f. f.parent) f
 
--- nothing is found where there is no frame
+-- without a frame nothing is found
 nearest_none : (w : Setting) (s : State) (name : List ℕ) (n : ℕ) → nearest w s name n None ≡ None
 nearest_none w s name zero = refl
 nearest_none w s name (suc n) = nearest_none w s name n
@@ -95,7 +95,7 @@ at_outermost w s p name false h = sym (no_global name h)
 at_outermost_now : (w : Setting) (s : State) (p : Place) (name : List ℕ) → at_spot w s p name (if has_name outermost_names name then Some spot.Outermost else None) ≡ global_of name outermost
 at_outermost_now w s p name = at_outermost w s p name (has_name outermost_names name) refl
 
--- the prelude's names, with what it published
+-- the prelude's names, with its published values
 in_prelude : (w : Setting) (s : State) (p : Place) (name : List ℕ) (q : ℕ) (b : Bool) → w.prelude ≡ Some q
     → (if b then found code.Unbound p.line (option_and_then (λ x. global_of name x.globals) (published_of w q)) else outside_prelude p.line name)
     ≡ found code.Unbound p.line (at_spot w s p name (if b then Some spot.Prelude else if has_name outermost_names name then Some spot.Outermost else None))
@@ -115,7 +115,7 @@ outside_by w s p name (Some q) e = outside_own w s p name q (nat_eq q p.file) e
 
 -- ---- in a chain
 
--- where a block has the name
+-- if a block has the name
 at_slot : (w : Setting) (s : State) (p : Place) (name : List ℕ) (names : Names) (f : Frame) (up : ℕ) (o : Option ℕ) (rest : Option (Option Value)) (further : Option Spot)
     → length f.slots ≡ length names
     → slot_of name names ≡ o
@@ -159,7 +159,7 @@ own_or : (up k : ℕ) (o : Option ℕ) (further : Option Spot) → up ≡ suc k 
 own_or up k None further e h = h
 own_or up k (Some slot) further e h = own_above slot up k e
 
--- a spot that is found further out is none of the innermost frame
+-- a spot that is found further out is not in the innermost frame
 own_further : (blocks : List Block) (outer : Option Names) (name : List ℕ) (chain : List ℕ) (up k : ℕ) → up ≡ suc k → own_spot (spot_in blocks outer name up chain) ≡ None
 own_further blocks outer name [] up k e = own_outside (scope.prelude_has outer name) (has_name outermost_names name)
 own_further blocks outer name (b ∷ bs) up k e = own_or up k (slot_of name (names_in blocks b)) (spot_in blocks outer name (up + 1) bs) e (own_further blocks outer name bs (up + 1) up (omega arith))

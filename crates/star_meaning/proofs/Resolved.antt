@@ -19,7 +19,7 @@ use Rattle.star_meaning.specs.Local.{Trees, outlines}
 use Rattle.star_meaning.specs.Places.{IsResolved, Stands, outer_names}
 use Rattle.star_meaning.specs.Programs.{ArePrograms, Files, PlacedFile, ProgramsPlaceNames, file_in, placed_file, prelude_in, slots_in, spots_in, tables_of, trees_of}
 
--- a file whose statements stand there is placed
+-- a file with statements is placed
 stands_by : (o : Option (Option PlacedFile)) (ss : List Statement) → option_map (option_map (λ f. f.statements)) o ≡ Some (Some ss) → (f : PlacedFile) × (option_flatten o ≡ Some f) × (f.statements ≡ ss)
 stands_by None ss h = elim (let e : None ≡ Some (Some ss) = h in none_at ss e) [ ]
   where
@@ -59,7 +59,7 @@ outer_by : (w : Setting) (files : Files) (file : ℕ) (prelude : Option ℕ) →
 outer_by w files file None o = refl
 outer_by w files file (Some prelude) o = seen_names w (trees_of files) prelude file (nat_eq prelude file) o
 
--- what is placed by equal spots, in equal blocks, with equal names outside
+-- a part placed by equal spots, in equal blocks, with equal names outside
 all_placed : (s t : Spots) (a b : List Block) (m n : Option Names) (ss : List Statement) → s ≡ t → a ≡ b → m ≡ n → AllPlaced s a m (uses ss) → AllPlaced t b n (uses ss)
 all_placed s t a b m n ss e f g h = subst (λ x. AllPlaced t b x (uses ss)) g (subst (λ x. AllPlaced t x m (uses ss)) f (subst (λ x. AllPlaced x a m (uses ss)) e h))
 

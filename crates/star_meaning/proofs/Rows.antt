@@ -1,4 +1,5 @@
--- Worked programs, by computation: what each ends in, and for most the exact number of steps, with one less of which it ends in `steps`.
+-- Worked programs, by computation: the end of each, and for most the exact number of steps; with one less it ends in
+-- `steps`.
 use Rattle.std.specs.Prelude.{◌≡◌, ℕ, List, Some, None, [], ◌∷◌, pos}
 use Rattle.std.specs.Fmt.{digits}
 use Rattle.std.proofs.Common.{refl}

@@ -1,4 +1,4 @@
--- Every run keeps what its parts keep, by induction on the levels that may still be opened.
+-- Every run keeps the invariants of its parts, by induction on the levels that may still be opened.
 use Rattle.std.proofs.Common.{ℕ, zero, suc}
 use Rattle.star_scope.specs.Syntax.{expression, target, position_of, form_of}
 use Rattle.star_meaning.specs.Program.{Setting, Variables}

@@ -1,5 +1,5 @@
--- What every visit of values keeps, in one record: it only lowers the steps; and where it is not refused for want of steps, it is the same
--- with more.
+-- The invariants of every visit of values, in one record: it only lowers the steps; and if it is not refused for want
+-- of steps, it is the same with more.
 use Rattle.star_store.specs.declared.values.Value.{Value}
 use Rattle.star_store.specs.declared.values.Value.TheVariants as value
 use Rattle.star_store.specs.declared.values.Cell.{Cell}

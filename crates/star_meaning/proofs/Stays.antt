@@ -1,4 +1,5 @@
--- An action that ends well keeps the active definitions, and of each cell its kind, its open iterations and, while it is being iterated, what it holds.
+-- An action that ends well keeps the active definitions, and of each cell its kind, its open iterations and, while it
+-- is being iterated, its content.
 use Rattle.std.proofs.Common.{◌≡◌, ℕ, zero, suc, ◌+◌, ◌-◌, ◌<◌, List, [], ◌∷◌, ◌++◌, length, slice_get, slice_set, Option, Some, None, Bool, true, false, ◌&&◌, if◌then◌else◌, refl, ap, sym, ◌∙◌, arith, subst, nat_lt, nat_eq, Result, Ok, Err}
 use Rattle.star_store.specs.declared.values.Value.{Value}
 use Rattle.star_store.specs.declared.values.Value.TheVariants as value
@@ -65,7 +66,7 @@ cell_on a b c h k = record {
   held = λ i. k.held (subst (λ n. 0 < n) (same_count a b (h.held i) h.iterations) i) ∙ h.held i;
 }
 
--- what a run keeps of its state; on a cell that is new after it no iteration is open
+-- the parts of its state that a run keeps; on a cell that is new after it no iteration is open
 pub record Stays (s t : State) : Type 0 where
   pub home : t.store.home ≡ s.store.home
   pub cells : (at : ℕ) (a : Counted) → slice_get s.store.cells at ≡ Some a → (b : Counted) × (slice_get t.store.cells at ≡ Some b) × KeepsCell a b
@@ -236,7 +237,7 @@ pub none_in_changed : (f : Counted → Counted) (v : Value) (s : Store) (at : �
 none_in_changed f (value.Ref home i) s at h = none_own (nat_eq home s.home) f s i at h
 none_in_changed f _ s at h = h
 
--- a cell with no open iteration has none where a change keeps that
+-- a cell with no open iteration has none after a change that keeps it
 zero_or : (b : Bool) (f : Counted → Counted) (a : Counted) → ((e : Counted) → e.iterations ≡ 0 → (f e).iterations ≡ 0) → a.iterations ≡ 0 → (if b then f a else a).iterations ≡ 0
 zero_or true f a k h = k a h
 zero_or false f a k h = h
@@ -282,7 +283,7 @@ keeps_bound frame slot v = record {
   };
 }
 
--- a write keeps the kind of its cell, and is made only where no iteration is open
+-- a write keeps the kind of its cell, and is made only if no iteration is open
 list_kind : (o : Result (Option Value × List Value) StoreFault) (r : Option Value × Cell) → in_cell cell.List o ≡ Ok r → (ys : List Value) × (r.1 ≡ cell.List ys)
 list_kind (Ok q) r h = (q.1, let e : (q.0, cell.List q.1) ≡ r = cc in ap (λ (z : Option Value × Cell). z.1) (sym e))
 list_kind (Err f) r h = cc

@@ -1,4 +1,4 @@
--- What a call gives: values by place and by name, as they stand and from `*` and `**`.
+-- The arguments of a call: positional and keyword ones, with those of `*` and `**`.
 use Rattle.std.specs.Prelude.{ℕ, nat_eq, Bool, false, not, ◌||◌, List, [], ◌∷◌, ◌++◌, length, Option, Some, None, slice_get}
 use Rattle.std.specs.List.{list_any, list_all}
 use Rattle.std.specs.Option.{option_map}
@@ -12,14 +12,14 @@ use Rattle.star_scope.specs.Names.{same_name}
 use Rattle.star_meaning.specs.Program.{Setting}
 use Rattle.star_meaning.specs.Values.{Content, Held, content, text_of, count_of, take_items, new_text}
 
--- an argument with its value, as it stands in the call
+-- an argument with its value, in its form in the call
 pub data Passed : Type 0 where
   Plain : Value → Passed
   Named : List ℕ → Value → Passed
   Star : Value → Passed
   StarStar : Value → Passed
 
--- the values that stand by place, and those that stand by name
+-- the positional arguments, and the keyword arguments
 abbrev pub plain_of : List Passed → List Value
 plain_of [] = []
 plain_of (Plain v ∷ ps) = v ∷ plain_of ps
@@ -34,7 +34,7 @@ named_of (Named n v ∷ ps) = record { name = n; key = None; value = v } ∷ nam
 named_of (Star v ∷ ps) = named_of ps
 named_of (StarStar v ∷ ps) = named_of ps
 
--- what stands after `*` and after `**`
+-- the values after `*` and after `**`
 abbrev pub star_of : List Passed → Option Value
 star_of [] = None
 star_of (Plain v ∷ ps) = star_of ps
@@ -49,7 +49,7 @@ star_star_of (Named n v ∷ ps) = star_star_of ps
 star_star_of (Star v ∷ ps) = star_star_of ps
 star_star_of (StarStar v ∷ ps) = Some v
 
--- the number of items after `*`: `type` where it is not iterable
+-- the number of items after `*`: `type` if it is not iterable
 abbrev pub star_count : Setting → ℕ → Option Value → Action ℕ
 star_count w line None = give 0
 star_count w line (Some v) = count_of w line v
@@ -58,7 +58,7 @@ abbrev pub take_star : Setting → ℕ → Option Value → ℕ → Action (List
 take_star w line None n = give []
 take_star w line (Some v) n = take_items w line v n
 
--- the entries of a dictionary whose keys are all strings, by name
+-- the entries of a dictionary whose keys are all strings, as keyword arguments
 abbrev pub named_entry : Setting → State → Value × Value → Option (List ℕ) → Option NamedValue
 named_entry w s e None = None
 named_entry w s e (Some t) = Some (record { name = t; key = Some e.0; value = e.1 })
@@ -75,7 +75,7 @@ abbrev pub names_in : Setting → State → Content → Option (List NamedValue)
 names_in w s (Held (cell.Dict es)) = named_entries w s es
 names_in w s _ = None
 
--- what stands after `**`: `type` unless it is a dictionary whose keys are all strings
+-- the value after `**`: `type` unless it is a dictionary whose keys are all strings
 abbrev pub star_star_names : Setting → ℕ → Option Value → Action (List NamedValue)
 star_star_names w line None = give []
 star_star_names w line (Some v) = seeing (λ s. found code.BadType line (names_in w s (content w s v)))
@@ -93,8 +93,8 @@ abbrev pub comes_twice : List NamedValue → Bool
 comes_twice [] = false
 comes_twice (n ∷ ns) = is_given n.name ns || comes_twice ns
 
--- what a call gives, in order: what stands after `*` and `**` is checked, then their items and entries are taken, then
--- no name may come twice
+-- the arguments of a call, in order: the values after `*` and `**` are checked, then their items and entries are taken,
+-- then no name may come twice
 unfoldable pub given : Setting → ℕ → List Passed → Action Given
 given w line ps = do
   n ← star_count w line (star_of ps)
@@ -104,7 +104,7 @@ given w line ps = do
   _ ← check code.Args line (not (comes_twice (named_of ps ++ ns)))
   give (record { plain = plain_of ps ++ xs; named = named_of ps ++ ns })
 
--- a name as a key: one that stands in the call is a new string, one from `**` is the key that stands there
+-- a name as a key: one that is written in the call is a new string, one from `**` is the key that is there
 unfoldable pub name_key : ℕ → NamedValue → Option Value → Action Value
 name_key line n (Some k) = give k
 name_key line n None = new_text line n.name
@@ -112,17 +112,17 @@ name_key line n None = new_text line n.name
 abbrev pub key_for : ℕ → NamedValue → Action Value
 key_for line n = name_key line n n.key
 
--- values by place alone
+-- positional values alone
 abbrev pub by_place : ℕ → Given → Action (List Value)
 by_place line g = check code.Args line (nat_eq (length g.named) 0) >>= λ _. give g.plain
 
--- values by place, and no name but this one
+-- positional values, and no keyword but this one
 abbrev pub with_name : ℕ → List ℕ → Given → Action (List Value × Option Value)
 with_name line name g =
     check code.Args line (list_all (λ n. same_name n.name name) g.named)
     >>= λ _. give (g.plain, option_map (λ n. n.value) (slice_get g.named 0))
 
--- exactly so many values by place
+-- exactly this many positional arguments
 abbrev pub only_one : ℕ → List Value → Action Value
 only_one line (x ∷ []) = give x
 only_one line _ = fail code.Args line

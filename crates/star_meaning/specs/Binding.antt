@@ -1,4 +1,4 @@
--- How the values of a call are bound to the parameters of a definition.
+-- The binding of the arguments of a call to the parameters of a definition.
 use Rattle.std.specs.Prelude.{ℕ, nat_eq, Bool, true, false, not, ◌||◌, List, [], ◌∷◌, ◌++◌, length, Option, Some, None, if◌then◌else◌}
 use Rattle.std.specs.List.{list_any, find, filter}
 use Rattle.std.specs.Option.{option_map, option_and_then}
@@ -14,19 +14,19 @@ use Rattle.star_meaning.specs.declared.given.Given.{Given}
 use Rattle.star_meaning.specs.declared.given.NamedValue.{NamedValue}
 use Rattle.star_meaning.specs.Arguments.{is_given, key_for}
 
--- what a parameter gets: a value, the values by place that are left, or the values by name that are left
+-- the argument of a parameter: a value, the positional arguments that are left, or the keyword arguments that are left
 pub data Share : Type 0 where
   One : Value → Share
   Rest : List Value → Share
   Names : List NamedValue → Share
 
--- a parameter that can be given by name
+-- a parameter that takes a keyword argument
 abbrev pub own_name : ParameterForm → Option (List ℕ)
 own_name (tree.Plain n) = Some n.text
 own_name (tree.Default n e) = Some n.text
 own_name _ = None
 
--- the names by which parameters can be given
+-- the names of parameters that take keyword arguments
 abbrev pub before_names : Option (List ℕ) → List (List ℕ) → List (List ℕ)
 before_names None ns = ns
 before_names (Some n) ns = n ∷ ns
@@ -35,14 +35,14 @@ abbrev pub own_names : List Parameter → List (List ℕ)
 own_names [] = []
 own_names (p ∷ ps) = before_names (own_name (parameter p)) (own_names ps)
 
--- the values by name that are no parameter's
+-- the keyword arguments that name no parameter
 abbrev pub is_no_own : List (List ℕ) → NamedValue → Bool
 is_no_own names n = not (list_any (same_name n.name) names)
 
 abbrev pub unclaimed : List Parameter → List NamedValue → List NamedValue
 unclaimed ps ns = filter (is_no_own (own_names ps)) ns
 
--- the value that is given by name
+-- the value of a keyword argument
 abbrev pub value_named : List ℕ → List NamedValue → Option Value
 value_named name ns = option_map (λ n. n.value) (find (λ n. same_name n.name name) ns)
 
@@ -50,7 +50,8 @@ abbrev pub else_default : Option Value → Option Value → Option Value
 else_default (Some v) d = Some v
 else_default None d = d
 
--- where binding stands: whether values by place can still be taken, those that are left, and the defaults that are left
+-- the state of binding: whether positional arguments can still be taken, those that are left, and the defaults that are
+-- left
 pub record Progress : Type 0 where
   pub by_name : Bool
   pub plain : List Value
@@ -64,7 +65,7 @@ abbrev pub rest_of_row : List Value → List Value
 rest_of_row [] = []
 rest_of_row (x ∷ xs) = xs
 
--- a share, and where binding stands after it; nothing where the arguments do not fit
+-- an argument, and the state after it; nothing if the arguments do not fit
 abbrev pub Step : Type 0
 Step = Option (List (Name × Share) × Progress)
 
@@ -72,7 +73,7 @@ abbrev pub shared : Name → Progress → Option Value → Step
 shared n q None = None
 shared n q (Some v) = Some ((n, One v) ∷ [], q)
 
--- a parameter with a name: the next value by place, which must not be given by name too; else the one by name; else the
+-- a parameter with a name: the next positional value, without a keyword one for it; else the keyword one; else the
 -- default
 abbrev pub share_of : Name → List NamedValue → Option Value → Progress → List Value → Step
 share_of n ns d q (x ∷ xs) = if is_given n.text ns then None else Some ((n, One x) ∷ [], record q { plain = xs })
@@ -95,17 +96,17 @@ abbrev pub also : List (Name × Share) → Option (List (Name × Share)) → Opt
 also xs None = None
 also xs (Some ys) = Some (xs ++ ys)
 
--- the shares of parameters in order; in the end no value by place may be left
+-- the shares of parameters in order; in the end no positional value may be left
 abbrev pub shares : List NamedValue → List NamedValue → List Parameter → Progress → Option (List (Name × Share))
 shares ns left [] q = if nat_eq (length q.plain) 0 then Some [] else None
 shares ns left (p ∷ ps) q = option_and_then (λ r. also r.0 (shares ns left ps r.1)) (step ns left q (parameter p))
 
--- whether values by name that are no parameter's are taken
+-- whether keyword arguments that name no parameter are taken
 abbrev pub takes_names : ParameterForm → Bool
 takes_names (tree.Parameter-F.Parameter::StarStar n) = true
 takes_names _ = false
 
--- what each parameter gets; nothing where a value is missing, left over, unknown or doubled
+-- the argument of each parameter; nothing if one is missing, left over, unknown or given twice
 unfoldable pub bound_to : List Parameter → List Value → Given → Option (List (Name × Share))
 bound_to ps defaults g =
     if nat_eq (length (unclaimed ps g.named)) 0 || list_any (λ p. takes_names (parameter p)) ps

@@ -274,7 +274,7 @@ call_zip w line g = do
   rows ← collect (row_at w line vs) (least ns) 0
   new_list line rows
 
--- a call of a built-in function, where so many levels may be opened by its visits
+-- a call of a built-in function, whose visits may open this many levels
 unfoldable pub call_built_in : Setting → ℕ → ℕ → BuiltIn → Given → Action Value
 call_built_in w levels line built_in.Abs g = call_abs w line g
 call_built_in w levels line built_in.All g = call_all w line g

@@ -1,4 +1,4 @@
--- Calls: what may be called, and the run of a function.
+-- Calls: the callee, and the run of a function.
 use Rattle.std.specs.Prelude.{ℕ, ◌+◌, nat_eq, Bool, not, ◌&&◌, List, [], ◌∷◌, Some}
 use Rattle.std.specs.List.{list_any}
 use Rattle.star_store.specs.declared.values.Value.{Value}
@@ -37,7 +37,7 @@ pass_form m p (tree.Argument-F.Argument::StarStar e) = m.expr p e >>= λ v. give
 abbrev pub pass : Meaning → Place → Argument → Action Passed
 pass m p a = pass_form m p (argument a)
 
--- what may be called
+-- a callee
 pub data Callee : Type 0 where
   AFunction : Function → Definition → Callee
   ABuiltIn : BuiltIn → Callee
@@ -60,11 +60,11 @@ callee_of w line (BuiltInFunction b) = give (ABuiltIn b)
 callee_of w line (Held (cell.Bound m x)) = give (AMethod m x)
 callee_of w line _ = fail code.BadType line
 
--- a value that is called: `type` where it is not callable, then `recursion`
+-- a value that is called: `type` if it is not callable, then `recursion`
 unfoldable pub callee : Setting → ℕ → Value → Action Callee
 callee w line v = with_content w v (callee_of w line)
 
--- a call on what is given: a function's arguments are bound, or `args`; then it runs, at a level of its own
+-- a call with these arguments: those of a function are bound, or `args`; then it runs, at a level of its own
 abbrev pub called : Setting → ℕ → Meaning → Place → Callee → Given → Action Value
 called w levels m p (AFunction f d) g = found code.Args p.line (bound_to d.parameters f.defaults g) >>= m.call p f d
 called w levels m p (ABuiltIn b) g = call_built_in w levels p.line b g
@@ -95,7 +95,7 @@ abbrev pub answer_of : Flow → Value
 answer_of (flow.Return v) = v
 answer_of _ = value.NoneValue
 
--- what a call runs
+-- the body that a call runs
 abbrev pub run_body : Meaning → Place → Body → Action Value
 run_body m p (Statements body) = block (m.stmt p) body >>= λ f. give (answer_of f)
 run_body m p (Answer e) = m.expr p e

@@ -38,7 +38,7 @@ abbrev pub clause_node : Variables → Setting → Meaning → Place → ClauseF
 clause_node vs w m p (tree.For t e) rest = m.expr p e >>= λ v. over vs w m p t v rest
 clause_node vs w m p (tree.If e) rest = m.expr p e >>= is_true w >>= λ b. if b then rest else give tt
 
--- further clauses in order, with what stands after the last
+-- further clauses in order, with the action after the last
 abbrev pub clauses : Variables → Setting → Meaning → Place → List Clause → Action (Unit {0}) → Action (Unit {0})
 clauses vs w m p [] last = last
 clauses vs w m p (c ∷ cs) last = clause_node vs w m p (clause c) (clauses vs w m p cs last)
@@ -63,7 +63,7 @@ add_entry w levels m p e d = do
   _ ← check_key w levels p.line k
   put_entry w p.line d k v
 
--- the frame of a comprehension, around which the running one stands: 1 is paid
+-- the frame of a comprehension, whose parent is the running one: 1 is paid
 abbrev pub inner : Variables → Place → ℕ → Action Place
 inner vs p number = do
   _ ← pay p.line 1

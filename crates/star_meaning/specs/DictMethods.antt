@@ -55,7 +55,7 @@ call_values w line d g = do
   _ ← by_place line g >>= no_value line
   with_entries_of w d (λ es. new_list line (map (λ e. e.1) es))
 
--- pop(k, [d]): the value is taken out; where the key is absent, d, or `key`
+-- pop(k, [d]): the value is taken out; if the key is absent, d, or `key`
 abbrev pub take_out : Setting → ℕ → Value → Value → Option Value → Option Value → Action Value
 take_out w line d k (Some v) x = change w line d (change_to.Delete k) >>= λ _. give v
 take_out w line d k None x = found code.Key line x
@@ -78,7 +78,7 @@ call_popitem w line d g = do
   _ ← change w line d (change_to.Delete e.0)
   give p
 
--- setdefault(k, [d]): the value; where the key is absent, d or None is put
+-- setdefault(k, [d]): the value; if the key is absent, d or None is put
 abbrev pub put_default : Setting → ℕ → Value → Value → Option Value → Option Value → Action Value
 put_default w line d k (Some v) x = give v
 put_default w line d k None x = put_entry w line d k (else_given None x) >>= λ _. give (else_given None x)

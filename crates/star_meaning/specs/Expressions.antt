@@ -64,7 +64,7 @@ abbrev pub maybe : Meaning → Place → Option Expression → Action (Option Va
 maybe m p None = give None
 maybe m p (Some e) = m.expr p e >>= λ v. give (Some v)
 
--- the node of an expression, whose parts mean what m says, and whose visits may open so many levels
+-- the node of an expression; its parts have the meaning m, and its visits may open this many levels
 abbrev pub node : Variables → Setting → ℕ → Meaning → Place → ExpressionForm → Action Value
 node vs w levels m p (tree.Expression-F.Expression::Name n) = vs.read p n
 node vs w levels m p (tree.Int n) = give (value.Int n)

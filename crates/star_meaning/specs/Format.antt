@@ -12,13 +12,13 @@ use Rattle.star_meaning.specs.declared.given.Given.{Given}
 use Rattle.star_meaning.specs.declared.given.NamedValue.{NamedValue}
 use Rattle.star_meaning.specs.BuiltIns.{is_digit, number_from}
 
--- how fields have found their values so far: not yet by place, by the next place, or by number
+-- how fields have found their values so far: none was positional, by the next one, or by number
 pub data Numbering : Type 0 where
   Unused : Numbering
   Automatic : ℕ → Numbering
   ByNumber : Numbering
 
--- where the string is read: outside of braces, inside of a field, or after a closing brace outside
+-- the position in the string: outside of braces, inside of a field, or after a closing brace outside
 pub data Reading : Type 0 where
   Outside : Reading
   Field : List ℕ → Reading
@@ -34,7 +34,7 @@ abbrev pub is_field_name : List ℕ → Bool
 is_field_name [] = false
 is_field_name (b ∷ bs) = is_letter b && list_all is_word_byte bs
 
--- the next place, the number itself, and what numbering follows; `{}` beside a number is `value`
+-- the next place, the number itself, and the numbering that follows; `{}` beside a number is `value`
 abbrev pub next_place : ℕ → Numbering → Action (ℕ × Numbering)
 next_place line Unused = give (0, Automatic 1)
 next_place line (Automatic n) = give (n, Automatic (n + 1))
@@ -59,7 +59,7 @@ field_value line g f k =
     else (if is_field_name f then named_value line g.named f k
     else fail code.BadValue line))
 
--- the bytes of the string from left to right, with what is made so far
+-- the bytes of the string from left to right, with the text that is made so far
 abbrev pub formatted : Setting → ℕ → ℕ → Given → List ℕ → Reading → Numbering → List ℕ → Action (List ℕ)
 formatted w levels line g [] Outside k out = give out
 formatted w levels line g [] (Field f) k out = fail code.BadValue line

@@ -1,4 +1,4 @@
--- What every run keeps, and what more steps change.
+-- Laws of every run: its invariants, and the effect of more steps.
 use Rattle.std.specs.Prelude.{◌≡◌, ◌≢◌, ◌≤◌, ◌<◌, ℕ, ◌+◌, List, ◌++◌, length, None, Some, slice_get}
 use Rattle.star_store.specs.declared.values.Value.{Value}
 use Rattle.star_store.specs.declared.values.Cell.{Cell}
@@ -16,7 +16,7 @@ use Rattle.star_meaning.specs.Program.{Setting}
 use Rattle.star_meaning.specs.Variables.{by_names}
 use Rattle.star_meaning.specs.Module.{meaning, local, Local, Good, Stopped}
 
--- after a run the module is the same, there are no fewer cells, no more steps, and no other lines but further ones
+-- after a run the module is the same, cells are not fewer, steps not more, and lines are the same with further ones
 pub record Grows (s t : State) : Type 0 where
   pub home : t.store.home ≡ s.store.home
   pub cells : length s.store.cells ≤ length t.store.cells
@@ -41,22 +41,22 @@ pub record KeepsFrame (f g : Frame) : Type 0 where
   pub parent : g.parent ≡ f.parent
   pub slots : length g.slots ≡ length f.slots
 
--- what may become of a cell: a list stays a list, a dictionary a dictionary, a frame the same frame; all others stay as
--- they are
+-- the changes that a cell may undergo: a list stays a list, a dictionary a dictionary, a frame the same frame; all
+-- others stay as they are
 abbrev pub KeepsKind : Cell → Cell → Type 0
 KeepsKind (cell.List xs) d = (ys : List Value) × (d ≡ cell.List ys)
 KeepsKind (cell.Dict es) d = (fs : List (Value × Value)) × (d ≡ cell.Dict fs)
 KeepsKind (cell.Frame f) d = (g : Frame) × (d ≡ cell.Frame g) × KeepsFrame f g
 KeepsKind c d = d ≡ c
 
--- a cell keeps its kind and the number of its open iterations; one that was being iterated keeps what it holds
+-- a cell keeps its kind and the number of its open iterations; one that was being iterated keeps its items
 pub record KeepsCell (a b : Counted) : Type 0 where
   pub kind : KeepsKind a.cell b.cell
   pub iterations : b.iterations ≡ a.iterations
   pub held : 0 < iterations_in (Some a) → b.cell ≡ a.cell
 
--- what a run keeps that ends well: the module, its cells, which only grow in number, the active definitions and the
--- lines printed; steps only fall, and on a cell that is new after the run no iteration is open
+-- the invariants of a run that ends well: the module, its cells, which only grow in number, the active definitions and
+-- the lines printed; steps only fall, and on a cell that is new after the run no iteration is open
 pub record Kept (s t : State) : Type 0 where
   pub home : t.store.home ≡ s.store.home
   pub cells : (at : ℕ) (a : Counted) → slice_get s.store.cells at ≡ Some a → (b : Counted)
@@ -78,7 +78,7 @@ abbrev pub IsNotForSteps : Local → Type 0
 IsNotForSteps (Good shelf globals texts lines) = Unit {0}
 IsNotForSteps (Stopped f lines) = f.code ≢ code.Steps
 
--- The law: what a file means does not change where it gets more steps than it needs.
+-- The law: the meaning of a file does not change if it gets more steps than it needs.
 abbrev pub MoreStepsMeanTheSame : Type 0
 MoreStepsMeanTheSame =
     (w : Setting) (steps more : ℕ) (statements : List Statement) → IsNotForSteps (local w steps statements)

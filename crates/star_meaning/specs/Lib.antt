@@ -1,3 +1,4 @@
+-- The meaning of the language, in reading order.
 pub mod Run
 pub mod Program
 pub mod Meaning

@@ -1,4 +1,4 @@
--- The local meaning of a file: what it means, given what its loads mean.
+-- The local meaning of a file: its meaning by the outcomes of its loads.
 use Rattle.std.specs.Prelude.{ℕ, List, [], map, Option, Some, None, slice_get}
 use Rattle.std.specs.Option.{option_map, option_flatten}
 use Rattle.star_store.specs.Store.{Shelf}
@@ -28,8 +28,8 @@ abbrev pub reached : Local → Shelf
 reached (Good shelf globals texts lines) = shelf
 reached (Stopped f lines) = []
 
--- what is given to the run of a file: the trees of all files, the file of each of its load statements, the prelude's
--- file, and the outcomes of its loads
+-- the environment of a file's run: the trees of all files, the file of each of its load statements, the prelude's file,
+-- and the outcomes of its loads
 abbrev pub setting : ℕ → Trees → List (ℕ × ℕ) → Option ℕ → List Local → Setting
 setting file trees loads prelude outcomes =
     record {
@@ -40,7 +40,7 @@ setting file trees loads prelude outcomes =
       prelude = prelude;
     }
 
--- the local meaning of a file with so many steps: the run of its statements over all that its loads reach, and the
+-- the local meaning of a file with this many steps: the run of its statements over all that its loads reach, and the
 -- texts of its globals
 abbrev pub local_meaning : ℕ → Trees → List (ℕ × ℕ) → Option ℕ → List Local → ℕ → Local
 local_meaning file trees loads prelude outcomes steps =

@@ -1,4 +1,5 @@
--- The parts of a program that open a level, and what each does where so many levels may be opened.
+-- The record of the parts of a program that open a level (`Meaning`), and how statements and loops follow on one
+-- another.
 use Rattle.std.specs.Prelude.{ℕ, zero, suc, ◌+◌, List, [], ◌∷◌}
 use Rattle.star_store.specs.declared.values.Value.{Value}
 use Rattle.star_store.specs.declared.values.Function.{Function}
@@ -13,14 +14,14 @@ use Rattle.star_meaning.specs.Run.{Action, ◌>>=◌, give}
 use Rattle.star_scope.specs.Definitions.{Definition}
 use Rattle.star_meaning.specs.Binding.{Share}
 
--- the value of an index target, and what stands there: read before an augmented assignment
+-- the value of an index target, and its old item: read before an augmented assignment
 pub record Read : Type 0 where
   pub base : Value
   pub index : Value
   pub old : Value
 
--- an expression's value; what a statement does; what a target that is no plain name does with a value; the parts of an
--- index target with what they read; and a call of a function with the shares of its parameters
+-- the value of an expression; the effect of a statement; the assignment to a target that is not a plain name; the parts
+-- of an index target with their old value; and a call of a function with the arguments of its parameters
 pub record Meaning : Type 0 where
   pub expr : Place → Expression → Action Value
   pub stmt : Place → Statement → Action Flow
@@ -28,7 +29,7 @@ pub record Meaning : Type 0 where
   pub parts : Place → Expression → Expression → Action Read
   pub call : Place → Function → Definition → List (Name × Share) → Action Value
 
--- goes on where nothing ends the statements
+-- goes on if nothing ends the statements
 abbrev pub then_go : Action Flow → Flow → Action Flow
 then_go rest flow.Next = rest
 then_go rest other = give other
@@ -45,12 +46,12 @@ then_turn rest flow.Continue = rest
 then_turn rest flow.Break = give flow.Next
 then_turn rest (flow.Return v) = give (flow.Return v)
 
--- so many turns of a loop, from its i-th on
+-- a number of turns of a loop, from its i-th on
 abbrev pub turns : (ℕ → Action Flow) → ℕ → ℕ → Action Flow
 turns f zero i = give flow.Next
 turns f (suc n) i = f i >>= then_turn (turns f n (i + 1))
 
--- so many turns of a clause, from its i-th on
+-- a number of turns of a clause, from its i-th on
 abbrev pub repeat : (ℕ → Action (Unit {0})) → ℕ → ℕ → Action (Unit {0})
 repeat f zero i = give tt
 repeat f (suc n) i = f i >>= λ _. repeat f n (i + 1)

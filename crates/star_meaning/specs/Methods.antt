@@ -53,7 +53,7 @@ on_text w levels line method.StringStrip t g = call_strip w line true true t g
 on_text w levels line method.StringUpper t g = call_case line upper t g
 on_text w levels line _ t g = fail code.BadType line
 
--- a call of a bound method, where so many levels may be opened by its visits
+-- a call of a bound method, whose visits may open this many levels
 unfoldable pub call_method : Setting → ℕ → ℕ → Method → Value → Given → Action Value
 call_method w levels line method.ListAppend x g = call_append w line x g
 call_method w levels line method.ListClear x g = call_clear w line x g

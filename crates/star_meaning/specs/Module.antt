@@ -23,11 +23,11 @@ use Rattle.star_meaning.specs.Expressions.{node}
 use Rattle.star_meaning.specs.Statements.{statement}
 use Rattle.star_meaning.specs.Calls.{run}
 
--- a statement of the running module's own file gives a fault its line
+-- a fault gets the line of the innermost statement of the running module's own file
 abbrev pub at_line : Setting → Place → Statement → Place
 at_line w p s = if nat_eq p.file w.home then record p { line = (position_of s).line } else p
 
--- where no level may be opened
+-- if no level may be opened
 abbrev pub nothing_opens : Setting → Meaning
 nothing_opens w = record {
   expr = λ p e. fail code.Deep p.line;
@@ -37,8 +37,8 @@ nothing_opens w = record {
   call = λ p f d shares. fail code.Deep p.line;
 }
 
--- where one more level than n may be opened, and m says what may be done within it: a statement, an expression and a
--- target that is no plain name pay 1 as they begin
+-- the parts of a program if one more level than n may be opened, and m is their meaning within it: a statement, an
+-- expression and a target that is not a plain name pay 1 as they begin
 abbrev pub one_more : Variables → Setting → ℕ → Meaning → Meaning
 one_more vs w n m = record {
   expr = λ p e. pay p.line 1 >>= λ _. node vs w n m p (expression e);
@@ -48,7 +48,7 @@ one_more vs w n m = record {
   call = run vs m;
 }
 
--- what each part of a program does where so many levels may be opened
+-- the effect of each part of a program if this many levels may be opened
 unfoldable pub meaning : Variables → Setting → ℕ → Meaning
 meaning vs w zero = nothing_opens w
 meaning vs w (suc n) = one_more vs w n (meaning vs w n)
@@ -108,7 +108,7 @@ global_text w levels line g = do
   _ ← pay line (1 + length t)
   give (g.0, t)
 
--- what a module has at its end: its globals, and their texts
+-- a module at its end: its globals, and their texts
 pub record Ended : Type 0 where
   pub globals : List (List ℕ × Value)
   pub texts : List (List ℕ × List ℕ)
@@ -143,7 +143,7 @@ local_of w (Failed f lines) = Stopped f lines
 abbrev pub local : Setting → ℕ → List Statement → Local
 local w steps statements = local_of w (run_file (by_names w) w most_levels statements (start w steps))
 
--- the shelf of a module that loads others: all that stands on their shelves
+-- the shelf of a module that loads others: all that is on their shelves
 abbrev pub put_place : ℕ → Option Published → Shelf → Shelf
 put_place i None shelf = shelf
 put_place i (Some p) shelf = put_up i p shelf

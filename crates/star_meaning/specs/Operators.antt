@@ -24,7 +24,7 @@ use Rattle.star_meaning.specs.Program.{Setting}
 use Rattle.star_meaning.specs.Values.{Content, Number, Held, with_content, int_of, new_int, new_text, new_tuple, new_list, new_dict, want_text, is_true, equal, compare, check_key, place_in}
 use Rattle.star_meaning.specs.Percent.{percent}
 
--- a row so many times over
+-- a row repeated this many times
 abbrev pub times : {A : Type 0} → ℕ → List A → List A
 times zero xs = []
 times (suc n) xs = xs ++ times n xs
@@ -56,7 +56,7 @@ add line (Held (cell.List xs)) (Held (cell.List ys)) = new_list line (xs ++ ys)
 add line (Held (cell.Tuple xs)) (Held (cell.Tuple ys)) = new_tuple line (xs ++ ys)
 add line _ _ = fail code.BadType line
 
--- a string, list or tuple so many times over; the payment comes before it is made
+-- a string, list or tuple repeated this many times; the payment comes before it is made
 abbrev pub repeated : ℕ → Content → ℕ → Action Value
 repeated line (Held (cell.Text t)) n = pay line (1 + length t * n) >>= λ _. make (cell.Text (times n t))
 repeated line (Held (cell.List xs)) n = pay line (1 + length xs * n) >>= λ _. make (cell.List (times n xs))
@@ -103,7 +103,7 @@ on_ints line binary.BitAnd x y = new_int line (int_bit_and w64 x y)
 on_ints line binary.BitXor x y = new_int line (int_bit_xor w64 x y)
 on_ints line binary.BitOr x y = new_int line (int_bit_or w64 x y)
 
--- an operator on what is not two ints
+-- an operator on operands that are not two ints
 abbrev pub on_others : Setting → ℕ → ℕ → BinaryOperator → Content → Content → Value → Action Value
 on_others w levels line binary.Add c d y = add line c d
 on_others w levels line binary.Multiply c d y = multiply line c d
@@ -137,16 +137,16 @@ on_one w line op v = with_content w v (λ c. found code.BadType line (int_of c) 
 unfoldable pub prefix : Setting → ℕ → UnaryOperator → Value → Action Value
 prefix w line op v = on_one w line op v
 
--- whether a string stands in another one at a place
+-- whether a string is in another one at a place
 abbrev pub stands_at : List ℕ → List ℕ → ℕ → Bool
 stands_at t u i = starts_with nat_eq (drop i t) u
 
--- the first of so many places, from the i-th on, at which u stands in t
+-- the first of a number of places, from the i-th on, that has u in t
 abbrev pub first_place : List ℕ → List ℕ → ℕ → ℕ → Option ℕ
 first_place t u zero i = None
 first_place t u (suc n) i = if stands_at t u i then Some i else first_place t u n (i + 1)
 
--- the least place i from a on at which u stands in t, with i and the length of u at most b
+-- the least place i from a on of u in t, with i and the length of u at most b
 abbrev pub place_between : List ℕ → List ℕ → ℕ → ℕ → Option ℕ
 place_between t u a b = first_place t u (b + 1 - (a + length u)) a
 
@@ -170,7 +170,7 @@ has_item w levels line [] x = give false
 has_item w levels line (y ∷ ys) x =
     equal w levels line y x >>= λ b. if b then give true else has_item w levels line ys x
 
--- whether x is in what y holds: an equal item, a key, an int of a range, a substring
+-- whether x is in y: an equal item, a key, an int of a range, a substring
 abbrev pub has : Setting → ℕ → ℕ → Content → Value → Action Bool
 has w levels line (Held (cell.List ys)) x = has_item w levels line ys x
 has w levels line (Held (cell.Tuple ys)) x = has_item w levels line ys x
@@ -184,7 +184,7 @@ has w levels line _ x = fail code.BadType line
 abbrev pub contains : Setting → ℕ → ℕ → Value → Value → Action Bool
 contains w levels line x y = with_content w y (λ d. has w levels line d x)
 
--- what the order of two values says of a sign
+-- the answer of a sign, by the order of two values
 abbrev pub ordered : (Ordering → Bool) → Action Ordering → Action Bool
 ordered f m = m >>= λ o. give (f o)
 

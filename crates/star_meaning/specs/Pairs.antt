@@ -35,12 +35,12 @@ pairs_in w line x n (Held (cell.Dict es)) =
 pairs_in w line x n _ =
     take_items w line x n >>= λ xs. each (pair_of w line) xs >>= λ ps. give (record { are_keys = false; pairs = ps })
 
--- without an argument there is no pair
+-- no argument has no pairs
 unfoldable pub pairs_of : Setting → ℕ → Option Value → ℕ → Action Pairs
 pairs_of w line None n = give (record { are_keys = true; pairs = [] })
 pairs_of w line (Some x) n = with_content w x (pairs_in w line x n)
 
--- the number of items of the argument: `type` where it is not iterable
+-- the number of items of the argument: `type` if it is not iterable
 abbrev pub pairs_count : Setting → ℕ → Option Value → Action ℕ
 pairs_count w line None = give 0
 pairs_count w line (Some x) = count_of w line x
@@ -49,14 +49,14 @@ pairs_count w line (Some x) = count_of w line x
 abbrev pub check_pair : Setting → ℕ → ℕ → Bool → Value → Action (Unit {0})
 check_pair w levels line are_keys k = if are_keys then give tt else check_key w levels line k
 
--- puts a pair, or a named value, into a dictionary that stands
+-- puts a pair, or a keyword argument, into an existing dictionary
 abbrev pub put_pair : Setting → ℕ → ℕ → Value → Bool → Value × Value → Action (Unit {0})
 put_pair w levels line d are_keys e = check_pair w levels line are_keys e.0 >>= λ _. put_entry w line d e.0 e.1
 
 abbrev pub put_named : Setting → ℕ → Value → NamedValue → Action (Unit {0})
 put_named w line d n = key_for line n >>= λ k. put_entry w line d k n.value
 
--- puts all pairs, then all named values, into a dictionary that stands
+-- puts all pairs, then all keyword arguments, into an existing dictionary
 unfoldable pub put_pairs : Setting → ℕ → ℕ → Value → Pairs → List NamedValue → Action (Unit {0})
 put_pairs w levels line d ps ns =
     all_of (put_pair w levels line d ps.are_keys) ps.pairs >>= λ _. all_of (put_named w line d) ns

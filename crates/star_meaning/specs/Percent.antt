@@ -25,8 +25,8 @@ abbrev pub next_text : Setting → ℕ → ℕ → ℕ → List Value → Action
 next_text w levels line letter [] = fail code.BadValue line
 next_text w levels line letter (x ∷ xs) = lettered w levels line letter x >>= λ t. give (t, xs)
 
--- the bytes of the string from left to right: after a `%` stands a letter, or another `%`; the values that are left,
--- and what is made so far
+-- the bytes of the string from left to right: after a `%` comes a letter, or another `%`; the values that are left, and
+-- the text that is made so far
 abbrev pub filled : Setting → ℕ → ℕ → Bool → List ℕ → List Value → List ℕ → Action (List ℕ)
 filled w levels line false [] [] out = give out
 filled w levels line false [] (x ∷ xs) out = fail code.BadValue line

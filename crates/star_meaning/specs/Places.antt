@@ -1,4 +1,4 @@
--- Variables by their places: how many frames up, and which slot. And when this means the same as their names.
+-- Variables by their spots: how many frames up, and which slot; and when this means the same as their names.
 use Rattle.std.specs.Prelude.{◌≡◌, ℕ, zero, suc, nat_eq, List, [], ◌∷◌, length, map, replicate, Option, Some, None, slice_get, if◌then◌else◌}
 use Rattle.std.specs.List.{Contains}
 use Rattle.std.specs.Option.{option_and_then}
@@ -24,19 +24,18 @@ use Rattle.star_scope.specs.Outlines.{outline}
 use Rattle.star_scope.specs.Uses.{Named, Defined, uses}
 use Rattle.star_meaning.specs.Local.{Trees, outlines}
 
--- what is known of a program before it runs: the spot of the name at a token of a file, and the number of slots of a
--- block of a file
+-- the tables of a program: the spot of the name at a token of a file, and the number of slots of a block of a file
 pub record Tables : Type 0 where
   pub spots : ℕ → Spots
   pub slots : ℕ → ℕ → ℕ
 
--- the frame that is so many frames above a frame
+-- the frame that is `up` frames above a frame
 abbrev pub frame_above : Setting → State → ℕ → Option Value → Option Value
 frame_above w s zero frame = frame
 frame_above w s (suc up) frame =
     frame_above w s up (option_and_then (λ f. f.parent) (option_and_then (λ v. frame_of (seen w s v)) frame))
 
--- what a slot of a frame has
+-- the state of a slot of a frame
 abbrev pub slot_in : Setting → State → ℕ → Option Value → Option (Option Value)
 slot_in w s slot frame =
     option_and_then (λ f. slice_get f.slots slot) (option_and_then (λ v. frame_of (seen w s v)) frame)
@@ -117,8 +116,7 @@ SpotsMeanNames = (tables : Tables) (w : Setting) (p : Place) (n : Name) (chain :
 abbrev pub Stands : Trees → ℕ → List Statement → Type 0
 Stands trees file ss = slice_get trees file ≡ Some (Some ss)
 
--- a function is one of its file's definitions, and the frame in which it was defined begins a chain that fits the
--- blocks around it
+-- a function is one of its file's definitions, and its defining frame begins a chain that fits the blocks around it
 pub record FitsFunction (trees : Trees) (w : Setting) (s : State) (f : Function) : Type 0 where
   pub statements : List Statement
   pub chain : List ℕ
@@ -135,8 +133,8 @@ abbrev pub FitAfter : Trees → Setting → Outcome Ended → Type 0
 FitAfter trees w (Done e t) = AllFit trees w t
 FitAfter trees w (Failed f lines) = Unit {0}
 
--- The law: where the tables are right for all files, and the functions of the published modules fit, the run of a file
--- by places is its run by names, and after it all functions fit.
+-- The law: if the tables are right for all files, and the functions of the published modules fit, the run of a file by
+-- places is its run by names, and after it all functions fit.
 abbrev pub PlacesMeanNames : Type 0
 PlacesMeanNames = (tables : Tables) (trees : Trees) (w : Setting) (statements : List Statement) (steps : ℕ)
     → w.outlines ≡ outlines trees
@@ -147,8 +145,8 @@ PlacesMeanNames = (tables : Tables) (trees : Trees) (w : Setting) (statements : 
     ≡ run_file (by_names w) w most_levels statements (start w steps))
     × FitAfter trees w (run_file (by_names w) w most_levels statements (start w steps))
 
--- a module whose run ended so, seen by another one before its run: its cells stand on the shelf under its file, and so
--- do all modules that it saw; it is another module, and did not see that one
+-- a module whose run ended so, seen by another one before its run: its cells are on the shelf under its file, and so
+-- are all modules that it saw; it is another module, and did not see that one
 pub record Loaded (u : Setting) (t : State) (w : Setting) : Type 0 where
   pub outlines : u.outlines ≡ w.outlines
   pub home : t.store.home ≡ u.home
@@ -157,8 +155,8 @@ pub record Loaded (u : Setting) (t : State) (w : Setting) : Type 0 where
   pub apart : w.home ≡ u.home → ⊥
   pub unseen : published_of u w.home ≡ None
 
--- The law: where each function that a module sees before its run was seen by a module that it loaded, after whose run
--- all functions fit, there all functions fit before its run.
+-- The law: all functions fit before the run of a module, if each that it sees then was seen by a module that it loaded,
+-- and all functions fit after the run of that one.
 abbrev pub LoadsFit : Type 0
 LoadsFit = (trees : Trees) (w : Setting) (steps : ℕ)
     → ((v : Value) (f : Function) → seen w (start w steps) v ≡ Some (cell.Func f) → (u : Setting) × (t : State)

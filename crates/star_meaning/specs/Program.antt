@@ -1,4 +1,4 @@
--- What is given before a run: the files with their definitions and blocks, and the published modules.
+-- The environment of a run: the files with their definitions and blocks, and the published modules.
 use Rattle.std.specs.Prelude.{ℕ, nat_eq, List, [], Option, Some, None, slice_get}
 use Rattle.std.specs.List.{find}
 use Rattle.std.specs.Option.{option_and_then, option_map, option_flatten}
@@ -13,8 +13,8 @@ use Rattle.star_scope.specs.Outlines.{Outline, names_in}
 use Rattle.star_meaning.specs.declared.place.Place.{Place}
 use Rattle.star_meaning.specs.Run.{State, Action}
 
--- what a run is given: the running file, the outlines of all files by their numbers, the published modules, the file of
--- each load statement by the statement's token, and the prelude's file
+-- the environment of a run: the running file, the outlines of all files by their numbers, the published modules, the
+-- file of each load statement by the statement's token, and the prelude's file
 pub record Setting : Type 0 where
   pub home : ℕ
   pub outlines : List (Option Outline)
@@ -50,7 +50,7 @@ file_of w token = option_map (λ l. l.1) (find (λ l. nat_eq l.0 token) w.loads)
 abbrev pub published_of : Setting → ℕ → Option Published
 published_of w file = option_flatten (slice_get w.shelf file)
 
--- what a value leads to
+-- the cell that a value leads to
 abbrev pub seen : Setting → State → Value → Option Cell
 seen w s v = look s.store w.shelf v
 

@@ -16,12 +16,12 @@ use Rattle.star_meaning.specs.Program.{Setting}
 use Rattle.star_meaning.specs.Local.{Trees, outlines}
 use Rattle.star_meaning.specs.Places.{IsResolved, Stands, Tables}
 
--- the statements of a file, with the spots of the names that stand in them, by their tokens
+-- the statements of a file, with the spots of their names, by token
 pub record PlacedFile : Type 0 where
   pub statements : List Statement
   pub spots : List (Option Spot)
 
--- a program is that of some file: what `resolve` answers for it
+-- a program is that of some file: the answer of `resolve` for it
 abbrev pub IsOfFile : Program → Type 0
 IsOfFile p =
     (file : ℕ) × (prelude : Option Prelude) × (ss : List Statement) × (reads : List Read)
@@ -43,7 +43,7 @@ AllOfFiles [] = Unit {0}
 AllOfFiles (None ∷ ps) = AllOfFiles ps
 AllOfFiles (Some p ∷ ps) = IsOfFile p.now × AllOfFiles ps
 
--- the files of load statements, by the tokens at which these begin
+-- the files of load statements, by their first tokens
 abbrev pub with_load : Option ℕ → ℕ → List (ℕ × ℕ) → List (ℕ × ℕ)
 with_load None file more = more
 with_load (Some token) file more = (token, file) ∷ more
@@ -62,7 +62,7 @@ trees_of files = map (option_map (λ f. f.statements)) files
 abbrev pub outline_at : Files → ℕ → Option Outline
 outline_at files file = option_map (λ f. outline f.statements) (file_in files file)
 
--- the outlines of all files; none where a run has no programs
+-- the outlines of all files; none if a run has no programs
 abbrev pub outlines_in : Option (Bor Files) → List (Option Outline)
 outlines_in None = []
 outlines_in (Some files) = outlines (trees_of files.now)
@@ -87,8 +87,7 @@ abbrev pub prelude_in : Files → Option ℕ → Option Prelude
 prelude_in files prelude =
     option_map (λ n. record { file = n; names = prelude_names (option_flatten (slice_get (trees_of files) n)) }) prelude
 
--- each file is placed as its program: what `resolve` answers for the file with this number, which sees this prelude or
--- is it
+-- each file has its program: the answer of `resolve` for the file with this number, which sees this prelude or is it
 abbrev pub ArePrograms : Files → Option ℕ → Type 0
 ArePrograms files prelude = (file : ℕ) (f : PlacedFile) → file_in files file ≡ Some f
     → (reads : List Read) × (p : Program) × (placed_file p ≡ f)

@@ -1,4 +1,4 @@
--- What a run changes, how a part of it ends, and how parts follow one another.
+-- The state of a run, how a part of it ends, and how parts follow one another.
 use Rattle.std.specs.Prelude.{ℕ, zero, suc, ◌+◌, ◌-◌, nat_lt, Bool, true, false, List, [], ◌∷◌, ◌++◌, Option, Some, None, Result, Ok, Err, if◌then◌else◌}
 use Rattle.star_store.specs.declared.fault.StoreFault.{StoreFault}
 use Rattle.star_store.specs.declared.fault.StoreFault.TheVariants as refused
@@ -10,7 +10,7 @@ use Rattle.star_meaning.specs.declared.fault.Code.{Code}
 use Rattle.star_meaning.specs.declared.fault.Code.TheVariants as code
 use Rattle.star_meaning.specs.declared.fault.Fault.{Fault}
 
--- what a run changes: the running module's store, the definitions that are active (file and number, the innermost
+-- the state of a run: the running module's store, the definitions that are active (file and number, the innermost
 -- first), the steps left, and the lines printed
 pub record State : Type 0 where
   pub store : Store
@@ -23,7 +23,7 @@ pub data Outcome (A : Type 0) : Type 0 where
   Done : A → State → Outcome A
   Failed : Fault → List (List ℕ) → Outcome A
 
--- what can be done in a state
+-- an action: a function from a state to an outcome
 abbrev pub Action : Type 0 → Type 0
 Action A = State → Outcome A
 
@@ -44,20 +44,20 @@ give x = λ s. Done x s
 abbrev pub fail : {A : Type 0} → Code → ℕ → Action A
 fail c line = λ s. Failed (record { code = c; line = line }) s.lines
 
--- pays so many steps; a payment larger than the steps left is a fault
+-- pays this many steps; a payment larger than the steps left is a fault
 unfoldable pub pay : ℕ → ℕ → Action (Unit {0})
 pay line n = λ s. if nat_lt s.steps n then fail code.Steps line s else Done tt (record s { steps = s.steps - n })
 
--- a fault where the test fails
+-- a fault if the test fails
 abbrev pub check : Code → ℕ → Bool → Action (Unit {0})
 check c line test = if test then give tt else fail c line
 
--- what is there, or a fault
+-- the value, or a fault if there is none
 abbrev pub found : {A : Type 0} → Code → ℕ → Option A → Action A
 found c line None = fail c line
 found c line (Some x) = give x
 
--- the fault of a refusal of the store; want of memory is no fault of a run, and no definition answers it
+-- the fault of a refusal of the store; want of memory is not a fault of a run, and no definition answers it
 abbrev pub code_of : StoreFault → Code
 code_of refused.Frozen = code.Frozen
 code_of refused.Iterating = code.Iterating
@@ -74,7 +74,7 @@ abbrev pub agreed : {A : Type 0} → ℕ → Result A StoreFault → Action A
 agreed line (Ok x) = give x
 agreed line (Err f) = fail (code_of f) line
 
--- what was spent is paid
+-- the steps that were spent are paid
 abbrev pub settled : {A : Type 0} → ℕ → Spent A → Action A
 settled line (Enough x left) = λ s. Done x (record s { steps = left })
 settled line (Lacks f left) = fail (code_of f) line
@@ -104,17 +104,17 @@ abbrev pub each : {A B : Type 0} → (A → Action B) → List A → Action (Lis
 each f [] = give []
 each f (x ∷ xs) = f x >>= λ y. each f xs >>= λ ys. give (y ∷ ys)
 
--- one after another, for what they do
+-- one after another, for their effect
 abbrev pub all_of : {A : Type 0} → (A → Action (Unit {0})) → List A → Action (Unit {0})
 all_of f [] = give tt
 all_of f (x ∷ xs) = f x >>= λ _. all_of f xs
 
--- so many turns, from the i-th on, each with its answer
+-- a number of turns, from the i-th on, each with its answer
 abbrev pub collect : {B : Type 0} → (ℕ → Action B) → ℕ → ℕ → Action (List B)
 collect f zero i = give []
 collect f (suc n) i = f i >>= λ y. collect f n (i + 1) >>= λ ys. give (y ∷ ys)
 
--- so many turns, from the i-th on, up to the first that says stop
+-- a number of turns, from the i-th on, up to the first that says stop
 abbrev pub until : (ℕ → Action Bool) → ℕ → ℕ → Action Bool
 until f zero i = give false
 until f (suc n) i = f i >>= λ stop. if stop then give true else until f n (i + 1)

@@ -42,7 +42,7 @@ abbrev pub augmented : Setting → ℕ → ℕ → BinaryOperator → Value → 
 augmented w levels line op x y = with_content w x (augment_content w levels line op x y)
 
 -- t op= e: the target's parts are evaluated once, it is read, e is evaluated, then it is computed and written; the name
--- is no node
+-- is not a node
 abbrev pub augment : Variables → Setting → ℕ → Meaning → Place → BinaryOperator → Expression → TargetForm
     → Action (Unit {0})
 augment vs w levels m p op e (tree.Target-F.Target::Name n) = do
@@ -79,7 +79,7 @@ loop vs w m p t body v = do
   _ ← leave v
   give f
 
--- a loaded name is bound to the global of the loaded module: `no_name` where it is missing or unbound
+-- a loaded name is bound to the global of the loaded module: `no_name` if it is missing or unbound
 abbrev pub load_name : Variables → Place → Option Published → LoadedName → Action (Unit {0})
 load_name vs p o n = do
   v ← found code.NoName p.line (option_and_then (λ q. global_of n.loaded.text q.globals) o)
@@ -93,7 +93,7 @@ abbrev pub returned : Meaning → Place → Option Expression → Action Flow
 returned m p None = give (flow.Return value.NoneValue)
 returned m p (Some e) = m.expr p e >>= λ v. give (flow.Return v)
 
--- what a statement does, whose parts mean what m says, and whose visits may open so many levels
+-- the effect of a statement; its parts have the meaning m, and its visits may open this many levels
 abbrev pub statement : Variables → Setting → ℕ → Meaning → Place → Position → StatementForm → Action Flow
 statement vs w levels m p at (form.Expression e) = m.expr p e >>= λ _. give flow.Next
 statement vs w levels m p at (form.Assign t e) = do

@@ -25,7 +25,7 @@ row_item w line c len i = do
   at ← found code.Index line (place_from len z)
   found code.Index line (item_in c at)
 
--- the byte of a string at an int, as a new string: `cut` where it is not ASCII
+-- the byte of a string at an int, as a new string: `cut` if it is not ASCII
 abbrev pub byte_at : Setting → ℕ → List ℕ → Value → Action Value
 byte_at w line t i = do
   z ← want_int w line i
@@ -34,7 +34,7 @@ byte_at w line t i = do
   _ ← check code.Cut line (nat_lt b 128)
   new_text line (b ∷ [])
 
--- the value under a key: the key is checked, and `key` where it is absent
+-- the value under a key: the key is checked, and `key` if it is absent
 abbrev pub entry_value : Setting → ℕ → ℕ → List (Value × Value) → Value → Action Value
 entry_value w levels line es k =
     check_key w levels line k >>= λ _. seeing (λ s. found code.Key line (value_in w s k es))
@@ -60,7 +60,7 @@ abbrev pub entries_in : Content → List (Value × Value)
 entries_in (Held (cell.Dict es)) = es
 entries_in _ = []
 
--- puts an entry into a dictionary that stands, and pays 1 where its key is new
+-- puts an entry into an existing dictionary, and pays 1 if its key is new
 unfoldable pub put_entry : Setting → ℕ → Value → Value → Value → Action (Unit {0})
 put_entry w line d k v = do
   _ ← seeing (λ s. pay_if_new line (place_in w s k (entries_in (content w s d))))
@@ -102,7 +102,7 @@ abbrev pub want_part : Setting → ℕ → Option Value → Action (Option ℤ)
 want_part w line None = give None
 want_part w line (Some v) = with_content w v (λ c. found code.BadType line (part_of c))
 
--- a place below 0 gets the length added, and is then held within two bounds; an absent one stands at its end
+-- a place below 0 gets the length added, and is then held within two bounds; an absent one is at its end
 abbrev pub from_end : ℕ → ℤ → ℤ
 from_end n z = if int_lt z (pos 0) then z +ℤ pos n else z
 
@@ -122,7 +122,7 @@ slice_range n a b c =
     }
     else record { start = bound_of n (pos 0) (pos n) (pos 0) a; stop = bound_of n (pos 0) (pos n) (pos n) b; step = c }
 
--- so many ints of a range, from the i-th on, as places
+-- a number of ints of a range, from the i-th on, as places
 abbrev pub places_from : Range → ℕ → ℕ → List ℕ
 places_from r zero i = []
 places_from r (suc n) i = unsigned_abs (r.start +ℤ pos i *ℤ r.step) ∷ places_from r n (i + 1)
@@ -134,7 +134,7 @@ places_of r = places_from r (range_length r) 0
 abbrev pub picked : {A : Type 0} → List A → List ℕ → List A
 picked xs places = filter_map (slice_get xs) places
 
--- whether no byte but the first of a character stands at a place
+-- whether a place is the first byte of a character, or the end
 abbrev pub is_first_byte : Option ℕ → Bool
 is_first_byte None = true
 is_first_byte (Some b) = nat_lt b 128 || nat_lt 191 b

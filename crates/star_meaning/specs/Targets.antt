@@ -1,4 +1,4 @@
--- What a value is bound or written to.
+-- Targets: binding a name, writing an item, unpacking.
 use Rattle.std.specs.Prelude.{ℕ, nat_eq, List, [], ◌∷◌, length}
 use Rattle.star_store.specs.declared.values.Value.{Value}
 use Rattle.star_tree.specs.declared.tree.Target.{Target}
@@ -13,7 +13,7 @@ use Rattle.star_meaning.specs.Values.{take_all}
 use Rattle.star_meaning.specs.Subscript.{index, set_index}
 use Rattle.star_meaning.specs.Meaning.{Meaning, Read}
 
--- a value to a target: a plain name is bound, and is no node
+-- a value to a target: a plain name is bound, and is not a node
 abbrev pub to_form : Variables → Meaning → Place → Target → Value → TargetForm → Action (Unit {0})
 to_form vs m p t v (tree.Target-F.Target::Name n) = vs.bind p n v
 to_form vs m p t v _ = m.assign p t v
@@ -34,7 +34,7 @@ unpack vs w m p ts v = do
   _ ← check code.BadValue p.line (nat_eq (length xs) (length ts))
   to_each vs m p ts xs
 
--- the node of a target that is no plain name
+-- the node of a target that is not a plain name
 abbrev pub target_node : Variables → Setting → ℕ → Meaning → Place → TargetForm → Value → Action (Unit {0})
 target_node vs w levels m p (tree.Target-F.Target::Name n) v = vs.bind p n v
 target_node vs w levels m p (tree.Target-F.Target::Index e i) v = do

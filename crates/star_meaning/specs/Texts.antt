@@ -1,4 +1,4 @@
--- Strings, by their bytes: characters, parts, and what stands at their ends.
+-- Strings, by their bytes: characters, parts, prefixes and suffixes.
 use Rattle.std.specs.Prelude.{ℕ, zero, suc, ◌+◌, ◌-◌, nat_eq, nat_lt, Bool, true, false, not, ◌&&◌, ◌||◌, List, [], ◌∷◌, ◌++◌, length, reverse, Option, Some, None, if◌then◌else◌}
 use Rattle.std.specs.List.{list_any, starts_with}
 use Rattle.star_scope.specs.Names.{same_name}
@@ -11,7 +11,7 @@ abbrev pub begins_inside : List ℕ → Bool
 begins_inside [] = false
 begins_inside (b ∷ bs) = goes_on b
 
--- a byte before characters: it begins the first one where that has no beginning yet
+-- a byte before characters: it begins the first one if that has no beginning yet
 abbrev pub led_by : ℕ → List (List ℕ) → List (List ℕ)
 led_by b [] = (b ∷ []) ∷ []
 led_by b (c ∷ cs) = if begins_inside c then (b ∷ c) ∷ cs else (b ∷ []) ∷ c ∷ cs
@@ -21,7 +21,7 @@ abbrev pub characters : List ℕ → List (List ℕ)
 characters [] = []
 characters (b ∷ bs) = led_by b (characters bs)
 
--- what is left after the characters at the front that are in a set
+-- the rest of a string after the characters at the front that are in a set
 abbrev pub without_front : (List ℕ → Bool) → List (List ℕ) → List (List ℕ)
 without_front test [] = []
 without_front test (c ∷ cs) = if test c then without_front test cs else c ∷ cs
@@ -44,7 +44,7 @@ lower b = if nat_lt 64 b && nat_lt b 91 then b + 32 else b
 abbrev pub upper : ℕ → ℕ
 upper b = if nat_lt 96 b && nat_lt b 123 then b - 32 else b
 
--- a number of cuts that may still be made; nothing where all may
+-- a number of cuts that may still be made; nothing if all may
 abbrev pub may_cut : Option ℕ → Bool
 may_cut None = true
 may_cut (Some n) = not (nat_eq n 0)
@@ -53,8 +53,8 @@ abbrev pub one_less : Option ℕ → Option ℕ
 one_less None = None
 one_less (Some n) = Some (n - 1)
 
--- the parts of a string between the places, from the left, at which a separator stands; so many of its bytes are still
--- to be passed over, and the part begun so far
+-- the parts of a string between the places, from the left, of a separator; the number counts its bytes that are still
+-- to be passed over, and the list is the part begun so far
 abbrev pub parts_from : List ℕ → Option ℕ → ℕ → List ℕ → List ℕ → List (List ℕ)
 parts_from by left skip part [] = part ∷ []
 parts_from by left (suc skip) part (b ∷ bs) = parts_from by left skip part bs

@@ -1,4 +1,4 @@
--- Values in a run: what they hold, new ones with their payments, the items of iterables, and what visits them.
+-- Values in a run: their contents, new ones with their payments, the items of iterables, and visits of values.
 use Rattle.std.specs.Prelude.{ℕ, zero, suc, ◌+◌, nat_lt, if◌then◌else◌, Bool, List, [], length, Option, Some, None, slice_get, ℤ, pos, ◌+ℤ◌, ◌*ℤ◌, codes, Result, Ok, Err}
 use Rattle.std.specs.Option.{option_map}
 use Rattle.std.specs.declared.cmp.Ordering.{Ordering}
@@ -25,7 +25,7 @@ use Rattle.star_meaning.specs.declared.fault.Code.TheVariants as code
 use Rattle.star_meaning.specs.Run.{State, Action, Done, ◌>>=◌, give, pay, found, agreed, visiting, seeing, storing, build, collect}
 use Rattle.star_meaning.specs.Program.{Setting, seen}
 
--- what a value is, or holds
+-- the content of a value
 pub data Content : Type 0 where
   Nothing : Content
   Truth : Bool → Content
@@ -45,7 +45,7 @@ content w s (value.Int n) = Number n
 content w s (value.Builtin b) = BuiltInFunction b
 content w s (value.Ref h a) = held (seen w s (value.Ref h a))
 
--- an action that depends on what a value holds
+-- an action that depends on the content of a value
 abbrev pub with_content : {A : Type 0} → Setting → Value → (Content → Action A) → Action A
 with_content w v f = seeing (λ s. f (content w s v))
 
@@ -133,7 +133,7 @@ count_of w line v = with_content w v (λ c. found code.BadType line (count_in c)
 unfoldable pub take_item : Setting → ℕ → Value → ℕ → Action Value
 take_item w line v i = pay line 1 >>= λ _. with_content w v (λ c. found code.BadType line (item_in c i))
 
--- takes so many items, from the first on
+-- takes this many items, from the first on
 abbrev pub take_items : Setting → ℕ → Value → ℕ → Action (List Value)
 take_items w line v n = collect (take_item w line v) n 0
 
@@ -153,7 +153,7 @@ leave v = storing (closed v)
 unfoldable pub is_true : Setting → Value → Action Bool
 is_true w v = seeing (λ s. give (truth (seen w s) v))
 
--- equality, order and key checks, where so many levels may be opened
+-- equality, order and key checks, which may open this many levels
 unfoldable pub equal : Setting → ℕ → ℕ → Value → Value → Action Bool
 equal w levels line x y = visiting line (λ s. same (seen w s) levels x y)
 
@@ -172,7 +172,7 @@ abbrev pub bare : ℕ → List ℕ → Spend (List ℕ)
 bare zero t = λ n. Lacks refused.Deep n
 bare (suc levels) t = visited (answer t)
 
--- what `str` makes of a value: a string itself, else the text
+-- the `str` of a value: a string itself, else the text
 abbrev pub str_of : Setting → ℕ → ℕ → Value → Option (List ℕ) → Action (List ℕ)
 str_of w levels line v (Some t) = visiting line (λ s. bare levels t)
 str_of w levels line v None = repr w levels line v
@@ -188,7 +188,7 @@ place_in w s k es = keys.place_of (seen w s) k es
 abbrev pub value_in : Setting → State → Value → List (Value × Value) → Option Value
 value_in w s k es = keys.value_of (seen w s) k es
 
--- the write guard: `type` for what is no list or dictionary, then `frozen`, then `iterating`
+-- the write guard: `type` if it is not a list or dictionary, then `frozen`, then `iterating`
 unfoldable pub guard : Setting → ℕ → Value → Action (Unit {0})
 guard w line v = seeing (λ s. agreed line (may_write s.store w.shelf v))
 

@@ -1,5 +1,5 @@
--- Variables by their names: a frame is a finite map from the names of its block to a value, or to nothing where the
--- name is unbound.
+-- Variables by their names: a frame is a finite map from the names of its block to a value, or to nothing if the name
+-- is unbound.
 use Rattle.std.specs.Prelude.{ℕ, zero, suc, nat_eq, Bool, true, false, not, ◌&&◌, List, [], ◌∷◌, length, replicate, map, Option, Some, None, slice_get, if◌then◌else◌, codes}
 use Rattle.std.specs.List.{list_any}
 use Rattle.std.specs.Option.{option_and_then}
@@ -21,8 +21,7 @@ use Rattle.star_scope.specs.Names.{same_name, slot_of}
 use Rattle.star_scope.specs.Places.{chain_length}
 use Rattle.star_meaning.specs.Program.{Setting, Variables, names_of, published_of, seen}
 
--- what a frame has under a name: nothing where its block does not bind the name, nothing inside where the name is
--- unbound
+-- the state of a name in a frame: nothing if its block does not bind the name, nothing inside if the name is unbound
 abbrev pub in_frame : Setting → List ℕ → Frame → Option (Option Value)
 in_frame w name f = option_and_then (λ i. slice_get f.slots i) (slot_of name (names_of w f.file f.block))
 
@@ -35,7 +34,7 @@ abbrev pub else_in : Option (Option Value) → Option (Option Value) → Option 
 else_in (Some v) rest = Some v
 else_in None rest = rest
 
--- what the nearest frame of the chain that has the name has under it
+-- the state of the name in the nearest frame of the chain that has it
 abbrev pub nearest : Setting → State → List ℕ → ℕ → Option Value → Option (Option Value)
 nearest w s name zero frame = None
 nearest w s name (suc n) frame =
@@ -92,7 +91,7 @@ bind_at frame v (Some i) = storing (bound frame i v)
 unfoldable pub bind_name : Setting → Place → Name → Value → Action (Unit {0})
 bind_name w p n v = seeing (λ s. bind_at p.frame v (own_slot w s p.frame n.text))
 
--- a new frame, in which all names of its block are unbound
+-- a new frame, with all names of its block unbound
 unfoldable pub new_frame : Setting → ℕ → ℕ → Option Value → Action Value
 new_frame w file number parent =
     make (cell.Frame (record {

@@ -1,4 +1,4 @@
-//! The faults of a run.
+//! The faults of a run: `Code` is their kind, `Fault` adds the line.
 
 /// The kind of a fault.
 #[derive(Clone, Copy, Debug, PartialEq, Eq)]
@@ -37,7 +37,7 @@ pub enum Code {
     BadValue,
 }
 
-/// Why a run stops, and the line of the running module at which it does.
+/// Why a run stops, and at which line of the running module.
 #[derive(Clone, Copy, Debug, PartialEq, Eq)]
 pub struct Fault {
     pub code: Code,

@@ -1,10 +1,10 @@
-//! What a call gives to a callee.
+//! The evaluated arguments of a call.
 
 use sqlite_items::Items;
 use star_store::values::{Value, Values};
 use star_text::Text;
 
-/// A value given by name; its key is there already where it came by `**`.
+/// The value of a keyword argument; its key is there already if it came by `**`.
 #[derive(Drop)]
 pub struct NamedValue {
     pub name: Text,
@@ -12,7 +12,7 @@ pub struct NamedValue {
     pub value: Value,
 }
 
-/// What a callee gets: values by place, and values by name.
+/// The evaluated arguments of a call: the positional values, and the keyword ones.
 #[derive(Drop)]
 pub struct Given {
     pub plain: Values,

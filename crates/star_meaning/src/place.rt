@@ -1,4 +1,4 @@
-//! Where a run is.
+//! `Place`: where a run is: the file, the frame and the line.
 
 use star_store::values::Value;
 

@@ -1,4 +1,4 @@
--- Strings, cut where a separator stands first.
+-- Strings, cut at the first separator.
 use Rattle.std.proofs.Common.{◌≡◌, ℕ, zero, suc, ◌+◌, ◌-◌, ◌<◌, ◌≤◌, nat_eq, List, [], ◌∷◌, ◌++◌, length, take, drop, Bool, true, false, ◌&&◌, Option, Some, None, MatchOption, if◌then◌else◌, refl, ap, sym, ◌∙◌, arith, append_assoc, append-nil}
 use denote.Ref.{Bor}
 use Rattle.std.specs.List.{starts_with}
@@ -16,7 +16,7 @@ skip_over by left zero (x ∷ xs) ys part h = absurd (omega arith)
 skip_over by left (suc n) [] ys part h = absurd (omega arith)
 skip_over by left (suc n) (x ∷ xs) ys part h = skip_over by left n xs ys part (omega arith)
 
--- where a separator does not stand
+-- at a place without a separator
 lacks : (by t : List ℕ) (i : ℕ) → LacksTextAt by t i → starts_with nat_eq (drop i t) by ≡ false
 lacks by t i h = sym (starts_text false by (drop i t) h)
 
@@ -34,7 +34,7 @@ before_cut by left part (b ∷ bs) rest f =
     ∙ before_cut by left (part ++ b ∷ []) bs rest (λ i h. f (suc i) (omega arith))
     ∙ ap (λ z. parts_from by left 0 z rest) (append_assoc part (b ∷ []) bs)
 
--- where one stands
+-- at a place with one
 eq_self : (n : ℕ) → nat_eq n n ≡ true
 eq_self n = grind (arith, nat_tests)
 
@@ -61,7 +61,7 @@ cut_first t by left i j before after l h f n p q =
     let g : (k : ℕ) → k < length before → starts_with nat_eq (drop k (before ++ (by ++ after))) by ≡ false = λ k m. ap (λ z. starts_with nat_eq (drop k z) by) (sym e) ∙ lacks by t k (f.0 k (omega arith)) in
     ap (λ z. parts z by left) e ∙ whole_cut by left before after l h g
 
--- no separator stands anywhere
+-- there is no separator
 pub no_cut : (t by : List ℕ) (left : Option ℕ) → FindsText by t None → parts t by left ≡ t ∷ []
 no_cut t by left f =
     let g : (k : ℕ) → k < length t → starts_with nat_eq (drop k (t ++ [])) by ≡ false = λ k m. ap (λ z. starts_with nat_eq (drop k z) by) (append-nil t) ∙ lacks by t k (f k (omega arith)) in
@@ -89,7 +89,7 @@ joined_from v before by left zero part (b ∷ bs) = next_if v before part (parts
 pub joined_next : (v before by t : List ℕ) (left : Option ℕ) → joined v (before ∷ parts t by left) ≡ before ++ v ++ joined v (parts t by left)
 joined_next v before by t left = joined_from v before by left 0 [] t
 
--- what `split_once` answers is the first cut
+-- the answer of `split_once` is the first cut
 pub cut_is : (t by : List ℕ) (left : Option ℕ) (r : Option (Bor (List ℕ) × Bor (List ℕ))) → 0 < length by → may_cut left ≡ true → MatchOption r (FindsText by t None) (λ x. (i : ℕ) × (j : ℕ) × FindsText by t (Some (i, j)) × (x.0.now ≡ take i t) × (x.1.now ≡ drop j t) × (i ≤ j) × (length x.0.now ≡ i) × (length x.1.now + j ≡ length t)) → MatchOption r (parts t by left ≡ t ∷ []) (λ x. (parts t by left ≡ x.0.now ∷ parts x.1.now by (one_less left)) × (length x.1.now < length t))
 cut_is t by left None l h f = no_cut t by left f
 cut_is t by left (Some x) l h f = (cut_first t by left f.0 f.1 x.0.now x.1.now l h f.2 f.6 f.3 f.4, omega (arith, f.2.1.ends, f.7))

@@ -50,6 +50,6 @@ no_items (Held (cell.Frame f)) h = refl
 no_items (Held (cell.Bound m v)) h = refl
 no_items Nowhere h = refl
 
--- what is no list has no place
+-- a value that is not a list has no place
 pub place_in_none : (w : Setting) (levels line : ℕ) (l x : Value) (s : State) → kind_of (content w s l) ≢ kind.List → equal_place w levels line x 0 (items_of (content w s l)) s ≡ Done None s
 place_in_none w levels line l x s h = ap (λ ys. equal_place w levels line x 0 ys s) (no_items (content w s l) h)

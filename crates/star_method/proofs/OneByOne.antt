@@ -25,7 +25,7 @@ and_right : (p q : Bool) → (p && q) ≡ true → q ≡ true
 and_right true q h = h
 and_right false q h = cc
 
--- a byte before characters, of which the first has its beginning
+-- a byte before characters; the first has its beginning
 led_whole : (b : ℕ) (g : List ℕ) (gs : List (List ℕ)) → begins_inside g ≡ false → led_by b (g ∷ gs) ≡ (b ∷ []) ∷ g ∷ gs
 led_whole b g gs h = rw h refl
 

@@ -1,4 +1,4 @@
--- Strings, by what stands at their ends and in them.
+-- Prefixes and suffixes of strings, and strings found in others.
 use Rattle.std.specs.Prelude.{ℕ, nat_eq, Bool, List, [], ◌∷◌, ◌++◌, length, map, Option, ℤ, pos}
 use Rattle.std.specs.List.{ends_with, starts_with}
 use Rattle.star_store.specs.declared.values.Value.{Value}
@@ -11,12 +11,12 @@ use Rattle.star_meaning.specs.Values.{content}
 use Rattle.star_method.specs.declared.texts.Edge.{Edge}
 use Rattle.star_method.specs.declared.texts.Edge.TheVariants as edge
 
--- whether a part stands at an edge of a string
+-- whether a string begins or ends with a part
 abbrev pub at_edge : Edge → List ℕ → List ℕ → Bool
 at_edge edge.Front = starts_with nat_eq
 at_edge edge.End = ends_with nat_eq
 
--- what `find` answers: the least place between two ends, else -1
+-- the answer of `find`: the least place between two ends, else -1
 abbrev pub found_between : List ℕ → List ℕ → Option ℤ → Option ℤ → ℤ
 found_between t u a b =
     place_or_none (place_between t u (end_of (length t) (pos 0) a) (end_of (length t) (pos (length t)) b))

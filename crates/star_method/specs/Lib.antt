@@ -1,3 +1,4 @@
+-- Words of the contracts of the methods; their meaning is ListMethods, DictMethods and TextMethods of star_meaning.
 pub mod Ends
 pub mod Gathered
 pub mod Sets

@@ -18,7 +18,7 @@ test_of (set.Of t) = is_in t
 abbrev pub has : BTreeMap (Bor (List ℕ)) (Unit {0}) → List ℕ → Bool
 has found character = is_some (get_by (λ k. slice_cmp nat_cmp character k.now) found)
 
--- whether a character is in a set: by the map of its characters, where there is one
+-- whether a character is in a set: by the map of its characters, if there is one
 abbrev pub found_in : Set → Option (BTreeMap (Bor (List ℕ)) (Unit {0})) → List ℕ → Bool
 found_in s None character = test_of s character
 found_in s (Some found) character = has found character

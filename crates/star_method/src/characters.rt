@@ -32,7 +32,7 @@ fn inner_bytes(bytes: &[u8]) -> usize
     bytes.len()
 }
 
-/// The first character of a string, and what stands after it.
+/// The first character of a string, and the text after it.
 #[tactic(auto, using(crate::proofs::OneByOne::first_is))]
 pub fn first_character(text: &str) -> Option<(&str, &str)>
     ensures { MatchOption result (text.now ≡ [])
@@ -59,7 +59,7 @@ fn last_start(bytes: &[u8]) -> usize
     at
 }
 
-/// What stands before the last character of a string, and that character.
+/// The text before the last character of a string, and that character.
 #[tactic(auto, using(crate::proofs::OneByOne::last_is))]
 pub fn last_character(text: &str) -> Option<(&str, &str)>
     ensures { MatchOption result (text.now ≡ [])
@@ -153,7 +153,7 @@ impl<'s> Model for Lookup<'s> {
 }
 
 impl<'s> Lookup<'s> {
-    /// The characters of this set, which are looked for in a string of so many bytes.
+    /// The characters of this set, which are looked for in a string of `bytes` bytes.
     pub fn of(alloc: Global, set: &'s Set, bytes: usize) -> Result<Lookup<'s>, AllocError>
         ensures { IfOk result (λ lookup. lookup ≡ set.now) }
     {
@@ -177,7 +177,7 @@ impl<'s> Lookup<'s> {
     }
 }
 
-/// What is left after the characters at the front that are in a set.
+/// The rest of a string after the characters at its front that are in a set.
 #[tactic(auto, using(crate::proofs::OneByOne::front_stays))]
 pub fn without_front<'a>(text: &'a str, set: &Lookup<'_>) -> &'a str
     ensures { spec.characters result.now ≡ spec.without_front (test_of set.now) (spec.characters text.now) }
@@ -192,7 +192,7 @@ pub fn without_front<'a>(text: &'a str, set: &Lookup<'_>) -> &'a str
     rest
 }
 
-/// What is left before the characters at the end that are in a set.
+/// The rest of a string before the characters at its end that are in a set.
 #[tactic(auto, using(crate::proofs::OneByOne::end_goes, crate::proofs::OneByOne::end_stays))]
 pub fn without_end<'a>(text: &'a str, set: &Lookup<'_>) -> &'a str
     ensures { spec.characters result.now ≡ spec.without_end (test_of set.now) (spec.characters text.now) }

@@ -1,4 +1,6 @@
-//! The methods of dictionaries. `clear` is that of lists.
+//! The methods of dictionaries. `clear` is in `lists`.
+//!
+//! Entries are copied before they are gone through, since new tuples, puts and payments change the store meanwhile.
 
 ghost use Rattle.std.specs.Prelude.{◌≡◌, IfOk, map, slice_get};
 ghost use Rattle.star_meaning.specs.DictMethods as spec;
@@ -39,7 +41,7 @@ fn else_given(value: Option<Value>, given: Option<Value>) -> Value
     }
 }
 
-/// `get(k, [d])`: the value under `k`, else `d`, else None. `BadType` for a `k` that is no key.
+/// `get(k, [d])`: the value under `k`, else `d`, else None. `BadType` if `k` is not hashable.
 pub fn call_get(
     machine: &mut Machine,
     setting: &Setting,
@@ -138,8 +140,7 @@ pub fn call_values(
     machine.new_list(line, Values::new(values))
 }
 
-/// Takes out the value that stands under a key; where none does, the one that is given. `Key` where none is given
-/// either.
+/// Takes out the value under a key; if the key is absent, the default. `Key` if there is no default either.
 fn take_out(
     machine: &mut Machine,
     setting: &Setting,
@@ -161,8 +162,8 @@ fn take_out(
     Ok(value)
 }
 
-/// `pop(k, [d])`: the write guard, the check of the key, then the value under `k` is taken out; where there is none,
-/// `d`, or `Key`.
+/// `pop(k, [d])`: the write guard, the check of the key, then the value under `k` is taken out; if there is none, `d`,
+/// or `Key`.
 pub fn call_dict_pop(
     machine: &mut Machine,
     setting: &Setting,
@@ -201,7 +202,7 @@ pub fn call_popitem(
     Ok(pair)
 }
 
-/// The value under a key; where there is none, the one that is given, or None, is put there.
+/// The value under a key; if there is none, the one that is given, or None, is put there.
 fn put_default(
     machine: &mut Machine,
     setting: &Setting,
@@ -221,8 +222,8 @@ fn put_default(
     Ok(value)
 }
 
-/// `setdefault(k, [d])`: the write guard, the check of the key, then the value under `k`; where there is none, 1 is
-/// paid, and `d` or None is put there.
+/// `setdefault(k, [d])`: the write guard, the check of the key, then the value under `k`; if there is none, 1 is paid,
+/// and `d` or None is put there.
 pub fn call_setdefault(
     machine: &mut Machine,
     setting: &Setting,
@@ -240,8 +241,8 @@ pub fn call_setdefault(
     put_default(machine, setting, line, dict, key, value, default)
 }
 
-/// `update([x], **kw)`: `BadType` for an `x` that is no iterable, the write guard, then the pairs of `x` and the named
-/// values are put.
+/// `update([x], **kw)`: `BadType` if `x` is not iterable, the write guard, then the pairs of `x` and the keyword
+/// arguments are put.
 pub fn call_update(
     machine: &mut Machine,
     setting: &Setting,

@@ -1,9 +1,17 @@
 //! The methods of lists, dictionaries and strings, but for `format` (`docs/LANGUAGE.md`, "Methods").
 //!
-//! A function `call_..` for each method: it reads its arguments, asks whether the receiver may be written, pays, and
-//! does the work, in the order of the definitions. `lists`, `dicts` and `texts` are the receivers' types; `parts` has
-//! `split` and `replace`, `pairs` what `update` takes, `characters` strings by their characters. Which value has
-//! which method is `star_attribute`'s matter.
+//! There is a function `call_..` for each method. In the order of its definition it unpacks the arguments, asks whether
+//! the receiver may be written, pays, and does the work.
+//!
+//! - `lists`, `dicts` and `texts` have the methods of a type; `parts` has `split` and `replace`.
+//! - `pairs` has the pairs that `update` takes, `characters` goes over strings character by character.
+//!
+//! Begin at the function of the method that you look for. Which value has which methods is decided in `star_attribute`.
+//! The few types are helpers: `Pairs`, and `Set` and `Lookup` for the characters that `strip` takes off.
+//!
+//! The promise of each `call_..` is `Gives` of `star_machine`: it has the result of its definition in `star_meaning`
+//! (`ListMethods`, `DictMethods`, `TextMethods`). `docs/EXTENDING.md` goes through the places that a new method
+//! touches.
 #![tactic(auto)]
 
 mod characters;

@@ -17,7 +17,7 @@ use star_meaning::given::Given;
 use star_store::arena::write::Change;
 use star_store::values::{Cell, Value};
 
-/// How many items a list has: none for another value.
+/// How many items a list has; 0 for another value.
 fn item_count(machine: &Machine, setting: &Setting, list: Value) -> usize
     ensures { result ≡ length (spec.items_of (content setting.now machine.now list)) }
 {
@@ -57,7 +57,7 @@ fn add_items(
     Ok(())
 }
 
-/// `append(x)`: the write guard, then 1 is paid, then `x` stands after all others.
+/// `append(x)`: the write guard, then 1 is paid, then `x` is added at the end.
 pub fn call_append(
     machine: &mut Machine,
     setting: &Setting,
@@ -90,7 +90,7 @@ pub fn call_clear(
     Ok(Value::NoneValue)
 }
 
-/// Adds the items of an iterable: `BadType` for what is none, the write guard, all items, 1 for each.
+/// Adds the items of an iterable: `BadType` if it is not iterable, the write guard, all items, 1 for each.
 #[tactic(auto, unfolding(star_meaning::specs::ListMethods::extend))]
 pub fn extend(
     machine: &mut Machine,
@@ -108,7 +108,7 @@ pub fn extend(
     add_items(machine, setting, line, list, taken.as_slice())
 }
 
-/// `extend(it)`: the items of `it` stand after all others.
+/// `extend(it)`: adds the items of `it` at the end.
 pub fn call_extend(
     machine: &mut Machine,
     setting: &Setting,
@@ -142,7 +142,7 @@ fn equal_place(
     }
 }
 
-/// The place of the first item that is equal to a value. `BadValue` where there is none.
+/// The place of the first item that is equal to a value. `BadValue` if there is none.
 fn place_with(
     machine: &mut Machine,
     setting: &Setting,
@@ -159,7 +159,7 @@ fn place_with(
     }
 }
 
-/// `index(x)`: the place of the first item that is equal to `x`. `BadValue` where there is none.
+/// `index(x)`: the place of the first item that is equal to `x`. `BadValue` if there is none.
 pub fn call_index(
     machine: &mut Machine,
     setting: &Setting,
@@ -175,15 +175,15 @@ pub fn call_index(
     machine.new_count(line, at)
 }
 
-/// A place, counted from the end where it is below 0, held within 0 and a length.
+/// A place, counted from the end if it is below 0, held within 0 and a length.
 fn insert_place(len: usize, place: i64) -> usize
     ensures { result ≡ spec.insert_place len place }
 {
     bound_of(len, 0, len as i128, 0, Some(place)).unsigned_abs() as usize
 }
 
-/// `insert(i, x)`: `BadType` for an `i` that is no int, the write guard, then 1 is paid, then `x` stands before the
-/// item at `i`.
+/// `insert(i, x)`: `BadType` if `i` is not an int, the write guard, then 1 is paid, then `x` is put before the item at
+/// `i`.
 pub fn call_insert(
     machine: &mut Machine,
     setting: &Setting,
@@ -202,7 +202,7 @@ pub fn call_insert(
     Ok(Value::NoneValue)
 }
 
-/// The place of the item that goes: -1 where none is given. `BadType` for what is no int.
+/// The place of the item to take out: -1 without an argument. `BadType` if the argument is not an int.
 fn want_last(
     machine: &Machine,
     setting: &Setting,
@@ -217,7 +217,7 @@ fn want_last(
     }
 }
 
-/// `pop([i])`: `BadType` for an `i` that is no int, the write guard, `Index` outside; the item is taken out.
+/// `pop([i])`: `BadType` if `i` is not an int, the write guard, `Index` outside; the item is taken out.
 pub fn call_pop(
     machine: &mut Machine,
     setting: &Setting,
@@ -239,7 +239,7 @@ pub fn call_pop(
     }
 }
 
-/// `remove(x)`: the write guard, then the first item that is equal to `x` goes. `BadValue` where there is none.
+/// `remove(x)`: the write guard, then the first item that is equal to `x` goes. `BadValue` if there is none.
 pub fn call_remove(
     machine: &mut Machine,
     setting: &Setting,

@@ -25,7 +25,7 @@ pub struct Pairs {
     pub pairs: Entries,
 }
 
-/// The two items of an iterable: all are taken. `BadValue` where they are not two.
+/// The two items of an iterable: all are taken. `BadValue` if they are not two.
 fn pair_of(
     machine: &mut Machine,
     setting: &Setting,
@@ -86,7 +86,7 @@ fn taken_entries(
     Ok(taken)
 }
 
-/// A copy of the entries of a dictionary: none for another value.
+/// A copy of the entries of a dictionary; no entries for another value.
 pub fn entries_of(
     machine: &Machine,
     setting: &Setting,
@@ -100,7 +100,7 @@ pub fn entries_of(
     }
 }
 
-/// The pairs of an iterable with so many items: the entries of a dictionary, or the two items of each item.
+/// The pairs of an iterable with `count` items: the entries of a dictionary, or the two items of each item.
 #[tactic(auto, using(crate::proofs::PairCases::pairs_dict, crate::proofs::PairCases::pairs_other))]
 fn pairs_in(
     machine: &mut Machine,
@@ -132,7 +132,7 @@ fn pairs_in(
     }
 }
 
-/// The number of items of the argument: 0 where there is none. `BadType` for what is no iterable.
+/// The number of items of the argument: 0 without one. `BadType` if it is not iterable.
 pub fn pairs_count(
     machine: &Machine,
     setting: &Setting,
@@ -147,7 +147,7 @@ pub fn pairs_count(
     }
 }
 
-/// The pairs of the argument with so many items: none where there is no argument.
+/// The pairs of the argument with `count` items; no pairs without an argument.
 #[tactic(auto, unfolding(star_meaning::specs::Pairs::pairs_of))]
 pub fn pairs_of(
     machine: &mut Machine,
@@ -184,7 +184,7 @@ pub fn check_pair(
     machine.check_key(setting, levels, line, key)
 }
 
-/// Puts a pair into a dictionary that stands.
+/// Puts a pair into an existing dictionary.
 fn put_pair(
     machine: &mut Machine,
     setting: &Setting,
@@ -201,7 +201,7 @@ fn put_pair(
     put_entry(machine, setting, line, dict, key, value)
 }
 
-/// Puts pairs into a dictionary that stands, in order.
+/// Puts pairs into an existing dictionary, in order.
 fn put_each(
     machine: &mut Machine,
     setting: &Setting,
@@ -220,7 +220,7 @@ fn put_each(
     Ok(())
 }
 
-/// Puts a value given by name into a dictionary that stands.
+/// Puts a keyword argument into an existing dictionary.
 fn put_named(
     machine: &mut Machine,
     setting: &Setting,
@@ -234,7 +234,7 @@ fn put_named(
     put_entry(machine, setting, line, dict, key, named.value)
 }
 
-/// Puts values given by name into a dictionary that stands, in order.
+/// Puts keyword arguments into an existing dictionary, in order.
 fn put_each_named(
     machine: &mut Machine,
     setting: &Setting,
@@ -250,7 +250,7 @@ fn put_each_named(
     Ok(())
 }
 
-/// Puts all pairs, then all values given by name, into a dictionary that stands.
+/// Puts all pairs, then all keyword arguments, into an existing dictionary.
 #[tactic(auto, unfolding(star_meaning::specs::Pairs::put_pairs))]
 fn put_pairs(
     machine: &mut Machine,
@@ -277,7 +277,7 @@ fn put_pairs(
     put_each_named(machine, setting, line, dict, named)
 }
 
-/// `BadType` for an argument that is no iterable, the write guard, all pairs, then the puts.
+/// `BadType` if the argument is not iterable, the write guard, all pairs, then the puts.
 #[tactic(auto, unfolding(star_meaning::specs::Pairs::update_with))]
 pub fn update_with(
     machine: &mut Machine,

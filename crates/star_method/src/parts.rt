@@ -1,4 +1,4 @@
-//! `split` and `replace`.
+//! The methods `split` and `replace` of strings.
 
 ghost use Rattle.std.specs.Prelude.{◌≡◌, ◌∷◌, ◌<◌, [], IfOk, MatchOption, length};
 ghost use Rattle.star_meaning.specs.BuiltIns.{joined};
@@ -19,7 +19,7 @@ use star_store::values::{Value, Values};
 use star_text::Text;
 use std::alloc::{AllocError, Global};
 
-/// Whether a cut may still be made: none says that all may.
+/// Whether a cut may still be made; `None` is no limit.
 fn may_cut(left: Option<u64>) -> bool
     ensures { result ≡ texts.may_cut left }
 {
@@ -39,7 +39,7 @@ fn one_less(left: Option<u64>) -> Option<u64>
     }
 }
 
-/// The first cut of a string: what stands before the separator, and what stands after it.
+/// The first cut of a string: the text before the separator, and the text after it.
 #[tactic(auto, using(crate::proofs::Cutting::no_more))]
 fn next_cut<'a>(text: &'a str, by: &str, left: Option<u64>) -> Option<(&'a str, &'a str)>
     requires { 0 < length by.now }
@@ -53,7 +53,7 @@ fn next_cut<'a>(text: &'a str, by: &str, left: Option<u64>) -> Option<(&'a str, 
     text.split_once(by)
 }
 
-/// A new string for each part between cuts: so many at most, from the left.
+/// A new string for each part between cuts: at most `cuts` of them, from the left.
 fn new_parts(
     machine: &mut Machine,
     line: usize,
@@ -78,7 +78,7 @@ fn new_parts(
     Ok(Values::new(parts))
 }
 
-/// A number of cuts: all where none is given or it is below 0. `BadType` for what is no int.
+/// The number of cuts: all if none is given or it is below 0. `BadType` if it is not an int.
 fn want_cuts(
     machine: &Machine,
     setting: &Setting,
@@ -134,7 +134,7 @@ pub fn call_split(
     machine.new_list(line, parts)
 }
 
-/// A string with another one in the place of each separator: so many at most, from the left.
+/// A string with another one in the place of each separator: at most `cuts` times, from the left.
 #[tactic(auto, using(crate::proofs::Cutting::joined_next))]
 fn replaced(
     alloc: Global,

@@ -1,4 +1,7 @@
-//! The methods of strings.
+//! The other methods of strings, but for `format`.
+//!
+//! A string method makes its text before its payment, so a machine short of memory may say so when the definition
+//! answers `steps`. `strip`, `lstrip` and `rstrip` are one function.
 
 ghost use Rattle.std.specs.Prelude.{◌≡◌, ◌≤◌, ◌++◌, ◌∷◌, [], if◌then◌else◌, IfOk, MatchOption, OnOk, is_some, length, map, nat_eq, pos, string_bytes};
 ghost use Rattle.std.specs.List.{ends_with, list_any, starts_with};
@@ -114,7 +117,7 @@ fn one_to_three(
     }
 }
 
-/// An end of a search among so many bytes: that of a slice, an absent one elsewhere.
+/// An end of a search in `len` bytes: that of a slice, or `absent` if none is given.
 fn end_of(len: usize, absent: usize, place: Option<i64>) -> usize
     requires { absent ≤ len }
     ensures value { result ≡ spec.end_of len (pos absent) place }
@@ -123,7 +126,7 @@ fn end_of(len: usize, absent: usize, place: Option<i64>) -> usize
     bound_of(len, 0, len as i128, absent as i128, place).unsigned_abs() as usize
 }
 
-/// The least place at which a string stands in another one, from one end to another, else -1.
+/// The least place of a string in another one, from one end to another, else -1.
 #[tactic(auto, using(crate::proofs::Finds::place_within))]
 fn place_or_none(text: &[u8], part: &[u8], from: usize, to: usize) -> i64
     requires { to ≤ length text.now }
@@ -135,7 +138,7 @@ fn place_or_none(text: &[u8], part: &[u8], from: usize, to: usize) -> i64
     }
 }
 
-/// The least place at which a string stands in another one, between two ends as in a slice, else -1.
+/// The least place of a string in another one, between two ends as in a slice, else -1.
 fn place_in(
     machine: &Machine,
     setting: &Setting,
@@ -153,8 +156,8 @@ fn place_in(
     place_or_none(text, part, end_of(len, 0, from), end_of(len, len, to))
 }
 
-/// `find(t, [a, [b]])`: the least place at which `t` stands between `a` and `b`, which are ends as in a slice, else -1.
-/// `BadType` for arguments of other types.
+/// `find(t, [a, [b]])`: the least place of `t` between `a` and `b`, which are ends as in a slice, else -1. `BadType`
+/// for arguments of other types.
 pub fn call_find(
     machine: &mut Machine,
     setting: &Setting,
@@ -180,7 +183,7 @@ enum Edge {
     End,
 }
 
-/// Whether a part stands at an edge of a string.
+/// Whether the text begins or ends with a part, as `edge` says.
 fn stands_at_edge(edge: Edge, text: &[u8], part: &[u8]) -> bool
     ensures { result ≡ at_edge edge text.now part.now }
 {
@@ -190,7 +193,7 @@ fn stands_at_edge(edge: Edge, text: &[u8], part: &[u8]) -> bool
     }
 }
 
-/// Whether a string stands at an edge of another one.
+/// Whether a string begins or ends with another one.
 fn part_at_edge(machine: &Machine, setting: &Setting, edge: Edge, text: Value, part: Value) -> bool
     ensures { result ≡ at_edge edge (bytes_of (content setting.now machine.now text))
         (bytes_of (content setting.now machine.now part)) }
@@ -222,7 +225,7 @@ fn are_texts(machine: &Machine, setting: &Setting, values: &[Value]) -> bool
     true
 }
 
-/// Whether one of some strings stands at an edge of another one.
+/// Whether a string begins or ends with one of some strings.
 fn one_at_edge(
     machine: &Machine,
     setting: &Setting,
@@ -241,7 +244,7 @@ fn one_at_edge(
     false
 }
 
-/// Whether one of some values stands at an edge of a string. `BadType` where one of them is no string.
+/// Whether a string begins or ends with one of some values. `BadType` if one of them is not a string.
 #[tactic(auto, using(crate::proofs::Choices::texts_each, crate::proofs::Choices::no_texts))]
 fn some_at_edge(
     machine: &Machine,
@@ -261,7 +264,7 @@ fn some_at_edge(
     Ok(one_at_edge(machine, setting, edge, text, parts))
 }
 
-/// Whether a string, or one of a tuple of strings, stands at an edge of a string. `BadType` for other values.
+/// Whether a string begins or ends with a string, or with one of a tuple of strings. `BadType` for other values.
 fn choice_at_edge(
     machine: &Machine,
     setting: &Setting,
@@ -333,7 +336,7 @@ pub fn call_endswith(
     call_edge(machine, setting, line, Edge::End, text, given)
 }
 
-/// The characters that `strip` takes off: blanks where none are given. `BadType` for what is no string.
+/// The characters that `strip` takes off: blanks if none are given. `BadType` if the argument is not a string.
 fn want_set(
     machine: &Machine,
     setting: &Setting,
@@ -350,7 +353,7 @@ fn want_set(
     Ok(Set::Of(text))
 }
 
-/// What `lstrip` and `strip` leave at the front.
+/// The rest of a string after `lstrip` or `strip` at its front.
 fn front_stripped<'a>(text: &'a str, front: bool, set: &Lookup<'_>) -> &'a str
     ensures { characters result.now
         ≡ (if front then without_front (test_of set.now) else (λ cs. cs)) (characters text.now) }
@@ -361,7 +364,7 @@ fn front_stripped<'a>(text: &'a str, front: bool, set: &Lookup<'_>) -> &'a str
     text
 }
 
-/// What `rstrip` and `strip` leave at the end.
+/// The rest of a string after `rstrip` or `strip` at its end.
 fn end_stripped<'a>(text: &'a str, end: bool, set: &Lookup<'_>) -> &'a str
     ensures { characters result.now
         ≡ (if end then without_end (test_of set.now) else (λ cs. cs)) (characters text.now) }
@@ -393,7 +396,7 @@ fn stripped(
 }
 
 /// `strip([c])`, `lstrip([c])` and `rstrip([c])`: takes the characters of `c`, or blanks, off the front, the end or
-/// both. `BadType` for a `c` that is no string.
+/// both. `BadType` if `c` is not a string.
 pub fn call_strip(
     machine: &mut Machine,
     setting: &Setting,
@@ -461,7 +464,7 @@ fn joined_texts(
     Text::of(made)
 }
 
-/// The strings that values are, with another one between them. `BadType` where one of them is no string.
+/// The strings that values are, with another one between them. `BadType` if one of them is not a string.
 #[tactic(auto, using(crate::proofs::Choices::texts_each, crate::proofs::Choices::no_texts))]
 fn join_all(
     machine: &Machine,
@@ -480,7 +483,7 @@ fn join_all(
 }
 
 /// `join(it)`: the bytes are paid, then all items are taken, then a new string of them, with this one between them.
-/// `BadType` for what is no iterable, and where an item is no string.
+/// `BadType` if `it` is not iterable, and if an item is not a string.
 pub fn call_join(
     machine: &mut Machine,
     setting: &Setting,

@@ -1,8 +1,8 @@
-//! The first token of a file that the grammar does not read, and what could stand there.
+//! The first token of a file that the grammar does not read, and the tokens that could be there instead.
 //!
-//! The parser reads leaves and goes back where a production does not fit; so it cannot say how far it came. This reader
-//! goes over the tokens from left to right and never back, makes no tree, and runs only where the parser has found bad
-//! syntax. What is still to be read stands on a stack of `Want`s, the next one on top.
+//! The parser goes back where a production does not fit, so it cannot say how far it came. This reader goes over the
+//! tokens from left to right and never back. It makes no tree, and runs only if the parser has found bad syntax. The
+//! parts that are still to be read are on a stack of `Want`s, the next one on top.
 
 ghost use Rattle.std.specs.Prelude.{◌<◌, length, IfOk, IfSome};
 

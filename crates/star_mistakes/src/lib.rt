@@ -1,13 +1,17 @@
-//! What a person is told of the static faults of a file: where each stands, which word it is about, and what to do.
+//! The static faults of a file, told to a person: the place of each, its word, and a cure (`docs/EXPLAIN.md`).
 //!
-//! `statics::mistakes` reads the text of a file at fault once more, so that no run has to keep more for it than it needs.
-//! Each `Mistake` has its place (`place`), which is a token of the text or a part of a line:
+//! The report has only the first fault of a file, with its line. So a text at fault is read once more here, and no run
+//! has to keep more for it than it needs. Begin at `Sources::mistakes` in `statics.rt`.
 //!
-//! - `tokens`: texts that cannot be cut into tokens, and lines whose indentation fits no block;
-//! - `grammar`: the first token that the grammar does not read, and what could stand there; `syntax` says it;
-//! - `names`: names, loads and statements that stand where they may not; `near` finds the name that was meant.
+//! - `Mistake` is one fault: its `Mark` (a token of the text, or a part of a line), its code, its message, and help.
+//! - `tokens` has texts that cannot be cut into tokens, and lines whose indentation fits no block.
+//! - `grammar` finds the first token that the grammar does not read, and the tokens that could be there; `syntax` has
+//!   the message.
+//! - `names` finds undefined names, conflicts, bad loads and misplaced statements; `refused` has the messages, and
+//!   `near` finds the name that was probably meant.
+//! - `place` has lines and columns as an editor counts them.
 //!
-//! No report rests on any of this. What is proved of it is that it is safe and ends.
+//! No report rests on any of this. It is proved to be safe and to end; its texts are tested.
 #![tactic(auto)]
 
 mod grammar;

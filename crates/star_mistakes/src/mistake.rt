@@ -1,9 +1,9 @@
-//! One thing that is wrong in a file.
+//! `Mistake`: one thing that is wrong in a file: its place, the message, and help.
 
 use crate::place::Mark;
 use std::alloc::{AllocError, Global};
 
-/// One thing that is wrong in a file, where, and what to do.
+/// A mistake in a file, with its place and a cure.
 #[derive(Drop)]
 pub struct Mistake {
     pub mark: Mark,
@@ -30,7 +30,7 @@ impl Mistake {
         Ok(self.or_with(Some(help)))
     }
 
-    /// The same with this help, where there is some.
+    /// The same with this help, if there is some.
     pub(crate) fn or_with(self, help: Option<String>) -> Mistake {
         let Mistake {
             mark,

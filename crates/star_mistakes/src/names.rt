@@ -1,8 +1,8 @@
-//! Names, loads and statements that stand where they may not.
+//! Misplaced statements, conflicts of names, bad loads and undefined names, each with its token.
 //!
-//! The resolver answers the first fault of a file with its line. Here each fault gets its token: those of loads,
-//! conflicts and statements from the walks of the resolver itself; and the undefined names by resolving the file once
-//! more with a prelude that has all of its names: undefined are those that only this prelude has.
+//! The resolver returns the first fault of a file with its line. Here each fault gets its token. Those of loads,
+//! conflicts and statements come from the walks of the resolver itself. For undefined names the file is resolved once
+//! more, with a prelude that has all of its names: undefined are those that only this prelude has.
 
 ghost use Rattle.std.specs.Prelude.{◌<◌, length};
 
@@ -57,12 +57,12 @@ pub(crate) struct Source<'a> {
     pub text: &'a str,
     pub tokens: &'a [Token],
     pub tree: &'a Tree,
-    /// The prelude that it sees, and its tree, where that parses.
+    /// The prelude that it sees, and its tree, if that parses.
     pub prelude: Option<usize>,
     pub seen: Option<&'a Tree>,
 }
 
-/// What is found of the names of a file.
+/// The findings about the names of a file.
 #[derive(Drop)]
 pub(crate) struct Found<'a> {
     /// The faults in the order of their tokens.
@@ -71,7 +71,7 @@ pub(crate) struct Found<'a> {
     pub names: Vec<&'a str>,
 }
 
-/// What a walk answers that fails for want of memory alone.
+/// The answer of a walk that fails for want of memory alone.
 fn without_memory<T>(found: Result<T, ScopeFault>) -> Result<T, AllocError> {
     match found {
         Ok(found) => Ok(found),
@@ -155,7 +155,7 @@ impl<'a> Source<'a> {
 }
 
 impl<'a> Found<'a> {
-    /// A name at a token: where nothing but the prelude of all names has it, it is undefined.
+    /// A name at a token: it is undefined if only the prelude of all names has it.
     fn add(
         &mut self,
         spot: Spot,
@@ -182,7 +182,7 @@ impl<'a> Found<'a> {
 // Undefined names.
 impl<'a> Source<'a> {
     /// Adds the undefined names, each at its first place, and those that blocks inside of the file bind. None are found
-    /// where the file has another fault, too.
+    /// if the file has another fault, too.
     fn add_names(self, found: &mut Found<'a>) -> Result<(), AllocError>
         requires { self.file < length self.files.now }
     {
@@ -190,7 +190,7 @@ impl<'a> Source<'a> {
         let Ok(tree) = parse(self.alloc, text.as_str()) else {
             return Ok(());
         };
-        // Any number but the file's own serves for a prelude that is no file.
+        // Any number but the file's own serves for a prelude that is not a file.
         let number = self.files.len();
         let all = without_memory(Prelude::new(self.alloc, number, Some(&tree)))?;
         let seen = Some(&all);
@@ -219,7 +219,7 @@ impl<'a> Source<'a> {
         Ok(set)
     }
 
-    /// The name on a line that stands before in the same definition, too: a parameter that is named twice.
+    /// The name on a line that comes earlier in the same definition, too: a parameter that is named twice.
     fn repeated_name(self, line: usize) -> Result<Option<usize>, AllocError> {
         let mut words = BTreeSet::new(self.alloc);
         let mut is_definition = false;

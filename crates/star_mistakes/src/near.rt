@@ -1,4 +1,4 @@
-//! The name that was probably meant.
+//! The name that was probably meant: the nearest one, by the number of edits between two words.
 
 use std::alloc::{AllocError, Global};
 use strsim::osa_distance;

@@ -36,7 +36,7 @@ pub struct Line<'a> {
 
 const LINE_ENDS: [char; 2] = ['\n', '\r'];
 
-/// How many characters of a line are shown, and how many of those before the place, where it is cut.
+/// How many characters of a line are shown, and how many of those before the place, if it is cut.
 const WIDTH: usize = 100;
 
 const BEFORE: usize = 30;
@@ -56,7 +56,7 @@ impl<'a> Line<'a> {
         }
     }
 
-    /// The line on which a byte of a text stands.
+    /// The line of a byte of a text.
     pub fn at(text: &'a str, byte: usize) -> Line<'a> {
         let front = text.get(..byte).unwrap_or(text);
         let start = match front.rfind(LINE_ENDS) {
@@ -67,7 +67,7 @@ impl<'a> Line<'a> {
         Line::from(text, number, start)
     }
 
-    /// The line with a number: the last one where there are not so many.
+    /// The line with a number; the last one if there are fewer.
     pub fn numbered(text: &'a str, number: usize) -> Line<'a> {
         let mut line = Line::from(text, 1, 0);
         for _ in 1..number {
@@ -121,7 +121,7 @@ fn characters(text: &str) -> usize {
     text.chars().count()
 }
 
-/// The text between two bytes: empty where they cut a character.
+/// The text between two bytes; empty if they cut a character.
 pub fn between(text: &str, start: usize, end: usize) -> &str {
     text.get(start..end).unwrap_or("")
 }
@@ -140,7 +140,7 @@ pub fn mark_of(file: usize, token: &Token) -> Mark {
     }
 }
 
-/// The text of a file: empty where there is no such file.
+/// The text of a file; empty without such a file.
 pub fn text_of(files: &Files, file: usize) -> &str {
     if file < files.len() {
         files.text(file)
@@ -149,7 +149,7 @@ pub fn text_of(files: &Files, file: usize) -> &str {
     }
 }
 
-/// The label of a file: empty where there is no such file.
+/// The label of a file; empty without such a file.
 pub fn label_of(files: &Files, file: usize) -> &str {
     if file < files.len() {
         files.label(file).text()
@@ -158,7 +158,7 @@ pub fn label_of(files: &Files, file: usize) -> &str {
     }
 }
 
-/// A character as it is shown: a blank for a tab, and a mark of its own for what a terminal would obey.
+/// A character as it is shown: a blank for a tab, and a mark of its own for a character that a terminal would obey.
 fn visible(c: char) -> char {
     match c {
         '\t' => ' ',
@@ -228,7 +228,7 @@ pub fn push_short_place(
     write!(all, ":{}", line.number)
 }
 
-/// A part of a line as it is shown: how many columns stand before the place and under it.
+/// A part of a line as it is shown: how many columns are before the place and under it.
 #[derive(Drop)]
 struct Window {
     text: String,
@@ -237,7 +237,7 @@ struct Window {
 }
 
 impl Window {
-    /// The next character of the line, which stands at this byte of it.
+    /// The next character of the line, which begins at this byte of it.
     fn push(&mut self, c: char, at: usize, start: usize, end: usize) -> Result<(), AllocError> {
         let c = visible(c);
         let wide = c.width().unwrap_or(1);
@@ -281,7 +281,7 @@ fn window_of(alloc: Global, line: &str, start: usize, end: usize) -> Result<Wind
     Ok(cut)
 }
 
-/// A character so many times.
+/// A character, this many times.
 fn push_times(all: &mut String, c: char, times: usize) -> Result<(), AllocError> {
     for _ in 0..times {
         all.push(c)?;

@@ -1,4 +1,4 @@
-//! What is said of names, loads and statements that stand where they may not.
+//! The messages for misplaced statements, conflicts, bad loads and undefined names.
 
 use crate::mistake::Mistake;
 use crate::names::Source;
@@ -9,7 +9,7 @@ use star_lex::token::Token;
 use star_scope::error::{Refusal, ScopeFault};
 use std::alloc::{AllocError, Global};
 
-/// What is said of a name that other dialects have.
+/// The help for a name that other dialects have.
 fn of_undefined(word: &str) -> Option<&'static str> {
     match word {
         "none" | "null" | "nil" | "undefined" => Some("write `None`"),
@@ -47,7 +47,7 @@ fn of_undefined(word: &str) -> Option<&'static str> {
     }
 }
 
-/// A label or a path without the signs in which they differ: `//a/b:c.star` and `./a/b/c.star` as `a/b/c.star`.
+/// A label or a path without the signs that tell them apart: `//a/b:c.star` and `./a/b/c.star` as `a/b/c.star`.
 fn bare(alloc: Global, text: &str) -> Result<String, AllocError> {
     let mut all = String::new(alloc);
     for c in text.trim_start_matches(['/', '.', '@', ':']).chars() {
@@ -131,7 +131,7 @@ impl<'a> Spot<'a> {
         Mistake::new(mark_of(self.source.file, self.token), code, text).or_with(help)
     }
 
-    /// A name that none of these is.
+    /// A name that differs from all of these.
     fn undefined(self, names: &[&str]) -> Result<Mistake, AllocError> {
         let alloc = self.source.alloc;
         let word = self.word();
@@ -165,7 +165,7 @@ impl<'a> Spot<'a> {
         Ok(self.told("bad_place", text, help))
     }
 
-    /// The line on which a name stands first, before this token.
+    /// The line of the first place of a name before this token.
     fn first_line(self) -> Option<usize> {
         let word = unquoted(self.word());
         let source = self.source;
@@ -239,7 +239,7 @@ impl<'a> Spot<'a> {
     }
 }
 
-/// What is said of a refusal: nothing where its token is none.
+/// The mistake that a refusal is; `None` if it has no token.
 pub(crate) fn told(
     source: Source,
     names: &[&str],

@@ -1,4 +1,4 @@
-//! The static faults of a file.
+//! `mistakes`: all static faults of a file, from its text.
 
 ghost use Rattle.std.specs.Prelude.{◌<◌, length};
 
@@ -24,7 +24,7 @@ pub struct Sources<'a> {
     pub prelude: Option<usize>,
 }
 
-/// What is said of a text that is nested too deeply, by this line.
+/// The mistake of a text that is nested too deeply, by this line.
 fn nested(alloc: Global, file: usize, text: &str, line: usize) -> Result<Mistake, AllocError> {
     let mark = Line::numbered(text, line).mark(file);
     let text = String::from_str(
@@ -34,7 +34,7 @@ fn nested(alloc: Global, file: usize, text: &str, line: usize) -> Result<Mistake
     Mistake::new(mark, "nested", text).with(alloc, "give the inner parts names of their own")
 }
 
-/// What is said of a text that has no tree.
+/// The mistake of a text without a tree.
 fn unread(
     alloc: Global,
     file: usize,
@@ -53,7 +53,7 @@ fn unread(
     }
 }
 
-/// What is said of the faults of a file whose text parses: nothing of undefined names where some may not be known.
+/// The mistakes of a file whose text parses, without undefined names if some names may not be known.
 fn mistakes_of(source: Source, is_blind: bool) -> Result<Vec<Mistake>, AllocError>
     requires { source.file < length source.files.now }
 {
@@ -71,7 +71,7 @@ fn mistakes_of(source: Source, is_blind: bool) -> Result<Vec<Mistake>, AllocErro
     Ok(all)
 }
 
-/// The mistakes of a file whose text parses, where its prelude has this tree.
+/// The mistakes of a file whose text parses, if its prelude has this tree.
 fn in_tree<'x>(
     sources: Sources<'x>,
     file: usize,
@@ -96,7 +96,7 @@ fn in_tree<'x>(
 }
 
 impl<'a> Sources<'a> {
-    /// The tree of the prelude, where it parses.
+    /// The tree of the prelude, if it parses.
     fn prelude_tree(self) -> Result<Option<Tree>, AllocError> {
         let Some(prelude) = self.prelude else {
             return Ok(None);
@@ -113,8 +113,8 @@ impl<'a> Sources<'a> {
         Ok(self.prelude.is_some() && self.prelude_tree()?.is_none())
     }
 
-    /// The mistakes of a file that has static faults, in the order in which they stand: the first of each kind, and
-    /// each name that is undefined. Of names that may come from a prelude that does not parse nothing is said.
+    /// The mistakes of a file that has static faults, in their order in the text: the first of each kind, and each
+    /// undefined name. Names that may come from a prelude that does not parse are left out.
     pub fn mistakes(self, file: usize) -> Result<Vec<Mistake>, AllocError> {
         let mut all = Vec::new(self.alloc);
         if file >= self.files.len() {

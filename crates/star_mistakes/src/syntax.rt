@@ -1,4 +1,4 @@
-//! What is said of the first token that the grammar does not read.
+//! The message for the first token that the grammar does not read.
 
 use crate::grammar::{LINE_END, Miss, first_miss};
 use crate::mistake::Mistake;
@@ -15,7 +15,7 @@ const KEYWORDS: &[&str] = &[
     "or", "pass", "return",
 ];
 
-/// The token that does not read, and what stands round it.
+/// The token that does not read, and the tokens around it.
 #[derive(Clone, Copy)]
 struct Spot<'a> {
     alloc: Global,
@@ -30,7 +30,7 @@ struct Spot<'a> {
 
 type Told = Result<Option<Mistake>, AllocError>;
 
-/// What is said of a word that the language keeps and does not use.
+/// The help for a word that the language reserves and does not use.
 fn of_reserved(word: &str) -> &'static str {
     match word {
         "is" => "write `==`, and `!=` for `is not`",
@@ -49,7 +49,7 @@ fn of_reserved(word: &str) -> &'static str {
     }
 }
 
-/// What is said of a name that stands before a token that does not read.
+/// The help for a name before a token that does not read.
 fn of_name(word: &str) -> Option<&'static str> {
     match word {
         "print" | "exec" => Some("it is a function: write `print(..)`"),
@@ -65,7 +65,7 @@ fn is_word(kind: Kind) -> bool {
     matches!(kind, Kind::Name | Kind::Int | Kind::Keyword(_))
 }
 
-/// Whether a word begins a statement alone, so that it cannot stand in brackets.
+/// Whether a word only begins statements, so that it cannot be in brackets.
 fn begins_statement(kind: Kind) -> bool {
     let Kind::Keyword(keyword) = kind else {
         return false;
@@ -82,7 +82,7 @@ fn begins_statement(kind: Kind) -> bool {
     )
 }
 
-/// What closes an opening bracket.
+/// The closing bracket of an opening one.
 fn closer(kind: Kind) -> &'static str {
     match kind {
         Kind::Sign(Sign::LeftParen) => ")",
@@ -115,7 +115,7 @@ fn token_before(tokens: &[Token], at: usize) -> Option<Token> {
     token_at(tokens, at.checked_sub(1)?)
 }
 
-// What is told.
+// The parts that are told.
 impl<'a> Spot<'a> {
     fn word(self) -> &'a str {
         word_of(self.text, &self.token)
@@ -150,7 +150,7 @@ impl<'a> Spot<'a> {
     }
 }
 
-// What newcomers write.
+// Forms of other languages that newcomers write.
 impl<'a> Spot<'a> {
     /// A word that the language keeps and does not use, here or before.
     fn reserved(self) -> Told {
@@ -246,7 +246,7 @@ impl<'a> Spot<'a> {
 
 // Brackets and the ends of lines.
 impl<'a> Spot<'a> {
-    /// Whether what stands here shows that the bracket is not closed.
+    /// Whether the token here shows that the bracket is not closed.
     fn is_past(self, bracket: Token) -> bool {
         let kind = self.token.kind;
         if kind == Kind::End {
@@ -326,7 +326,7 @@ impl<'a> Spot<'a> {
         self.told_alone(mark, text)
     }
 
-    /// A line that is indented where none may be, or is not where one must be.
+    /// A line that is indented and may not be, or is not and must be.
     fn indentation(self) -> Told {
         if self.token.kind != Kind::Indent && self.token.kind != Kind::Outdent {
             return Ok(None);
@@ -339,7 +339,7 @@ impl<'a> Spot<'a> {
 
 // Every other token.
 impl<'a> Spot<'a> {
-    /// What is said of a sign that newcomers write where it cannot stand.
+    /// The mistake of a sign that newcomers write in a place where it cannot be.
     fn of_sign(self, sign: Sign) -> Option<&'static str> {
         let is_last = self.miss.wanted == LINE_END;
         match sign {
@@ -363,7 +363,7 @@ impl<'a> Spot<'a> {
         }
     }
 
-    /// The word before this token, where it is a name.
+    /// The word before this token, if it is a name.
     fn name_before(self) -> &'a str {
         match self.before {
             Some(before) if before.kind == Kind::Name => word_of(self.text, &before),
@@ -371,7 +371,7 @@ impl<'a> Spot<'a> {
         }
     }
 
-    /// What to do about a token that has no form of its own.
+    /// The help for a token that has no form of its own.
     fn help(self) -> Result<Option<String>, AllocError> {
         let name = self.name_before();
         if let Some(help) = of_name(name) {
@@ -391,7 +391,7 @@ impl<'a> Spot<'a> {
         }
     }
 
-    /// What was expected, and what was found.
+    /// The expected token, and the one that was found.
     fn other(self) -> Result<Mistake, AllocError> {
         let word = shown(self.alloc, self.word())?;
         let wanted = self.miss.wanted;
@@ -427,7 +427,7 @@ impl<'a> Spot<'a> {
     }
 }
 
-/// The first token of a file that the grammar does not read, and what to do.
+/// The first token of a file that the grammar does not read, and a cure.
 pub(crate) fn bad_syntax(
     alloc: Global,
     file: usize,
@@ -449,7 +449,7 @@ pub(crate) fn bad_syntax(
     }
 }
 
-/// The token that does not read, with what stands round it.
+/// The token that does not read, with the tokens around it.
 fn spot_of<'a>(
     alloc: Global,
     file: usize,

@@ -7,7 +7,7 @@ use std::alloc::{AllocError, Global};
 
 const CODE: &str = "bad_token";
 
-/// A byte that fits nothing: where it stands, and the text round it.
+/// A byte that fits nothing: its place, and the text around it.
 #[derive(Clone, Copy)]
 struct Spot<'a> {
     alloc: Global,
@@ -18,8 +18,8 @@ struct Spot<'a> {
     at: usize,
 }
 
-/// Where what fits nothing begins: the first bad piece, else the first joint of this line, which stands before all of
-/// its tokens.
+/// The beginning of the part that fits nothing: the first bad piece, else the first joint of this line, which comes
+/// before all of its tokens.
 fn first_bad(cuts: &[Cut], line: usize) -> Option<usize> {
     let bad = cuts.iter().find(|cut| matches!(cut.piece, Piece::Bad));
     let joint = cuts.iter().find(|cut| matches!(cut.piece, Piece::Joint) && cut.line == line);
@@ -50,12 +50,12 @@ fn quotes_of(text: &str) -> &str {
 }
 
 impl<'a> Spot<'a> {
-    /// What stands here up to the end of the line.
+    /// The text from here to the end of the line.
     fn rest(self) -> &'a str {
         between(self.text, self.at, self.line.end())
     }
 
-    /// So many bytes from here on.
+    /// `size` bytes from here on.
     fn mark(self, size: usize) -> Mark {
         Mark {
             file: self.file,
@@ -64,7 +64,7 @@ impl<'a> Spot<'a> {
         }
     }
 
-    /// The first so many bytes from here on, as they are shown.
+    /// The first `size` bytes from here on, as they are shown.
     fn shown(self, size: usize) -> Result<String, AllocError> {
         shown(self.alloc, self.rest().get(..size).unwrap_or(""))
     }

@@ -42,7 +42,7 @@ next_slot : (loaded : Names) (names : List (Bor (List ℕ))) (slots : List (Opti
     → if_bound (get_or names i d).now o (unsorted loaded (drop (i + 1) names) (drop (i + 1) slots)) ≡ unsorted loaded (drop i names) (drop i slots)
 next_slot loaded names slots i d o h e = rw add-one (sym (from_slot loaded names slots i d h ∙ ap (λ p. if_bound (get_or names i d).now p (unsorted loaded (drop (suc i) names) (drop (suc i) slots))) e))
 
--- a name that gives nothing leaves what was found
+-- a name that gives nothing leaves the others
 pub passed : (loaded : Names) (names : List (Bor (List ℕ))) (slots : List (Option Value)) (i : ℕ) (d : Bor (List ℕ)) (found fresh : List (Bor (List ℕ) × Value)) (whole : List (List ℕ × Value))
     → i < length names → own_value loaded (get_or names i d).now (slice_get slots i) ≡ None → fresh ≡ found
     → borrowed found ++ unsorted loaded (drop i names) (drop i slots) ≡ whole

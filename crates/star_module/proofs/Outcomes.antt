@@ -1,11 +1,10 @@
--- What an outcome means, and that a run by places is the run by names where a file is ready to run.
+-- The meaning of an outcome, and that a run by places is the run by names if a file is ready to run.
 use Rattle.std.proofs.Common.{◌≡◌, ℕ, List, Vec, String, Global, Result, Ok, Err, IfOk, refl, sym, ap, ◌∙◌, subst}
 use Rattle.std.specs.declared.alloc.AllocError.{AllocError}
 use Rattle.star_store.specs.Store.{Published, put_up}
 use Rattle.star_tree.specs.declared.tree.Statement.{Statement}
 use Rattle.star_meaning.specs.declared.fault.Code.{Code}
 use Rattle.star_meaning.specs.declared.fault.Fault.{Fault}
-use Rattle.star_meaning.specs.declared.story.Step.{Step}
 use Rattle.star_meaning.specs.Local.{outlines}
 use Rattle.star_meaning.specs.Module.{Ended, Local, Good, Stopped, local, local_of}
 use Rattle.star_meaning.specs.Places.{FitAfter, Stands}
@@ -20,29 +19,30 @@ use Rattle.star_machine.specs.declared.fault.Stop.TheVariants.{Faulted}
 use Rattle.star_machine.specs.Gives.{GivesBy}
 use Rattle.star_module.specs.declared.module.Ended.{Ended as HeldEnded}
 use Rattle.star_module.specs.declared.module.Outcome.{Outcome}
+use Rattle.star_module.specs.declared.module.Remains.{Remains}
 use Rattle.star_module.specs.declared.module.Outcome.TheVariants as outcome
 use Rattle.star_module.specs.Globals.{owned}
 use Rattle.star_module.specs.Outcomes.{AreReady, IsOutcome, meant, run_by_names, run_by_places, shown}
 
--- what a run that ended so left
+-- the state that a run with this end left
 pub good_is : (o : run.Outcome Ended) (r : Result HeldEnded Stop) (e : HeldEnded) (s : run.State) (frozen : Published) (texts : Vec (String Global × List ℕ) Global) (lines : Vec (List ℕ) Global) (left : ℕ)
     → r ≡ Ok e → frozen ≡ record { cells = s.store.cells; globals = owned e.globals.items } → texts ≡ e.texts → lines.items ≡ s.lines → left ≡ s.steps → GivesBy shown o r s → IsOutcome o (outcome.Good frozen texts lines left)
 good_is o r e s frozen texts lines left q f t l k h =
     let g : GivesBy shown o (Ok e) s = subst (λ x. GivesBy shown o x s) q h in
     subst (λ p. IsOutcome p (outcome.Good frozen texts lines left)) (sym g) (f, ap (λ x. owned x.items) t, l, k)
 
-pub fault_is : (o : run.Outcome Ended) (r : Result HeldEnded Stop) (code : Code) (line : ℕ) (s : run.State) (lines : Vec (List ℕ) Global) (trail : Vec Step Global)
-    → r ≡ Err (Faulted code line) → lines.items ≡ s.lines → GivesBy shown o r s → IsOutcome o (outcome.Fault code line lines trail)
-fault_is o r code line s lines trail q l h =
+pub fault_is : (o : run.Outcome Ended) (r : Result HeldEnded Stop) (code : Code) (line : ℕ) (s : run.State) (lines : Vec (List ℕ) Global) (remains : Remains)
+    → r ≡ Err (Faulted code line) → lines.items ≡ s.lines → GivesBy shown o r s → IsOutcome o (outcome.Fault code line lines remains)
+fault_is o r code line s lines remains q l h =
     let k : GivesBy shown o (Err (Faulted code line)) s = subst (λ x. GivesBy shown o x s) q h in
-    subst (λ p. IsOutcome p (outcome.Fault code line lines trail)) (sym k) (refl, l)
+    subst (λ p. IsOutcome p (outcome.Fault code line lines remains)) (sym k) (refl, l)
 
 -- the local meaning that an outcome is
 pub meant_is : (w : Setting) (o : run.Outcome Ended) (out : Outcome) → IsOutcome o out → meant w out ≡ local_of w o
 meant_is w (run.Done e s) (outcome.Good frozen texts lines left) h = λ i. Good (put_up w.home (h.0 i) w.shelf) (h.0 i).globals (h.1 i) (h.2 i)
-meant_is w (run.Done e s) (outcome.Fault code line lines trail) h = absurd h
+meant_is w (run.Done e s) (outcome.Fault code line lines remains) h = absurd h
 meant_is w (run.Failed f printed) (outcome.Good frozen texts lines left) h = absurd h
-meant_is w (run.Failed f printed) (outcome.Fault code line lines trail) h = λ i. Stopped (sym h.0 i) (h.1 i)
+meant_is w (run.Failed f printed) (outcome.Fault code line lines remains) h = λ i. Stopped (sym h.0 i) (h.1 i)
 
 named : (w : World) (ss : List Statement) (steps : ℕ) → w.setting.outlines ≡ outlines (trees_of w.files) → Stands (trees_of w.files) w.setting.home ss → AreReady w steps
     → (run_by_places w steps ss ≡ run_by_names w.setting steps ss) × FitAfter (trees_of w.files) w.setting (run_by_names w.setting steps ss)

@@ -48,7 +48,7 @@ module _ {X : Type 0} (lt : X → X → Bool) (o : IsStrictWeakOrder lt) where
   above : (x y : X) → lt y x ≡ true → ties lt x y ≡ false
   above x y h = rw (h, o.one_way y x h) refl
 
-  -- what is less than one thing is less than all that are not less than that
+  -- an element below another is below all that are not below that one
   chained_by : (z w y : X) (b : Bool) → lt z w ≡ b → lt z y ≡ true → lt w y ≡ false → lt z w ≡ true
   chained_by z w y true e h k = e
   chained_by z w y false e h k = let c : lt z y ≡ false = o.chain z w y e k in cc
@@ -56,7 +56,7 @@ module _ {X : Type 0} (lt : X → X → Bool) (o : IsStrictWeakOrder lt) where
   chained : (z w y : X) → lt z y ≡ true → lt w y ≡ false → lt z w ≡ true
   chained z w y h k = chained_by z w y (lt z w) refl h k
 
-  -- nothing that is not less than y ties with what is less than y
+  -- nothing that is not less than y ties with an element less than y
   none_tie : (z y : X) (ws : List X) → lt z y ≡ true → AllByRecursion (λ w. lt w y ≡ false) ws → filter (ties lt z) ws ≡ []
   none_tie z y [] h k = refl
   none_tie z y (w ∷ ws) h k = rw (below z w (chained z w y h k.0)) (none_tie z y ws h k.1)
@@ -75,7 +75,7 @@ module _ {X : Type 0} (lt : X → X → Bool) (o : IsStrictWeakOrder lt) where
       cc
   first_not_less y z ys zs false e h k = e
 
-  -- two lists in which ties stand alike, and that rise, are one
+  -- two rising lists with the same ties in order are one
   one_order : (ys zs : List X) → Rises lt ys → Rises lt zs → IsStableBy lt ys zs → ys ≡ zs
   one_order [] [] h k s = refl
   one_order [] (z ∷ zs) h k s = let e = s z in let one : filter (ties lt z) (z ∷ zs) ≡ z ∷ filter (ties lt z) zs = kept z z zs (ties_itself z) in cc

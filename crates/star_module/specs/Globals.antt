@@ -20,8 +20,8 @@ owned xs = map (λ x. (string_bytes x.0, x.1)) xs
 abbrev pub own_loads : Setting → Names
 own_loads w = loaded_names (outline_of w w.home)
 
--- what a slot of the file's own frame gives the globals under its name: nothing where there is no such slot, where its
--- variable is unbound, and where the file loads the name
+-- the global of a slot of the file's own frame, under its name: nothing without such a slot, if its variable is
+-- unbound, and if the file loads the name
 abbrev pub own_value : Names → List ℕ → Option (Option Value) → Option Value
 own_value loaded name None = None
 own_value loaded name (Some None) = None

@@ -13,8 +13,8 @@ use star_store::values::{Cell, Value};
 use star_world::world::World;
 use std::alloc::{AllocError, Global};
 
-/// What a slot of the running file's own frame gives the globals under its name: nothing where its variable is unbound,
-/// and where the file loads the name.
+/// Adds the global of a slot of the running file's own frame under its name: nothing if its variable is unbound, or the
+/// file loads the name.
 fn own_value(world: &World, slots: &Slots, slot: usize, name: &str) -> Option<Value>
     ensures { result ≡ own_value (own_loads world.now.setting) name.now (slice_get slots.now slot) }
 {
@@ -53,7 +53,7 @@ fn sort_by_name(named: &mut Vec<(&str, Value)>) -> Result<(), AllocError>
     Ok(())
 }
 
-/// The same names with values, with names of their own.
+/// These names with their values; the names are copied.
 fn copied(alloc: Global, named: &[(&str, Value)]) -> Result<Vec<(String, Value)>, AllocError>
     ensures { IfOk result (λ copies. owned copies.items ≡ borrowed named.now) }
 {
@@ -64,7 +64,7 @@ fn copied(alloc: Global, named: &[(&str, Value)]) -> Result<Vec<(String, Value)>
     Ok(copies)
 }
 
-/// The globals that the running file's own frame has, where these are its slots.
+/// The globals that the running file's own frame has, if these are its slots.
 fn globals_in(
     alloc: Global,
     world: &World,
@@ -81,7 +81,7 @@ fn globals_in(
     copied(alloc, found.as_slice())
 }
 
-/// The slots of the frame to which a value leads: none for another value.
+/// The slots of the frame to which a value leads; `None` for another value.
 fn slots_at<'w>(machine: &'w Machine, world: &'w World, frame: Value) -> Option<&'w Slots>
     ensures { unwrap_or (option_copied result) [] ≡ slots_of (frame_of (seen world.now.setting machine.now frame)) }
 {

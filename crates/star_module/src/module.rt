@@ -1,4 +1,4 @@
-//! The run of a whole file, and how it ends.
+//! `run_body`: the run of a whole file, and its `Outcome`.
 
 ghost use Rattle.std.specs.Prelude.{◌≡◌, ◌≤◌, ◌<◌, ◌+◌, ◌^◌, length, string_bytes, IfOk};
 ghost use Rattle.star_machine.specs.Gives.{GivesBy};
@@ -32,11 +32,20 @@ pub const MOST_LEVELS: u32 = 400;
 /// How many steps a run may have.
 pub const MOST_STEPS: u32 = 100_000_000;
 
-/// What a module has at its end: its globals in byte order of their names, and the text of each.
+/// The globals of a module at its end, in byte order of their names, and the text of each.
 #[derive(Drop)]
 struct Ended {
     globals: Vec<(String, Value)>,
     texts: Vec<(String, Text)>,
+}
+
+/// The remains of a run that has stopped, beside its report.
+#[derive(Drop)]
+pub struct Remains {
+    /// The trail that the fault has left on its way out, the innermost first.
+    pub trail: Vec<Step>,
+    /// The store as it was at the fault. It has no globals.
+    pub store: Frozen,
 }
 
 /// How the run of a file ends, with the lines that it has printed.
@@ -55,12 +64,11 @@ pub enum Outcome {
         code: Code,
         line: usize,
         lines: Vec<Text>,
-        /// What the fault has left on its way out, the innermost first.
-        trail: Vec<Step>,
+        remains: Remains,
     },
 }
 
-/// The line of the last statement, 1 where there is none.
+/// The line of the last statement, 1 if there is none.
 #[tactic(auto, using(crate::proofs::Last::last_is, crate::proofs::Last::none_last))]
 fn last_line(statements: &[Statement]) -> usize
     ensures { result ≡ spec.last_line 1 statements.now }
@@ -107,7 +115,7 @@ fn texts_of(
     Ok(texts)
 }
 
-/// What a module has at its end. The texts have the line of the last statement.
+/// The module at its end: its globals and their texts. The texts have the line of the last statement.
 fn end(
     machine: &mut Machine,
     world: &World,
@@ -140,6 +148,7 @@ fn run_file(
         frame,
         line: 1,
     };
+    // Outside of functions and loops a program has no `return`, `break` or `continue`, so nothing is lost here.
     let _flow = execute_each(machine, world, levels, &place, statements)?;
     end(machine, world, levels, last_line(statements), frame)
 }
@@ -149,7 +158,8 @@ fn outcome_of(machine: Machine, ended: Result<Ended, Stop>) -> Result<Outcome, A
     ensures { (o : run.Outcome spec.Ended) → GivesBy shown o ended machine → IfOk result (λ out. IsOutcome o out) }
 {
     let left = machine.steps_left();
-    let (arena, lines, Story { trail, .. }) = machine.into_parts();
+    let alloc = machine.alloc();
+    let (arena, lines, Story { trail }) = machine.into_parts();
     match ended {
         Ok(Ended { globals, texts }) => Ok(Outcome::Good {
             frozen: freeze(arena, globals),
@@ -161,16 +171,19 @@ fn outcome_of(machine: Machine, ended: Result<Ended, Stop>) -> Result<Outcome, A
             code,
             line,
             lines,
-            trail,
+            remains: Remains {
+                trail,
+                store: freeze(arena, Vec::new(alloc)),
+            },
         }),
         Err(Stop::Memory) => Err(AllocError),
     }
 }
 
-/// Runs the body of a file with so many steps: its own frame, its statements, and the texts of its globals, which is
-/// the local meaning of the file by the names of variables, wherever the file is ready to run; then all functions fit
-/// after a good run too. The program is that of the running file. The only error is want of memory.
-/// (`docs/LANGUAGE.md`, "The end of a file".)
+/// Runs the body of a file with `steps` steps: makes its own frame, runs its statements, and takes the texts of its
+/// globals. The program is that of the running file. If the file is ready to run, this is its local meaning, by the
+/// names of variables; after a good run all functions fit. The only error is want of memory. (`docs/LANGUAGE.md`, "The
+/// end of a file".)
 pub fn run_body(
     alloc: Global,
     world: &World,

@@ -1,4 +1,4 @@
--- What values hold, by what they lead to.
+-- The contents of values, by their cells.
 use Rattle.std.proofs.Common.{◌≡◌, ℕ, Some, None, ℤ, ◌*ℤ◌, refl}
 use Rattle.star_meaning.specs.declared.fault.Code.TheVariants.{BadType}
 use Rattle.star_meaning.specs.Run.{fail}

@@ -42,7 +42,7 @@ filled_at w levels line b after xs out h = ap (λ e. if e then filled w levels l
 pub filled_cut : (w : Setting) (levels line : ℕ) (t before after : List ℕ) (b : ℕ) (xs : List Value) (out : List ℕ) → t ≡ before ++ b ∷ after → list_all (is_neither 37 37) before ≡ true → is_neither 37 37 b ≡ false → filled w levels line false t xs out ≡ filled w levels line true after xs (out ++ before)
 filled_cut w levels line t before after b xs out e h k = rw e (filled_before w levels line before (b ∷ after) xs out h ∙ filled_at w levels line b after xs (out ++ before) k)
 
--- where there is no further `%`
+-- if there is no further `%`
 pub filled_last : (w : Setting) (levels line : ℕ) (t : List ℕ) (xs : List Value) (out : List ℕ) → list_all (is_neither 37 37) t ≡ true → filled w levels line false t xs out ≡ filled w levels line false [] xs (out ++ t)
 filled_last w levels line t xs out h = ap (λ u. filled w levels line false u xs out) (sym (append-nil t)) ∙ filled_before w levels line t [] xs out h
 
@@ -58,7 +58,7 @@ letter_if w levels line b bs xs out m s false = letter_done w levels line bs out
 pub filled_letter : (w : Setting) (levels line : ℕ) (after : List ℕ) (b : ℕ) (bs : List ℕ) (xs : List Value) (out : List ℕ) (s : State) → after ≡ b ∷ bs → filled w levels line true after xs out s ≡ and_then (letter_put w levels line b xs out s) (λ r. filled w levels line false bs r.0 r.1)
 filled_letter w levels line after b bs xs out s e = rw e (letter_if w levels line b bs xs out (next_text w levels line b xs) s (nat_eq b 37))
 
--- what is no ASCII byte is no letter
+-- a byte that is not ASCII is not a letter
 no_letter : (w : Setting) (levels line b : ℕ) (xs : List Value) → nat_lt b 128 ≡ false → next_text w levels line b xs ≡ fail BadValue line
 no_letter w levels line b [] h = refl
 no_letter w levels line b (x ∷ xs) h =

@@ -1,4 +1,4 @@
--- What actions on contents do, by the kinds of values.
+-- The effects of actions on contents, by the kinds of values.
 use Rattle.std.proofs.Common.{◌≡◌, ◌≢◌, ℕ, refl, ap, ◌∙◌}
 use Rattle.star_store.specs.declared.values.Value.{Value}
 use Rattle.star_store.specs.declared.values.Cell.TheVariants as cell
@@ -15,7 +15,7 @@ use Rattle.star_meaning.specs.Subscript.{entries_in}
 use Rattle.star_machine.specs.Kinds.{kind_of, row_in, bytes_of}
 use Rattle.star_machine.proofs.KindCases.{is_text, is_list, is_tuple, is_dict, is_range, row_seen}
 
--- `%` on what is not two ints
+-- `%` on other operands than two ints
 pub modulo_text : (w : Setting) (levels line : ℕ) (c d : Content) (y : Value) → kind_of c ≡ kind.Text → on_others w levels line binary.Modulo c d y ≡ percent w levels line (bytes_of c) d y
 modulo_text w levels line c d y h = ap (λ k. on_others w levels line binary.Modulo k d y) (is_text c h)
 

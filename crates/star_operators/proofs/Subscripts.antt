@@ -1,4 +1,4 @@
--- What subscripts do, by the kinds of values.
+-- The effects of subscripts, by the kinds of values.
 use Rattle.std.proofs.Common.{◌≡◌, ◌≢◌, ℕ, refl, ap}
 use Rattle.star_store.specs.declared.values.Value.{Value}
 use Rattle.star_store.specs.declared.values.Cell.TheVariants as cell

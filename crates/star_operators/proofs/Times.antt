@@ -1,4 +1,4 @@
--- A row so many times over, one more at its end, and an empty one.
+-- A row several times over, one more at its end, and an empty one.
 use Rattle.std.proofs.Common.{◌≡◌, ℕ, zero, suc, ◌+◌, ◌≤◌, List, [], ◌∷◌, ◌++◌, length, refl, ap, sym, ◌∙◌, append_assoc, append-nil, add-one, arith}
 use Rattle.star_meaning.specs.Operators.{times}
 

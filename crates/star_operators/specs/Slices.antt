@@ -17,7 +17,7 @@ as_range s = record { start = s.start; stop = s.stop; step = s.step }
 abbrev pub has_low_ends : Span → Type 0
 has_low_ends s = (neg_ℤ (pos 1) ≤ℤ s.start) × (neg_ℤ (pos 1) ≤ℤ s.stop)
 
--- a list of what is there
+-- the item as a list, if there is one
 abbrev pub item_list : {A : Type 0} → Option A → List A
 item_list None = []
 item_list (Some x) = x ∷ []
@@ -25,11 +25,11 @@ item_list (Some x) = x ∷ []
 abbrev pub slices_checked : Setting → ℕ → Value → Action (Unit {0})
 slices_checked w line x = with_content w x (λ d. check code.BadType line (has_slices d))
 
--- both ends are places of so many items, or the end after them
+-- both ends are places of a number of items, or the end after them
 abbrev pub lies_within : ℕ → Span → Type 0
 lies_within n s = (pos 0 ≤ℤ s.start) × (s.start ≤ℤ pos n) × (pos 0 ≤ℤ s.stop) × (s.stop ≤ℤ pos n)
 
--- a part of a string at the places of a range: none just where a character would be cut
+-- a part of a string at the places of a range: none exactly if a character would be cut
 abbrev pub Parts : Option (List ℕ) → List ℕ → Range → Type 0
 Parts None t r = is_whole t r ≡ false
 Parts (Some u) t r = (is_whole t r ≡ true) × (u ≡ picked t (places_of r))

@@ -1,4 +1,4 @@
--- The place that is wanted of a row.
+-- The place that an index names.
 use Rattle.std.specs.Prelude.{ℕ}
 use Rattle.star_store.specs.declared.values.Value.{Value}
 use Rattle.star_meaning.specs.declared.fault.Code.TheVariants as code

@@ -1,4 +1,4 @@
-//! The comparisons.
+//! `== != < > <= >=`, `in` and `not in`.
 
 ghost use Rattle.std.specs.Prelude.{◌≡◌, ◌<◌, ◌<ℤ◌, ◌-ℤ◌, is_some, length, pos};
 ghost use Rattle.star_store.specs.declared.values.Cell.TheVariants as cell;
@@ -37,7 +37,7 @@ fn has_item(
     Ok(place.is_some())
 }
 
-/// Whether a value is a key of a dictionary. `BadType` for what is no key.
+/// Whether a value is a key of a dictionary. `BadType` if it is not hashable.
 fn has_entry(
     machine: &mut Machine,
     setting: &Setting,
@@ -54,7 +54,7 @@ fn has_entry(
     Ok(machine.place_in(setting, dict, value).is_some())
 }
 
-/// Whether a string stands in another one. `BadType` for what is no string.
+/// Whether a string is a substring of another one. `BadType` if it is not a string.
 fn has_text(
     machine: &mut Machine,
     setting: &Setting,
@@ -71,7 +71,7 @@ fn has_text(
     Ok(stands_within(machine, setting, value, text))
 }
 
-/// Whether a string stands in another one.
+/// Whether a string is a substring of another one.
 fn stands_within(machine: &Machine, setting: &Setting, part: Value, text: Value) -> bool
     ensures { result ≡ is_some (spec.place_between (bytes_of (content setting.now machine.now text))
         (bytes_of (content setting.now machine.now part)) 0
@@ -81,8 +81,8 @@ fn stands_within(machine: &Machine, setting: &Setting, part: Value, text: Value)
     place_between(text, machine.bytes(setting, part), 0, text.len()).is_some()
 }
 
-/// Whether a value is in what another one holds: an equal item, a key, an int of a range, a substring. `BadType` for
-/// other values.
+/// Whether a value is in another one: an equal item of a list or tuple, a key of a dictionary, an int of a range, a
+/// substring. `BadType` for other values.
 #[tactic(auto, using(crate::proofs::KindCases::has_list, crate::proofs::KindCases::has_tuple, crate::proofs::KindCases::has_dict, crate::proofs::KindCases::has_text, crate::proofs::KindCases::has_range, crate::proofs::KindCases::has_other))]
 fn has(
     machine: &mut Machine,
@@ -138,7 +138,7 @@ fn tested(
     }
 }
 
-/// What a comparison of two values answers.
+/// The answer of a comparison of two values.
 #[tactic(auto, unfolding(star_meaning::specs::Operators::compared))]
 pub fn compared(
     machine: &mut Machine,
@@ -187,7 +187,7 @@ fn range_has_down(range: Range, int: i64) -> bool
     is_reached(int, range.start, step, range.len())
 }
 
-/// Whether fewer than so many steps lead up from one int to another.
+/// Whether fewer than `count` steps of this size lead up from one int to another.
 fn is_reached(from: i64, to: i64, step: u64, count: u64) -> bool
     requires { 0 < step }
     ensures { result ≡ reached (to -ℤ from) step count }

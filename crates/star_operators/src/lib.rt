@@ -1,9 +1,18 @@
-//! The operations on values that only expressions and statements need.
+//! The operators of expressions: those operations on values that built-in functions and methods do not need.
 //!
-//! `operators` has `+ - * // % & | ^ << >>` and the signs, `comparisons` has `== != < > <= >= in` and `not in`,
-//! `percent` has `%` on a string, `subscript` has `x[i]` and `x[i] = v`, `slices` has `x[a:b:c]`. Each function
-//! answers what the definition of the same name in `star_meaning` gives: the value, the fault, and what was paid.
-//! `operate` looks first whether both operands are ints, since most are.
+//! - `operators`: `+ - * // % & | ^ << >>` (`operate`) and `+ - ~ not` before an operand (`prefix`). It looks first
+//!   whether both operands are ints, since most are.
+//! - `comparisons`: `== != < > <= >=`, `in` and `not in` (`compared`).
+//! - `percent`: `%` on a string.
+//! - `subscript`: `x[i]` (`index`) and `x[i] = v` (`set_index`).
+//! - `slices`: `x[a:b:c]` (`slice`).
+//!
+//! Begin with the last function of a file: it has the `match` over types, and the work is above it. It has no types of
+//! its own and no state.
+//!
+//! The promise of each function is `Gives` of `star_machine`: it has the result of the definition of the same name in
+//! `star_meaning` (`Operators`, `Percent`, `Subscript`), the fault and the payments included. See `docs/LANGUAGE.md`,
+//! "Operators".
 #![tactic(auto)]
 
 pub mod comparisons;

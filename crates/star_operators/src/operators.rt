@@ -1,4 +1,7 @@
-//! The operators.
+//! `+ - * // % & | ^ << >>`, and `+ - ~ not` before an operand.
+//!
+//! Joined rows are copied before their payment, and so are the values for `%`: nothing is left of the copy if it fails.
+//! A repetition tests its payment first.
 
 ghost use Rattle.std.specs.Prelude.{◌≡◌, ◌<◌, ◌+◌, ◌*◌, ◌^◌, ◌++◌, IfOk};
 ghost use Rattle.star_store.specs.Arithmetic.{checked, floored_by};
@@ -92,7 +95,7 @@ fn shift_right(machine: &Machine, line: usize, x: i64, count: i64) -> Result<Val
     machine.new_int(line, whole(halved(x, count.unsigned_abs())))
 }
 
-/// An int, halved and rounded down so many times.
+/// An int, halved and rounded down `count` times.
 #[tactic(auto, using(crate::proofs::Shifts::halved, crate::proofs::Shifts::halved_far))]
 fn halved(x: i64, count: u64) -> i64
     ensures { result ≡ floored_by x (2 ^ count) }
@@ -112,7 +115,7 @@ fn signed(machine: &Machine, line: usize, operator: UnaryOperator, x: i64) -> Re
     }
 }
 
-/// `not` of any value, or a sign before an int. `BadType` for what is no int, `Overflow` outside 64 bits.
+/// `not` of any value, or a sign before an int. `BadType` if it is not an int, `Overflow` outside 64 bits.
 #[tactic(auto, unfolding(star_meaning::specs::Operators::prefix))]
 pub fn prefix(
     machine: &Machine,
@@ -179,14 +182,14 @@ fn add_values(
     }
 }
 
-/// How many times an int says: none below 1.
+/// The number of times that an int means; 0 if it is below 1.
 fn count_from(int: i64) -> u64
     ensures { result ≡ spec.count_from int }
 {
     if int < 0 { 0 } else { int as u64 }
 }
 
-/// A row so many times over.
+/// A list or tuple repeated `count` times.
 #[tactic(auto, using(crate::proofs::Times::times_more, crate::proofs::Times::times_nil))]
 fn repeated_row(alloc: Global, items: &Values, count: u64) -> Result<Values, AllocError>
     ensures { IfOk result (λ r. r ≡ spec.times count items.now) }
@@ -200,7 +203,7 @@ fn repeated_row(alloc: Global, items: &Values, count: u64) -> Result<Values, All
     Ok(Values::new(made))
 }
 
-/// A string so many times over.
+/// A string repeated `count` times.
 #[tactic(auto, using(crate::proofs::Times::times_more, crate::proofs::Times::times_nil))]
 fn repeated_text(alloc: Global, text: &Text, count: u64) -> Result<Text, AllocError>
     ensures { IfOk result (λ t. t ≡ spec.times count text.now) }
@@ -214,7 +217,7 @@ fn repeated_text(alloc: Global, text: &Text, count: u64) -> Result<Text, AllocEr
     Text::of(made)
 }
 
-/// What `1 + size * count` comes to.
+/// The result of `1 + size * count`.
 fn cost_of(size: usize, count: u64) -> u128
     ensures value { result ≡ 1 + size * count }
     ensures some { 0 < result }
@@ -222,7 +225,7 @@ fn cost_of(size: usize, count: u64) -> u128
     1 + size as u128 * count as u128
 }
 
-/// A string, list or tuple so many times over. `Steps` before anything is made, `BadType` for another value.
+/// A string, list or tuple repeated `count` times. `Steps` before anything is made, `BadType` for another value.
 #[tactic(auto, unfolding(star_meaning::specs::Run::build, star_meaning::specs::Run::pay))]
 fn repeated(
     machine: &mut Machine,
@@ -257,7 +260,7 @@ fn repeated(
     }
 }
 
-/// The product of two ints, or a string, list or tuple so many times over. `BadType` for other operands.
+/// The product of two ints, or a string, list or tuple repeated as often as an int says. `BadType` for other operands.
 #[tactic(auto, using(crate::proofs::Contents::product, crate::proofs::Contents::product_left, crate::proofs::Contents::product_right, crate::proofs::Contents::no_product))]
 fn multiply(
     machine: &mut Machine,
@@ -326,7 +329,7 @@ fn unite(
     }
 }
 
-/// What the operator makes of operands that are not two ints. `BadType` where it makes nothing of them.
+/// The result of the operator on operands that are not two ints. `BadType` if it does not take them.
 fn on_others(
     machine: &mut Machine,
     setting: &Setting,
@@ -348,7 +351,7 @@ fn on_others(
     }
 }
 
-/// What an operator makes of two values. `BadType` where it makes nothing of their types.
+/// The result of an operator on two values. `BadType` if it does not take their types.
 #[inline(always)]
 #[tactic(auto, unfolding(star_meaning::specs::Operators::operate))]
 pub fn operate(

@@ -1,4 +1,4 @@
-//! `%` on a string.
+//! `%` on a string: walks over the format, letter by letter.
 
 ghost use Rattle.std.specs.Prelude.{◌≡◌, ◌≤◌, [], drop, length, false, IfOk, string_bytes};
 ghost use Rattle.star_machine.specs.Gives.{Gives};
@@ -18,7 +18,7 @@ use star_text::Text;
 use std::alloc::AllocError;
 
 /// The text of one value for a letter: `s` and `r` make its two texts, `d` that of an int. `BadValue` for another
-/// letter, `BadType` for `d` with what is no int.
+/// letter, `BadType` for `d` if the value is not an int.
 fn lettered(
     machine: &mut Machine,
     setting: &Setting,
@@ -40,8 +40,8 @@ fn lettered(
     }
 }
 
-/// Puts what a letter after a `%` makes of the next value, or a `%` for another `%`; and how many values are used then.
-/// `BadValue` where no value is left.
+/// Puts the text that a letter after a `%` makes of the next value, or a `%` for another `%`; and returns how many
+/// values are used then. `BadValue` if no value is left.
 #[tactic(auto, using(crate::proofs::Filling::drop_some, crate::proofs::Filling::drop_none))]
 fn put_letter(
     machine: &mut Machine,
@@ -70,8 +70,8 @@ fn put_letter(
     Ok(used + 1)
 }
 
-/// The format from left to right, with what is made of the values in the places of its letters. `BadValue` for another
-/// letter, and for too few or too many values.
+/// The format from left to right, with the texts of the values in place of its letters. `BadValue` for another letter,
+/// and for too few or too many values.
 #[tactic(auto, using(crate::proofs::Filling::filled_turn))]
 fn filled(
     machine: &mut Machine,

@@ -1,4 +1,4 @@
-//! `x[a:b:c]`.
+//! `x[a:b:c]` of lists, tuples and strings.
 
 ghost use Rattle.std.specs.Prelude.{◌≡◌, ◌≢◌, ◌<◌, ◌≤◌, ◌+◌, ◌*◌, ◌+ℤ◌, ◌-ℤ◌, ◌*ℤ◌, ◌≤ℤ◌, ◌<ℤ◌, ◌++◌, IfOk, OnOk, false, length, neg_ℤ, pos, slice_get, string_bytes, true, unsigned_abs};
 ghost use Rattle.std.specs.Int.{int_gap};
@@ -26,7 +26,7 @@ struct Span {
     step: i64,
 }
 
-/// The places of a slice of so many items.
+/// The places of a slice of `len` items.
 fn span_of(len: usize, start: Option<i64>, stop: Option<i64>, step: i64) -> Span
     ensures value { as_range result ≡ spec.slice_range len start stop step }
     ensures low { has_low_ends result }
@@ -73,7 +73,7 @@ impl Span {
     }
 }
 
-/// The place so many steps above a start, if it lies below a stop.
+/// The place `at` steps above a start; it is below the stop.
 fn place_above(start: i128, stop: i128, step: u128, at: u128) -> u128
     requires start { neg_ℤ (pos 1) ≤ℤ start }
     requires within { at * step < int_gap start stop }
@@ -82,7 +82,7 @@ fn place_above(start: i128, stop: i128, step: u128, at: u128) -> u128
     (start + (at * step) as i128).unsigned_abs()
 }
 
-/// The place so many steps below a start, if it lies above a stop.
+/// The place `at` steps below a start; it is above the stop.
 fn place_below(start: i128, stop: i128, step: u128, at: u128) -> u128
     requires stop { neg_ℤ (pos 1) ≤ℤ stop }
     requires within { at * step < int_gap stop start }
@@ -91,7 +91,7 @@ fn place_below(start: i128, stop: i128, step: u128, at: u128) -> u128
     (start - (at * step) as i128).unsigned_abs()
 }
 
-/// The item at a place: none outside.
+/// The item at a place; `None` outside.
 fn item_at(items: &[Value], at: u128) -> Option<Value>
     ensures { result ≡ slice_get items.now at }
 {
@@ -138,7 +138,7 @@ fn picked_from(alloc: Global, items: &[Value], span: Span) -> Result<Values, All
     Ok(Values::new(made))
 }
 
-/// Whether no byte but the first of a character stands at a place.
+/// Whether a place is between two characters: at the first byte of one, or at the end.
 fn is_boundary(text: &[u8], at: usize) -> bool
     ensures { result ≡ spec.is_boundary text.now at }
 {
@@ -148,7 +148,7 @@ fn is_boundary(text: &[u8], at: usize) -> bool
     }
 }
 
-/// A part of a string: none where an end of it lies inside a character.
+/// A part of a string; `None` if an end of it is inside a character.
 #[tactic(auto, using(crate::proofs::Slicing::empty_part, crate::proofs::Slicing::whole_part, crate::proofs::Slicing::cut_before, crate::proofs::Slicing::cut_after))]
 fn part(alloc: Global, text: &str, start: usize, stop: usize) -> Result<Option<Text>, AllocError>
     requires start { start ≤ length text.now }
@@ -167,7 +167,7 @@ fn part(alloc: Global, text: &str, start: usize, stop: usize) -> Result<Option<T
     Ok(Some(Text::new(alloc, &text[start..stop])?))
 }
 
-/// The bytes of a string at places: none where one of them is not ASCII.
+/// The bytes of a string at places; `None` if one of them is not ASCII.
 #[tactic(auto, using(crate::proofs::Slicing::spread_whole))]
 fn spread(alloc: Global, text: &str, span: Span) -> Result<Option<Text>, AllocError>
     requires step { span.step ≢ pos 1 }
@@ -183,7 +183,7 @@ fn spread(alloc: Global, text: &str, span: Span) -> Result<Option<Text>, AllocEr
     Ok(Some(Text::of(made)?))
 }
 
-/// Puts a byte, if there is one, after a text; false where it is not ASCII.
+/// Puts a byte, if there is one, after a text; false if it is not ASCII.
 fn push_ascii(made: &mut String, byte: Option<u8>) -> Result<bool, AllocError>
     ensures { IfOk result (λ pushed. Pushes pushed byte (string_bytes made.old) (string_bytes made.new)) }
 {
@@ -197,7 +197,7 @@ fn push_ascii(made: &mut String, byte: Option<u8>) -> Result<bool, AllocError>
     Ok(true)
 }
 
-/// The byte at a place: none outside.
+/// The byte at a place; `None` outside.
 fn byte_at(text: &[u8], at: u128) -> Option<u8>
     ensures { result ≡ slice_get text.now at }
 {
@@ -208,7 +208,7 @@ fn byte_at(text: &[u8], at: u128) -> Option<u8>
     }
 }
 
-/// The part of a string at the places of a slice: none where it would cut a character.
+/// The part of a string at the places of a slice; `None` if it would cut a character.
 #[tactic(auto, using(crate::proofs::Slicing::run_is))]
 fn picked_text(alloc: Global, text: &str, span: Span) -> Result<Option<Text>, AllocError>
     requires low { has_low_ends span }
@@ -221,7 +221,7 @@ fn picked_text(alloc: Global, text: &str, span: Span) -> Result<Option<Text>, Al
     spread(alloc, text, span)
 }
 
-/// The part of a list, tuple or string at the places of a slice. `Cut` where it would cut a character, `BadType` for
+/// The part of a list, tuple or string at the places of a slice. `Cut` if it would cut a character, `BadType` for
 /// another value.
 fn sliced(
     machine: &mut Machine,
@@ -277,8 +277,8 @@ fn stride_of(stride: Option<i64>) -> i64
     }
 }
 
-/// `x[a:b:c]`. `BadType` for what has no slices, then for the parts in order; `BadValue` for a stride of 0; `Cut` where
-/// a character would be cut.
+/// `x[a:b:c]`. `BadType` if `x` has no slices, then for the parts in order; `BadValue` for a stride of 0; `Cut` if a
+/// character would be cut.
 #[tactic(auto, unfolding(star_meaning::specs::Subscript::slice))]
 pub fn slice(
     machine: &mut Machine,

@@ -1,4 +1,4 @@
-//! `x[i]` and `x[i] = v`.
+//! `x[i]` of lists, tuples, ranges, strings and dictionaries, and `x[i] = v` of lists and dictionaries.
 
 ghost use Rattle.std.specs.Prelude.{◌≡◌, [], ◌∷◌, ◌<◌, IfOk};
 ghost use Rattle.star_machine.specs.Gives.{Gives};
@@ -18,7 +18,7 @@ use star_store::values::{Value, Values};
 use star_text::Text;
 use std::alloc::{AllocError, Global};
 
-/// The place that an int says. `BadType` for what is no int, `Index` outside.
+/// The place that an int names. `BadType` if the value is not an int, `Index` outside.
 fn want_place(
     machine: &Machine,
     setting: &Setting,
@@ -89,8 +89,8 @@ fn byte_at(
     machine.new_text(line, text)
 }
 
-/// The value under a key. `BadType` for what is no key, `Key` where it is absent. It is a call of its own, in which the
-/// checks of the key stand inline.
+/// The value under a key. `BadType` if the key is not hashable, `Key` if it is absent. This is a function of its own,
+/// so that the checks of the key are inlined.
 #[inline(never)]
 fn entry_value(
     machine: &mut Machine,

@@ -1,4 +1,4 @@
--- Stores that stand in blocks.
+-- Stores in blocks.
 use Rattle.std.proofs.Common.{◌≡◌, ◌+◌, ◌<◌, ◌∙◌, ℕ, zero, suc, List, [], ◌∷◌, ◌++◌, length, get_or, Result, Ok, Err, ap, refl, sym, subst, arith}
 use Rattle.std.specs.Arc.{arc_value}
 use Rattle.std.specs.Prelude.{All, take}
@@ -16,7 +16,7 @@ abbrev pub block_stores : {Y Z : Type 0} → Arc (Vec ReachView Y) Z → List Re
 block_stores b = (arc_value b).items
 
 module _ {Y Z : Type 0} where
-  -- the stores of one block more
+  -- the stores of blocks and one more block
   pub shared_last : (bs : List (Arc (Vec ReachView Y) Z)) (b : Arc (Vec ReachView Y) Z) → shared_of (bs ++ b ∷ []) ≡ shared_of bs ++ block_stores b
   shared_last [] b = append-nil (block_stores b)
   shared_last (c ∷ bs) b = ap (λ rs. block_stores c ++ rs) (shared_last bs b) ∙ sym (append_assoc (block_stores c) (shared_of bs) (block_stores b))
@@ -26,20 +26,20 @@ module _ {Y Z : Type 0} where
       ap shared_of (take_more bs i b inside)
       ∙ (shared_last (take i bs) (get_or bs i b) ∙ ap (λ x. shared_of (take i bs) ++ block_stores x) (sym is))
 
-  -- the same for blocks that are others of the same stores
+  -- the same, for copies of the blocks with the same stores
   pub shared_push : (bs shared : List (Arc (Vec ReachView Y) Z)) (i : ℕ) (b c : Arc (Vec ReachView Y) Z) → i < length bs → b ≡ get_or bs i b → arc_value c ≡ arc_value b → shared_of shared ≡ shared_of (take i bs) → shared_of (shared ++ c ∷ []) ≡ shared_of (take (i + 1) bs)
   shared_push bs shared i b c inside is same before =
       shared_last shared c
       ∙ (ap (λ rs. rs ++ block_stores c) before
       ∙ (ap (λ v. shared_of (take i bs) ++ v.items) same ∙ sym (shared_more bs i b inside is)))
 
-  -- what holds of all stores holds of those of each block
+  -- a property of all stores is one of the stores of each block
   pub of_block : (P : ReachView → Type 0) (bs : List (Arc (Vec ReachView Y) Z)) (i : ℕ) (b : Arc (Vec ReachView Y) Z) → i < length bs → b ≡ get_or bs i b → All P (shared_of bs) → All P (block_stores b)
   of_block P [] i b inside is all = absurd (omega (arith, inside))
   of_block P (c ∷ bs) zero b inside is all = subst (λ x. All P (block_stores x)) (sym is) (front_of P (block_stores c) (shared_of bs) all)
   of_block P (c ∷ bs) (suc i) b inside is all = of_block P bs i b (omega (arith, inside)) is (back_of P (block_stores c) (shared_of bs) all)
 
-  -- and what holds of those of each block holds of all
+  -- a property of the stores of each block is one of all stores
   pub of_blocks : (P : ReachView → Type 0) (bs : List (Arc (Vec ReachView Y) Z)) → ((i : ℕ) (d : Arc (Vec ReachView Y) Z) → i < length bs → All P (block_stores (get_or bs i d))) → All P (shared_of bs)
   of_blocks P [] each = λ i d lt. absurd (omega (arith, lt))
   of_blocks P (b ∷ bs) each = All-append P (block_stores b) (shared_of bs) (each 0 b (omega arith)) (of_blocks P bs (λ i d lt. each (suc i) d (omega (arith, lt))))

@@ -1,4 +1,4 @@
--- What is told of a file is a sound module, which a note keeps.
+-- The product of a file has a sound module, which a note keeps.
 use Rattle.std.proofs.Common.{◌≡◌, ◌<◌, ℕ, List, length, get_or, ap, sym, ◌∙◌, subst, arith}
 use Rattle.std.specs.Prelude.{All, slice_index, slice_set}
 use Rattle.std.proofs.lemmas.List.{get_or_default, length-map, set-get_or}
@@ -15,7 +15,7 @@ use Rattle.star_outcome.specs.Views.{IsEnd, IsModule, IsTold, ToldView}
 
 ends_below : (plan : Plan) (n : ℕ) (ls : List ℕ) (e : Ended) → ls ≡ loaded plan n → IsEnd plan n e → IsLoadBelow (length ls) e
 ends_below plan n ls (Static f) same is = tt
-ends_below plan n ls (Stopped code line lines trail) same is = tt
+ends_below plan n ls (Stopped code line lines left) same is = tt
 ends_below plan n ls (Good body) same is = tt
 ends_below plan n ls (Unloaded index line) same is =
     let inside : index < length (loads_of plan n) = slice_get_within (loads_of plan n) index is.1.0 is.1.1 in

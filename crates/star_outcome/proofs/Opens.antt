@@ -24,13 +24,13 @@ use Rattle.star_outcome.specs.declared.module.Module.{Module}
 end_good : (plan : Plan) (n : ℕ) (e : Ended) → IsEnd plan n e → ended_well e ≡ true → IsGood plan n
 end_good plan n (Static f) is well = absurd (let no : ⊥ = cc in no)
 end_good plan n (Unloaded index line) is well = absurd (let no : ⊥ = cc in no)
-end_good plan n (Stopped code line lines trail) is well = absurd (let no : ⊥ = cc in no)
+end_good plan n (Stopped code line lines left) is well = absurd (let no : ⊥ = cc in no)
 end_good plan n (Good b) is well = to_good plan n (Ran (WentWell is.shelf is.globals (shown_texts b.shown.items) b.lines.items)) is.outcome refl
 
 end_bad : (plan : Plan) (n : ℕ) (e : Ended) → IsEnd plan n e → ended_well e ≡ false → IsGood plan n → ⊥
 end_bad plan n (Static f) is ill g = let both : false ≡ true = from_good plan n (StaticOutcome (fault_of f)) is g in let no : ⊥ = cc in no
 end_bad plan n (Unloaded index line) is ill g = let both : false ≡ true = from_good plan n (UnloadedOutcome index) is.0 g in let no : ⊥ = cc in no
-end_bad plan n (Stopped code line lines trail) is ill g = let both : false ≡ true = from_good plan n (Ran (HadFault (record { code = code; line = line }) lines.items)) is g in let no : ⊥ = cc in no
+end_bad plan n (Stopped code line lines left) is ill g = let both : false ≡ true = from_good plan n (Ran (HadFault (record { code = code; line = line }) lines.items)) is g in let no : ⊥ = cc in no
 end_bad plan n (Good b) is ill g = let no : ⊥ = cc in no
 
 -- the module of a file tells whether the file is good
@@ -79,7 +79,7 @@ open_bad files plan f is none less bad = record {
   good = λ e. absurd (none_some (Some f.told) f.told refl e);
 }
 
--- another load was not good before
+-- the next load follows one that is not good
 pub open_on : (files : List File) (plan : Plan) (f : FrameView) (i : ℕ) → IsOpen files plan f → f.failed ≡ Some i → f.told < length (loads_of plan f.n) → IsOpen files plan (record { n = f.n; told = f.told + 1; failed = f.failed; modules = f.modules })
 open_on files plan f i is some less = record {
   asked = is.asked;
@@ -88,7 +88,7 @@ open_on files plan f i is some less = record {
   good = λ e. absurd (none_some f.failed i some e);
 }
 
--- the next load is good, as all before it
+-- the next load is good, as are all before it
 pub open_more : (files : List File) (plan : Plan) (f : FrameView) (it : Module) → IsOpen files plan f → f.failed ≡ None → f.told < length (loads_of plan f.n) → IsModuleAt plan f.n f.told it → ended_well it.ended ≡ true
     → IsOpen files plan (record { n = f.n; told = f.told + 1; failed = f.failed; modules = f.modules ++ it ∷ [] })
 open_more files plan f it is none less right well = record {
@@ -113,7 +113,7 @@ open_more files plan f it is none less right well = record {
         by_order (inr (inl small)) = let one = before.each i m small at in (one.0, get_front f.modules (it ∷ []) i one.0 one.1, one.2)
         by_order (inr (inr big)) = absurd (let no : ⊥ = omega (arith, big, short) in no)
 
--- where nothing is found at a place that is within or at the end, it is the end
+-- an index of at most the length that finds nothing is the length
 pub at_end : {X : Type 0} (xs : List X) (i : ℕ) → i ≤ length xs → slice_get xs i ≡ None → i ≡ length xs
 at_end [] zero h e = refl
 at_end [] (suc i) h e = absurd (let no : ⊥ = omega (arith, h) in no)

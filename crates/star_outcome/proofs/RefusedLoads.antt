@@ -12,7 +12,7 @@ use Rattle.star_outcome.specs.Refusals.{AreRefusals, AreRefusalsOf, IsRefusal}
 use Rattle.star_outcome.specs.declared.trace.Refused.{Refused}
 use Rattle.star_reading.proofs.Finds.{all_one}
 
--- one more
+-- one refusal more
 pub one_refused : (plan : Plan) (rs : List Refused) (r : Refused) → AreRefusals plan rs → IsRefusal plan r → AreRefusals plan (rs ++ r ∷ [])
 one_refused plan rs r all one = All-append (IsRefusal plan) rs (r ∷ []) all (all_one (IsRefusal plan) r one)
 
@@ -35,7 +35,7 @@ pub all_files : (files : List File) (roots : List ℕ) (prelude : Option ℕ) (s
 all_files files roots prelude steps rs of =
     All-weaker (IsRefusal of.0) (AreFiles files) (refused_files files of.0 of.1) rs of.5
 
--- the first of refused loads are such
+-- the first few of refused loads are refused loads
 pub first_refused : (files : List File) (roots : List ℕ) (prelude : Option ℕ) (steps : ℕ) (rs : List Refused) (count : ℕ)
     → AreRefusalsOf files roots prelude steps rs → AreRefusalsOf files roots prelude steps (take count rs)
 first_refused files roots prelude steps rs count of =

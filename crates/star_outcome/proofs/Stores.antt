@@ -35,7 +35,7 @@ listed_front rs r k c = subst (λ ns. Contains ns k) (sym (map-append (λ (x : R
 listed_last : (rs : List ReachView) (r : ReachView) (k : ℕ) → r.number ≡ k → Contains (numbers (rs ++ r ∷ [])) k
 listed_last rs r k e = subst (λ ns. Contains ns k) (sym (map-append (λ (x : ReachView). x.number) rs (r ∷ []))) (Contains-append_right (numbers rs) (r.number ∷ []) k (subst (Contains (r.number ∷ [])) e (contains_here r.number)))
 
--- stores that are needed, none of which is on the shelf yet
+-- a row of needed stores, with an empty shelf
 pub gathered_over : (plan : Plan) (n : ℕ) (rs : List ReachView) → AreNeeded plan n rs → IsGathered plan n [] rs
 gathered_over plan n rs needed = record {
   tight = λ k e. absurd (let no : ⊥ = omega (arith, e) in no);
@@ -53,7 +53,7 @@ gathered_new plan n = gathered_over plan n [] (λ i d lt. absurd (let no : ⊥ =
 put_same : (r : ReachView) (h : ℕ) (p : Published) (shelf after : Shelf) → h ≡ r.number → p ≡ r.store → after ≡ put_up h p shelf → after ≡ put_up r.number r.store shelf
 put_same r h p shelf after number store e = e ∙ (ap (λ k. put_up k p shelf) number ∙ ap (λ q. put_up r.number q shelf) store)
 
--- one of the row is put on the shelf
+-- a store of the row is put on the shelf
 pub gathered_seat : (plan : Plan) (n : ℕ) (shelf : Shelf) (rs : List ReachView) (h : ℕ) (p : Published) → IsGathered plan n shelf rs → Needs plan n h → IsOwn plan h p → Contains (numbers rs) h → IsGathered plan n (put_up h p shelf) rs
 gathered_seat plan n shelf rs h p g needs own listed = record {
   tight = put_up-tight shelf h p g.tight;
@@ -65,7 +65,7 @@ gathered_seat plan n shelf rs h p g needs own listed = record {
 pub seat_by : (plan : Plan) (n : ℕ) (shelf after : Shelf) (rs : List ReachView) (r : ReachView) (h : ℕ) (p : Published) → h ≡ r.number → p ≡ r.store → after ≡ put_up h p shelf → IsGathered plan n shelf rs → Needs plan n r.number → IsOwn plan r.number r.store → Contains (numbers rs) r.number → IsGathered plan n after rs
 seat_by plan n shelf after rs r h p number store e g needs own listed = subst (λ s. IsGathered plan n s rs) (sym (put_same r h p shelf after number store e)) (gathered_seat plan n shelf rs r.number r.store g needs own listed)
 
--- one more in the row, which is not on the shelf yet
+-- a further store in the row, which is not on the shelf yet
 pub gathered_row : (plan : Plan) (n : ℕ) (shelf : Shelf) (rs : List ReachView) (r : ReachView) → IsGathered plan n shelf rs → Needs plan n r.number → IsOwn plan r.number r.store → IsGathered plan n shelf (rs ++ r ∷ [])
 gathered_row plan n shelf rs r g needs own = record {
   tight = g.tight;
@@ -74,7 +74,7 @@ gathered_row plan n shelf rs r g needs own = record {
   reaches = All-append (λ (x : ReachView). Needs plan n x.number × IsOwn plan x.number x.store) rs (r ∷ []) g.reaches (all_one (λ (x : ReachView). Needs plan n x.number × IsOwn plan x.number x.store) r (needs, own));
 }
 
--- one more on the shelf as well
+-- a further store in the row and on the shelf
 pub gathered_both : (plan : Plan) (n : ℕ) (shelf : Shelf) (rs : List ReachView) (r : ReachView) → IsGathered plan n shelf rs → Needs plan n r.number → IsOwn plan r.number r.store → IsGathered plan n (put_up r.number r.store shelf) (rs ++ r ∷ [])
 gathered_both plan n shelf rs r g needs own = gathered_seat plan n shelf (rs ++ r ∷ []) r.number r.store (gathered_row plan n shelf rs r g needs own) needs own (listed_last rs r r.number refl)
 
@@ -97,21 +97,21 @@ has_put shelf k p e = (p, put_up-own k p shelf (free (slice_get shelf k) e))
 pub has_still : (shelf : Shelf) (h : ℕ) (p : Published) (k : ℕ) → HasStore shelf k → HasStore (put_up h p shelf) k
 has_still shelf h p k x = (x.0, put_up-keeps h p shelf k x.0 x.1)
 
--- what a file to which a load leads needs is needed
+-- a file needs all that a file that it loads leads to
 pub needed_by_load : (plan : Plan) (n m k : ℕ) → Loads (loaded plan) n m → LeadsTo (Loads (loaded plan)) m k → Needs plan n k
 needed_by_load plan n m k l w = (m, l, w)
 
 pub needed_of : (plan : Plan) (n m : ℕ) (rs : List ReachView) → Loads (loaded plan) n m → AreStores plan m rs → AreNeeded plan n rs
 needed_of plan n m rs l s i d lt = let one = s.own i d lt in ((m, l, one.0), one.1)
 
--- what holds of two rows together
+-- a property of two rows together is one of the first
 pub front_of : {X : Type 0} (P : X → Type 0) (xs ys : List X) → All P (xs ++ ys) → All P xs
 front_of P xs ys all i d lt = subst P (get_or_append_left xs ys d i lt) (all i d (let long = length-append xs ys in omega (arith, lt, long)))
 
 pub back_of : {X : Type 0} (P : X → Type 0) (xs ys : List X) → All P (xs ++ ys) → All P ys
 back_of P xs ys all i d lt = subst P (get_or-append-add xs ys i d) (all (length xs + i) d (let long = length-append xs ys in omega (arith, lt, long)))
 
--- what holds of all holds of the one at a place
+-- a property of all items is one of the item at an index
 pub at_place : {X : Type 0} (P : X → Type 0) (xs : List X) (i : ℕ) (x : X) → i < length xs → x ≡ get_or xs i x → All P xs → P x
 at_place P xs i x inside is all = subst P (sym is) (all i x inside)
 
@@ -123,7 +123,7 @@ front_listed rs qs i d lt =
     let inside : i < length (numbers rs) = omega (arith, lt, long) in
     subst (λ ns. Contains ns x) (sym (map-append (λ (r : ReachView). r.number) rs qs)) (Contains-append_left (numbers rs) (numbers qs) x (i, inside, get_or-map (λ (r : ReachView). r.number) rs i d x lt))
 
--- so far as a row is shared, its stores are needed as all of them are
+-- if all stores of a row are needed, so are those that it shares
 pub needed_front : (plan : Plan) (n : ℕ) (rs qs : List ReachView) → AreNeeded plan n (rs ++ qs) → AreNeeded plan n (rs ++ [])
 needed_front plan n rs qs all = All-append P rs [] (front_of P rs qs all) (All-nil P)
   where
@@ -144,7 +144,7 @@ all_there plan m rs shelf s all k w =
         pick (x ∷ xs) h zero less q = let same : x.number ≡ k = cc in subst (HasStore shelf) same (h 0 x (omega arith))
         pick (x ∷ xs) h (suc j) less q = pick xs (λ i d lt. h (suc i) d (omega (arith, lt))) j (omega (arith, less)) q
 
--- all that the loads lead to was gathered
+-- the shelf has all that a file needs if it has all that its loads lead to
 pub holds_needs : (plan : Plan) (n : ℕ) (shelf : Shelf) (rs : List ReachView) → IsGathered plan n shelf rs
     → ((i m : ℕ) → slice_get (loaded plan n) i ≡ Some m → (k : ℕ) → LeadsTo (Loads (loaded plan)) m k → HasStore shelf k) → HoldsNeeds plan n shelf
 holds_needs plan n shelf rs g all k p = (λ e. g.needed k p e, λ h. back h)
@@ -157,7 +157,7 @@ holds_needs plan n shelf rs g all k p = (λ e. g.needed k p e, λ h. back h)
         let same : has.0 ≡ p = one-own plan k has.0 p (g.needed k has.0 has.1).1 own in
         has.1 ∙ ap (λ x. Some (Some x)) same
 
--- the row has all that is needed
+-- the row has all that a file needs if the shelf has all that its loads lead to
 pub all_listed : (plan : Plan) (n : ℕ) (shelf : Shelf) (rs : List ReachView) → IsGathered plan n shelf rs
     → ((i m : ℕ) → slice_get (loaded plan n) i ≡ Some m → (k : ℕ) → LeadsTo (Loads (loaded plan)) m k → HasStore shelf k) → (k : ℕ) → Needs plan n k → Contains (map (λ (r : ReachView). r.number) rs) k
 all_listed plan n shelf rs g all k needs =
@@ -212,7 +212,7 @@ pub on_ok : {T E A B : Type 0} (r : Result T E) → (A → B) → OnOk r A → O
 on_ok (Ok x) f a = f a
 on_ok (Err e) f a = tt
 
--- a load with the module that was told of it
+-- a load, with the good module of the file that it loads
 pub load_found : (plan : Plan) (n i : ℕ) (ms : List (Bor Module)) (it : Bor Module) → AreGoodLoads plan n (length (loads_of plan n)) (map (λ (m : Bor Module). m.now) ms) → i < length ms → it ≡ get_or ms i it
     → (m : ℕ) × (slice_get (loaded plan n) i ≡ Some m) × IsGoodModule plan m it.now
 load_found plan n i ms it loads inside is =
@@ -239,7 +239,7 @@ load_good plan n i ms it loads inside is =
     let one = load_found plan n i ms it loads inside is in
     subst (λ k. IsGoodModule plan k it.now) (sym one.2.0.number) one.2
 
--- the stores of one load more are there
+-- the shelf has the stores of one load more
 pub more_loads : (plan : Plan) (n i : ℕ) (ms : List (Bor Module)) (it : Bor Module) (shelf after : Shelf) → AreGoodLoads plan n (length (loads_of plan n)) (map (λ (m : Bor Module). m.now) ms) → i < length ms → it ≡ get_or ms i it
     → ((k : ℕ) → HasStore shelf k → HasStore after k) → ((k : ℕ) → LeadsTo (Loads (loaded plan)) it.now.number k → HasStore after k)
     → ((j m : ℕ) → j < i → slice_get (loaded plan n) j ≡ Some m → (k : ℕ) → LeadsTo (Loads (loaded plan)) m k → HasStore shelf k)

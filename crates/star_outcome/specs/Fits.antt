@@ -1,4 +1,4 @@
--- Which files may be asked for.
+-- The files that may be asked for: those within a plan that are reached.
 use Rattle.std.specs.Prelude.{◌≡◌, ◌<◌, ℕ, List, Some, length, Contains}
 use Rattle.star_cache.specs.State.{Loads}
 use Rattle.star_label.specs.Files.{File}
@@ -15,7 +15,7 @@ pub record IsWithin (files : List File) (plan : Plan) : Type 0 where
 abbrev pub IsAsked : List File → Plan → ℕ → Type 0
 IsAsked files plan n = IsWithin files plan × IsReached plan n
 
--- what such a file loads is one, and each is a file
+-- a file that such a file loads is such a file too
 pub asked_next : (files : List File) (plan : Plan) (n m : ℕ) → IsAsked files plan n → Loads (loaded plan) n m
     → IsAsked files plan m
 asked_next files plan n m a l = (a.0, load a.1 l)

@@ -13,7 +13,7 @@ pub record FrameView : Type 0 where
   pub failed : Option ℕ
   pub modules : List Module
 
--- a file that may be asked for, of whose loads the first were told: one of these is the first that is not good, or all
+-- a file that may be asked for, the first of whose loads were told: one of them is the first that is not good, or all
 -- are good and these are their modules
 pub record IsOpen (files : List File) (plan : Plan) (f : FrameView) : Type 0 where
   pub asked : IsAsked files plan f.n

@@ -14,11 +14,11 @@ pub record GivenView : Type 0 where
 abbrev pub HasStore : Shelf → ℕ → Type 0
 HasStore shelf k = (p : Published) × (slice_get shelf k ≡ Some (Some p))
 
--- the file n needs the files of these stores, each of which is its file's own
+-- the file n needs the files of these stores; each store is its file's own
 abbrev pub AreNeeded : Plan → ℕ → List ReachView → Type 0
 AreNeeded plan n rs = All (λ r. Needs plan n r.number × IsOwn plan r.number r.store) rs
 
--- stores of files that the file n needs were gathered: a shelf of them, and a row of what the shelf has
+-- stores of files that the file n needs: a shelf, whose stores are in the row
 pub record IsGathered (plan : Plan) (n : ℕ) (shelf : Shelf) (rs : List ReachView) : Type 0 where
   pub tight : IsTight shelf
   pub needed : (k : ℕ) (p : Published) → slice_get shelf k ≡ Some (Some p) → Needs plan n k × IsOwn plan k p

@@ -1,4 +1,4 @@
--- What is told of a file says whether it is good.
+-- The end of a file tells whether the file is good.
 use Rattle.std.specs.Prelude.{◌≡◌, ◌↔◌, ℕ, true, List}
 use Rattle.std.proofs.Common.{◌∙◌, sym}
 use Rattle.star_label.specs.Files.{File}
@@ -16,12 +16,12 @@ use Rattle.std.proofs.Common.{refl}
 pub end_good : (plan : Plan) (n : ℕ) (e : Ended) → IsEnd plan n e → (ended_well e ≡ true) ↔ IsGood plan n
 end_good plan n (Static f) is = good plan n (StaticOutcome (fault_of f)) _ refl is
 end_good plan n (Unloaded index line) is = good plan n (UnloadedOutcome index) _ refl is.0
-end_good plan n (Stopped code line lines trail) is =
+end_good plan n (Stopped code line lines left) is =
     good plan n (Ran (HadFault (record { code = code; line = line }) lines.items)) _ refl is
 end_good plan n (Good b) is =
     good plan n (Ran (WentWell is.shelf is.globals (shown_texts b.shown.items) b.lines.items)) _ refl is.outcome
 
--- and so does what is told of it
+-- the product of a file tells whether the file is good
 pub told_good : (files : List File) (plan : Plan) (n : ℕ) (t : ToldView) → IsTold files plan n t
     → (t.good ≡ true) ↔ IsGood plan n
 told_good files plan n t is =

@@ -23,14 +23,14 @@ pub record RunView : Type 0 where
   pub per_loader : List ℕ
   pub refused : List Refused
 
--- the load that is not good is one of so many
+-- the index of the load that is not good is below `count`
 abbrev pub IsLoadBelow : ℕ → Ended → Type 0
 IsLoadBelow count (Static f) = Unit {0}
 IsLoadBelow count (Unloaded index line) = index < count
-IsLoadBelow count (Stopped code line lines trail) = Unit {0}
+IsLoadBelow count (Stopped code line lines left) = Unit {0}
 IsLoadBelow count (Good body) = Unit {0}
 
--- a module of the file n, whose loads are among so many files
+-- a module of the file n, whose loads are below `count`
 pub record IsSound (count n : ℕ) (m : Module) : Type 0 where
   pub number : m.number ≡ n
   pub loads : All (λ k. k < count) m.loads.items
@@ -64,7 +64,7 @@ pub record AreModules (plan : Plan) (ks : List KeptView) : Type 0 where
   pub reached : (n : ℕ) → IsReached plan n ↔ Contains (map (λ k. k.number) ks) n
   pub each : All (λ k. (m : Module) × (k.known ≡ Some m) × IsModule plan k.number m) ks
 
--- so they do of the plan that files have for roots, a prelude and a number of steps
+-- these know the modules of exactly the reached files of the plan with these files, roots, prelude and steps
 abbrev pub AreModulesOf : List File → List ℕ → Option ℕ → ℕ → List KeptView → Type 0
 AreModulesOf files roots prelude steps ks =
     (plan : Plan) × IsPlanOf files plan × (plan.roots ≡ roots) × (plan.prelude ≡ prelude) × (plan.steps ≡ steps)

@@ -1,3 +1,4 @@
+-- Words of the contracts of results: modules, the products of files, and the run as a whole.
 pub mod Fits
 pub mod Reaches
 pub mod Paid

@@ -7,8 +7,8 @@ use Rattle.star_plan.specs.Plan.{Plan, loaded, read_of, tree_in}
 use Rattle.star_plan.specs.Results.{AreGood}
 use Rattle.star_plan.specs.Runs.{run_by_names}
 
--- the run of the file n over the good outcomes of its loads came to its end, and has paid so many steps: those that it
--- was given but those that are left
+-- the run of the file n, over the good outcomes of its loads, came to its end and has paid these steps: the steps that
+-- it was given, less those that are left
 pub record HasPaid (plan : Plan) (n paid : ℕ) : Type 0 where
   pub statements : List Statement
   pub outcomes : List Local

@@ -1,4 +1,4 @@
--- What has become of a file, as it is told: its outcome.
+-- Modules and products of the code, as contracts see them: the outcome of a file.
 use Rattle.std.specs.Prelude.{◌≡◌, ◌<◌, ℕ, Bool, true, false, List, Option, Some, All, Contains, String, length, map, slice_get, string_bytes}
 use Rattle.star_cache.specs.State.{Loads}
 use Rattle.star_cache.specs.Walk.{LeadsTo}
@@ -26,16 +26,16 @@ shown_texts gs = map (λ g. (string_bytes g.0, g.1)) gs
 abbrev pub ended_well : Ended → Bool
 ended_well (Static f) = false
 ended_well (Unloaded index line) = false
-ended_well (Stopped code line lines trail) = false
+ended_well (Stopped code line lines left) = false
 ended_well (Good body) = true
 
--- these are the stores of the file n and of all files to which its loads lead: each file's own
+-- these are the stores of the file n and of all files that its loads lead to; each store is its file's own
 pub record AreStores (plan : Plan) (n : ℕ) (rs : List ReachView) : Type 0 where
   pub own : All (λ r. LeadsTo (Loads (loaded plan)) n r.number × IsOwn plan r.number r.store) rs
   pub all : (k : ℕ) → LeadsTo (Loads (loaded plan)) n k → Contains (map (λ r. r.number) rs) k
 
--- what is left of the file n, whose outcome is a run that went well: the texts of its globals, its lines, the stores, and
--- the steps that it has paid
+-- the result of the file n, whose outcome is a good run: the texts of its globals, its lines, the stores, and the steps
+-- that it has paid
 pub record IsBody (plan : Plan) (n : ℕ) (b : Body) : Type 0 where
   pub shelf : Shelf
   pub globals : List (List ℕ × Value)
@@ -43,13 +43,13 @@ pub record IsBody (plan : Plan) (n : ℕ) (b : Body) : Type 0 where
   pub stores : AreStores plan n (row_of b.stores)
   pub paid : HasPaid plan n b.paid
 
--- the file n ended so: with its outcome
+-- this is the end of the file n: it has the file's outcome
 abbrev pub IsEnd : Plan → ℕ → Ended → Type 0
 IsEnd plan n (Static f) = IsOutcome plan n (StaticOutcome (fault_of f))
 IsEnd plan n (Unloaded index line) =
     IsOutcome plan n (UnloadedOutcome index) × ((l : Load) × (slice_get (loads_of plan n) index ≡ Some l)
     × (l.line ≡ line))
-IsEnd plan n (Stopped code line lines trail) =
+IsEnd plan n (Stopped code line lines left) =
     IsOutcome plan n (Ran (HadFault (record { code = code; line = line }) lines.items))
 IsEnd plan n (Good body) = IsBody plan n body
 
@@ -63,7 +63,7 @@ pub record IsModule (plan : Plan) (n : ℕ) (m : Module) : Type 0 where
 abbrev pub IsGoodModule : Plan → ℕ → Module → Type 0
 IsGoodModule plan n m = IsModule plan n m × (ended_well m.ended ≡ true)
 
--- the first so many loads of the file n are good, and these are their modules
+-- the first loads of the file n are good, and these are their modules
 pub record AreGoodLoads (plan : Plan) (n told : ℕ) (ms : List Module) : Type 0 where
   pub count : length ms ≡ told
   pub each : (i m : ℕ) → i < told → slice_get (loaded plan n) i ≡ Some m → (it : Module) × (slice_get ms i ≡ Some it)
@@ -82,7 +82,7 @@ pub record ToldView : Type 0 where
   pub good : Bool
   pub known : Option Module
 
--- what is told of the file n, which was asked for: its module, and whether it is good
+-- the product of the file n, which was asked for: its module, and whether it is good
 pub record IsTold (files : List File) (plan : Plan) (n : ℕ) (t : ToldView) : Type 0 where
   pub number : t.number ≡ n
   pub asked : IsAsked files plan n

@@ -1,4 +1,4 @@
-//! A file whose loads are asked for.
+//! `Frame`: a file whose loads are being asked for, on the stack of its loader. It is not a frame of variables.
 
 ghost use Rattle.std.specs.Prelude.{◌≡◌, ◌<◌, ◌≤◌, ◌+◌, ◌^◌, [], None, length, map, IfSome, OnOk, OnErr};
 ghost use Rattle.star_plan.specs.Plan.{loaded, loads_of};
@@ -11,7 +11,8 @@ use crate::naming::Naming;
 use std::alloc::{AllocError, Global};
 use std::marker::{Model, PhantomData};
 
-/// A file, how many of its loads were told, the first of these that is not good, and the modules of those before it.
+/// A file, the number of its loads that were told, the first of these that is not good, and the modules of those before
+/// it.
 #[derive(Drop)]
 pub struct Frame<'s, J: Naming> {
     n: usize,
@@ -43,7 +44,7 @@ impl<'s, J: Naming> Model for Frame<'s, J> {
 }
 
 impl<'s, J: Naming> Frame<'s, J> {
-    /// A file that was begun, of whose loads none was told.
+    /// A file that was begun. None of its loads was told yet.
     pub fn new(alloc: Global, n: usize) -> Frame<'s, J>
         requires { IsAsked J.files J.plan n }
         ensures { result ≡ record { n = n; told = 0; failed = None; modules = [] } }
@@ -66,7 +67,7 @@ impl<'s, J: Naming> Frame<'s, J> {
         self.n
     }
 
-    /// How many of its loads were told.
+    /// The number of its loads that were told.
     pub fn told(&self) -> usize
         ensures told { result ≡ self.now.told }
         ensures within { result ≤ length (loads_of J.plan self.now.n) }
@@ -82,14 +83,14 @@ impl<'s, J: Naming> Frame<'s, J> {
         self.failed
     }
 
-    /// The modules of its loads that were told, where all of these are good.
+    /// The modules of its loads that were told, if all of these are good.
     pub fn modules(&self) -> &[&'s Module]
         ensures { self.now.failed ≡ None → AreGoodLoads J.plan self.now.n self.now.told (map (λ m. m.now) result.now) }
     {
         self.modules.as_slice()
     }
 
-    /// Its next load is not good.
+    /// Records that its next load is not good.
     pub fn refuse(&mut self)
         requires load { self.old.told < length (loads_of J.plan self.old.n) }
         requires fits { self.old.told + 1 < 2 ^ 64 }
@@ -106,7 +107,7 @@ impl<'s, J: Naming> Frame<'s, J> {
         self.told += 1;
     }
 
-    /// Its next load has ended with this module. Where a growth is refused, nothing was told.
+    /// Records that its next load has ended with this module. If an allocation fails, nothing is recorded.
     pub fn tell(&mut self, it: &'s Module) -> Result<(), AllocError>
         requires load { self.old.told < length (loads_of J.plan self.old.n) }
         requires fits { self.old.told + 1 < 2 ^ 64 }

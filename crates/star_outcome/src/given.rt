@@ -1,5 +1,5 @@
-//! What a body is given of other files: the stores of all files that it needs. With its own they are what others are
-//! given.
+//! The stores that a file's body may read: those of all files that its loads lead to. With its own they are the stores
+//! that its module shares with others.
 
 ghost use Rattle.std.specs.Prelude.{◌≡◌, ◌<◌, ℕ, Some, All, Contains, IfOk, IfSome, OnOk, length, map, slice_get};
 ghost use Rattle.star_cache.specs.State.{Loads};
@@ -18,7 +18,8 @@ use std::alloc::{AllocError, Global};
 use std::marker::{Model, PhantomData};
 use std::sync::Arc;
 
-/// The stores that were gathered for a file: as a run is given them, and as those share them that load this file.
+/// The stores that were gathered for a file: as a shelf for its run, and as a row to be shared with the files that load
+/// it.
 #[derive(Drop)]
 pub struct Given<'s, J: Naming> {
     file: usize,
@@ -83,7 +84,7 @@ impl<'s, J: Naming> Given<'s, J> {
         Ok(given)
     }
 
-    /// A store that is in the row already is put on the shelf.
+    /// Puts a store of the row on the shelf.
     fn seat(&mut self, reach: &'s Reach) -> Result<(), AllocError>
         requires needed { Needs J.plan self.old.file reach.now.number }
         requires own { IsOwn J.plan reach.now.number reach.now.store }
@@ -95,7 +96,7 @@ impl<'s, J: Naming> Given<'s, J> {
         Ok(())
     }
 
-    /// So are several.
+    /// Puts several stores of the row on the shelf.
     fn seat_each(&mut self, stores: &'s [Reach]) -> Result<(), AllocError>
         requires needed { AreNeeded J.plan self.old.file stores.now }
         requires listed { All (λ s. Contains (map (λ r. r.number) self.old.reaches) s.number) stores.now }
@@ -108,7 +109,7 @@ impl<'s, J: Naming> Given<'s, J> {
         Ok(())
     }
 
-    /// So are those of several blocks.
+    /// Puts the stores of several blocks of the row on the shelf.
     fn seat_blocks(&mut self, blocks: &'s [Arc<Vec<Reach>>]) -> Result<(), AllocError>
         requires needed { AreNeeded J.plan self.old.file (shared_of blocks.now) }
         requires listed { All (λ s. Contains (map (λ r. r.number) self.old.reaches) s.number) (shared_of blocks.now) }
@@ -120,7 +121,7 @@ impl<'s, J: Naming> Given<'s, J> {
         Ok(())
     }
 
-    /// One store more, unless its file has one.
+    /// Adds a store, unless the shelf has one of its file.
     fn add(&mut self, reach: &'s Reach) -> Result<(), AllocError>
         requires needed { Needs J.plan self.old.file reach.now.number }
         requires own { IsOwn J.plan reach.now.number reach.now.store }
@@ -137,7 +138,7 @@ impl<'s, J: Naming> Given<'s, J> {
         Ok(())
     }
 
-    /// Several stores more.
+    /// Adds several stores.
     fn add_each(&mut self, stores: &'s [Reach]) -> Result<(), AllocError>
         requires { AreNeeded J.plan self.old.file stores.now }
         ensures file { self.new.file ≡ self.old.file }
@@ -150,7 +151,7 @@ impl<'s, J: Naming> Given<'s, J> {
         Ok(())
     }
 
-    /// The stores of several blocks.
+    /// Adds the stores of several blocks.
     fn add_blocks(&mut self, blocks: &'s [Arc<Vec<Reach>>]) -> Result<(), AllocError>
         requires { AreNeeded J.plan self.old.file (shared_of blocks.now) }
         ensures file { self.new.file ≡ self.old.file }
@@ -163,7 +164,7 @@ impl<'s, J: Naming> Given<'s, J> {
         Ok(())
     }
 
-    /// The stores of a row.
+    /// Adds the stores of a row.
     fn add_row(&mut self, stores: &'s StoreRow) -> Result<(), AllocError>
         requires { AreNeeded J.plan self.old.file (row_of stores.now) }
         ensures file { self.new.file ≡ self.old.file }
@@ -175,7 +176,7 @@ impl<'s, J: Naming> Given<'s, J> {
         Ok(())
     }
 
-    /// The stores of a load and of all files to which its loads lead.
+    /// Adds the stores of a loaded file and of all files that its loads lead to.
     fn add_load(&mut self, it: &'s Module) -> Result<(), AllocError>
         requires load { Loads (loaded J.plan) self.old.file it.now.number }
         requires good { IsGoodModule J.plan it.now.number it.now }
@@ -190,7 +191,8 @@ impl<'s, J: Naming> Given<'s, J> {
         }
     }
 
-    /// Where the shelf has all to which the loads of its file lead, it holds what the file needs, and so does the row.
+    /// If the shelf has the stores of all files that the loads of file `n` lead to, it has all that the file needs, and
+    /// the row has it too.
     fn all_needed(&self, n: usize)
         requires file { self.now.file ≡ n }
         requires all { (i m : ℕ) → slice_get (loaded J.plan n) i ≡ Some m
@@ -198,6 +200,7 @@ impl<'s, J: Naming> Given<'s, J> {
         ensures holds { HoldsNeeds J.plan n self.now.shelf }
         ensures listed { (k : ℕ) → Needs J.plan n k → Contains (map (λ r. r.number) self.now.reaches) k }
     {
+        // Reading a field lets the checker use the invariant of `Given`.
         let _ = &self.homes;
     }
 
@@ -217,7 +220,7 @@ impl<'s, J: Naming> Given<'s, J> {
     }
 }
 
-/// The place of the module that shares the most stores: none where no module shares any.
+/// The index of the module that shares the most stores; `None` if no module shares any.
 fn widest(modules: &[&Module]) -> Option<usize>
     ensures { IfSome result (λ i. i < length modules.now) }
 {
@@ -233,7 +236,7 @@ fn widest(modules: &[&Module]) -> Option<usize>
     place
 }
 
-/// What is gathered first: what the module shares that shares the most, and all that the others have is added to it.
+/// The start of the collection: the stores of the module that shares the most. Those of the others are added to it.
 fn begun<'s, J: Naming>(
     alloc: Global,
     n: usize,
@@ -248,7 +251,7 @@ fn begun<'s, J: Naming>(
     }
 }
 
-/// The stores of all files that a file needs, by the modules of its loads.
+/// The stores of all files that file `n` needs, by the modules of its loads. The error: an allocation failed.
 pub fn gathered<'s, J: Naming>(
     alloc: Global,
     n: usize,
@@ -267,7 +270,7 @@ pub fn gathered<'s, J: Naming>(
     Ok(given)
 }
 
-/// The stores of a file: its own, and those of all files that it needs.
+/// The stores of a file: its own, and those of all files that it needs. The error: an allocation failed.
 pub fn stores_of<J: Naming>(
     alloc: Global,
     home: u32,

@@ -1,4 +1,4 @@
-//! The stores of a module as a shelf, on which its values are looked up.
+//! The stores of a module as `Homes`, so that its values can be looked up.
 
 ghost use Rattle.std.specs.Prelude.{◌≡◌, [], IfOk, OnOk, fold};
 ghost use Rattle.star_outcome.specs.Homes.{seated};
@@ -10,7 +10,7 @@ use std::alloc::{AllocError, Global};
 use std::sync::Arc;
 
 impl StoreRow {
-    /// The stores as a shelf, each at the number of its file.
+    /// The stores as a shelf, each at the number of its file. The error: an allocation failed.
     pub fn homes<'s>(&'s self, alloc: Global) -> Result<Homes<'s>, AllocError>
         ensures { IfOk result (λ h. h ≡ fold seated [] (row_of self.now)) }
     {

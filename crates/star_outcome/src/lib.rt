@@ -1,16 +1,21 @@
-//! What becomes of files.
+//! The result of a file, as other files get it. The types here carry the main promise of the host: the module of a file
+//! has the file's outcome.
 //!
-//! - `Module` is how a file ended: a static fault, a failed load, a run-time fault with its lines, or a good run with
-//!   its store.
-//! - `Shelf` has a cell for each file, on which its module is published once. A note of a cell knows what it holds
-//!   without a lock.
-//! - `Told` is what the cache hands to a loader about a file that has ended: its number, whether it is good, and a
-//!   note. Its type makes it right: the module has just the outcome that the meaning gives its file.
-//! - `Frame` is a file whose loads are being asked for; `Given` and `StoreRow` collect the stores that its body may
-//!   read.
-//! - `Trace` has the refused loads, and `Run` what a run answers: the modules of all reached files, by number.
+//! - `Module` is how a file ended: a static fault, a failed load, a run-time fault with its printed lines, or a good
+//!   run with its store.
+//! - `Shelf` has a cell for each file; the file's module is published there once. A `Note` is a proof, in a type, that
+//!   a cell has been set to a certain module; with it the module is read without a lock.
+//! - `Told` is the product that the cache hands out for a file that has ended: its number, whether it is good, and a
+//!   note. Its invariant is that the module has just the outcome that the definitions give its file.
+//! - `Frame` is a file whose loads are being asked for, on the stack of a loader. It is not a frame of variables.
+//!   `Given` and `StoreRow` collect the stores that its body may read.
+//! - `Trace` has the refused loads; each is on a cycle. `Run` is the result of a run: the modules of all reached files,
+//!   by number.
+//! - `Naming`, called `J` in signatures, is the identity of one run: its files, their plan, its shelf. Only contracts
+//!   see it; it keeps the notes of two runs apart.
 //!
-//! `Naming` is the identity of one run (its files, their plan, its shelf). Only contracts see it.
+//! Begin at `module.rt`, then `told.rt`. `told::headline` states the headline of `star_cache` for this product. See
+//! `docs/OUTCOMES.md` and `docs/LOADING.md`.
 #![tactic(auto)]
 
 pub mod frame;

@@ -1,24 +1,34 @@
-//! What has become of a file.
+//! `Module`: how a file ended.
 
 ghost use Rattle.std.specs.Prelude.{◌≡◌};
 ghost use Rattle.star_outcome.specs.Views.{ended_well};
 
 use crate::store_row::StoreRow;
+use star_found::about::Found;
 use star_meaning::fault::Code;
 use star_meaning::story::Step;
 use star_reading::code::StaticFault;
 use star_text::Text;
 
-/// What a run left that went well.
+/// The result of a good run.
 #[derive(Drop)]
 pub struct Body {
-    /// The stores of the file and of all files to which its loads lead.
+    /// The stores of the file and of all files that its loads lead to.
     pub stores: StoreRow,
     /// Each global with its text, in byte order of the names.
     pub shown: Vec<(String, Text)>,
     pub lines: Vec<Text>,
     /// The steps that its run has paid.
     pub paid: u32,
+}
+
+/// The details of a fault that are for a person and not in the report.
+#[derive(Drop)]
+pub struct Left {
+    /// The statements and calls that the fault passed on its way out, the innermost first.
+    pub trail: Vec<Step>,
+    /// The part of the program that the fault is about, if it was found.
+    pub found: Option<Found>,
 }
 
 /// How a file has ended.
@@ -31,19 +41,18 @@ pub enum Ended {
         index: usize,
         line: usize,
     },
-    /// Its run stopped at this line, for this reason, when these lines were printed.
+    /// Its run stopped at this line, for this reason, after it had printed these lines.
     Stopped {
         code: Code,
         line: usize,
         lines: Vec<Text>,
-        /// What the fault has left on its way out, the innermost first.
-        trail: Vec<Step>,
+        left: Left,
     },
     /// Its run went well.
     Good(Body),
 }
 
-/// What has become of a file: its number, the files that it loads, and how it ended.
+/// The result of a file: its number, the files that it loads, and how it ended.
 #[derive(Drop)]
 pub struct Module {
     pub number: usize,
@@ -52,14 +61,14 @@ pub struct Module {
 }
 
 impl Module {
-    /// Whether it may be used by those that load it.
+    /// Whether files that load it may use it: its run went well.
     pub fn is_good(&self) -> bool
         ensures { result ≡ ended_well self.now.ended }
     {
         matches!(&self.ended, Ended::Good(_))
     }
 
-    /// How many of its stores others may share: how much room that saves them.
+    /// The number of its stores that other rows may share without a copy.
     pub(crate) fn shared(&self) -> usize {
         match &self.ended {
             Ended::Good(body) => body.stores.shared(),

@@ -7,11 +7,11 @@ ghost use Rattle.star_plan.specs.Plan.{Plan};
 use std::marker::Brand;
 use std::sync::ledger::Ledger;
 
-/// What a cache belongs to: its files, what was read of them, and its shelf. Each call of a program picks it.
+/// The identity of one run: its files, their plan, and its shelf. Each run picks a fresh one for its cache.
 pub trait Naming: Ledger {
     ghost files: { List File };
 
-    // what is to be loaded, and what was read
+    // the roots, the prelude, the steps, and the result of reading each file
     ghost plan: { Plan };
 
     // the names of the shelf's cells

@@ -1,4 +1,4 @@
-//! What a run answers.
+//! `Run`: the result of a run, with the modules of all reached files.
 
 ghost use Rattle.std.specs.Prelude.{◌≡◌, ◌<◌, ◌==◌, length, slice_index_or, IfOk, Some};
 ghost use Rattle.star_outcome.specs.Kept.{AllKept, IsSound, KeptView};
@@ -33,7 +33,7 @@ impl Kept {
         self.number
     }
 
-    /// Another note that knows what its own does.
+    /// Another note that knows the same of the cell.
     pub fn note(&mut self) -> Note<Module>
         ensures same { self.new ≡ self.old }
         ensures note { (result.cell ≡ self.old.cell) × (result.known ≡ self.old.known) }
@@ -41,7 +41,7 @@ impl Kept {
         self.note.again()
     }
 
-    /// The same number, and another note that knows what this one does.
+    /// A copy, with another note that knows the same.
     fn again(&mut self) -> Kept
         ensures same { self.new ≡ self.old }
         ensures kept { result ≡ self.old }
@@ -53,7 +53,7 @@ impl Kept {
     }
 }
 
-/// The same files, each with a note of its cell.
+/// A copy of these files, each with another note of its cell. The error: an allocation failed.
 fn kept_again(alloc: Global, kept: &mut [Kept]) -> Result<Vec<Kept>, AllocError>
     ensures same { kept.new ≡ kept.old }
     ensures kept { IfOk result (λ ks. ks.items ≡ kept.old) }
@@ -65,8 +65,8 @@ fn kept_again(alloc: Global, kept: &mut [Kept]) -> Result<Vec<Kept>, AllocError>
     Ok(all)
 }
 
-/// The modules of all reached files in order of their numbers, how many files were begun, and by each loader; and the
-/// refused loads.
+/// The modules of all reached files in order of their numbers, the number of files that were begun, in all and by each
+/// loader, and the refused loads.
 #[derive(Drop)]
 pub struct Run {
     shelf: Shelf<Module>,
@@ -93,7 +93,7 @@ impl Model for Run {
 }
 
 impl Run {
-    /// The modules of a shelf, by these notes.
+    /// The result with the modules of a shelf, by these notes.
     pub fn new(
         shelf: Shelf<Module>,
         kept: Vec<Kept>,
@@ -119,7 +119,7 @@ impl Run {
         }
     }
 
-    /// How many files were reached.
+    /// The number of reached files.
     pub fn len(&self) -> usize
         ensures { result ≡ length self.now.kept }
     {
@@ -133,14 +133,14 @@ impl Run {
         self.kept.is_empty()
     }
 
-    /// How many files were begun.
+    /// The number of files that were begun.
     pub fn begun(&self) -> u32
         ensures { result ≡ self.now.begun }
     {
         self.begun
     }
 
-    /// How many files each loader has begun, 0 after the last loader.
+    /// The number of files that each loader has begun; 0 after the last loader.
     pub fn per_loader(&self) -> [u32; 64]
         ensures { result ≡ self.now.per_loader }
     {
@@ -164,7 +164,7 @@ impl Run {
         self.kept[i].note()
     }
 
-    /// The files, each with a note that knows its module.
+    /// The files, each with a note that knows its module. The error: an allocation failed.
     pub fn kept(&mut self, alloc: Global) -> Result<Vec<Kept>, AllocError>
         ensures same { self.new ≡ self.old }
         ensures kept { IfOk result (λ ks. ks.items ≡ self.old.kept) }

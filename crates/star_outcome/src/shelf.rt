@@ -1,4 +1,4 @@
-//! What is published for each file, once.
+//! The shelf: a cell for each file, where its module is published once.
 
 ghost use Rattle.std.specs.Prelude.{◌≡◌, ◌<◌, ℕ, length, slice_index, Some, IsSome, IfOk};
 
@@ -22,7 +22,7 @@ impl<T: Drop> Model for Shelf<T> {
 }
 
 impl<T: Drop> Shelf<T> {
-    /// So many cells, with nothing in them.
+    /// `n` empty cells. The error: an allocation failed.
     pub fn new(alloc: Global, n: usize) -> Result<Shelf<T>, AllocError>
         ensures { IfOk result (λ s. length s ≡ n) }
     {
@@ -33,7 +33,7 @@ impl<T: Drop> Shelf<T> {
         Ok(Shelf { cells })
     }
 
-    /// What a note knows. It takes no lock and waits for nobody.
+    /// The content that the note knows of its cell. It takes no lock and waits for nobody.
     pub fn seen(&self, n: usize, mut note: Note<T>) -> &T
         requires number { n < length self.now }
         requires cell { note.cell ≡ slice_index self.now n }
@@ -46,8 +46,7 @@ impl<T: Drop> Shelf<T> {
         }
     }
 
-    /// Sets a cell, and gives a note that knows it. Where the cell has something already, what was to be set comes
-    /// back.
+    /// Sets a cell, and gives a note that knows it. If the cell is set already, the value comes back.
     pub fn publish(&self, n: usize, there: Box<T>) -> Result<Note<T>, Box<T>>
         requires { n < length self.now }
         ensures { IfOk result (λ note. (note.cell ≡ slice_index self.now n) × (note.known ≡ Some there.value)) }
@@ -57,8 +56,8 @@ impl<T: Drop> Shelf<T> {
         Ok(note)
     }
 
-    /// Two notes of one cell that both know, in any threads, know the same. It looks at nothing: what it says is in its
-    /// contract.
+    /// Two notes of one cell that both know its content, in any threads, know the same. The function does nothing: its
+    /// contract is the law.
     pub fn agree(&self, n: usize, one: &mut Note<T>, other: Note<T>)
         requires number { n < length self.now }
         requires one { one.old.cell ≡ slice_index self.now n }

@@ -1,4 +1,4 @@
-//! The stores that a module reaches: its file's own, and those of all files to which its loads lead.
+//! The stores that a module reaches: its file's own, and those of all files that its loads lead to.
 
 ghost use Rattle.std.specs.Prelude.{◌≡◌, ◌++◌, ◌∷◌, [], IfOk, OnErr, OnOk};
 ghost use Rattle.star_outcome.specs.Reaches.{row_of, shared_of};
@@ -8,10 +8,10 @@ use std::alloc::{AllocError, Global};
 use std::marker::Model;
 use std::sync::Arc;
 
-/// How many stores a row has beside its blocks when they become a block, which others share.
+/// A row with this many stores beside its blocks turns them into a further block.
 const MANY: usize = 32;
 
-/// The store of a file, which all that reach it share.
+/// The store of a file, shared by all modules that reach it.
 #[derive(Drop)]
 pub struct Reach {
     number: u32,
@@ -50,7 +50,7 @@ impl Reach {
         &*self.store
     }
 
-    /// The same store, which one more shares.
+    /// A copy that shares the store.
     fn again(&self) -> Result<Reach, AllocError>
         ensures { IfOk result (λ r. r ≡ self.now) }
     {
@@ -62,8 +62,8 @@ impl Reach {
     }
 }
 
-/// A row of stores, of which the first stand in blocks that rows of other files share. So the rows of a chain of files
-/// take room in proportion to the chain, and a row is shared by few steps.
+/// A row of stores. The first are in blocks that it shares with the rows of other files. So the rows of a chain of
+/// files take memory in proportion to the chain, and a row is shared in few steps.
 #[derive(Drop)]
 pub struct StoreRow {
     blocks: Vec<Arc<Vec<Reach>>>,
@@ -89,7 +89,7 @@ impl StoreRow {
         }
     }
 
-    /// The stores that stand in blocks of another row.
+    /// The stores in the blocks of another row.
     pub(crate) fn over(alloc: Global, other: &StoreRow) -> Result<StoreRow, AllocError>
         ensures { IfOk result (λ s. s ≡ record { base = other.now.base; more = [] }) }
     {
@@ -107,7 +107,7 @@ impl StoreRow {
         self.blocks.as_slice()
     }
 
-    /// How many of its stores others may share.
+    /// The number of its stores in blocks, which others may share.
     pub(crate) fn shared(&self) -> usize {
         let mut count: usize = 0;
         for block in &self.blocks {
@@ -123,7 +123,7 @@ impl StoreRow {
         self.more.as_slice()
     }
 
-    /// One store more, which another row has as well. Where a growth is refused, the row is as it was.
+    /// Adds a store that another row has as well. If an allocation fails, the row is as it was.
     pub(crate) fn push_again(&mut self, reach: &Reach) -> Result<(), AllocError>
         ensures added { OnOk result (row_of self.new ≡ row_of self.old ++ reach.now ∷ []) }
         ensures refused { OnErr result (self.new ≡ self.old) }
@@ -131,7 +131,7 @@ impl StoreRow {
         self.push(reach.again()?)
     }
 
-    /// One store more. Where a growth is refused, the row is as it was.
+    /// Adds a store. If an allocation fails, the row is as it was.
     pub(crate) fn push(&mut self, reach: Reach) -> Result<(), AllocError>
         ensures added { OnOk result (row_of self.new ≡ row_of self.old ++ reach ∷ []) }
         ensures refused { OnErr result (self.new ≡ self.old) }
@@ -140,7 +140,7 @@ impl StoreRow {
         Ok(())
     }
 
-    /// The same stores, all of which others may share from now on where many could not be.
+    /// The same stores. If 32 or more of them are not in blocks yet, these become a further block.
     pub(crate) fn settled(self, alloc: Global) -> Result<StoreRow, AllocError>
         ensures { IfOk result (λ s. row_of s ≡ row_of self) }
     {
@@ -156,7 +156,7 @@ impl StoreRow {
     }
 }
 
-/// The same blocks, which one row more shares.
+/// A copy of the blocks, with the stores shared.
 fn share_each(alloc: Global, blocks: &[Arc<Vec<Reach>>]) -> Result<Vec<Arc<Vec<Reach>>>, AllocError>
     ensures { IfOk result (λ shared. shared_of shared.items ≡ shared_of blocks.now) }
 {

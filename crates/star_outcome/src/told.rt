@@ -1,4 +1,4 @@
-//! What a loader is told of a file that has ended.
+//! `Told`: the product of the host's cache, which a loader gets for a file that has ended.
 
 ghost use Rattle.std.specs.Prelude.{◌≡◌, length, slice_index};
 ghost use Rattle.star_cache.specs.Headline.{Headline};
@@ -36,7 +36,7 @@ impl<J: Naming> Model for Told<J> {
 }
 
 impl<J: Naming> Told<J> {
-    /// What a file's published module tells.
+    /// The product of a file whose module is published.
     pub fn new(number: usize, good: bool, note: Note<Module>) -> Told<J>
         requires cell { note.cell ≡ slice_index J.shelf number }
         requires right { IsTold J.files J.plan number (record { number = number; good = good; known = note.known }) }
@@ -60,7 +60,7 @@ impl<J: Naming> Told<J> {
         self.note.again()
     }
 
-    /// What is told of one file, in any threads, is one module. It looks at nothing: what it says is in its contract.
+    /// All products of one file, in any threads, have one module. The function does nothing: its contract is the law.
     pub fn agree(&mut self, other: Told<J>)
         requires number { other.number ≡ self.old.number }
         ensures same { self.new ≡ self.old }
@@ -70,7 +70,7 @@ impl<J: Naming> Told<J> {
         self.note.compare(note);
     }
 
-    /// The number with the note, for those to whom the cache is closed.
+    /// The number with the note, for use after the cache is closed.
     pub fn kept(&mut self) -> Kept
         requires { length J.shelf ≡ length J.files }
         ensures same { self.new ≡ self.old }
@@ -142,10 +142,11 @@ impl<J: Naming> Product for Told<J> {
     }
 }
 
-/// The headline at the host's product: what holds of the book of a run's files whenever the lock of its cache is free.
-/// The loads, the reached files and the outcomes are those of the plan.
+/// The headline at the host's product: true of the book of a run's files whenever the lock of its cache is free. The
+/// loads, the reached files and the outcomes are those of the plan.
 pub fn headline<J: Naming>(book: &Book<Told<J>>)
     ensures { Headline (IsAsked J.files J.plan) (IsTold J.files J.plan) book.now }
 {
+    // A call of the book lets the checker use its invariant; the headline follows from it.
     let _begun = book.begun();
 }

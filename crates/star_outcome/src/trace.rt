@@ -1,4 +1,4 @@
-//! The loads that were refused.
+//! `Trace`: the loads that were refused, since they would have closed a cycle.
 
 ghost use Rattle.std.specs.Prelude.{◌≡◌, IfOk, IfSome};
 ghost use Rattle.boxcar.specs.Table.{Shows};
@@ -11,8 +11,8 @@ use std::alloc::{AllocError, Global};
 use std::marker::PhantomData;
 use std::sync::Wait;
 
-/// A load that was refused: a file, the load's place among its loads, and the file that it loads. Files stand by their
-/// numbers.
+/// A load that was refused: a file, the index of the load among its loads, and the file that it loads. Files are given
+/// by their numbers.
 #[derive(Clone, Copy, Debug, PartialEq, Eq)]
 pub struct Refused {
     pub file: usize,
@@ -29,7 +29,7 @@ impl<J: Naming> Keeps<Refused> for OnCycle<J> {
     ghost holds = { λ _ _ r. IsRefusal J.plan r };
 }
 
-/// What reads an item back.
+/// A token to read an item back with.
 pub type Token<J> = Pushed<Refused, Global, OnCycle<J>>;
 
 /// The refused loads, in the order of their places.
@@ -39,14 +39,14 @@ pub struct Trace<J: Naming> {
 }
 
 impl<J: Naming> Trace<J> {
-    /// No load.
+    /// No load. The error: an allocation failed.
     pub fn new(alloc: Global) -> Result<Trace<J>, AllocError> {
         Ok(Trace {
             items: boxcar::Vec::with_rule(alloc, Tag::empty())?,
         })
     }
 
-    /// One more. It is refused only for want of memory.
+    /// Adds a load. The error: an allocation failed.
     pub fn push<R: Wait>(&self, rt: &R, refused: Refused) -> Result<Token<J>, AllocError>
         requires { IsRefusal J.plan refused }
         ensures { IfOk result (λ t. Shows self.now.items t × (t.value ≡ refused)) }
@@ -65,7 +65,7 @@ impl<J: Naming> Trace<J> {
         *self.items.value(token)
     }
 
-    /// The item that has `i` items before it.
+    /// The item with `i` items before it; `None` if there are at most `i` items.
     pub fn nth(&self, i: usize) -> Option<Refused>
         ensures { IfSome result (IsRefusal J.plan) }
     {
@@ -80,7 +80,7 @@ impl<J: Naming> Trace<J> {
         None
     }
 
-    /// All items, in order.
+    /// All items, in order. The error: an allocation failed.
     pub fn all(&self, alloc: Global) -> Result<Vec<Refused>, AllocError>
         ensures { IfOk result (λ all. AreRefusals J.plan all.items) }
     {

@@ -68,7 +68,7 @@ within-next all left next x s t e h l k =
     let a : all - next ≡ all - left + 1 = omega arith in
     rw (e, a) (within-after-token (all - left) x s k)
 
--- a token after which the weight is not above the limit is passed
+-- a token that leaves the weight within the limit is passed
 pub passed : (whole : Option ℕ) (s t : State) (x : Effect) (d : Token) (ts : List Token) → 1 ≤ length ts → whole ≡ passes s ts
     → x ≡ of_kind (get_or ts 0 d).kind → t ≡ after_token x s → t.weight ≤ 100 → whole ≡ passes t (drop 1 ts)
 passed whole s t x d [] some e k b l = absurd (omega arith)

@@ -1,4 +1,4 @@
--- What is known of every answer for a text.
+-- The law of the parser: a text has one answer.
 use Rattle.std.specs.Prelude.{◌≡◌, Result, Err}
 use Rattle.star_lex.specs.declared.token.SyntaxFault.{SyntaxFault}
 use Rattle.star_lex.specs.declared.token.SyntaxFault.TheVariants.{Memory}

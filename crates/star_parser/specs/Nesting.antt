@@ -64,19 +64,19 @@ of_kind _ = e.Nothing
 
 pub record State : Type 0 where
   pub weight : ℕ
-  -- what each open bracket remembers, the innermost first
+  -- the weight that each open bracket remembers, the innermost first
   pub remembered : List ℕ
   -- how many indentations above 0 are open
   pub indents : ℕ
 
--- what the code keeps
+-- the state that the code keeps
 abbrev pub state : Nesting → State
 state n = record { weight = n.weight; remembered = n.remembered.items; indents = n.indents }
 
 abbrev pub at_start : State
 at_start = record { weight = 0; remembered = []; indents = 0 }
 
--- what the innermost open bracket remembers, or else a number
+-- the weight that the innermost open bracket remembers, or else a number
 abbrev pub innermost : ℕ → List ℕ → ℕ
 innermost w [] = w
 innermost w (r ∷ rs) = r
@@ -99,15 +99,15 @@ after_token e.Adds n = record { weight = n.weight + 1; remembered = n.remembered
 -- an opening bracket adds 1 and remembers the new weight
 after_token e.Opens n =
     record { weight = n.weight + 1; remembered = (n.weight + 1) ∷ n.remembered; indents = n.indents }
--- a closing bracket gives back what the innermost open one remembers, which is forgotten
+-- a closing bracket gives back the weight that the innermost open one remembers, which is forgotten
 after_token e.Closes n =
     record { weight = innermost n.weight n.remembered; remembered = outer n.remembered; indents = n.indents }
 -- so does a comma inside brackets, which forgets nothing
 after_token e.Comma n =
     record { weight = innermost n.weight n.remembered; remembered = n.remembered; indents = n.indents }
--- `lambda` adds 1, also to what the innermost open bracket remembers
+-- `lambda` adds 1, also to the weight that the innermost open bracket remembers
 after_token e.Lambda n = record { weight = n.weight + 1; remembered = raised n.remembered; indents = n.indents }
--- where a statement begins the weight is the number of open indentations
+-- as a statement begins the weight is the number of open indentations
 after_token e.Semicolon n = record { weight = semicolon n; remembered = n.remembered; indents = n.indents }
 after_token e.Newline n = record { weight = n.indents; remembered = n.remembered; indents = n.indents }
 after_token e.Indent n = record { weight = n.indents + 1; remembered = n.remembered; indents = n.indents + 1 }
@@ -116,7 +116,7 @@ after_token e.Outdent n = record { weight = n.indents - 1; remembered = n.rememb
 abbrev pub limit : ℕ
 limit = 100
 
--- the line of the first token after which the weight is above the limit
+-- the line of the first token that takes the weight above the limit
 abbrev pub passes : State → List Token → Option ℕ
 passes n [] = None
 passes n (t ∷ ts) = let m = after_token (of_kind t.kind) n in if nat_lt limit m.weight then Some t.line else passes m ts

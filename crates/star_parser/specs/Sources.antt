@@ -1,4 +1,4 @@
--- What the parser of a text answers.
+-- The answer of the parser for a text: its tree, or the first fault.
 use Rattle.std.specs.Prelude.{◌≡◌, ℕ, List, Option, Some, None, Result, Ok, Err}
 use Rattle.star_lex.specs.declared.token.Token.{Token}
 use Rattle.star_lex.specs.declared.token.SyntaxFault.{SyntaxFault}
@@ -21,7 +21,7 @@ abbrev pub ReadAs : List Leaf → Result Tree SyntaxFault → Type 0
 ReadAs leaves (Ok tree) = Reading tree.statements leaves
 ReadAs leaves (Err fault) = (fault ≡ BadSyntax) × Unreadable leaves
 
--- the answer for tokens, of which the first that is nested too deeply stands on a line
+-- the answer for tokens, with the line of the first that is nested too deeply
 abbrev pub Weighed : Option ℕ → List Leaf → Result Tree SyntaxFault → Type 0
 Weighed (Some line) leaves result = result ≡ Err (TooNested line)
 Weighed None leaves result = ReadAs leaves result

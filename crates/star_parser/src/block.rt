@@ -1,4 +1,4 @@
-//! Reading statements that hold others, and files.
+//! The readers of statements that hold others, and of a whole file. Begin at `file`.
 
 ghost use Rattle.star_syntax.specs.Grammar.{first, run, statement as at_statement};
 ghost use Rattle.star_syntax.specs.Expressions as expressions;
@@ -11,7 +11,7 @@ use star_lex::token::{Keyword, Sign};
 use star_syntax::expressions::{expression, parameters_at, targets_at, tests_at};
 use star_syntax::leaf::{Leaf, Word};
 use star_syntax::level::Level;
-use star_syntax::reader::{Read, keyword, name, sign};
+use star_syntax::reader::{Read, exact, keyword, name, sign};
 use star_tree::tree::{Arm, Expression, Form, Parameter, Statement, Target};
 use std::alloc::{AllocError, Global};
 
@@ -85,6 +85,7 @@ impl<F: Fn(Global, u128, &[Leaf]) -> Read<'_, Items<Statement>>> Nested<F> {
         readers.simple(leaves)
     }
 
+    /// `Statement {Statement}`
     #[tactic(auto, unfolding(star_syntax::specs::Statements::body))]
     fn body<'a>(&self, leaves: &'a [Leaf]) -> Read<'a, Items<Statement>>
         requires { Blocks self.now.depth (F.pre self.now.statement) (F.post self.now.statement) }
@@ -103,6 +104,7 @@ impl<F: Fn(Global, u128, &[Leaf]) -> Read<'_, Items<Statement>>> Nested<F> {
         Ok(Some((found, rest)))
     }
 
+    /// `NEWLINE INDENT Statement {Statement} OUTDENT`
     #[tactic(auto, unfolding(star_syntax::specs::Statements::block))]
     fn block<'a>(&self, leaves: &'a [Leaf]) -> Read<'a, Items<Statement>>
         requires { Blocks self.now.depth (F.pre self.now.statement) (F.post self.now.statement) }
@@ -120,9 +122,10 @@ impl<F: Fn(Global, u128, &[Leaf]) -> Read<'_, Items<Statement>>> Nested<F> {
         let Some((_, rest)) = outdent(rest) else {
             return Ok(None);
         };
-        Ok(Some((found, rest)))
+        Ok(Some((exact(self.alloc, found)?, rest)))
     }
 
+    /// `Suite = Simple | NEWLINE INDENT Statement {Statement} OUTDENT`
     #[tactic(auto, unfolding(star_syntax::specs::Statements::suite))]
     fn suite<'a>(&self, leaves: &'a [Leaf]) -> Read<'a, Items<Statement>>
         requires { Blocks self.now.depth (F.pre self.now.statement) (F.post self.now.statement) }
@@ -134,6 +137,7 @@ impl<F: Fn(Global, u128, &[Leaf]) -> Read<'_, Items<Statement>>> Nested<F> {
         self.block(leaves)
     }
 
+    /// `':' Suite`
     #[tactic(auto, unfolding(star_syntax::specs::Statements::colon_suite))]
     fn colon_suite<'a>(&self, leaves: &'a [Leaf]) -> Read<'a, Items<Statement>>
         requires { Blocks self.now.depth (F.pre self.now.statement) (F.post self.now.statement) }
@@ -145,6 +149,7 @@ impl<F: Fn(Global, u128, &[Leaf]) -> Read<'_, Items<Statement>>> Nested<F> {
         self.suite(rest)
     }
 
+    /// `Test ':' Suite`
     #[tactic(auto, unfolding(star_syntax::specs::Statements::arm))]
     fn arm<'a>(&self, leaves: &'a [Leaf]) -> Read<'a, Arm>
         requires { Blocks self.now.depth (F.pre self.now.statement) (F.post self.now.statement) }
@@ -160,6 +165,7 @@ impl<F: Fn(Global, u128, &[Leaf]) -> Read<'_, Items<Statement>>> Nested<F> {
         Ok(Some((Arm { condition, body }, rest)))
     }
 
+    /// `'elif' Test ':' Suite`
     #[tactic(auto, unfolding(star_syntax::specs::Statements::next_arm))]
     fn next_arm<'a>(&self, leaves: &'a [Leaf]) -> Read<'a, Arm>
         requires { Blocks self.now.depth (F.pre self.now.statement) (F.post self.now.statement) }
@@ -171,6 +177,7 @@ impl<F: Fn(Global, u128, &[Leaf]) -> Read<'_, Items<Statement>>> Nested<F> {
         self.arm(rest)
     }
 
+    /// `'if' Test ':' Suite`
     #[tactic(auto, unfolding(star_syntax::specs::Statements::first_arm))]
     fn first_arm<'a>(&self, leaves: &'a [Leaf]) -> Read<'a, Arm>
         requires { Blocks self.now.depth (F.pre self.now.statement) (F.post self.now.statement) }
@@ -182,6 +189,7 @@ impl<F: Fn(Global, u128, &[Leaf]) -> Read<'_, Items<Statement>>> Nested<F> {
         self.arm(rest)
     }
 
+    /// `'if' Test ':' Suite {'elif' Test ':' Suite}`
     #[tactic(auto, unfolding(star_syntax::specs::Statements::arms))]
     fn arms<'a>(&self, leaves: &'a [Leaf]) -> Read<'a, Items<Arm>>
         requires { Blocks self.now.depth (F.pre self.now.statement) (F.post self.now.statement) }
@@ -201,6 +209,7 @@ impl<F: Fn(Global, u128, &[Leaf]) -> Read<'_, Items<Statement>>> Nested<F> {
         Ok(Some((found, rest)))
     }
 
+    /// `'else' ':' Suite`
     #[tactic(auto, unfolding(star_syntax::specs::Statements::otherwise))]
     fn otherwise<'a>(&self, leaves: &'a [Leaf]) -> Read<'a, Items<Statement>>
         requires { Blocks self.now.depth (F.pre self.now.statement) (F.post self.now.statement) }
@@ -212,6 +221,7 @@ impl<F: Fn(Global, u128, &[Leaf]) -> Read<'_, Items<Statement>>> Nested<F> {
         self.colon_suite(rest)
     }
 
+    /// `If = 'if' Test ':' Suite {'elif' Test ':' Suite} ['else' ':' Suite]`
     #[tactic(auto, unfolding(star_syntax::specs::Statements::condition))]
     fn condition<'a>(&self, leaves: &'a [Leaf]) -> Read<'a, Form>
         requires { Blocks self.now.depth (F.pre self.now.statement) (F.post self.now.statement) }
@@ -220,6 +230,7 @@ impl<F: Fn(Global, u128, &[Leaf]) -> Read<'_, Items<Statement>>> Nested<F> {
         let Some((arms, rest)) = self.arms(leaves)? else {
             return Ok(None);
         };
+        let arms = exact(self.alloc, arms)?;
         if let Some((otherwise, rest)) = self.otherwise(rest)? {
             return Ok(Some((Form::If { arms, otherwise }, rest)));
         }
@@ -245,6 +256,7 @@ impl<F: Fn(Global, u128, &[Leaf]) -> Read<'_, Items<Statement>>> Nested<F> {
         parameters_at(self.alloc, self.depth, leaves)
     }
 
+    /// `For = 'for' Targets 'in' Tests ':' Suite`
     #[tactic(auto, unfolding(star_syntax::specs::Statements::iteration))]
     fn iteration<'a>(&self, leaves: &'a [Leaf]) -> Read<'a, Form>
         requires { Blocks self.now.depth (F.pre self.now.statement) (F.post self.now.statement) }
@@ -277,6 +289,7 @@ impl<F: Fn(Global, u128, &[Leaf]) -> Read<'_, Items<Statement>>> Nested<F> {
         )))
     }
 
+    /// `Def = 'def' name '(' [Params [',']] ')' ':' Suite`
     #[tactic(auto, unfolding(star_syntax::specs::Statements::definition))]
     fn definition<'a>(&self, leaves: &'a [Leaf]) -> Read<'a, Form>
         requires { Blocks self.now.depth (F.pre self.now.statement) (F.post self.now.statement) }
@@ -304,6 +317,7 @@ impl<F: Fn(Global, u128, &[Leaf]) -> Read<'_, Items<Statement>>> Nested<F> {
         )))
     }
 
+    /// `Def | If | For`, without its position.
     #[tactic(auto, unfolding(star_syntax::specs::Statements::compound_form))]
     fn compound_form<'a>(&self, leaves: &'a [Leaf]) -> Read<'a, Form>
         requires { Blocks self.now.depth (F.pre self.now.statement) (F.post self.now.statement) }
@@ -318,6 +332,7 @@ impl<F: Fn(Global, u128, &[Leaf]) -> Read<'_, Items<Statement>>> Nested<F> {
         self.iteration(leaves)
     }
 
+    /// `Def | If | For`, with the position of its first token.
     #[tactic(auto, unfolding(star_syntax::specs::Statements::compound))]
     fn compound<'a>(&self, leaves: &'a [Leaf]) -> Read<'a, Statement>
         requires { Blocks self.now.depth (F.pre self.now.statement) (F.post self.now.statement) }
@@ -333,6 +348,7 @@ impl<F: Fn(Global, u128, &[Leaf]) -> Read<'_, Items<Statement>>> Nested<F> {
         Ok(Some((Statement { position, form }, rest)))
     }
 
+    /// `Statement = Def | If | For | Simple`
     #[tactic(auto, unfolding(star_syntax::specs::Statements::one_statement))]
     fn one_statement<'a>(&self, leaves: &'a [Leaf]) -> Read<'a, Items<Statement>>
         requires { Blocks self.now.depth (F.pre self.now.statement) (F.post self.now.statement) }
@@ -344,6 +360,7 @@ impl<F: Fn(Global, u128, &[Leaf]) -> Read<'_, Items<Statement>>> Nested<F> {
         self.simple(leaves)
     }
 
+    /// `{Statement}`
     #[tactic(auto, unfolding(star_syntax::specs::Statements::statements))]
     fn statements<'a>(&self, leaves: &'a [Leaf]) -> Read<'a, Items<Statement>>
         requires { Blocks self.now.depth (F.pre self.now.statement) (F.post self.now.statement) }
@@ -361,6 +378,7 @@ impl<F: Fn(Global, u128, &[Leaf]) -> Read<'_, Items<Statement>>> Nested<F> {
         Ok(Some((found, rest)))
     }
 
+    /// `File = {Statement} END`
     #[tactic(auto, unfolding(star_syntax::specs::Statements::file))]
     fn file<'a>(&self, leaves: &'a [Leaf]) -> Read<'a, Items<Statement>>
         requires { Blocks self.now.depth (F.pre self.now.statement) (F.post self.now.statement) }
@@ -372,7 +390,7 @@ impl<F: Fn(Global, u128, &[Leaf]) -> Read<'_, Items<Statement>>> Nested<F> {
         let Some((_, rest)) = end(rest) else {
             return Ok(None);
         };
-        Ok(Some((found, rest)))
+        Ok(Some((exact(self.alloc, found)?, rest)))
     }
 }
 
@@ -391,7 +409,7 @@ pub fn statement(alloc: Global, depth: u128, leaves: &[Leaf]) -> Read<'_, Items<
     nested.one_statement(leaves)
 }
 
-/// The statements of a file's leaves; `None` where the grammar gives none.
+/// The statements of a file's leaves; `None` if the grammar gives none.
 pub fn file_of(alloc: Global, leaves: &[Leaf]) -> Result<Option<Items<Statement>>, AllocError>
     ensures { Parsed leaves.now result }
 {

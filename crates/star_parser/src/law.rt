@@ -1,4 +1,4 @@
-//! A law of the parser: what a reader knows to be true of every text.
+//! The law of the parser: a text has one answer.
 
 ghost use Rattle.star_parser.specs.Laws.{OneAnswer};
 

@@ -1,11 +1,13 @@
-//! The parser: the tree of a text, or why there is none.
+//! The parser: the tree of a text, or why there is none (`docs/LANGUAGE.md`, "Grammar" and "Nesting weight").
 //!
-//! `parse` lexes the text, weighs how deep it nests (`nest`), makes leaves of the tokens and reads the file. `simple`
-//! has the readers of the statements on one line, `block` those of statements that hold others, and of the file. The
-//! grammar and the readers of expressions are in `star_syntax`.
+//! Begin at `parse`, below. It calls the lexer, checks how deep the text nests (`nest`), makes leaves of the tokens
+//! (tokens with their values) and reads the file. `simple` has the readers of statements that fit on one line, `block`
+//! those of statements that hold others, and of the file. Expressions and the grammar itself are in `star_syntax`.
 //!
-//! Faults come in this order: the first bad token or indentation, then nesting deeper than 100, then bad syntax. A
-//! text has one answer (law `one_answer`), want of memory aside.
+//! Faults come in this order: the first bad token or indentation; then nesting deeper than 100; then bad syntax.
+//!
+//! The promise is the contract of `parse`: the tree is the reading of the text by the grammar, and there is a fault
+//! exactly if there is none. The law `one_answer` says that a text has one answer, want of memory aside.
 #![tactic(auto)]
 
 mod block;

@@ -7,7 +7,7 @@ use star_lex::token::{Keyword, Kind, Sign, Token};
 use std::alloc::{AllocError, Global};
 use std::collections::VecDeque;
 
-/// What a token does to the weight.
+/// The effect of a token on the weight.
 #[derive(Clone, Copy)]
 pub enum Effect {
     Nothing,
@@ -29,7 +29,7 @@ const LIMIT: usize = 100;
 #[derive(Drop)]
 struct Nesting {
     weight: usize,
-    /// What each open bracket remembers, the innermost first.
+    /// For each open bracket, the innermost first, the weight just after it.
     remembered: VecDeque<usize>,
     /// How many indentations above 0 are open.
     indents: usize,
@@ -78,7 +78,7 @@ fn of_kind(kind: Kind) -> Effect
 }
 
 impl Nesting {
-    /// A comma inside brackets gives back what has been added after the innermost open one.
+    /// A comma inside brackets sets the weight back to its value just after the innermost open bracket.
     fn comma(&mut self)
         ensures { spec.state self.new ≡ spec.after_token Effect.Comma (spec.state self.old) }
     {
@@ -149,8 +149,8 @@ impl Nesting {
     }
 }
 
-/// The line of the first token after which the nesting weight is above 100; `None` where there is none. It reads no
-/// further than that token.
+/// The line of the first token that takes the nesting weight above 100; `None` if there is none. It reads no further
+/// than that token.
 pub fn too_nested(alloc: Global, tokens: &[Token]) -> Result<Option<usize>, AllocError>
     ensures { IfOk result (λ line. line ≡ spec.too_nested tokens.now) }
 {

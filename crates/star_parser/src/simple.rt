@@ -1,4 +1,4 @@
-//! Reading the statements that hold no others, and the lines of them.
+//! The readers of statements that hold no others, and of a line of them. Begin at `simple`.
 
 ghost use Rattle.std.specs.Prelude.{◌≡◌, IfOk};
 ghost use Rattle.star_syntax.specs.Grammar.{first};
@@ -13,7 +13,7 @@ use star_syntax::expressions::tests_at;
 use star_syntax::leaf::{Leaf, Word};
 use star_syntax::make::{augmented_of, target_of};
 use star_syntax::name::is_name;
-use star_syntax::reader::{Read, keyword, name, sign};
+use star_syntax::reader::{Read, exact, keyword, name, sign};
 use star_text::Text;
 use star_tree::tree::{BinaryOperator, Expression, Form, Literal, LoadedName, Name, Statement};
 use std::alloc::{AllocError, Global};
@@ -25,7 +25,7 @@ pub struct Simple {
     pub depth: u128,
 }
 
-/// The end of a line, where it stands at the front of the leaves.
+/// NEWLINE, if it is at the front of the leaves.
 pub fn newline(leaves: &[Leaf]) -> Option<((), &[Leaf])>
     ensures { Finds (first (λ t. spec.is_newline t.word) leaves.now) result }
 {
@@ -82,7 +82,7 @@ fn augmenting_word(word: &Word) -> Option<BinaryOperator>
     }
 }
 
-/// The operator of an augmented assignment, where its sign stands at the front of the leaves.
+/// `AugOp = '+=' | '-=' | '*=' | '//=' | '%=' | '&=' | '|=' | '^=' | '<<=' | '>>='`
 fn augmenting(leaves: &[Leaf]) -> Option<(BinaryOperator, &[Leaf])>
     ensures { Finds (first (λ t. spec.augmenting_word t.word) leaves.now) result }
 {
@@ -107,7 +107,7 @@ fn local_of(local: Option<Name>, loaded: &Literal) -> Result<Name, AllocError>
     }
 }
 
-/// A loaded name's string has the form of a name that is no keyword.
+/// The loaded name; `None` unless its string has the form of a name and is not a keyword.
 fn loaded_of(local: Option<Name>, loaded: Literal) -> Result<Option<LoadedName>, AllocError>
     ensures { IfOk result (λ made. made ≡ spec.loaded_of (local, loaded)) }
 {
@@ -158,7 +158,7 @@ fn told_with(
 pub fn only<T: Drop>(alloc: Global, item: T) -> Result<Items<T>, AllocError>
     ensures { IfOk result (λ all. all ≡ single item) }
 {
-    let mut all = Items::new(alloc);
+    let mut all = Items::from_vec(Vec::with_capacity(alloc, 1)?);
     all.push(item)?;
     Ok(all)
 }
@@ -170,6 +170,7 @@ impl Simple {
         tests_at(self.alloc, self.depth, leaves)
     }
 
+    /// `'return' [Tests]`
     #[tactic(auto, unfolding(star_syntax::specs::Statements::returned))]
     fn returned<'a>(&self, leaves: &'a [Leaf]) -> Read<'a, Form>
         ensures { Gives (reads self.now.depth spec.returned leaves.now) result }
@@ -183,6 +184,7 @@ impl Simple {
         }
     }
 
+    /// `[name '=']`
     #[tactic(auto, unfolding(star_syntax::specs::Statements::local))]
     fn local<'a>(&self, leaves: &'a [Leaf]) -> Read<'a, Option<Name>>
         ensures { Gives (reads self.now.depth spec.local leaves.now) result }
@@ -196,6 +198,7 @@ impl Simple {
         }
     }
 
+    /// `[name '='] string`
     #[tactic(auto, unfolding(star_syntax::specs::Statements::loaded))]
     fn loaded<'a>(&self, leaves: &'a [Leaf]) -> Read<'a, LoadedName>
         ensures { Gives (reads self.now.depth spec.loaded leaves.now) result }
@@ -212,6 +215,7 @@ impl Simple {
         }
     }
 
+    /// `',' [name '='] string`
     #[tactic(auto, unfolding(star_syntax::specs::Statements::next_loaded))]
     fn next_loaded<'a>(&self, leaves: &'a [Leaf]) -> Read<'a, LoadedName>
         ensures { Gives (reads self.now.depth spec.next_loaded leaves.now) result }
@@ -222,6 +226,7 @@ impl Simple {
         self.loaded(rest)
     }
 
+    /// `{',' [name '='] string}`
     #[tactic(auto, unfolding(star_syntax::specs::Statements::all_loaded))]
     fn all_loaded<'a>(&self, leaves: &'a [Leaf]) -> Read<'a, Items<LoadedName>>
         ensures { Gives (reads self.now.depth spec.all_loaded leaves.now) result }
@@ -238,6 +243,7 @@ impl Simple {
         Ok(Some((found, rest)))
     }
 
+    /// `'(' string {',' [name '='] string} [','] ')'`
     #[tactic(auto, unfolding(star_syntax::specs::Statements::loads))]
     fn loads<'a>(&self, leaves: &'a [Leaf]) -> Read<'a, (Literal, Items<LoadedName>)>
         ensures { Gives (reads self.now.depth spec.loads leaves.now) result }
@@ -261,6 +267,7 @@ impl Simple {
         Ok(Some(((module, names), rest)))
     }
 
+    /// `Load = 'load' '(' string {',' [name '='] string} [','] ')'`
     #[tactic(auto, unfolding(star_syntax::specs::Statements::load))]
     fn load<'a>(&self, leaves: &'a [Leaf]) -> Read<'a, Form>
         ensures { Gives (reads self.now.depth spec.load leaves.now) result }
@@ -271,9 +278,11 @@ impl Simple {
         let Some(((module, names), rest)) = self.loads(rest)? else {
             return Ok(None);
         };
+        let names = exact(self.alloc, names)?;
         Ok(Some((Form::Load { module, names }, rest)))
     }
 
+    /// `'=' | AugOp`
     #[tactic(auto, unfolding(star_syntax::specs::Statements::assigning))]
     fn assigning<'a>(&self, leaves: &'a [Leaf]) -> Option<(Option<BinaryOperator>, &'a [Leaf])>
         ensures { Finds (reads self.now.depth spec.assigning leaves.now) result }
@@ -287,6 +296,7 @@ impl Simple {
         }
     }
 
+    /// `('=' | AugOp) Tests`
     #[tactic(auto, unfolding(star_syntax::specs::Statements::right_side))]
     fn right_side<'a>(
         &self,
@@ -303,6 +313,7 @@ impl Simple {
         Ok(Some(((operator, value), rest)))
     }
 
+    /// `Tests | Tests '=' Tests | Tests AugOp Tests`: an expression or an assignment.
     #[tactic(auto, unfolding(star_syntax::specs::Statements::told))]
     fn told<'a>(&self, leaves: &'a [Leaf]) -> Read<'a, Form>
         ensures { Gives (reads self.now.depth spec.told leaves.now) result }
@@ -319,6 +330,7 @@ impl Simple {
         }
     }
 
+    /// `'break' | 'continue' | 'pass'`
     #[tactic(auto, unfolding(star_syntax::specs::Statements::keyword_form))]
     fn keyword_form<'a>(&self, leaves: &'a [Leaf]) -> Option<(Form, &'a [Leaf])>
         ensures { Finds (reads self.now.depth spec.keyword_form leaves.now) result }
@@ -335,6 +347,8 @@ impl Simple {
         }
     }
 
+    /// `Small = 'return' [Tests] | 'break' | 'continue' | 'pass' | Load | Tests | Tests '=' Tests | Tests AugOp Tests`,
+    /// without its position.
     #[tactic(auto, unfolding(star_syntax::specs::Statements::small_form))]
     fn small_form<'a>(&self, leaves: &'a [Leaf]) -> Read<'a, Form>
         ensures { Gives (reads self.now.depth spec.small_form leaves.now) result }
@@ -351,6 +365,7 @@ impl Simple {
         self.told(leaves)
     }
 
+    /// `Small`, with the position of its first token.
     #[tactic(auto, unfolding(star_syntax::specs::Statements::small))]
     fn small<'a>(&self, leaves: &'a [Leaf]) -> Read<'a, Statement>
         ensures { Gives (reads self.now.depth spec.small leaves.now) result }
@@ -365,6 +380,7 @@ impl Simple {
         Ok(Some((Statement { position, form }, rest)))
     }
 
+    /// `';' Small`
     #[tactic(auto, unfolding(star_syntax::specs::Statements::next_small))]
     fn next_small<'a>(&self, leaves: &'a [Leaf]) -> Read<'a, Statement>
         ensures { Gives (reads self.now.depth spec.next_small leaves.now) result }
@@ -375,6 +391,7 @@ impl Simple {
         self.small(rest)
     }
 
+    /// `Small {';' Small}`
     #[tactic(auto, unfolding(star_syntax::specs::Statements::smalls))]
     fn smalls<'a>(&self, leaves: &'a [Leaf]) -> Read<'a, Items<Statement>>
         ensures { Gives (reads self.now.depth spec.smalls leaves.now) result }
@@ -393,7 +410,7 @@ impl Simple {
         Ok(Some((found, rest)))
     }
 
-    /// A line of small statements.
+    /// `Simple = Small {';' Small} [';'] NEWLINE`
     #[tactic(auto, unfolding(star_syntax::specs::Statements::simple))]
     pub fn simple<'a>(&self, leaves: &'a [Leaf]) -> Read<'a, Items<Statement>>
         ensures { Gives (reads self.now.depth spec.simple leaves.now) result }

@@ -1,4 +1,5 @@
--- Each file that fails by a load has a cause: the way goes on over files that it has not met, of which there are fewer each time.
+-- Each file that fails by a load has a cause: the way goes on over files that it has not met, and these become fewer
+-- each time.
 use Rattle.std.proofs.Common.{arith, ◌≡◌, ◌<◌, ◌≤◌, ℕ, zero, suc, Bool, true, false, List, [], ◌∷◌, ◌++◌, length, Some, refl, ap, subst, ◌⊎◌, inl, inr}
 use Rattle.std.specs.List.{Contains}
 use Rattle.std.proofs.lemmas.Bool.{cases_eq}
@@ -84,7 +85,7 @@ met_again plan n k way lead differ h =
 abbrev pub WasRead : Plan → ℕ → Type 0
 WasRead plan n = (r : Reading) × (read_of plan n ≡ Some r)
 
--- where the way goes on from the file that it has come to, or why it does not
+-- how the way goes on from the file that it has come to, or why it does not
 step : (plan : Plan) (n : ℕ) (way : List ℕ) (k : ℕ) → Lead plan n way k → AllDiffer (way ++ k ∷ []) → (IsGood plan k → ⊥)
     → ((i : ℕ) (b : IsFirstBad plan (loaded plan k) i) → (Contains (way ++ k ∷ []) b.file → ⊥) → (c : Cause) × IsCause plan n c)
     → (o : Outcome) → IsOutcome plan k o → (c : Cause) × IsCause plan n c

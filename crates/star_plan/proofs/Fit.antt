@@ -1,4 +1,4 @@
--- All functions fit before the run of each file whose loads are good, by the depth at which they are.
+-- All functions fit before the run of each file whose loads are good, by the depth at which they are good.
 use Rattle.std.proofs.Common.{arith, ◌≡◌, ℕ, zero, suc, Bool, true, false, List, [], map, Option, Some, None, refl, ap, sym, subst, ◌∙◌, ◌⊎◌, inl, inr, nat_eq}
 use Rattle.std.specs.Prelude.{slice_get, if◌then◌else◌}
 use Rattle.std.specs.Option.{option_flatten}
@@ -42,14 +42,15 @@ other_number : (b : Bool) (m n : ℕ) → nat_eq m n ≡ b → (m ≡ n → ⊥)
 other_number true m n e h = absurd (h (grind (arith, e)))
 other_number false m n e h = refl
 
--- a cell that is seen before a run stands on its shelf
+-- a cell that is seen before a run is on its shelf
 found_in : (b : Bool) (o : Option (Option Published)) (at : ℕ) (c : Cell) → cell_at (if b then [] else published_cells o) at ≡ Some c → (p : Published) × (o ≡ Some (Some p)) × (cell_at p.cells at ≡ Some c)
 found_in true o at c e = absurd (let no : ⊥ = cc in no)
 found_in false None at c e = absurd (let no : ⊥ = cc in no)
 found_in false (Some None) at c e = absurd (let no : ⊥ = cc in no)
 found_in false (Some (Some p)) at c e = (p, refl, e)
 
--- a load of a file: where its outcome stands among those of all loads, and the run that it comes from, over good results at a smaller depth
+-- a load of a file: the place of its outcome among those of all loads, and its run, over good results at a smaller
+-- depth
 record Source (plan : Plan) (d n : ℕ) (ms : List Local) (k : ℕ) (m : Local) : Type 0 where
   all : all_good (map (result plan (suc d)) (loaded plan n)) ≡ Some ms
   place : ℕ

@@ -18,7 +18,7 @@ in_last : (m : ℕ) (xs ms : List ℕ) → Contains (xs ++ m ∷ ms) m
 in_last m [] ms = here m ms
 in_last m (x ∷ xs) ms = there x m (xs ++ m ∷ ms) (in_last m xs ms)
 
--- where all differ, a number that stands later does not stand in front
+-- if all differ, a number that comes later is not in front
 apart : (m : ℕ) (xs ms : List ℕ) → AllDiffer (xs ++ m ∷ ms) → Contains xs m → ⊥
 apart m [] ms d h = let no : ⊥ = omega (arith, h.1) in no
 apart m (x ∷ xs) ms d h = turn (λ rest. apart m xs ms d.1 rest) (first_or x m xs h)
@@ -45,7 +45,7 @@ rest_of plan k n m (x ∷ xs) a h = turn (λ h. rest_of plan a.1.0 n m xs a.1.2 
         let shorter : length more.rest < length xs = more.shorter in
         record { rest = more.rest; lead = more.lead; shorter = omega arith; within = λ y i. there x y xs (more.within y i) }
 
--- a file does not stand on the way from the file by which it fails to a cycle without it
+-- a file is not on the way from the file by which it fails to a cycle without it
 off_way : (plan : Plan) (n k m : ℕ) (ms way : List ℕ) → FailsBy plan n k → Lead plan k way m → AllDiffer (way ++ m ∷ ms) → Contains way n → ⊥
 off_way plan n k m ms way fails a differ h =
     let r = rest_of plan k n m way a h in

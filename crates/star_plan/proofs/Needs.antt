@@ -20,7 +20,7 @@ use Rattle.star_plan.proofs.Stay.{good_is, result-from}
 use Rattle.star_plan.proofs.Tight.{one_shelf, union_tight}
 use Rattle.star_plan.proofs.Union.{is_free, put_up-own}
 
--- where all are good, the one at a place is there
+-- if all are good, the one at a place is there
 pub record GoodThere (f : ℕ → Option Local) (ms : List Local) (i n : ℕ) : Type 0 where
   pub outcome : Local
   pub result : f n ≡ Some outcome
@@ -41,7 +41,7 @@ good_at f (x ∷ ns) ms e (suc i) n there =
     let one = good_at f ns rest.0 rest.1 i n there in
     record { outcome = one.outcome; result = one.result; good = one.good; among = subst (λ z. slice_get z (suc i) ≡ Some one.outcome) rest.2 one.among }
 
--- a good result reaches the module of each file to which its file leads by loads
+-- a good result reaches the module of each file that its file reaches by loads
 reaches : (plan : Plan) (d n : ℕ) (m : Local) → result plan d n ≡ Some m → if_good (Some m) ≡ Some m → (j k : ℕ) → Walk (Loads (loaded plan)) j n k → (q : Published) × (slice_get (reached m) k ≡ Some (Some q))
 unfolding result
 reaches plan zero n m e good j k walk = absurd (let no : ⊥ = cc in no)

@@ -11,7 +11,7 @@ use Rattle.star_plan.specs.Results.{AreGood, IsFirstBad, IsGoodAt, IsOutcome, Ou
 use Rattle.star_plan.proofs.Options.{chained, mapped}
 use Rattle.star_plan.proofs.Stay.{all_good-stay, good_is, result-from, result-stays, results-agree}
 
--- where all are good, each is
+-- if all are good, each is
 pub all_good-each : (f : ℕ → Option Local) (ns : List ℕ) (ms : List Local) → all_good (map f ns) ≡ Some ms → (i n : ℕ) → slice_get ns i ≡ Some n → (m : Local) × (if_good (f n) ≡ Some m)
 all_good-each f [] ms e i n there = absurd (let no : ⊥ = cc in no)
 all_good-each f (x ∷ ns) ms e zero n there =

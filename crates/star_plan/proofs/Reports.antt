@@ -84,7 +84,7 @@ same_rising (x ∷ xs) (y ∷ ys) p q to from =
         pick (inl e) = absurd (differ e)
         pick (inr k) = k
 
--- modules of the same files, each of which ended as it did, are the same
+-- modules of the same files with the same ends are the same
 pub same_modules : (plan : Plan) (ms ks : List Module) → map (λ m. m.file) ms ≡ map (λ m. m.file) ks → All (λ m. IsEnded plan m.file m.ended) ms → All (λ m. IsEnded plan m.file m.ended) ks → ms ≡ ks
 same_modules plan [] [] e p q = refl
 same_modules plan [] (k ∷ ks) e p q = absurd (let no : ⊥ = cc in no)

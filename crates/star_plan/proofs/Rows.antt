@@ -19,7 +19,7 @@ same_rows (x ∷ xs) (y ∷ ys) e to from =
     let rest : xs ≡ ys = same_rows xs ys (omega arith) (λ n. to (suc n)) (λ n. from (suc n)) in
     ap (λ z. z ∷ xs) heads ∙ ap (λ zs. y ∷ zs) rest
 
--- what stands at a place
+-- the element at a place
 pub flat_is : {A : Type 0} (o : Option (Option A)) (p : A) → option_flatten o ≡ Some p → o ≡ Some (Some p)
 flat_is None p e = absurd (let no : ⊥ = cc in no)
 flat_is (Some None) p e = absurd (let no : ⊥ = cc in no)

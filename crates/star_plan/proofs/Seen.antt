@@ -62,16 +62,16 @@ leads plan (suc d) n m e k p at =
     turn others (inl h) = others h
     turn others (inr same) = (0, sym same)
 
--- ---- the shelf that a run is given, where all loads have good results at a depth
+-- ---- the shelf that a run is given, if all loads have good results at a depth
 
--- the module of a file does not stand on the shelf of its own run
+-- the module of a file is not on the shelf of its own run
 pub not_own : (plan : Plan) (d n : ℕ) (ms : List Local) → all_good (map (result plan d) (loaded plan n)) ≡ Some ms → (p : Published) → slice_get (union (map reached ms)) n ≡ Some (Some p) → ⊥
 not_own plan d n ms all p at =
     let one = from_loads (result plan d) (loaded plan n) ms all n p at in
     let on : IsOnCycle (Loads (loaded plan)) n one.file = (contained (loaded plan n) one.place one.file one.loads, leads plan d one.file one.outcome one.result n p one.there) in
     (cycle_is_bad plan d n one.file on).1 (good_there plan d one.file one.outcome n p one.result one.there)
 
--- the modules that a load's result reaches stand there
+-- the modules that a load's result reaches are there
 pub stands_too : (plan : Plan) (d n : ℕ) (ms : List Local) → all_good (map (result plan d) (loaded plan n)) ≡ Some ms
     → (i k : ℕ) (m : Local) → slice_get ms i ≡ Some m → result plan d k ≡ Some m
     → (j : ℕ) (p : Published) → slice_get (reached m) j ≡ Some (Some p) → slice_get (union (map reached ms)) j ≡ Some (Some p)
@@ -109,7 +109,7 @@ result-sound plan (suc d) n m e =
 abbrev pub own_module : Ended → State → Published
 own_module e t = record { cells = t.store.cells; globals = e.globals }
 
--- a run that ended well, and what it left
+-- a run that ended well, and its module
 pub record EndsWell (plan : Plan) (n : ℕ) (ss : List Statement) (ms : List Local) (m : Local) : Type 0 where
   pub ended : Ended
   pub state : State

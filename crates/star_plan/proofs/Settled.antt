@@ -35,7 +35,7 @@ up plan d n (m, good) =
     let is : result plan d n ≡ Some m = good_is (result plan d n) m good in
     (m, ap if_good (result-stays plan d (suc d) n m (omega arith) is ∙ sym is) ∙ good)
 
--- where each good one stays, all stay good
+-- if each good one stays, all stay good
 all_good-more : (f g : ℕ → Option Local) → ((n : ℕ) (m : Local) → if_good (f n) ≡ Some m → if_good (g n) ≡ Some m) → (ns : List ℕ) (ms : List Local) → all_good (map f ns) ≡ Some ms → all_good (map g ns) ≡ Some ms
 all_good-more f g more [] ms e = e
 all_good-more f g more (n ∷ ns) ms e =

@@ -73,7 +73,7 @@ from_places i (o ∷ s) t k p e = turn (from_places (i + 1) s (put_place i o t) 
     turn (inl h) = here (from_place i o t k p h)
     turn (inr (j, same, is)) = inr (suc j, omega arith, is)
 
--- each module on the union of the shelves of good results stands on one of these
+-- each module on the union of the shelves of good results is on one of these
 pub record StandsOn (f : ℕ → Option Local) (ns : List ℕ) (ms : List Local) (k : ℕ) (p : Published) : Type 0 where
   pub file : ℕ
   pub outcome : Local

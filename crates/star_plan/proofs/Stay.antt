@@ -12,7 +12,7 @@ good_is None m e = absurd (let no : ⊥ = cc in no)
 good_is (Some (Stopped f lines)) m e = absurd (let no : ⊥ = cc in no)
 good_is (Some (Good shelf globals texts lines)) m e = e
 
--- files that are all good stay so where each result stays
+-- files that are all good stay so if each result stays
 pub all_good-stay : (below above : ℕ → Option Local) → ((n : ℕ) (m : Local) → below n ≡ Some m → above n ≡ Some m)
     → (ns : List ℕ) (ms : List Local) → all_good (map below ns) ≡ Some ms → all_good (map above ns) ≡ Some ms
 all_good-stay below above stays [] ms e = e
@@ -25,7 +25,7 @@ all_good-stay below above stays (n ∷ ns) ms e =
     let more : all_good (map above ns) ≡ Some rest.0 = all_good-stay below above stays ns rest.0 rest.1 in
     ap (option_and_then (λ m. option_map (λ xs. m ∷ xs) (all_good (map above ns)))) good ∙ (ap (option_map (λ xs. first.0 ∷ xs)) more ∙ ap Some rest.2)
 
--- the outcomes over which a result is run
+-- the outcomes that the run of a result is over
 pub result-from : (plan : Plan) (d n : ℕ) (m : Local) → result plan (suc d) n ≡ Some m
     → (ms : List Local) × (all_good (map (result plan d) (loaded plan n)) ≡ Some ms) × (ran plan n ms ≡ m)
 unfolding result

@@ -22,7 +22,7 @@ use Rattle.star_plan.specs.Results.{AreGood}
 use Rattle.star_plan.specs.Runs.{ArePlaced, PreludeIsSound, given}
 use Rattle.star_plan.proofs.Seen.{result-sound}
 
--- what was read of a file with a tree
+-- the reading of a file with a tree
 pub sound_read : (o : Option Reading) (ss : List Statement) → tree_in o ≡ Some ss → (loads : List Load) × (o ≡ Some (Sound ss loads))
 sound_read None ss e = absurd (let no : ⊥ = cc in no)
 sound_read (Some (Faulty f)) ss e = absurd (let no : ⊥ = cc in no)

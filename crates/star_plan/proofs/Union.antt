@@ -1,4 +1,4 @@
--- A module on a shelf stays there when more are put up, and stands on each union with that shelf.
+-- A module on a shelf stays there when more are put up, and is on each union with that shelf.
 use Rattle.std.proofs.Common.{arith, ◌≡◌, ◌+◌, ◌-◌, ◌<◌, ℕ, zero, suc, Bool, true, false, List, [], ◌∷◌, ◌++◌, length, Option, Some, None, refl, ap, sym, subst, ◌∙◌, ◌⊎◌, inl, inr}
 use Rattle.std.specs.Prelude.{slice_get, slice_set, replicate, if◌then◌else◌}
 use Rattle.std.proofs.lemmas.Bool.{cases_order}

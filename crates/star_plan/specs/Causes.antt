@@ -10,8 +10,7 @@ use Rattle.star_plan.specs.Results.{IsOutcome, Static, Unloaded, Ran}
 abbrev pub FailsBy : Plan → ℕ → ℕ → Type 0
 FailsBy plan n m = (i : ℕ) × IsOutcome plan n (Unloaded i) × (slice_get (loaded plan n) i ≡ Some m)
 
--- these files, the first of which is a file, lead from it to another: each fails by the next, and the last by that
--- other one
+-- these files lead from the first one, a file, to another: each fails by the next, and the last by that other one
 abbrev pub Lead : Plan → ℕ → List ℕ → ℕ → Type 0
 Lead plan n [] m = n ≡ m
 Lead plan n (x ∷ xs) m = (n ≡ x) × ((k : ℕ) × FailsBy plan n k × Lead plan k xs m)
@@ -27,8 +26,8 @@ pub data Cause : Type 0 where
   Culprit : ℕ → Cause
   Cycle : List ℕ → Cause
 
--- first bad loads lead from a file to its cause; a cycle is listed from its first file that is met, and no file stands
--- twice on the way
+-- first bad loads lead from a file to its cause; a cycle is listed from its first file that is met, and no file occurs
+-- twice on the path
 abbrev pub IsCause : Plan → ℕ → Cause → Type 0
 IsCause plan n (Culprit m) = (way : List ℕ) × Lead plan n way m × HasFault plan m
 IsCause plan n (Cycle []) = ⊥

@@ -32,7 +32,7 @@ NoCycleIsGood =
 abbrev pub ResultsStay : Type 0
 ResultsStay = (plan : Plan) (d e n : ℕ) (m : Local) → d ≤ e → result plan d n ≡ Some m → result plan e n ≡ Some m
 
--- a file has one result at all depths at which it has any
+-- a file has one result at all depths that have any
 abbrev pub ResultsAgree : Type 0
 ResultsAgree = (plan : Plan) (d e n : ℕ) (m k : Local) → result plan d n ≡ Some m → result plan e n ≡ Some k → m ≡ k
 
@@ -49,7 +49,7 @@ abbrev pub ReachedByWalks : Type 0
 ReachedByWalks =
     (plan : Plan) (n : ℕ) → IsReached plan n ↔ ((r : ℕ) × Contains plan.roots r × LeadsTo (Loads (loaded plan)) r n)
 
--- the reached files stand in each set that has the roots and all that its members load
+-- the reached files are in each set that has the roots and all files that its members load
 abbrev pub ReachedIsLeast : Type 0
 ReachedIsLeast = (plan : Plan) (is_in : ℕ → Bool)
     → ((n : ℕ) → Contains plan.roots n → is_in n ≡ true)
@@ -64,7 +64,7 @@ OneCause = (plan : Plan) (n : ℕ) (a b : Cause) → IsCause plan n a → IsCaus
 abbrev pub FaultIsCause : Type 0
 FaultIsCause = (plan : Plan) (n : ℕ) → HasFault plan n → IsCause plan n (Culprit n)
 
--- so is a cycle, for the file from which it is listed
+-- so is a cycle, for its first file in the list
 abbrev pub CycleIsCause : Type 0
 CycleIsCause =
     (plan : Plan) (n : ℕ) (ns : List ℕ) → Lead plan n (n ∷ ns) n → AllDiffer (n ∷ ns) → IsCause plan n (Cycle (n ∷ ns))
@@ -138,13 +138,12 @@ ShelvesHoldResults =
 abbrev pub OneModule : Type 0
 OneModule = (plan : Plan) (n : ℕ) (p q : Published) → IsOwn plan n p → IsOwn plan n q → p ≡ q
 
--- where a file without a static fault has only good loads, the prelude has no static fault
+-- if a file without a static fault has only good loads, the prelude has no static fault
 abbrev pub GoodLoadsHavePrelude : Type 0
 GoodLoadsHavePrelude = (files : List File) (plan : Plan) (n : ℕ) (ss : List Statement) (ms : List Local)
     → IsPlanOf files plan → tree_in (read_of plan n) ≡ Some ss → AreGood plan (loaded plan n) ms → PreludeIsSound plan
 
--- where the prelude has no static fault, the tables that the programs of a plan give are right for each file in every
--- run
+-- if the prelude has no static fault, the tables that the programs of a plan give are right for each file in every run
 abbrev pub PlansPlaceNames : Type 0
 PlansPlaceNames =
     (files : List File) (plan : Plan) (placed : Files) → IsPlanOf files plan → ArePlaced files plan placed
@@ -152,7 +151,7 @@ PlansPlaceNames =
     → (n : ℕ) (ms : List Local) (file : ℕ) (ss : List Statement) → Stands (trees plan) file ss
     → IsResolved (tables_of placed) (given plan n ms) file ss
 
--- where all loads of a file are good, each function that its run sees before it begins is one of its own file's
+-- if all loads of a file are good, each function that its run sees before it begins is one of its own file's
 -- definitions, in frames that fit the blocks around it
 abbrev pub PlansFit : Type 0
 PlansFit = (files : List File) (plan : Plan) (placed : Files) → IsPlanOf files plan → ArePlaced files plan placed
@@ -207,8 +206,8 @@ RunsLeaveOwn =
     → (p : Published) (globals : List (List ℕ × Value)) (texts : List (List ℕ × List ℕ)) (lines : List (List ℕ))
     → ran plan n ms ≡ Good (put_up n p (given plan n ms).shelf) globals texts lines → IsOwn plan n p
 
--- a file without a static fault whose loads are good: its statements stand among those of the programs, the programs
--- are right for its run, the functions that it sees fit, and its local meaning is its outcome
+-- a file without a static fault whose loads are good: its statements are among those of the programs, the programs are
+-- right for its run, the functions that it sees fit, and its local meaning is its outcome
 abbrev pub PlansAreReady : Type 0
 PlansAreReady = (files : List File) (plan : Plan) (placed : Files) → IsPlanOf files plan → ArePlaced files plan placed
     → (n : ℕ) (ss : List Statement) (ms : List Local) → tree_in (read_of plan n) ≡ Some ss

@@ -1,3 +1,5 @@
+-- The outcomes, causes and report of many files. In reading order: Plan, Reached, Reading, Results, Causes, Report,
+-- Text.
 pub mod Plan
 pub mod Reading
 pub mod Results

@@ -1,4 +1,4 @@
--- What is to be loaded, and what was read of the files before any of them runs.
+-- A plan: the roots, the prelude, the steps, and the result of reading each file.
 use Rattle.std.specs.Prelude.{ℕ, List, [], map, Option, Some, None, slice_get}
 use Rattle.std.specs.Option.{option_flatten}
 use Rattle.star_lex.specs.declared.token.SyntaxFault.{SyntaxFault}
@@ -12,20 +12,20 @@ pub data StaticFault : Type 0 where
   OfText : SyntaxFault → StaticFault
   OfNames : ScopeFault → StaticFault
 
--- what was read of a file: its statements and its loads, or its static fault
+-- a read file: its statements and its loads, or its static fault
 pub data Reading : Type 0 where
   Sound : List Statement → List Load → Reading
   Faulty : StaticFault → Reading
 
--- what is to be loaded: the roots, the prelude's file, the steps that each file has, and what was read, by the files'
--- numbers; nothing of a file that is not reached
+-- a plan: the roots, the prelude's file, the steps that each file has, and the read files, by number; nothing for a
+-- file that is not reached
 pub record Plan : Type 0 where
   pub roots : List ℕ
   pub prelude : Option ℕ
   pub steps : ℕ
   pub reads : List (Option Reading)
 
--- what was read of a file
+-- the read file of a number
 abbrev pub read_of : Plan → ℕ → Option Reading
 read_of plan n = option_flatten (slice_get plan.reads n)
 

@@ -1,4 +1,4 @@
--- Which files are reached.
+-- The reached files: the roots, and all files that they lead to by loads.
 use Rattle.std.specs.Prelude.{ℕ, Contains}
 use Rattle.star_cache.specs.State.{Loads}
 use Rattle.star_plan.specs.Plan.{Plan, loaded}

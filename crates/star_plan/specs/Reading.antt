@@ -1,4 +1,4 @@
--- What is read of files: their texts parsed, and their names and loads resolved.
+-- The result of reading a file: its text parsed, and its names and loads resolved.
 use Rattle.std.specs.Prelude.{◌≡◌, ◌≢◌, ◌↔◌, ℕ, List, length, Option, Some, None, Result, Ok, Err}
 use Rattle.star_label.specs.Files.{File, text_at}
 use Rattle.star_lex.specs.declared.token.SyntaxFault.{SyntaxFault}
@@ -25,7 +25,7 @@ IsPrelude files (Some n) p =
     (answer : Result Tree SyntaxFault) × Parses (text_at files n) answer × (answer ≢ Err syntax_fault.Memory)
     × (p ≡ Some (record { file = n; names = prelude_names (statements_in answer) }))
 
--- this is read of the file n, which sees this prelude or is it; want of memory is no reading
+-- this is the reading of the file n, which sees this prelude or is it; want of memory is not a reading
 abbrev pub IsRead : List File → Option Prelude → ℕ → Reading → Type 0
 IsRead files prelude n (Faulty (OfText e)) = Parses (text_at files n) (Err e) × (e ≢ syntax_fault.Memory)
 IsRead files prelude n (Faulty (OfNames e)) =
@@ -35,7 +35,7 @@ IsRead files prelude n (Sound ss loads) =
     (tree : Tree) × Parses (text_at files n) (Ok tree) × (tree.statements ≡ ss)
     × ((p : Program) × Resolves files n prelude ss (Ok p) × (p.loads.items ≡ loads))
 
--- a plan has what is read of these files: of all that are reached, and of no others
+-- a plan has the readings of these files: of all that are reached, and of no others
 pub record IsPlanOf (files : List File) (plan : Plan) : Type 0 where
   pub prelude : Option Prelude
   pub prelude_is : IsPrelude files plan.prelude prelude

@@ -1,4 +1,4 @@
--- What the run of a file gives, which files are good, and the outcome of a file.
+-- The result of a file's run, by depth of loads; the good files; and the outcome of a file.
 use Rattle.std.specs.Prelude.{◌≡◌, ◌<◌, ℕ, zero, suc, Bool, true, false, List, [], ◌∷◌, map, Option, Some, None, slice_get}
 use Rattle.std.specs.Option.{option_and_then, option_map}
 use Rattle.star_meaning.specs.Local.{local_meaning}
@@ -12,16 +12,16 @@ if_good None = None
 if_good (Some (Stopped f lines)) = None
 if_good (Some (Good shelf globals texts lines)) = Some (Good shelf globals texts lines)
 
--- the results, where all are good
+-- the results, if all are good
 abbrev pub all_good : List (Option Local) → Option (List Local)
 all_good [] = Some []
 all_good (r ∷ rs) = option_and_then (λ m. option_map (λ ms. m ∷ ms) (all_good rs)) (if_good r)
 
--- what the run of a file gives over the results of its loads
+-- the result of a file's run over the results of its loads
 unfoldable pub ran : Plan → ℕ → List Local → Local
 ran plan n results = local_meaning n (trees plan) (load_files (loads_of plan n)) plan.prelude results plan.steps
 
--- the result of a file at a depth, where it has one: it has no static fault, all its loads are good at the depth below,
+-- the result of a file at a depth, if it has one: it has no static fault, all its loads are good at the depth below,
 -- and its body runs over them
 unfoldable pub result : Plan → ℕ → ℕ → Option Local
 result plan zero n = None
@@ -37,7 +37,7 @@ IsGoodAt plan d n = (m : Local) × (if_good (result plan d n) ≡ Some m)
 abbrev pub IsGood : Plan → ℕ → Type 0
 IsGood plan n = (d : ℕ) × IsGoodAt plan d n
 
--- the first of these files that is not good stands at place i
+-- the first of these files that is not good is at place i
 pub record IsFirstBad (plan : Plan) (files : List ℕ) (i : ℕ) : Type 0 where
   pub file : ℕ
   pub there : slice_get files i ≡ Some file

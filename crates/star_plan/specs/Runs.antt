@@ -1,4 +1,4 @@
--- What the run of a file is given, and the row of programs by which it finds its names.
+-- The environment of a file's run: the stores of its loads, and the programs of all files.
 use Rattle.std.specs.Prelude.{◌≡◌, ℕ, List, Option, Some, Ok}
 use Rattle.star_label.specs.Files.{File}
 use Rattle.star_store.specs.declared.values.Value.{Value}
@@ -19,12 +19,12 @@ use Rattle.star_plan.specs.Reading.{IsPrelude}
 use Rattle.star_plan.specs.Results.{IsOutcome, Ran}
 use Rattle.star_plan.specs.Shelves.{IsOwn}
 
--- the prelude, where there is one, has no static fault
+-- the prelude, if there is one, has no static fault
 abbrev pub PreludeIsSound : Plan → Type 0
 PreludeIsSound plan = (q : ℕ) → plan.prelude ≡ Some q → (ss : List Statement) × (tree_in (read_of plan q) ≡ Some ss)
 
--- a row of programs is that of a plan of these files: it has the statements that were read, and each program is what
--- `resolve` answers for the file of its number, which sees the plan's prelude or is it
+-- a row of programs is that of a plan of these files: it has the statements that were read, and each program is the
+-- answer of `resolve` for the file of its number, which sees the plan's prelude or is it
 pub record ArePlaced (files : List File) (plan : Plan) (placed : Files) : Type 0 where
   pub prelude : Option Prelude
   pub prelude_is : IsPrelude files plan.prelude prelude
@@ -32,7 +32,7 @@ pub record ArePlaced (files : List File) (plan : Plan) (placed : Files) : Type 0
   pub right : (n : ℕ) (f : PlacedFile) → file_in placed n ≡ Some f → (p : Program) × (placed_file p ≡ f)
       × Resolves files n prelude f.statements (Ok p)
 
--- what the run of a file is given over the outcomes of its loads
+-- the environment of a file's run over the outcomes of its loads
 abbrev pub given : Plan → ℕ → List Local → Setting
 given plan n outcomes = setting n (trees plan) (load_files (loads_of plan n)) plan.prelude outcomes
 
@@ -42,15 +42,15 @@ run_with variables plan n ss outcomes =
     run_file (variables (given plan n outcomes)) (given plan n outcomes) most_levels ss
     (start (given plan n outcomes) plan.steps)
 
--- .. where variables are by their names
+-- .. with variables by their names
 abbrev pub run_by_names : Plan → ℕ → List Statement → List Local → Outcome Ended
 run_by_names = run_with by_names
 
--- .. and where they are by their places
+-- .. and by their places
 abbrev pub run_by_places : Files → Plan → ℕ → List Statement → List Local → Outcome Ended
 run_by_places placed = run_with (by_places (tables_of placed))
 
--- what the run of a file is given over a shelf, by a row of programs
+-- the environment of a file's run over a shelf, by a row of programs
 abbrev pub given_over : Files → Plan → ℕ → Shelf → Setting
 given_over placed plan n shelf =
     record {
@@ -61,8 +61,8 @@ given_over placed plan n shelf =
       prelude = plan.prelude;
     }
 
--- a file may run over a shelf: its statements stand among those of the programs, the programs are right for the run,
--- the functions that it sees fit; then its local meaning is its outcome, and the module that a good run puts up is the
+-- a file may run over a shelf: its statements are among those of the programs, the programs are right for the run, the
+-- functions that it sees fit; then its local meaning is its outcome, and the module that a good run puts up is the
 -- file's own
 pub record MayRun (plan : Plan) (placed : Files) (n : ℕ) (ss : List Statement) (shelf : Shelf) : Type 0 where
   pub stands : Stands (trees_of placed) n ss

@@ -33,7 +33,7 @@ code_word code.Deep = codes "deep"
 code_word code.Cut = codes "cut"
 code_word code.BadValue = codes "value"
 
--- the word of a static fault; want of memory is no static fault of a file, and has none
+-- the word of a static fault; want of memory is not a static fault of a file, and has none
 abbrev pub syntax_word : SyntaxFault → List ℕ
 syntax_word (syntax.BadToken line) = codes "bad_token"
 syntax_word (syntax.BadIndent line) = codes "bad_indent"

@@ -1,4 +1,5 @@
-//! Laws of plans, outcomes and reports.
+//! Laws of plans, outcomes and reports: files have one plan, a plan one outcome and one cause for each file, and one
+//! text as its report.
 
 ghost use Rattle.star_plan.specs.Laws.{CausesFollow, CycleIsCause, CyclesTurn, FaultIsCause, GivenHoldsNeeds, GoodFilesHaveOutcomes};
 ghost use Rattle.star_plan.specs.Laws.{FilesMayRun, NeedsOfLoads, OutcomesTell, ReadingsMakePlans};
@@ -17,7 +18,7 @@ pub fn results_stay()
     ensures { ResultsStay }
 {}
 
-/// A file has one result at all depths at which it has any.
+/// A file has one result at all depths that have any.
 pub fn results_agree()
     ensures { ResultsAgree }
 {}
@@ -37,7 +38,7 @@ pub fn reached_by_walks()
     ensures { ReachedByWalks }
 {}
 
-/// The reached files stand in each set that has the roots and all that its members load.
+/// The reached files are in each set that has the roots and all files that its members load.
 pub fn reached_is_least()
     ensures { ReachedIsLeast }
 {}
@@ -52,12 +53,12 @@ pub fn fault_is_cause()
     ensures { FaultIsCause }
 {}
 
-/// A cycle along which each file fails by the next is the cause of the file from which it is listed.
+/// If each file of a cycle fails by the next one, the cycle is the cause of the file from which it is listed.
 pub fn cycle_is_cause()
     ensures { CycleIsCause }
 {}
 
-/// A file has the cause of the file by which it fails, unless it lies on that cycle itself.
+/// A file has the cause of the file by which it fails, unless it is on that cycle itself.
 pub fn causes_follow()
     ensures { CausesFollow }
 {}
@@ -114,7 +115,7 @@ pub fn one_module()
     ensures { OneModule }
 {}
 
-/// Where a file without a static fault has only good loads, the prelude, where there is one, has no static fault.
+/// If a file without a static fault has only good loads, then the prelude, if there is one, has no static fault.
 pub fn good_loads_have_prelude()
     ensures { GoodLoadsHavePrelude }
 {}
@@ -137,8 +138,8 @@ pub fn plans_run_by_places()
     ensures { PlansRunByPlaces }
 {}
 
-/// A file without a static fault whose loads are good is ready to run: its statements stand among those of the plan's
-/// programs, these are right for its run, the functions that it sees fit, and its local meaning is its outcome.
+/// A file without a static fault whose loads are good is ready to run. Its statements are among those of the plan's
+/// programs, which are right for its run; the functions that it sees fit; and its local meaning is its outcome.
 pub fn plans_are_ready()
     ensures { PlansAreReady }
 {}
@@ -153,8 +154,8 @@ pub fn needs_of_loads()
     ensures { NeedsOfLoads }
 {}
 
-/// The shelf that a run is given over good outcomes has the own modules of all files to which its file's loads lead,
-/// each at its file's place, and nothing else; the module of the running file is not among them.
+/// The shelf that a run gets over good outcomes has the own modules of all files to which its file's loads lead, each
+/// at its file's place, and nothing else. The module of the running file is not among them.
 pub fn given_holds_needs()
     ensures { GivenHoldsNeeds }
 {}

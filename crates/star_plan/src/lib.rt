@@ -1,10 +1,16 @@
-//! Which files are loaded, how each ends, and which report stands for them: definitions and laws, no code
-//! (`docs/OUTCOMES.md`).
+//! The meaning of many files together: which files are loaded, how each ends, and the report. Definitions and laws, no
+//! code (`docs/OUTCOMES.md`).
 //!
-//! A plan is what was read of each file, with the roots, the prelude and the steps. `specs/Reached` says which files
-//! are reached, `specs/Results` how each ends, by depth, `specs/Causes` why a file fails by its loads, `specs/Text`
-//! the report. The laws say that files have one plan, a plan gives each file one outcome and one cause, and one text
-//! is its report.
+//! A plan is the roots, the prelude, the steps, and the result of reading each file. In reading order:
+//!
+//! - `specs/Plan` and `Reading`: the plan, and the result of reading a file;
+//! - `Reached`: the roots, and all files that they lead to by loads;
+//! - `Results`: the result of each file, by depth of loads, and so its outcome: a module, a fault, a failed load;
+//! - `Causes`: the file or the cycle by which a file with a failed load fails in the end;
+//! - `Report` and `Text`: the report, and its text as JSON.
+//!
+//! The laws in `law` say that all this is well defined: files have one plan, a plan gives each file one outcome and one
+//! cause, and one text is its report. The host and the report are proved against these definitions.
 #![tactic(auto)]
 
 mod law;

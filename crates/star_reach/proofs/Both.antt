@@ -1,4 +1,4 @@
--- What is reached in a folder is reached by a plan of all its files, where no reached file has a static fault.
+-- The files that are reached in a folder are reached by a plan of all its files, if no reached file has a static fault.
 use Rattle.std.proofs.Common.{◌≡◌, ◌<◌, ◌⊎◌, inl, inr, ℕ, List, [], ◌∷◌, ◌++◌, map, length, get_or, true, false, Option, Some, None, Ok, refl, ap, sym, ◌∙◌, subst, arith}
 use Rattle.std.specs.Prelude.{Contains, option_map}
 use Rattle.std.specs.Bool.{nat_eq}
@@ -99,7 +99,7 @@ module _ (held : Held) (files : List File) (plan : Plan) (all : AreAllFiles held
   abbrev before : ℕ → List Load
   before n = prelude_loads (option_map (λ q. q.file) (seen_by n is.prelude))
 
-  -- what a sound file loads
+  -- the loads of a sound file
   to_load : (n m : ℕ) (ss : List Statement) (loads : List Load) → read_of plan n ≡ Some (Sound ss loads) → IsReached plan n → IsIn m (map file loads) → IsReached plan m
   to_load n m ss loads e r h = load r (subst (λ (o : Option Reading). Contains (map file (loads_in o)) m) (sym e) (from_in (map file loads) m h))
 
@@ -139,7 +139,7 @@ module _ (held : Held) (files : List File) (plan : Plan) (all : AreAllFiles held
   given r root_is l None e h = absurd (let no : ⊥ = cc in no)
   given r root_is l (Some k) e h = there k l (some_same (label_at files k) l h) (prelude_reached r k is.prelude refl (subst (λ (o : Option ℕ). IsPrelude files o is.prelude) e is.prelude_is) root_is)
 
-  -- a load of a text that stands in the folder
+  -- a load of a text in the folder
   onward : (b t m text : List ℕ) → There b → held b ≡ Some t → LoadsLabel (package_of b) t m → held m ≡ Some text → There m
   onward b t m text (n, low, at, r) e (tree, parses, w, c, p, q, names, m_is) f =
       let it = sound n r in

@@ -1,4 +1,4 @@
--- What a plan of all files of a folder reaches.
+-- The files that a plan of all files of a folder reaches.
 use Rattle.std.proofs.Common.{◌≡◌, ◌<◌, ◌⊎◌, inl, inr, ℕ, List, [], ◌∷◌, ◌++◌, map, length, Option, Some, None, refl, ap, sym, ◌∙◌, subst, arith}
 use Rattle.std.specs.Prelude.{Contains, option_map}
 use Rattle.std.specs.List.{flat_map}
@@ -70,7 +70,7 @@ module _ (held : Held) (files : List File) (plan : Plan) (all : AreAllFiles held
   abbrev Reached : ℕ → Type 0
   Reached n = IsReachedOf held (words_of files plan) (label_at files n)
 
-  -- a load leads to the prelude or to what a load statement names
+  -- a load leads to the prelude or to a file that a load statement names
   onward : (n m : ℕ) (r : Reading) → n < length files → IsRead files is.prelude n r → Contains (map file (loads_in (Some r))) m → Reached n → Reached m
   onward n m (Faulty f) low right c so = absurd (to_in [] m c)
   onward n m (Sound ss loads) low right c so =

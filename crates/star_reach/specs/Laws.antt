@@ -1,4 +1,4 @@
--- What a plan of all files of a folder reaches, and what the roots reach in the folder.
+-- The files that a plan of all files of a folder reaches, and those that the roots reach in the folder.
 use Rattle.std.specs.Prelude.{◌≡◌, ◌<◌, ℕ, length, List, Some, Contains, map, option_map}
 use Rattle.star_label.specs.Files.{File, label_at}
 use Rattle.star_tree.specs.declared.tree.Statement.{Statement}
@@ -15,7 +15,7 @@ abbrev pub words_of : List File → Plan → Words
 words_of files plan =
     record { roots = map (label_at files) plan.roots; prelude = option_map (label_at files) plan.prelude }
 
--- what a plan of all files reaches is reached in the folder
+-- the files that a plan of all files reaches are reached in the folder
 abbrev pub PlansReachNoMore : Type 0
 PlansReachNoMore =
     (held : Held) (files : List File) (plan : Plan) → AreAllFiles held files → IsPlanOf files plan
@@ -26,7 +26,7 @@ abbrev pub AllSound : Plan → Type 0
 AllSound plan =
     (n : ℕ) → IsReached plan n → (ss : List Statement) × (loads : List Load) × (read_of plan n ≡ Some (Sound ss loads))
 
--- then a plan of all files, with a root, reaches each file that stands at a label which is reached in the folder
+-- then a plan of all files, with a root, reaches each file at a label that is reached in the folder
 abbrev pub PlansReachAll : Type 0
 PlansReachAll =
     (held : Held) (files : List File) (plan : Plan) → AreAllFiles held files → IsPlanOf files plan → AllSound plan

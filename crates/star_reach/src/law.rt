@@ -1,8 +1,8 @@
-//! Laws of what a plan reaches, and of what is reached in a folder.
+//! Laws that connect the files that a plan reaches with the labels that roots reach in a folder.
 
 ghost use Rattle.star_reach.specs.Laws.{PlansReachAll, PlansReachNoMore};
 
-/// What a plan of all files of a folder reaches is reached in the folder.
+/// The files that a plan of all files of a folder reaches are reached in the folder.
 pub fn plans_reach_no_more()
     ensures { PlansReachNoMore }
 {}

@@ -1,7 +1,11 @@
-//! What a plan of all files of a folder reaches, and what roots reach in the folder: laws, and no code.
+//! Laws that connect two definitions of the files that are loaded; no code.
 //!
-//! The two agree where no file has a static fault. This crate stands on both `star_plan` and `star_repo`, so that
-//! neither stands on the other.
+//! A plan of all files of a folder reaches files by their numbers (`star_plan`); roots reach labels in the folder
+//! (`star_repo`). Every file that such a plan reaches is reached in the folder. If the plan has a root, and no file
+//! that it reaches has a static fault, the two reach the same files.
+//!
+//! Begin at `law.rt`. The crate is apart because it needs both `star_plan` and `star_repo`, and neither needs the
+//! other. See `docs/FOLDERS.md`.
 #![tactic(auto)]
 
 mod law;

@@ -1,4 +1,4 @@
--- Which programs and trees several threads may read.
+-- Programs and trees that several threads may read.
 use denote.Ref.{NamedLft}
 use denote.Param.Send.{IsSync, sendable}
 use Rattle.std.proofs.Crossing.{crosses}

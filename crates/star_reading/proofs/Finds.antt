@@ -1,4 +1,4 @@
--- What is found while files are read.
+-- The files that are found while files are read.
 use Rattle.std.proofs.Common.{◌≡◌, ◌+◌, ◌<◌, ◌≢◌, ◌⊎◌, inl, inr, ℕ, zero, suc, Bool, true, false, List, [], ◌∷◌, ◌++◌, map, length, replicate, get_or, Option, Some, None, refl, ap, sym, ◌∙◌, subst, arith, length-append}
 use denote.Ref.{Bor}
 use Rattle.std.specs.Prelude.{All, Contains, IfSome, IsSome, cond, not, slice_set}
@@ -61,7 +61,7 @@ set_stays marks n k h = by_cases (same_or_not k n)
 pub grew_none : (ns : List ℕ) (marks : List Bool) (todo : List ℕ) → Grew ns marks todo marks todo
 grew_none ns marks todo = record { size = refl; stay = λ k h. h; fresh = λ k h. inl h; waiting = λ k h. h; found = λ h. h; left = refl }
 
--- a file that is found waits to be read: as many are left
+-- a file that is found waits to be read, so the number of files left stays
 pub left_one : (n : ℕ) (marks : List Bool) (todo : List ℕ) → n < length marks → get_or marks n false ≡ false → left_of (slice_set marks n true) (todo ++ n ∷ []) ≡ left_of marks todo
 left_one n marks todo inside clear =
     let f : Bool → ℕ = λ m. cond (not m) 1 0 in
@@ -86,7 +86,7 @@ grew_one n marks todo inside clear = record {
 pub marked_here : (n : ℕ) (marks : List Bool) → n < length marks → IsMarked (slice_set marks n true) n
 marked_here n marks inside = get_or-set_same marks n true false inside
 
--- one of these files is found after others
+-- one more of these files is found, after others of them
 pub grew_more : (ns : List ℕ) (n : ℕ) (a : List Bool) (ta : List ℕ) (b : List Bool) (tb : List ℕ) (c : List Bool) (tc : List ℕ) → Contains ns n → Grew ns a ta b tb → Grew (n ∷ []) b tb c tc → Grew ns a ta c tc
 grew_more ns n a ta b tb c tc among first next = record {
   size = next.size ∙ first.size;
@@ -160,7 +160,7 @@ found_roots files prelude roots row before marks none todo empty size clear star
     new : (k : ℕ) → IsMarked marks k → Contains roots k × Contains todo k
     new k h = by_cases (grew.fresh k h) (λ old. absurd (none_marked (length files) k (subst (λ m. IsMarked m k) clear old))) (λ x. x)
 
--- what waits is a file
+-- a number that waits is that of a file
 pub waits_within : (files : List File) (prelude : Option Prelude) (roots : List ℕ) (row : Row) (marks : List Bool) (todo rest : List ℕ) (n : ℕ) → AreFound files prelude roots row marks todo → todo ≡ rest ++ n ∷ [] → n < length files
 waits_within files prelude roots row marks todo rest n f e =
     let m = marked_within marks n (all_last (IsMarked marks) rest n (subst (All (IsMarked marks)) e f.waits)) in
@@ -187,12 +187,12 @@ found_again files prelude roots row marks todo n f h = record {
   waits = all_front (IsMarked marks) todo n f.waits;
 }
 
--- what is reached stays so where loads stay
+-- reached files stay reached if loads stay
 reached_grows : (p q : Plan) → p.roots ≡ q.roots → ((a b : ℕ) → Loads (loaded p) a b → Loads (loaded q) a b) → (n : ℕ) → IsReached p n → IsReached q n
 reached_grows p q same to n (root h) = root (subst (λ rs. Contains rs n) same h)
 reached_grows p q same to m (load {n = n} r l) = load (reached_grows p q same to n r) (to n m l)
 
--- what is reached by what was read is so in each plan with these roots and readings
+-- a file that the read files reach is reached in each plan with these roots and readings
 pub reached_in : (roots : List ℕ) (row : Row) (plan : Plan) → roots ≡ plan.roots → ((n : ℕ) → loads_of plan n ≡ loads_at row n) → (n : ℕ) → IsReachedBy roots row n → IsReached plan n
 reached_in roots row plan same loads n h = reached_grows (plan_by roots row) plan same (λ a b l. subst (λ ls. Contains (map (λ x. x.file) ls) b) (loads_are (plan_by roots row) row a refl ∙ sym (loads a)) l) n h
 

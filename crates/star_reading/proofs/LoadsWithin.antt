@@ -43,7 +43,7 @@ prelude_within : (files : List File) (n : ℕ) (prelude : Option Prelude) → ((
 prelude_within files n None fits = nothing (Fits files)
 prelude_within files n (Some p) fits = seen_within files (nat_eq p.file n) p (fits p refl)
 
--- the loads of what is read are files
+-- the loads of a read file are files
 pub loads_within : (files : List File) (prelude : Option Prelude) (n : ℕ) (r : Read) → ((p : Prelude) → prelude ≡ Some p → p.file < length files) → IsReadAs files prelude n r → All (λ (l : Load). l.file < length files) (loads_read r)
 loads_within files prelude n (read.Fault f) fits is = nothing (Fits files)
 loads_within files prelude n (read.Program p) fits is =

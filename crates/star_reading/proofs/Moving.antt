@@ -1,4 +1,4 @@
--- That several threads may read files: what they share, and what they hand back.
+-- Several threads may read files: the data that they share, and the results that they hand back.
 use Rattle.std.proofs.Common.{ℕ, List, [], ◌∷◌}
 use denote.Builtin.{usize}
 use denote.Hole.{shared_at}
@@ -96,7 +96,7 @@ program_send = the_program statement_sync parameter_sync expression_sync
 pub read_send : (κ : NamedLft) → IsSend (read.the_row κ)
 read_send κ = variants_send (read.enum κ) ((program_send κ, tt), ((of_fault.the_send, tt), tt))
 
--- what a thread gives back that has read some files
+-- the result of a thread that has read some files
 module _ (κ : NamedLft) where
   abbrev numbered : RattleType
   numbered = Tuple (usize ∷ read.the_row κ ∷ [])
@@ -116,7 +116,7 @@ reader_sync κ ν =
     let y = tree_sync in
     search (of_trees.the_sync, sendable, crosses) depth 40
 
--- a reader's closure: it captures what files are read by, the runtime R, and the flow
+-- a reader's closure: it captures the reader, the runtime R, and the flow
 module _ (R : RattleType) (α β γ δ ε : NamedLft) where
   abbrev captured : List RattleType
   captured = shared_at α (reader.the_row β γ) ∷ shared_at δ R ∷ shared_at ε flow.the_row ∷ []

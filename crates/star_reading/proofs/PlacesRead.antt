@@ -1,4 +1,4 @@
--- What is read, place by place.
+-- The entries of a row of read files.
 use Rattle.std.proofs.Common.{◌≡◌, ◌<◌, ◌≢◌, ◌⊎◌, inl, inr, ℕ, zero, suc, List, [], ◌∷◌, ◌++◌, length, get_or, Option, Some, None, refl, ap, sym, ◌∙◌, subst, arith, length-append}
 use Rattle.std.specs.Prelude.{All, IfSome, IsSome, slice_get, slice_set}
 use Rattle.std.specs.Option.{option_flatten}
@@ -13,7 +13,7 @@ use Rattle.star_reading.specs.declared.reading.Read.{Read}
 use Rattle.star_reading.specs.declared.reading.Read.TheVariants as read
 use Rattle.star_reading.specs.Readings.{AreReadAs, IsPlaceable, IsPlaceOf, IsReadAs, Row, read_at}
 
--- one more is read
+-- one more file is read
 pub set_read : (files : List File) (prelude : Option Prelude) (row : Row) (k : ℕ) (r : Read) → k < length row → IsReadAs files prelude k r → AreReadAs files prelude row → AreReadAs files prelude (slice_set row k (Some r))
 set_read files prelude row k r inside is all n d h = by_order (cases_order n k)
   where
@@ -30,7 +30,7 @@ set_read files prelude row k r inside is all n d h = by_order (cases_order n k)
     by_order (inr (inl less)) = other (omega arith)
     by_order (inr (inr less)) = other (omega arith)
 
--- what was read of a file is taken away
+-- the reading of a file is taken out
 pub unset_read : (files : List File) (prelude : Option Prelude) (row : Row) (k : ℕ) → k < length row → AreReadAs files prelude row → AreReadAs files prelude (slice_set row k None)
 unset_read files prelude row k inside all n d h = by_order (cases_order n k)
   where
@@ -47,7 +47,7 @@ unset_read files prelude row k inside all n d h = by_order (cases_order n k)
     by_order (inr (inl less)) = other (omega arith)
     by_order (inr (inr less)) = other (omega arith)
 
--- what stands at a place is right
+-- a reading in a row is that of its file
 pub read_there : (files : List File) (prelude : Option Prelude) (n : ℕ) (o : Option Read) → IsPlaceOf files prelude n o → IfSome o (IsReadAs files prelude n)
 read_there files prelude n None h = tt
 read_there files prelude n (Some r) h = h
@@ -62,7 +62,7 @@ all_front P xs x h k d lt = subst P (get_or_append_left xs (x ∷ []) d k lt) (h
 pub all_last : {X : Type 0} (P : X → Type 0) (xs : List X) (x : X) → All P (xs ++ x ∷ []) → P x
 all_last P xs x h = subst P (get_or-append_seam xs x [] x) (h (length xs) x (let e = length-append xs (x ∷ []) in omega (arith, e)))
 
--- what is read of a file is of some file
+-- the reading of a file is of some file
 pub place_of_file : (files : List File) (prelude : Option Prelude) (n : ℕ) (o : Option Read) → IsPlaceOf files prelude n o → IsPlaceable o
 place_of_file files prelude n None h = tt
 place_of_file files prelude n (Some (read.Fault f)) h = tt
@@ -71,7 +71,7 @@ place_of_file files prelude n (Some (read.Program p)) h = (n, prelude, h.0.state
 pub all_placeable : (files : List File) (prelude : Option Prelude) (row : Row) → AreReadAs files prelude row → All IsPlaceable row
 all_placeable files prelude row all n d h = place_of_file files prelude n (get_or row n d) (all n d h)
 
--- what stands at a place
+-- within a row, `read_at` finds the entry at the index
 pub place_read : (row : Row) (n : ℕ) (d : Option Read) → n < length row → read_at row n ≡ get_or row n d
 place_read row n d h = ap option_flatten (slice_get-get_or row n d h)
 
@@ -79,7 +79,7 @@ pub some_of : {X : Type 0} (o : Option X) → IsSome o → (x : X) × (o ≡ Som
 some_of (Some x) h = (x, refl)
 some_of None h = absurd (let no : ⊥ = cc in no)
 
--- what was read stands in the row
+-- the number of a read file is below the length of the row
 pub read_within : (row : Row) (n : ℕ) → IsSome (read_at row n) → n < length row
 read_within row n h = split (slice_get row n) refl
   where

@@ -1,4 +1,4 @@
--- A row that has all that it needs: all reached files are read; and it is the plan of its files.
+-- A row that has all reached files: all are read, and it is the plan of its files.
 use Rattle.std.proofs.Common.{◌≡◌, ◌≢◌, ◌<◌, ℕ, List, [], ◌∷◌, map, length, get_or, Option, Some, None, Ok, Err, refl, ap, sym, ◌∙◌, subst, arith}
 use Rattle.std.specs.Prelude.{Contains, IsSome, slice_get}
 use Rattle.std.specs.Option.{option_flatten, option_map}
@@ -55,7 +55,7 @@ trees_are : (row : Row) → trees_of (table_of row) ≡ map tree_in (readings ro
 trees_are [] = refl
 trees_are (o ∷ row) = ap (λ t. t ∷ trees_of (table_of row)) (trees_there o) ∙ ap (λ ts. tree_in (option_map reading_of o) ∷ ts) (trees_are row)
 
--- a program of a row of what was read is what `resolve` answers
+-- a program of a row of read files is the answer of `resolve`
 resolved_at : (files : List File) (block : Option Prelude) (n : ℕ) (o : Option Read) (f : PlacedFile) → IsPlaceOf files block n o → placed_in o ≡ Some f → (p : Program) × (placed_file p ≡ f) × Resolves files n block f.statements (Ok p)
 resolved_at files block n None f is e = absurd (let no : ⊥ = cc in no)
 resolved_at files block n (Some (read.Fault x)) f is e = absurd (let no : ⊥ = cc in no)
@@ -66,7 +66,7 @@ resolved_at files block n (Some (read.Program p)) f is e =
       subst (λ (g : PlacedFile). Resolves files n block g.statements (Ok p)) same (subst (λ ss. Resolves files n block ss (Ok p)) (sym is.2) is.3),
     )
 
--- what stands at a place is read of its file
+-- the entry of a file is empty or its reading
 place_is : (files : List File) (block : Option Prelude) (row : Row) (n : ℕ) → AreReadAs files block row → IsPlaceOf files block n (read_at row n)
 place_is files block row n all = split (slice_get row n) refl
   where
@@ -100,12 +100,12 @@ read_there : (files : List File) (block : Option Prelude) (n : ℕ) (o : Option 
 read_there files block n None r is e = absurd (let no : ⊥ = cc in no)
 read_there files block n (Some q) r is e = subst (IsRead files block n) (let same : reading_of q ≡ r = cc in same) (read_as files block n q is)
 
--- a row has what was read of a plan's file
+-- a row has the reading of a file that the plan has
 some_read : (o : Option Read) (r : Reading) → option_map reading_of o ≡ Some r → IsSome o
 some_read None r e = absurd (let no : ⊥ = cc in no)
 some_read (Some q) r e = refl
 
--- what was read is the plan of the files
+-- the readings of a row are the plan of the files
 pub planned_so : (files : List File) (block : Option Prelude) (row : Row) (plan : Plan) → readings row ≡ plan.reads → IsPrelude files plan.prelude block → IsRowOf files block plan.roots row → IsPlanOf files plan
 planned_so files block row plan is prelude_is rows = readings_make_plans files plan block prelude_is (ap length (sym is) ∙ (length-map row (option_map reading_of) ∙ rows.sized))
     (λ n r e. let there : option_map reading_of (read_at row n) ≡ Some r = sym (read_is plan row n is) ∙ e in
@@ -116,7 +116,7 @@ planned_so files block row plan is prelude_is rows = readings_make_plans files p
     known : (n : ℕ) → IsSome (read_at row n) → (r : Reading) × (read_of plan n ≡ Some r)
     known n h = let s = some_of (read_at row n) h in (reading_of s.0, read_is plan row n is ∙ ap (option_map reading_of) s.1)
 
--- the prelude has the names of its tree, or none where its text does not parse
+-- the prelude has the names of its tree
 pub prelude_sound : (files : List File) (n : ℕ) (tree : Tree) (p : Prelude) → Parses (text_at files n) (Ok tree) → p.file ≡ n → p.names ≡ prelude_names (Some tree.statements) → IsPrelude files (Some n) (Some p)
 prelude_sound files n tree p parses file names = (
   Ok tree,

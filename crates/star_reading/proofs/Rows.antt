@@ -1,4 +1,4 @@
--- The rows of what was read, and what a plan has of them.
+-- The rows of read files, and a plan's readings of them.
 use Rattle.std.proofs.Common.{◌≡◌, ℕ, Option, Some, None, refl, ap, sym, ◌∙◌}
 use Rattle.std.specs.Prelude.{slice_get}
 use Rattle.std.specs.Option.{option_map, option_flatten}
@@ -10,7 +10,7 @@ flat-map : {A B : Type 0} (f : A → B) (o : Option (Option A)) → option_flatt
 flat-map f None = refl
 flat-map f (Some o) = refl
 
--- what a plan has of a file is what the row has
+-- a plan's reading of a file is that of the row
 pub read_is : (plan : Plan) (row : Row) (n : ℕ) → readings row ≡ plan.reads → read_of plan n ≡ option_map reading_of (read_at row n)
 read_is plan row n e =
     ap (λ rs. option_flatten (slice_get rs n)) (sym e)

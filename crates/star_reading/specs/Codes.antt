@@ -1,4 +1,4 @@
--- Static faults as the definitions have them.
+-- Static faults of the code, as the definitions have them.
 use Rattle.std.specs.Prelude.{ℕ, List, codes}
 use Rattle.star_lex.specs.declared.token.SyntaxFault.TheVariants as text
 use Rattle.star_scope.specs.declared.error.ScopeFault.TheVariants as names
@@ -19,7 +19,7 @@ fault_at Private line = OfNames (names.Private line)
 fault_at NoFile line = OfNames (names.NoFile line)
 fault_at BadLabel line = OfNames (names.BadLabel line)
 
--- the fault that a code and its line stand for
+-- the fault of a code and its line
 abbrev pub fault_of : StaticFault → PlanFault
 fault_of f = fault_at f.code f.line
 

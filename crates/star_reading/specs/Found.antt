@@ -1,4 +1,4 @@
--- What was found and read, while files are read, and of all files that roots reach.
+-- The files that were found and read so far, and at the end all that roots reach.
 use Rattle.std.specs.Prelude.{◌≡◌, ◌+◌, ◌<◌, ◌⊎◌, ℕ, Bool, true, false, List, None, Option, length, All, IsSome, Contains, count_by, not, slice_index_or}
 use Rattle.star_label.specs.Files.{File}
 use Rattle.star_scope.specs.declared.program.Prelude.{Prelude}
@@ -11,7 +11,7 @@ use Rattle.star_reading.specs.Readings.{AreReadAs, Row, loads_at, read_at, readi
 abbrev pub Within : List File → List ℕ → Type 0
 Within files ns = All (λ n. n < length files) ns
 
--- the row has what is read of these files
+-- the row has the readings of these files
 abbrev pub AreRead : Row → List ℕ → Type 0
 AreRead row ns = All (λ n. IsSome (read_at row n)) ns
 
@@ -20,8 +20,8 @@ pub record IsClosed (row : Row) (roots : List ℕ) : Type 0 where
   pub starts : AreRead row roots
   pub loads : (n : ℕ) → All (λ l. IsSome (read_at row l.file)) (loads_at row n)
 
--- what was read, as a plan for roots; which files are reached does not depend on the steps, nor on the prelude but by
--- what was read
+-- the read files as a plan for roots; the reached files do not depend on its steps, and on the prelude only by the
+-- readings
 abbrev pub plan_by : List ℕ → Row → Plan
 plan_by roots row = record { roots = roots; prelude = None; steps = 0; reads = readings row }
 
@@ -32,11 +32,11 @@ IsReachedBy roots row n = IsReached (plan_by roots row) n
 abbrev pub IsMarked : List Bool → ℕ → Type 0
 IsMarked marks n = slice_index_or marks n false ≡ true
 
--- how many files are left: those that were not found, and those that wait to be read
+-- the number of files left: files not found yet, and files that wait to be read
 abbrev pub left_of : List Bool → List ℕ → ℕ
 left_of marks todo = count_by not marks + length todo
 
--- some of these files are found as well, and wait to be read; as many are left
+-- some of these files are found as well, and wait to be read; the number of files left stays
 pub record Grew (ns : List ℕ) (marks : List Bool) (todo : List ℕ) (marks_after : List Bool) (todo_after : List ℕ) : Type
     0 where
   pub size : length marks_after ≡ length marks
@@ -46,8 +46,7 @@ pub record Grew (ns : List ℕ) (marks : List Bool) (todo : List ℕ) (marks_aft
   pub found : All (IsMarked marks) todo → All (IsMarked marks_after) todo_after
   pub left : left_of marks_after todo_after ≡ left_of marks todo
 
--- of these files, what was found so far: the roots, and the loads of all that was read; all of it is reached, and is
--- read or waits to be
+-- the files found so far: the roots, and the loads of all read files. Each is reached, and is read or waits to be read
 pub record AreFound (files : List File) (prelude : Option Prelude) (roots : List ℕ) (row : Row) (marks : List Bool)
     (todo : List ℕ) : Type 0 where
   pub right : AreReadAs files prelude row
@@ -60,14 +59,14 @@ pub record AreFound (files : List File) (prelude : Option Prelude) (roots : List
   pub done : (n : ℕ) → IsMarked marks n → IsSome (read_at row n) ⊎ Contains todo n
   pub waits : All (IsMarked marks) todo
 
--- the row has what is read of all files that the roots reach, and of no others
+-- the row has the readings of all files that the roots reach, and of no others
 pub record IsRowOf (files : List File) (prelude : Option Prelude) (roots : List ℕ) (row : Row) : Type 0 where
   pub right : AreReadAs files prelude row
   pub sized : length row ≡ length files
   pub closed : IsClosed row roots
   pub reached : (n : ℕ) → IsSome (read_at row n) → IsReachedBy roots row n
 
--- so it is where the files see this prelude or are it
+-- the row is right for the files that see this prelude, and for the prelude itself
 abbrev pub IsReadOf : List File → List ℕ → Option ℕ → Row → Type 0
 IsReadOf files roots prelude row =
     (block : Option Prelude) × IsPrelude files prelude block × IsRowOf files block roots row

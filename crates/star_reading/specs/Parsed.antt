@@ -1,4 +1,4 @@
--- What the parser has made of texts.
+-- Texts that are parsed already, by number.
 use Rattle.std.specs.Prelude.{◌≢◌, ℕ, ◌<◌, List, length, Result, Ok, Err, slice_index_or}
 use denote.Ref.{Bor}
 use Rattle.star_label.specs.Files.{File, text_at}
@@ -15,7 +15,7 @@ abbrev pub IsParsed : List ℕ → ParsedView → Type 0
 IsParsed text (Ok tree) = Parses text (Ok tree.now)
 IsParsed text (Err fault) = Parses text (Err fault) × (fault ≢ Memory)
 
--- this was made of the texts of the first files, by their numbers; of the others nothing was made
+-- these are the results of parsing the texts of the first files, by their numbers; the others are not parsed
 abbrev pub AreParsesOf : List File → List ParsedView → Type 0
 AreParsesOf files parses =
     (n : ℕ) (d : ParsedView) → n < length parses → IsParsed (text_at files n) (slice_index_or parses n d)

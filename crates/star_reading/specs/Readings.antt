@@ -1,4 +1,4 @@
--- What was read of files, by what the program has of it.
+-- Read files of the code, as the definitions have them.
 use Rattle.std.specs.Prelude.{◌≡◌, ◌<◌, ℕ, All, List, map, length, Option, Some, None, Ok, slice_get, slice_index_or}
 use Rattle.std.specs.Option.{option_map, option_flatten}
 use Rattle.star_label.specs.Files.{File, text_at}
@@ -14,7 +14,7 @@ use Rattle.star_reading.specs.Codes.{fault_of}
 use Rattle.star_reading.specs.declared.reading.Read.{Read}
 use Rattle.star_reading.specs.declared.reading.Read.TheVariants as read
 
--- a row of what was read, by the files' numbers
+-- a row of read files, by number
 abbrev pub Row : Type 0
 Row = List (Option Read)
 
@@ -33,7 +33,7 @@ read_at row n = option_flatten (slice_get row n)
 abbrev pub loads_at : Row → ℕ → List Load
 loads_at row n = loads_in (option_map reading_of (read_at row n))
 
--- the loads of what was read: none where it is a static fault
+-- the loads of a read file; none if it has a static fault
 abbrev pub loads_read : Read → List Load
 loads_read r = loads_in (Some (reading_of r))
 
@@ -53,21 +53,21 @@ IsReadAs files prelude n (read.Program p) =
     × Resolves files n prelude tree.statements (Ok p)
 IsReadAs files prelude n (read.Fault f) = IsRead files prelude n (Faulty (fault_of f))
 
--- a place of a row has nothing, or what is read of the file
+-- an entry of a row is empty, or the reading of the file
 abbrev pub IsPlaceOf : List File → Option Prelude → ℕ → Option Read → Type 0
 IsPlaceOf files prelude n None = Unit {0}
 IsPlaceOf files prelude n (Some r) = IsReadAs files prelude n r
 
--- so is each of a row
+-- each entry of a row is empty or the reading of its file
 abbrev pub AreReadAs : List File → Option Prelude → Row → Type 0
 AreReadAs files prelude row =
     (n : ℕ) (d : Option Read) → n < length row → IsPlaceOf files prelude n (slice_index_or row n d)
 
--- so is each of these, by its number
+-- each of these is the reading of the file with its number
 abbrev pub AreAllReadAs : List File → Option Prelude → List (ℕ × Read) → Type 0
 AreAllReadAs files prelude reads = All (λ p. IsReadAs files prelude p.0 p.1) reads
 
--- a program among what was read is that of some file
+-- a program among the read files is that of some file
 abbrev pub IsPlaceable : Option Read → Type 0
 IsPlaceable None = Unit {0}
 IsPlaceable (Some (read.Program p)) = IsOfFile p

@@ -1,4 +1,4 @@
-//! Files that are read by several threads, before they are asked for.
+//! Reading in parallel: several threads read files as they are found, before anybody asks for them.
 
 ghost use Rattle.std.specs.Prelude.{◌<◌, All, IfOk, IfSome, List, OnOk, Option, length};
 ghost use Rattle.std.specs.Option.{option_copied};
@@ -14,10 +14,10 @@ use std::sync::Wait;
 use std::thread;
 use std::thread::Threads;
 
-/// For so many files a thread more reads.
+/// One thread more may read for each further group of this many files.
 const SHARE: usize = 16;
 
-/// The files are read as they are found: first the roots, then the files that those load which were read.
+/// A flow that hands out each file as it is found: first the roots, then the loads of the files that were read.
 fn found_first(alloc: Global, count: usize, roots: &[usize]) -> Result<Flow, AllocError> {
     let mut schedule = Schedule::new(vec![in alloc; 1; count]?, Vec::new(alloc));
     schedule.ended(roots);
@@ -25,7 +25,7 @@ fn found_first(alloc: Global, count: usize, roots: &[usize]) -> Result<Flow, All
 }
 
 impl<'s, 't> Reader<'s, 't> {
-    /// Reads a file, where there is one with this number, and answers which files it loads.
+    /// Reads a file, if there is one with this number, and answers the numbers of the files that it loads.
     fn read_into<R: Wait>(
         &self,
         rt: &R,
@@ -63,7 +63,8 @@ impl<'s, 't> Reader<'s, 't> {
         unreachable!()
     }
 
-    /// The same for one of several threads, none of which waits for one that could not go on.
+    /// As `read_found`, for one of several threads. If it fails, it leaves the flow, so that no other thread waits for
+    /// it.
     fn read_share<R: Wait>(&self, rt: &R, flow: &Flow) -> Result<Vec<(usize, Read<'t>)>, AllocError>
         requires parses { AreParsesOf self.now.files.now self.now.parses.now }
         ensures { IfOk result (λ reads.
@@ -76,7 +77,7 @@ impl<'s, 't> Reader<'s, 't> {
         reads
     }
 
-    /// Reads the files that are handed out by so many threads.
+    /// Reads the files that are handed out, by `threads` threads.
     fn read_shares<R: Threads + Wait + Sync>(
         &self,
         rt: &R,
@@ -99,7 +100,7 @@ impl<'s, 't> Reader<'s, 't> {
         )
     }
 
-    /// Reads all files that the roots reach by at most so many threads. One thread reads nothing ahead.
+    /// Reads all files that the roots reach by at most `threads` threads. One thread reads nothing ahead.
     pub(crate) fn read_ahead<R: Threads + Wait + Sync>(
         &self,
         rt: &R,
@@ -121,7 +122,7 @@ impl<'s, 't> Reader<'s, 't> {
         Ok(ahead)
     }
 
-    /// What is read of a file: what was read of it ahead, or it is read now.
+    /// The result of reading a file: the one that was read ahead, or the file is read now.
     pub(crate) fn read_once<R: Wait>(
         &self,
         rt: &R,
@@ -142,7 +143,7 @@ impl<'s, 't> Reader<'s, 't> {
 }
 
 impl<'t> Found<'t> {
-    /// Takes what was read of a file.
+    /// Takes the result of reading a file ahead out, if there is one.
     fn take(&mut self, n: usize) -> Option<Read<'t>>
         ensures { (files : List File) (prelude : Option PreludeView) → AreReadAs files prelude self.old.reads.items
             → IfSome result (IsReadAs files prelude n) × AreReadAs files prelude self.new.reads.items }
@@ -154,7 +155,7 @@ impl<'t> Found<'t> {
         }
     }
 
-    /// A file was read, where there is one with this number.
+    /// Records that a file was read, if there is one with this number.
     fn add_read(&mut self, n: usize, read: Read<'t>) -> Result<(), AllocError>
         ensures { OnOk result ((files : List File) (prelude : Option PreludeView) → IsReadAs files prelude n read.entry
             → AreReadAs files prelude self.old.reads.items → AreReadAs files prelude self.new.reads.items) }
@@ -166,7 +167,7 @@ impl<'t> Found<'t> {
         Ok(())
     }
 
-    /// Several files were read.
+    /// Records that several files were read.
     fn add_each(&mut self, reads: Vec<(usize, Read<'t>)>) -> Result<(), AllocError>
         ensures { OnOk result ((files : List File) (prelude : Option PreludeView)
             → AreAllReadAs files prelude reads.entry.items
@@ -178,7 +179,7 @@ impl<'t> Found<'t> {
         Ok(())
     }
 
-    /// The shares of several threads were read.
+    /// Records the files that several threads have read.
     fn add_shares(
         &mut self,
         shares: Vec<Result<Vec<(usize, Read<'t>)>, AllocError>>,

@@ -1,4 +1,4 @@
-//! Static faults, and the words of the report for all faults.
+//! `StaticFault`: a static fault with its code and line, and the words of the report for all codes.
 
 ghost use Rattle.std.specs.Prelude.{◌≡◌, ◌≢◌, MatchOption};
 ghost use Rattle.star_lex.specs.declared.token.SyntaxFault.TheVariants as text;
@@ -11,7 +11,7 @@ use star_lex::token::SyntaxFault;
 use star_meaning::fault::Code;
 use star_scope::error::ScopeFault;
 
-/// Why a file is not run.
+/// The kinds of static faults: why a file is not run.
 #[derive(Clone, Copy, Debug, PartialEq, Eq)]
 pub enum StaticCode {
     BadToken,
@@ -33,7 +33,7 @@ pub struct StaticFault {
     pub line: usize,
 }
 
-/// The static fault that the parser has found: none for want of memory.
+/// The static fault that the parser has found; `None` for want of memory.
 pub fn of_syntax(fault: SyntaxFault) -> Option<StaticFault>
     ensures { MatchOption result (fault ≡ text.Memory) (λ f. (fault_of f ≡ OfText fault) × (fault ≢ text.Memory)) }
 {
@@ -47,7 +47,7 @@ pub fn of_syntax(fault: SyntaxFault) -> Option<StaticFault>
     Some(StaticFault { code, line })
 }
 
-/// The static fault that the resolver has found: none for want of memory.
+/// The static fault that the resolver has found; `None` for want of memory.
 pub fn of_scope(fault: ScopeFault) -> Option<StaticFault>
     ensures { MatchOption result (fault ≡ names.Memory) (λ f. (fault_of f ≡ OfNames fault) × (fault ≢ names.Memory)) }
 {

@@ -1,4 +1,4 @@
-//! All files that roots reach are read, with the prelude that each of them sees.
+//! `read_files`: reads all files that roots reach, with the prelude that each of them sees.
 
 ghost use Rattle.std.specs.Prelude.{◌≡◌, ◌<◌, All, IfOk, IfSome, Some, length};
 ghost use Rattle.std.specs.Option.{option_copied, option_map};
@@ -34,8 +34,8 @@ fn prelude_over<'t>(
     }
 }
 
-/// The prelude: its names are those of its tree, which is kept with the other trees; it has none where its text does
-/// not parse.
+/// The prelude: its names are the names that its tree binds, and no names if its text does not parse. The tree is kept
+/// with the other trees.
 fn prelude_of<'t, R: Wait>(
     rt: &R,
     alloc: Global,
@@ -55,7 +55,7 @@ fn prelude_of<'t, R: Wait>(
     }
 }
 
-/// The prelude, where there is one.
+/// The prelude, if there is one.
 fn block_of<'t, R: Wait>(
     rt: &R,
     alloc: Global,
@@ -102,8 +102,8 @@ fn read_by<'s, 't, R: Threads + Wait + Sync>(
     reader.read_all(rt, threads)
 }
 
-/// Reads all files that the roots reach, by so many threads: of each its program, or its static fault. The trees have a
-/// place of their own.
+/// Reads all files that the roots reach, by at most `threads` threads: of each its program, or its static fault. The
+/// trees are kept in `trees`. The error: an allocation failed.
 pub fn read_files<'t, R: Threads + Wait + Sync>(
     rt: &R,
     alloc: Global,
@@ -131,7 +131,8 @@ pub fn read_files<'t, R: Threads + Wait + Sync>(
     )
 }
 
-/// As `read_files`, where the texts of the first files were parsed: they are not parsed again.
+/// As `read_files`, with the first files parsed already: their texts are not parsed again. The error: an allocation
+/// failed.
 pub fn read_parsed<'t, R: Threads + Wait + Sync>(
     rt: &R,
     alloc: Global,

@@ -1,11 +1,14 @@
-//! The reading of files: what is read of each that roots reach, by one thread or several, before any body runs.
+//! Reading files: lexing, parsing and resolving all files that the roots reach, before any of them runs.
 //!
-//! `Reader` lexes, parses and resolves a file and answers what was `Read` of it: its program, or its static fault
-//! with the code of the report (`code`). `ahead` lets several threads read files as they are found; `reading` then
-//! goes over the reached files in one thread, takes what was read ahead and reads the rest. So what is promised is
-//! what one thread would read.
+//! - `Reader` has all that is needed to read a run's files; `Reader::read_all` reads them. `Read` is the result for a
+//!   file: its program, or its static fault (`StaticFault`, in `code`). `Reads` has them by file number.
+//! - `Trees` owns the trees. Programs borrow them, so whoever keeps `Reads` keeps the trees too.
+//! - `ahead` lets several threads read files as they are found. `reading` then goes over the reached files in one
+//!   thread, takes the files that were read ahead and reads the others. So the result is that of one thread.
+//! - `parses` parses a text once, if several need its tree.
 //!
-//! `Trees` owns the trees; programs borrow them, so whoever keeps `Reads` keeps the trees too.
+//! Begin at `files.rt::read_files`. The promise is its clause `read`: the result has exactly the files that the roots
+//! reach, each with the reading that the definition (`star_plan/specs/Reading`) gives it.
 #![tactic(auto)]
 
 mod ahead;

@@ -1,4 +1,4 @@
-//! What the parser makes of texts, each of which is parsed once.
+//! Parsed texts: a text that is parsed already is not parsed again.
 
 ghost use Rattle.std.specs.Prelude.{◌<◌, IfOk, length};
 ghost use Rattle.star_label.specs.Files.{text_at};
@@ -11,10 +11,10 @@ use star_tree::tree::Tree;
 use std::alloc::{AllocError, Global};
 use std::sync::Wait;
 
-/// What the parser has made of a text: its tree, or its fault, which is not want of memory.
+/// The result of parsing a text: its tree, or its fault, which is not want of memory.
 pub type Parsed<'t> = Result<&'t Tree, SyntaxFault>;
 
-/// Parses a text, and keeps its tree with the other trees.
+/// Parses a text, and keeps its tree with the other trees. The error: an allocation failed.
 pub fn parsed<'t, R: Wait>(
     rt: &R,
     alloc: Global,
@@ -34,7 +34,8 @@ pub fn parsed<'t, R: Wait>(
     }
 }
 
-/// What the parser makes of the text of a file: what it has made of it, or the text is parsed now.
+/// The result of parsing the text of a file: from `parses` if it is there, else parsed now. The error: an allocation
+/// failed.
 pub fn parsed_once<'t, R: Wait>(
     rt: &R,
     alloc: Global,

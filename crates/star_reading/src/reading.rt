@@ -20,7 +20,7 @@ use std::alloc::{AllocError, Global};
 use std::sync::Wait;
 use std::thread::Threads;
 
-/// What was read of a file: its program, or its static fault.
+/// The result of reading a file: its program, or its static fault.
 #[derive(Drop)]
 pub enum Read<'t> {
     Program(Program<'t>),
@@ -30,12 +30,12 @@ pub enum Read<'t> {
 /// The trees of the files that a run reads.
 #[derive(Drop)]
 pub struct Trees {
-    /// Each tree stays where it is while more are read.
+    /// No tree moves while more are read.
     pub all: boxcar::Vec<Tree>,
 }
 
 impl Trees {
-    /// No tree yet.
+    /// No tree yet. The error: an allocation failed.
     pub fn new(alloc: Global) -> Result<Trees, AllocError> {
         Ok(Trees {
             all: boxcar::Vec::new(alloc)?,
@@ -43,10 +43,10 @@ impl Trees {
     }
 }
 
-/// What a run has read of its files, by their numbers: none of a file that no root reaches.
+/// The results of reading a run's files, by their numbers; `None` for a file that no root reaches.
 #[derive(Drop)]
 pub struct Reads<'t> {
-    /// A place for each file of the run.
+    /// An entry for each file of the run.
     pub all: Vec<Option<Read<'t>>>,
 }
 
@@ -61,14 +61,14 @@ impl<'t> Reads<'t> {
     }
 }
 
-/// What files are read by: their texts, the place of their trees, what the parser has made of the texts so far, the
+/// All that is needed to read files: their texts, the place of their trees, the texts that are parsed already, the
 /// prelude, and the roots.
 #[derive(Drop)]
 pub struct Reader<'s, 't> {
     pub alloc: Global,
     pub files: &'s Labels,
     pub trees: &'t boxcar::Vec<Tree>,
-    /// Of the first files, by their numbers: their texts are not parsed again.
+    /// The parsed texts of the first files, by their numbers; these are not parsed again.
     pub parses: &'s [Parsed<'t>],
     pub prelude: Option<&'s Prelude<'t>>,
     pub roots: &'s [usize],
@@ -133,7 +133,7 @@ impl<'s, 't> Reader<'s, 't> {
         Ok(())
     }
 
-    /// The roots are found, and nothing is read yet.
+    /// The start: the roots are found, and nothing is read yet.
     fn start(&self) -> Result<Found<'t>, AllocError>
         requires { Within self.now.files.now self.now.roots.now }
         ensures { IfOk result (λ f. AreFound self.now.files.now (option_copied self.now.prelude) self.now.roots.now
@@ -144,8 +144,9 @@ impl<'s, 't> Reader<'s, 't> {
         Ok(found)
     }
 
-    /// Reads all files that the roots reach, by so many threads: the roots, and the loads of all that is read. A file
+    /// Reads all files that the roots reach, by `threads` threads: the roots, and the loads of all that is read. A file
     /// with a static fault has no loads. Each turn takes a file that was found, and each file is found at most once.
+    /// The error: an allocation failed.
     pub fn read_all<R: Threads + Wait + Sync>(
         &self,
         rt: &R,
@@ -167,7 +168,7 @@ impl<'s, 't> Reader<'s, 't> {
     }
 }
 
-/// The loads of what was read: none where it is a static fault.
+/// The loads of a read file; none if it has a static fault.
 pub(crate) fn loads_of<'a>(read: &'a Read) -> &'a [Load]
     ensures { result.now ≡ loads_read read.now }
 {
@@ -177,15 +178,15 @@ pub(crate) fn loads_of<'a>(read: &'a Read) -> &'a [Load]
     }
 }
 
-/// The numbers of the files that loads lead to.
+/// The numbers of the files that loads lead to. The error: an allocation failed.
 pub fn numbers(alloc: Global, loads: &[Load]) -> Result<Vec<usize>, AllocError>
     ensures { IfOk result (λ v. v.items ≡ map (λ l. l.file) loads.now) }
 {
     loads.iter().map(|load| load.file).collect(alloc)
 }
 
-/// The files that were found so far: what was read of them, whether each was found, and the numbers of those that wait
-/// to be read.
+/// The files that were found so far: the results of reading them, whether each was found, and the numbers of the files
+/// that wait to be read.
 #[derive(Drop)]
 pub(crate) struct Found<'t> {
     pub reads: Vec<Option<Read<'t>>>,
@@ -194,7 +195,7 @@ pub(crate) struct Found<'t> {
 }
 
 impl<'t> Found<'t> {
-    /// Nothing of so many files.
+    /// Nothing found yet, of `count` files.
     pub(crate) fn new(alloc: Global, count: usize) -> Result<Found<'t>, AllocError>
         ensures reads { IfOk result (λ f. vec_len f.reads ≡ count) }
         ensures none { IfOk result (λ f. All (λ o. o ≡ None) f.reads.items) }
@@ -212,7 +213,7 @@ impl<'t> Found<'t> {
         })
     }
 
-    /// Takes a file that waits to be read.
+    /// Takes a file that waits to be read; `None` if none waits.
     fn next(&mut self) -> Option<usize>
         ensures reads { self.new.reads ≡ self.old.reads }
         ensures marks { self.new.marks ≡ self.old.marks }
@@ -234,7 +235,7 @@ impl<'t> Found<'t> {
         }
     }
 
-    /// A file is found.
+    /// Records that a file is found.
     fn mark(&mut self, n: usize) -> Result<(), AllocError>
         ensures reads { self.new.reads ≡ self.old.reads }
         ensures grew { OnOk result (Grew (n ∷ []) self.old.marks.items self.old.todo.items
@@ -248,7 +249,7 @@ impl<'t> Found<'t> {
         Ok(())
     }
 
-    /// Several files are found.
+    /// Records that several files are found.
     pub(crate) fn mark_each(&mut self, numbers: &[usize]) -> Result<(), AllocError>
         ensures reads { self.new.reads ≡ self.old.reads }
         ensures grew { OnOk result (Grew numbers.now self.old.marks.items self.old.todo.items
@@ -262,7 +263,7 @@ impl<'t> Found<'t> {
         Ok(())
     }
 
-    /// The files of loads are found.
+    /// Records that the files of loads are found.
     fn mark_loads(&mut self, loads: &[Load]) -> Result<(), AllocError>
         ensures reads { self.new.reads ≡ self.old.reads }
         ensures grew { OnOk result (Grew (map (λ l. l.file) loads.now) self.old.marks.items self.old.todo.items
@@ -276,7 +277,7 @@ impl<'t> Found<'t> {
         Ok(())
     }
 
-    /// A file was read, and its loads are found.
+    /// Records that a file was read, and that its loads are found.
     pub(crate) fn add(&mut self, n: usize, read: Read<'t>) -> Result<(), AllocError>
         requires { n < vec_len self.old.reads }
         ensures reads { OnOk result (self.new.reads.items ≡ slice_set self.old.reads.items n (Some read.entry)) }

@@ -1,4 +1,4 @@
--- What is written of a plan is one text, with one answer.
+-- A plan has one written text, and one answer.
 use Rattle.std.proofs.Common.{arith, ◌≡◌, ◌⊎◌, ◌<◌, ◌↔◌, ℕ, zero, suc, Bool, true, false, List, [], ◌∷◌, ◌++◌, Result, Ok, Err, map, refl, ap, sym, subst, ◌∙◌, inl, inr}
 use Rattle.std.specs.Prelude.{Contains, string_bytes}
 use Rattle.std.specs.List.{All, AllPairs}
@@ -14,8 +14,10 @@ use Rattle.star_report.specs.Graph.{IsGraph, IsGraphText, IsNode, Node, graph_te
 use Rattle.star_report.specs.Output.{IsAnswer, IsOutput}
 use Rattle.star_report.specs.declared.got.Lack.{Lack}
 use Rattle.star_report.specs.declared.wanted.Output.{Output}
-use Rattle.star_report.specs.declared.wanted.Output.TheVariants.{Global, Graph, Report}
+use Rattle.star_report.specs.declared.wanted.Output.TheVariants.{Check, Global, Graph, Report}
 use Rattle.star_report.proofs.OneText.{one_full_text}
+use Rattle.star_reply.proofs.Checks.{one_check_text}
+use Rattle.star_reply.proofs.Rising.{same_rising}
 use Rattle.star_reply.proofs.Goods.{all_good_too, same_answer}
 
 -- ---- globals
@@ -56,46 +58,6 @@ item_of {A} xs = A
 -- the type of edges
 abbrev Edge : Type 0
 Edge = item_of (let v : Node = record { file = 0; is_ok = true; edges = [] } in v.edges)
-
-member : (x : ℕ) (xs : List ℕ) (n : ℕ) → Contains (x ∷ xs) n → (x ≡ n) ⊎ Contains xs n
-member x xs n (zero, less, e) = inl e
-member x xs n (suc k, less, e) = inr (k, omega arith, e)
-
-first : (x : ℕ) (xs : List ℕ) → Contains (x ∷ xs) x
-first x xs = (0, omega arith, refl)
-
-later : (x n : ℕ) (xs : List ℕ) → Contains xs n → Contains (x ∷ xs) n
-later x n xs (k, less, e) = (suc k, omega arith, e)
-
-above : (x : ℕ) (xs : List ℕ) → AllPairs (λ y z. y < z) (x ∷ xs) → (n : ℕ) → Contains xs n → x < n
-above x xs rises n (k, less, e) = subst (λ z. x < z) e (rises 0 (suc k) n (omega arith) (omega arith))
-
-rest_rises : (x : ℕ) (xs : List ℕ) → AllPairs (λ y z. y < z) (x ∷ xs) → AllPairs (λ y z. y < z) xs
-rest_rises x xs rises i j d less short = rises (suc i) (suc j) d (omega arith) (omega arith)
-
--- rising lists with the same members are one
-same_rising : (xs ys : List ℕ) → AllPairs (λ y z. y < z) xs → AllPairs (λ y z. y < z) ys → ((n : ℕ) → Contains xs n → Contains ys n) → ((n : ℕ) → Contains ys n → Contains xs n) → xs ≡ ys
-same_rising [] [] p q to from = refl
-same_rising [] (y ∷ ys) p q to from = absurd (let h : Contains [] y = from y (first y ys) in let less = h.1 in let no : ⊥ = omega arith in no)
-same_rising (x ∷ xs) [] p q to from = absurd (let h : Contains [] x = to x (first x xs) in let less = h.1 in let no : ⊥ = omega arith in no)
-same_rising (x ∷ xs) (y ∷ ys) p q to from =
-    let same : x ≡ y = heads (member y ys x (to x (first x xs))) (member x xs y (from y (first y ys))) in
-    let rest : xs ≡ ys = same_rising xs ys (rest_rises x xs p) (rest_rises y ys q)
-    (λ n h. tail y ys n (let less = above x xs p n h in λ e. let no : ⊥ = omega arith in no) (to n (later x n xs h)))
-    (λ n h. tail x xs n (let less = above y ys q n h in λ e. let no : ⊥ = omega arith in no) (from n (later y n ys h))) in
-    ap (λ zs. x ∷ zs) rest ∙ ap (λ z. z ∷ ys) same
-  where
-    heads : ((y ≡ x) ⊎ Contains ys x) → ((x ≡ y) ⊎ Contains xs y) → x ≡ y
-    heads (inl e) _ = sym e
-    heads (inr h) (inl e) = e
-    heads (inr h) (inr k) = let up = above y ys q x h in let down = above x xs p y k in absurd (let no : ⊥ = omega arith in no)
-
-    tail : (z : ℕ) (zs : List ℕ) (n : ℕ) → (z ≡ n → ⊥) → Contains (z ∷ zs) n → Contains zs n
-    tail z zs n differ h = pick (member z zs n h)
-      where
-        pick : ((z ≡ n) ⊎ Contains zs n) → Contains zs n
-        pick (inl e) = absurd (differ e)
-        pick (inr k) = k
 
 same_test : {A : Type 0} (b c : Bool) → (b ≡ true) ↔ A → (c ≡ true) ↔ A → b ≡ c
 same_test true true f g = refl
@@ -144,7 +106,7 @@ one_graph plan vs ws x y =
 one_graph_text : (files : List File) (plan : Plan) (a b : List ℕ) → IsGraphText files plan a → IsGraphText files plan b → a ≡ b
 one_graph_text files plan a b (vs, x, e) (ws, y, g) = e ∙ (ap (graph_text files) (one_graph plan vs ws x y) ∙ sym g)
 
--- ---- what is written
+-- ---- the written text
 
 one_reply : (plan : Plan) (ok well : Bool) → IsAnswer plan ok → IsAnswer plan well → ok ≡ well
 one_reply plan ok well (ks, are, good, bad) (js, also, fine, ill) = same_answer ok well good bad fine ill (all_good_too plan ks js are also) (all_good_too plan js ks also are)
@@ -156,3 +118,4 @@ one_output (Global name) files plan a b true false (ds, x, e) ((n, why, y), g) =
 one_output (Global name) files plan a b false true ((n, why, x), e) (ds, y, g) = absurd (no_lack plan (string_bytes name) plan.roots ds n why y x)
 one_output (Global name) files plan a b false false (x, e) (y, g) = (e ∙ sym g, refl)
 one_output Graph files plan a b ok well h k = (one_graph_text files plan a b h.0 k.0, one_reply plan ok well h.1 k.1)
+one_output (Check only_roots) files plan a b ok well h k = (one_check_text only_roots files plan a b h.0 k.0, same_test ok well h.1 k.1)

@@ -16,7 +16,7 @@ use Rattle.star_reply.proofs.Ordered.{asked, asked_files, walked}
 use Rattle.star_reply.proofs.Outputs.{one_output}
 use Rattle.star_reply.proofs.Walks.{one_walk}
 
--- what is asked for has one reply
+-- a request has one reply
 one_reported : (output : Output) (a : Asked) → IsOrdered a.files → (steps : ℕ) (before : List ℕ) (x y : Option (List ℕ)) (ok well : Bool) → Reports output a steps (Some before) x ok → Reports output a steps (Some before) y well → (x ≡ y) × (ok ≡ well)
 one_reported output a is steps before x y ok well (s, h, (p, planned, roots, prelude, paid, out)) (t, k, (q, also, own_roots, own_prelude, own_paid, too)) =
     let plan = one-plan a.files is p q planned also (roots ∙ sym own_roots) (prelude ∙ sym own_prelude) (paid ∙ sym own_paid) in

@@ -1,4 +1,4 @@
--- The one report of an input.
+-- Laws of the one report of an input.
 use Rattle.std.specs.Prelude.{◌≡◌, ◌≢◌, ℕ, Bool, List, Option, Some, Ok}
 use Rattle.star_label.specs.Files.{File, IsOrdered}
 use Rattle.star_bundle.specs.Bundle.{Asked, asked_among, asked_of}
@@ -13,17 +13,17 @@ use Rattle.star_report.specs.declared.wanted.Output.{Output}
 use Rattle.star_serve.specs.Serve.{ReadsAll, Reports}
 use Rattle.star_serve.specs.Stream.{Said}
 
--- what is asked for of a bundle are ordered files
+-- the files of a bundle that is asked for are ordered
 abbrev pub AskedAreOrdered : Type 0
 AskedAreOrdered =
     (roots : List (List ℕ)) (prelude : Option (List ℕ)) (input : List ℕ) (asked : Asked)
     → asked_of roots prelude input ≡ Ok asked → IsOrdered asked.files
 
--- so are those of a whole walk
+-- the files of a whole walk are ordered
 abbrev pub WalkedAreOrdered : Type 0
 WalkedAreOrdered = (held : Contents) (files : List File) → AreFilesOf held files → IsOrdered files
 
--- the contents say of each path and each label what is there
+-- the contents give the entries at each path and the bytes at each label
 pub record SaysAll (held : Contents) : Type 0 where
   pub folders : (path : List ℕ) → (entries : List Entry) × (held.entries path ≡ Some entries)
   pub files : (label : List ℕ) → (bytes : List ℕ) × (held.bytes label ≡ Some bytes)
@@ -38,7 +38,7 @@ OneWalk =
     (held : Contents) → SaysAll held → (files others : List File) → AreFilesOf held files → AreFilesOf held others
     → files ≡ others
 
--- what the words ask for of these files was written between `before` and `after`, and so answered
+-- the answer for these files, as the words ask for them, was written between `before` and `after`
 abbrev pub Answers : Output → List File → List (List ℕ) → Option (List ℕ) → ℕ → List ℕ → Option (List ℕ) → Bool → Type 0
 Answers output files roots prelude steps before after ok =
     (asked : Asked) × (asked_among roots prelude files ≡ Ok asked) × Reports output asked steps (Some before) after ok
@@ -51,7 +51,7 @@ OneAnswer =
     → (x y : Option (List ℕ)) (ok well : Bool) → Answers output files roots prelude steps before x ok
     → Answers output files roots prelude steps before y well → (x ≡ y) × (ok ≡ well)
 
--- what `serve` says where it answers: of the input, and of a writer that says what it took
+-- the promise of `serve` on its answer, for an input and a writer that reports all it took
 abbrev pub Replies : Output → List (List ℕ) → Option (List ℕ) → ℕ → List ℕ → List ℕ → Option (List ℕ) → Bool → Type 0
 Replies output roots prelude steps input before after ok =
     (asked : Asked) × (asked_of roots prelude input ≡ Ok asked) × Reports output asked steps (Some before) after ok
@@ -63,12 +63,12 @@ OneReply =
     → (x y : Option (List ℕ)) (ok well : Bool) → Replies output roots prelude steps input before x ok
     → Replies output roots prelude steps input before y well → (x ≡ y) × (ok ≡ well)
 
--- what `serve` says of its reader too: all of what that gave was the input
+-- the promise of `serve` on its reader too: all that it gave was the input
 abbrev pub Serves : Output → List (List ℕ) → Option (List ℕ) → ℕ → Said → Said → List ℕ → Option (List ℕ) → Bool → Type 0
 Serves output roots prelude steps old new before after ok =
     (input : List ℕ) × ReadsAll old new input × Replies output roots prelude steps input before after ok
 
--- a reader that says what it will give has one reply
+-- a reader whose whole input is known beforehand has one reply
 abbrev pub OneServed : Type 0
 OneServed =
     (output : Output) (roots : List (List ℕ)) (prelude : Option (List ℕ)) (steps : ℕ) (old new other : Said) (all before : List ℕ)
@@ -76,7 +76,7 @@ OneServed =
     → (x y : Option (List ℕ)) (ok well : Bool) → Serves output roots prelude steps old new before x ok
     → Serves output roots prelude steps old other before y well → (x ≡ y) × (ok ≡ well)
 
--- what `serve_dir` says where it answers
+-- the promise of `serve_dir` on its answer
 abbrev pub RepliesDir : Output → List (List ℕ) → Option (List ℕ) → ℕ → Contents → List ℕ → Option (List ℕ) → Bool → Type 0
 RepliesDir output roots prelude steps held before after ok =
     (files : List File) × AreFilesOf held files × Answers output files roots prelude steps before after ok
@@ -88,7 +88,7 @@ OneReplyDir =
     → (before : List ℕ) (x y : Option (List ℕ)) (ok well : Bool) → RepliesDir output roots prelude steps held before x ok
     → RepliesDir output roots prelude steps held before y well → (x ≡ y) × (ok ≡ well)
 
--- a refusal that the contents decide: no listing or read failed, and no growth was refused
+-- a refusal that the contents decide: no listing, read or allocation failed
 abbrev pub IsDecided : ServeError → Type 0
 IsDecided e = (e ≢ BadDir) × (e ≢ BadFile) × (e ≢ Memory)
 
@@ -98,7 +98,7 @@ OneStop =
     (held : Contents) → SaysAll held → (e f : ServeError) → IsStopped held e → IsStopped held f → IsDecided e
     → IsDecided f → e ≡ f
 
--- or come to their end
+-- a walk cannot both end and be stopped by a refusal that the contents decide
 abbrev pub StopsOrEnds : Type 0
 StopsOrEnds =
     (held : Contents) → SaysAll held → (files : List File) (e : ServeError) → AreFilesOf held files → IsStopped held e

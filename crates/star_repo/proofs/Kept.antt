@@ -25,7 +25,7 @@ use Rattle.star_repo.proofs.Rows.{R}
 use Rattle.star_repo.proofs.Settled.{zip_push}
 use Rattle.star_repo.proofs.Steps.{Fresh}
 
--- what comes after all others is put at the end
+-- a label after all others is put at the end
 pub put_last : (es : List Fresh) (l : Label) (t : String Global) → IsAfter l es → insert_entry cmp-value.it es l t ≡ es ++ (l, t) ∷ []
 put_last [] l t h = refl
 put_last (e ∷ es) l t h =

@@ -50,7 +50,7 @@ one_tree text a b h k =
     let same = one_answer text (Ok a) (Ok b) (λ e. let no : ⊥ = cc in no) (λ e. let no : ⊥ = cc in no) h k in
     cc
 
--- a text that parses loads what the load statements of its tree name
+-- a text that parses loads the labels that the load statements of its tree name
 pub loads_of_tree : (here text : List ℕ) (tree : Tree) (m : List ℕ) → Parses text (Ok tree) → IsNamed here (written tree.statements) m ↔ LoadsLabel here text m
 loads_of_tree here text tree m parses = (
   (λ h. (tree, parses, h.0, from_in (written tree.statements) h.0 h.1, h.2, h.3, h.4, h.5)),

@@ -28,7 +28,7 @@ pub one_map : OneMap
 one_map held words files others a b =
     same_rows files others a.ordered b.ordered (λ f h. to_in others f ((b.are f.0 f.1).1 ((a.are f.0 f.1).0 (from_in files f h)))) (λ f h. to_in files f ((a.are f.0 f.1).1 ((b.are f.0 f.1).0 (from_in others f h))))
 
--- one folder reaches what another does that has the same at what it reaches
+-- one folder reaches the labels of another that has the same files at the reached labels
 also : (held other : Held) (words : Words) → ((l : List ℕ) → IsReachedOf held words l → held l ≡ other l) → (l : List ℕ) → IsReachedOf held words l → IsReachedOf other words l
 also held other words same l (root c) = root c
 also held other words same l (prelude e) = prelude e

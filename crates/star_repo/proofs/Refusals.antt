@@ -22,7 +22,7 @@ use Rattle.star_repo.proofs.Reached.{from_round}
 use Rattle.star_words.specs.Rows.{IsIn}
 use Rattle.star_repo.proofs.Rows.{R, below, from_in, never_less, same_rows, to_in}
 
--- a file stands where a refusal is not that its read failed
+-- there is a file at a refusal other than a failed read
 stands : (held : Held) (l bytes : List ℕ) (e : ServeError) → e ≢ error.BadFile → Stands held l bytes e → held l ≡ Some bytes
 stands held l bytes error.Read k h = h
 stands held l bytes error.TooBig k h = h
@@ -41,7 +41,7 @@ stands held l bytes error.Memory k h = h
 stands held l bytes error.Write k h = h
 stands held l bytes error.Unpublished k h = h
 
--- what follows x in order is not before it
+-- a label that follows x in order is not before it
 later : (x : File) (xs : List File) (y : File) (ys : List File) → IsOrdered (x ∷ xs) → IsOrdered (y ∷ ys) → IsIn x ys → ((z : File) → IsIn z (x ∷ xs) → IsIn z (y ∷ ys)) → (z : File) → IsIn z (x ∷ xs) → IsIn z ys
 unfolding IsStrictlySortedBy
 later x xs y ys s t there to z h = elim (to z h) [ inl k ↦ absurd (behind h k) | inr k ↦ k ]
@@ -120,7 +120,7 @@ module _ (held : Held) (words : Words) where
   one_round : (d e : ℕ) (l : List ℕ) → IsRound held words d l → IsRound held words e l → d ≡ e
   one_round d e l a b = let h = a.fewest e b.reached in let k = b.fewest d a.reached in omega (arith, h, k)
 
-  -- what comes first of what comes first comes first
+  -- the first of the first labels is the first of all
   both_first : (c d e : ℕ) (k l m : List ℕ) → ComesFirst c k d l → ComesFirst d l e m → ComesFirst c k e m
   both_first c d e k l m (inl h) (inl i) = inl (omega (arith, h, i))
   both_first c d e k l m (inl h) (inr i) = let s = i.0 in inl (omega (arith, h, s))
@@ -131,7 +131,7 @@ module _ (held : Held) (words : Words) where
   not_itself d l (inl h) = omega (arith, h)
   not_itself d l (inr h) = never_less l h.1
 
-  -- what is refused after some files is not among files that have it and those, and pass
+  -- a file that is refused after some files is not among files that pass with those
   passed_over : (l : List ℕ) (e : ServeError) (a : IsRefusedAt held words l e) (ys : List File) → IsOrdered ys → Pass ys → Contains ys (l, a.bytes) → ((g : File) → IsIn g a.front → IsIn g ys) → e ≢ error.BadFile → ⊥
   passed_over l e a ys ordered pass inside to named = by e a.refused named
     where

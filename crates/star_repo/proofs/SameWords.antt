@@ -1,4 +1,4 @@
--- What is asked for by the labels of its roots and of its prelude, and by all of these as roots.
+-- The files asked for by the labels of roots and of a prelude, and by all of these as roots.
 use Rattle.std.proofs.Common.{◌≡◌, ◌⊎◌, inl, inr, ℕ, zero, suc, List, Option, None, Some}
 use Rattle.std.specs.Prelude.{◌↔◌, Contains}
 use Rattle.star_label.specs.Files.{File}
@@ -74,7 +74,7 @@ module _ (held : Held) (v w : Words) (same : SameWords v w) where
     );
   }
 
--- the labels of what is asked for, all as roots, ask for the same
+-- the labels that are asked for, all as roots, ask for the same
 pub asked_words : (roots : List (List ℕ)) (given : Option (List ℕ)) (labels : List Label) → AreAsked roots given (labels_of labels) → SameWords (words_of labels) (record { roots = roots; prelude = given })
 asked_words roots given labels a held l = (
   (λ h. elim h [

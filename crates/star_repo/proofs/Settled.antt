@@ -1,4 +1,4 @@
--- A fresh file is set beside what the parser has made of it.
+-- A fresh file is set beside its parse.
 use Rattle.std.proofs.Common.{◌≡◌, ◌⊎◌, inl, inr, ℕ, List, [], ◌∷◌, ◌++◌, map, Option, Some, refl, ap, sym, ◌∙◌, subst, String, string_bytes}
 use Rattle.std.specs.Prelude.{◌↔◌, OnOk, Result, Ok, Err}
 use Rattle.std.specs.List.{AllZip}
@@ -21,7 +21,7 @@ pub on_ok : {A E : Type 0} (P Q : Type 0) (r : Result A E) → OnOk r P → (P �
 on_ok P Q (Ok x) h k = k h
 on_ok P Q (Err e) h k = tt
 
--- ---- two lists, place by place
+-- ---- two lists, element by element
 
 no_more : {X Y : Type 0} (R : X → Y → Type 0) (xs : List X) (x : X) → AllZip R (xs ++ x ∷ []) [] → ⊥
 no_more R [] x h = h
@@ -98,7 +98,7 @@ same_on xs ys zs a b y = ((λ h. (b y).0 ((a y).0 h)), (λ h. (a y).1 ((b y).1 h
 pub once_too : (xs ys : List Answer) → Same xs ys → Once xs → Once ys
 once_too xs ys a once k o p h i = once k o p ((a (k, o)).1 h) ((a (k, p)).1 i)
 
--- ---- what they load
+-- ---- their loads
 
 pub loaded_more : (l : Label) (text : String Global) (moved : List Fresh) (before after : List (List ℕ))
     → ((m : List ℕ) → IsIn m before ↔ IsLoadedBy (map file_of moved) m)

@@ -28,7 +28,7 @@ Fresh = Label × String Global
 abbrev pub ins : List Entry → Label → Option ReadFile → List Entry
 ins es l v = insert_entry cmp-value.it es l v
 
--- ---- what is read of a file
+-- ---- the bytes read of a file
 
 some_same : {A : Type 0} (a b : A) → Some a ≡ Some b → a ≡ b
 some_same a b e = cc
@@ -36,7 +36,7 @@ some_same a b e = cc
 some_none : {A : Type 0} (a : A) → Some a ≡ None → ⊥
 some_none a e = cc
 
--- a front is that of some text, which is the file where something is said of it
+-- a front is that of some text, which is the file if anything is said of it
 pub front_of : (o : Option (Option (List ℕ))) (front : List ℕ) → TellsFront o (Some front) → (all : List ℕ) × Tells o (Some all) × (front ≡ take 1048577 all)
 front_of None front h = (front, tt, sym (take_all 1048577 front h))
 front_of (Some None) front h = absurd (some_none front h)

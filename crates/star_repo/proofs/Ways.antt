@@ -20,7 +20,7 @@ use Rattle.star_repo.proofs.Reached.{from_round, in_rounds}
 use Rattle.star_repo.proofs.Inserted.{all_of, bytes_same, bytes_self, each_of, put, put_from, put_length, put_ordered, put_size, put_to}
 use Rattle.star_repo.proofs.Rows.{R, from_in, never_less, to_in}
 
--- ---- what a folder may hold that agrees with what was found
+-- ---- the possible contents of a folder that agree with the found files
 
 abbrev default_of : Option (Option (List ℕ)) → Option (List ℕ)
 default_of None = None
@@ -156,7 +156,7 @@ turned_at held words d answers fresh next agrees at loaded = record {
 
 -- ---- the files
 
--- what is left of a way does not depend on the order in which its answers stand
+-- the rest of a way does not depend on the order of its answers
 abbrev Same : {X : Type 0} → List X → List X → Type 0
 Same {X} xs ys = (x : X) → IsIn x xs ↔ IsIn x ys
 
@@ -238,7 +238,7 @@ fits_more said answers l o told fits m x (inl e) =
     subst (λ (a : Answer). Tells (said a.0) a.1) e told
 fits_more said answers l o told fits m x (inr h) = fits m x h
 
--- no file stands at a label
+-- there is no file at a label
 pub misses : (said : Said) (words : Words) (d : ℕ) (answers : List Answer) (fresh : List File) (rest : List (List ℕ)) (count size : ℕ) (l : List ℕ)
     → (IsLooked l answers → ⊥) → IsBelow l rest → Tells (said l) None → IsWay said words d answers fresh (l ∷ rest) count size
     → IsWay said words d ((l, None) ∷ answers) fresh rest count size
@@ -257,7 +257,7 @@ misses said words d answers fresh rest count size l new below told way = record 
     none_some : (t : List ℕ) → None ≡ Some t → ⊥
     none_some t e = cc
 
--- a file stands there, and passes
+-- there is a file, and it passes
 pub finds : (said : Said) (words : Words) (d : ℕ) (answers : List Answer) (fresh : List File) (rest : List (List ℕ)) (count size : ℕ) (l t : List ℕ)
     → (IsLooked l answers → ⊥) → IsBelow l rest → Tells (said l) (Some t) → count < 10000 → length t ≤ 1048576 → IsUtf8 t → size + length t ≤ 268435456
     → IsWay said words d answers fresh (l ∷ rest) count size → IsWay said words d ((l, Some t) ∷ answers) ((l, t) ∷ fresh) rest (count + 1) (size + length t)
@@ -392,7 +392,7 @@ module _ (held : Held) (words : Words) (d : ℕ) (answers : List Answer) (fresh 
     );
   }
 
--- the file that stands at the next label is refused
+-- the file at the next label is refused
 pub refuses : (said : Said) (words : Words) (d : ℕ) (answers : List Answer) (fresh : List File) (rest : List (List ℕ)) (count size : ℕ) (l bytes : List ℕ) (e : ServeError)
     → (IsLooked l answers → ⊥) → IsBelow l rest → Tells (said l) (Some bytes) → IsWay said words d answers fresh (l ∷ rest) count size
     → Refuses count size bytes e → ((held : Held) → held l ≡ Some bytes → Stands held l bytes e)

@@ -10,23 +10,23 @@ use Rattle.star_repo.specs.Refusal.{IsRefusedAt, Pass}
 use Rattle.star_repo.specs.declared.error.RepoError.{RepoError}
 use Rattle.star_repo.specs.declared.error.RepoError.TheVariants as why
 
--- what a run is asked for: its roots and its prelude
+-- the words of a run: its roots and its prelude
 abbrev pub words_for : List (List ℕ) → Option (List ℕ) → Words
 words_for roots prelude = record { roots = roots; prelude = prelude }
 
--- these are the files that the roots and the prelude reach in some folder that fits what is said, within the limits
+-- these are the files that the roots and the prelude reach in some folder that fits all that is told, within the limits
 abbrev pub AreFilesFor : Said → List (List ℕ) → Option (List ℕ) → List File → Type 0
 AreFilesFor said roots prelude files =
     (held : Held) × Fits said held × AreReachedFiles held (words_for roots prelude) files × Pass files
 
 -- why they were not read: in some such folder the file at the label is the first, by its round and its label, that does
--- not pass; or a root, or else the prelude, is no label
+-- not pass; or a root, or else the prelude, is not a label
 abbrev pub IsUnread : Said → List (List ℕ) → Option (List ℕ) → RepoError → Type 0
 IsUnread said roots prelude (why.File label error) =
     (held : Held) × Fits said held × IsRefusedAt held (words_for roots prelude) (text_of label) error
 IsUnread said roots prelude (why.Run error) = IsMisnamed roots prelude error
 
--- one read failed where the answer is so, and else none
+-- one read failed if the answer is so, else none
 abbrev pub failed_find : RepoError → ℕ
 failed_find (why.File label BadFile) = 1
 failed_find e = 0

@@ -1,4 +1,4 @@
--- What stands in a folder at each label.
+-- The content of a folder at each label: a text, or no file.
 use Rattle.std.specs.Prelude.{◌≡◌, ⊤, ℕ, ◌≤◌, List, [], ◌∷◌, length, take, drop, Option, Some, None, option_map, IfSome, if◌then◌else◌}
 use Rattle.std.specs.Str.{bytes_eq}
 
@@ -6,7 +6,7 @@ use Rattle.std.specs.Str.{bytes_eq}
 abbrev pub Held : Type 0
 Held = List ℕ → Option (List ℕ)
 
--- what a folder says of the labels; nothing where nothing is said of one
+-- the files that a folder tells of, by label; nothing if it does not tell of one
 abbrev pub Said : Type 0
 Said = List ℕ → Option (Option (List ℕ))
 
@@ -18,11 +18,11 @@ abbrev pub Tells : Option (Option (List ℕ)) → Option (List ℕ) → Type 0
 Tells None found = ⊤
 Tells (Some all) found = found ≡ all
 
--- a folder may hold this, by what it says
+-- a folder may hold this, by all that it tells
 abbrev pub Fits : Said → Held → Type 0
 Fits said held = (label : List ℕ) → Tells (said label) (held label)
 
--- what is read at a label: the text, or its first 1,048,577 bytes where it has more
+-- the bytes that are read at a label: the text, or its first 1,048,577 bytes if it has more
 abbrev pub TellsFront : Option (Option (List ℕ)) → Option (List ℕ) → Type 0
 TellsFront None found = IfSome found (λ front. length front ≤ 1048577)
 TellsFront (Some all) found = found ≡ option_map (take 1048577) all
@@ -31,6 +31,6 @@ TellsFront (Some all) found = found ≡ option_map (take 1048577) all
 abbrev pub mark : List ℕ
 mark = 0xef ∷ 0xbb ∷ 0xbf ∷ []
 
--- the text that the bytes of a file are: a mark at the front is no part of it
+-- the text of a file's bytes: a mark at the front does not belong to it
 abbrev pub unmarked : List ℕ → List ℕ
 unmarked bytes = if bytes_eq (take 3 bytes) mark then drop 3 bytes else bytes

@@ -9,7 +9,7 @@ use Rattle.star_bundle.specs.declared.error.ServeError.{ServeError}
 use Rattle.star_bundle.specs.declared.error.ServeError.TheVariants.{BadFile}
 use Rattle.star_repo.specs.Refusal.{IsRefusedAt, Pass, ReachedIn}
 
--- the reached labels stand in each set that has the roots, the prelude and what its members load
+-- the reached labels are in each set that has the roots, the prelude and all that its members load
 abbrev pub ReachedIsLeast : Type 0
 ReachedIsLeast =
     (held : Held) (words : Words) (is_in : List ℕ → Bool)
@@ -18,7 +18,7 @@ ReachedIsLeast =
     → ((l m text : List ℕ) → is_in l ≡ true → held l ≡ Some text → LoadsLabel (package_of l) text m → is_in m ≡ true)
     → (l : List ℕ) → IsReachedOf held words l → is_in l ≡ true
 
--- a label is reached just where it is so after some number of loads
+-- a label is reached exactly if it is so after some number of loads
 abbrev pub ReachedByRounds : Type 0
 ReachedByRounds =
     (held : Held) (words : Words) (l : List ℕ) → IsReachedOf held words l ↔ ((d : ℕ) × ReachedIn held words d l)
@@ -29,13 +29,13 @@ OneMap =
     (held : Held) (words : Words) (files others : List File) → AreReachedFiles held words files
     → AreReachedFiles held words others → files ≡ others
 
--- what stands at labels that are not reached changes nothing
+-- files at labels that are not reached change nothing
 abbrev pub OthersChangeNothing : Type 0
 OthersChangeNothing =
     (held other : Held) (words : Words) → ((l : List ℕ) → IsReachedOf held words l → held l ≡ other l)
     → (files : List File) → AreReachedFiles held words files → AreReachedFiles other words files
 
--- a folder that says what stands at each label has at most one map of the files of a run
+-- a folder that tells the file at each label has at most one map of the files of a run
 abbrev pub OneMapOfSaid : Type 0
 OneMapOfSaid =
     (said : Said) → ((l : List ℕ) → (found : Option (List ℕ)) × (said l ≡ Some found))
@@ -47,7 +47,7 @@ pub record AreAllFiles (held : Held) (files : List File) : Type 0 where
   pub ordered : IsOrdered files
   pub are : (l text : List ℕ) → Contains files (l, text) ↔ (held l ≡ Some text)
 
--- the map of a run has of the reached labels just what the map of the whole folder has
+-- at the reached labels, the map of a run has exactly the files of the map of the whole folder
 abbrev pub SameWhereReached : Type 0
 SameWhereReached =
     (held : Held) (words : Words) (whole part : List File) → AreAllFiles held whole → AreReachedFiles held words part
@@ -59,7 +59,7 @@ OneRefusal =
     (held : Held) (words : Words) (l m : List ℕ) (e f : ServeError) → IsRefusedAt held words l e
     → IsRefusedAt held words m f → e ≢ BadFile → f ≢ BadFile → (l ≡ m) × (e ≡ f)
 
--- files that all pass are not refused, but where a read fails
+-- files that all pass are not refused, unless a read fails
 abbrev pub RefusedOrNot : Type 0
 RefusedOrNot =
     (held : Held) (words : Words) (files : List File) → AreReachedFiles held words files → Pass files

@@ -1,3 +1,4 @@
+-- The files that roots reach in a folder, and the one refusal. Begin at Reach and Refusal.
 pub mod Held
 pub mod Memory
 pub mod Loading

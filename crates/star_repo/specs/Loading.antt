@@ -1,4 +1,4 @@
--- Which labels a text loads.
+-- The labels that a text loads.
 use Rattle.std.specs.Prelude.{◌≡◌, ℕ, List, Ok, Contains}
 use Rattle.star_label.specs.Label.{Reads, label_text}
 use Rattle.star_parser.specs.Sources.{Parses}

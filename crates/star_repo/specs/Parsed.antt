@@ -1,4 +1,4 @@
--- What the parser has made of texts.
+-- Texts that were parsed, by label.
 use Rattle.std.specs.Prelude.{ℕ, ◌*◌, ◌<◌, List, length, take, drop, Result, IfOk, Vec, String, string_bytes, slice_index_or}
 use Rattle.std.specs.List.{AllZip}
 use Rattle.std.specs.declared.alloc.AllocError.{AllocError}
@@ -7,7 +7,7 @@ use Rattle.star_label.specs.declared.label.Label.{Label}
 use Rattle.star_label.specs.Files.{File}
 use Rattle.star_reading.specs.Parsed.{IsParsed, ParsedView}
 
--- labels with texts, each beside what the parser has made of its text
+-- labels with texts, each beside the result of parsing its text
 abbrev pub AreParsed : List (Label × String Global) → List ParsedView → Type 0
 AreParsed files parses = AllZip (λ f p. IsParsed (string_bytes f.1) p) files parses
 
@@ -15,7 +15,7 @@ AreParsed files parses = AllZip (λ f p. IsParsed (string_bytes f.1) p) files pa
 abbrev pub AreFilesParsed : List File → List ParsedView → Type 0
 AreFilesParsed files parses = AllZip (λ f p. IsParsed f.1 p) files parses
 
--- what was made of the parts of a list that is cut into parts of this size, where memory sufficed
+-- the results for the parts of a list that is cut into parts of this size, if memory sufficed
 abbrev pub ArePartsParsed : List (Label × String Global) → ℕ → List (Result (Vec ParsedView Global) AllocError) → Type 0
 ArePartsParsed files size parts =
     (n : ℕ) (d : Result (Vec ParsedView Global) AllocError) → n < length parts

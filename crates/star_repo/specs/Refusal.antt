@@ -1,4 +1,4 @@
--- Why the files of a run are refused, in an order that the folder alone fixes.
+-- The one refusal of a run's files, in an order that the folder alone fixes: by round, then by label.
 use Rattle.std.specs.Prelude.{◌≡◌, ◌↔◌, ◌⊎◌, ⊤, ℕ, zero, suc, ◌+◌, ◌<◌, ◌≤◌, All, List, length, sum_by, Some, Contains}
 use Rattle.std.specs.Cmp.Lexicographic.{slice_cmp}
 use Rattle.std.specs.Ordering.{nat_cmp}
@@ -12,13 +12,13 @@ use Rattle.star_repo.specs.Held.{Held}
 use Rattle.star_repo.specs.Loading.{LoadsLabel}
 use Rattle.star_repo.specs.Reach.{Words}
 
--- a label is reached after so many loads
+-- a label is reached after this many loads
 abbrev pub ReachedIn : Held → Words → ℕ → List ℕ → Type 0
 ReachedIn held words zero l = Contains words.roots l ⊎ (words.prelude ≡ Some l)
 ReachedIn held words (suc d) m =
     (l : List ℕ) × (text : List ℕ) × ReachedIn held words d l × (held l ≡ Some text) × LoadsLabel (package_of l) text m
 
--- its round: the fewest loads after which it is reached
+-- its round: the fewest loads that reach it
 pub record IsRound (held : Held) (words : Words) (d : ℕ) (l : List ℕ) : Type 0 where
   pub reached : ReachedIn held words d l
   pub fewest : (e : ℕ) → ReachedIn held words e l → d ≤ e
@@ -42,7 +42,7 @@ pub record Pass (files : List File) : Type 0 where
   pub few : length files ≤ 10000
   pub small : size_of files ≤ 268435456
 
--- a file with these bytes is refused after so many files and bytes; a read that failed says nothing of them
+-- a file with these bytes is refused after this many files and bytes; a read that failed says nothing of them
 abbrev pub Refuses : ℕ → ℕ → List ℕ → ServeError → Type 0
 Refuses count size bytes TooMany = count ≡ 10000
 Refuses count size bytes BadFile = ⊤
@@ -52,7 +52,7 @@ Refuses count size bytes TooBig =
     (count < 10000) × (length bytes ≤ 1048576) × IsUtf8 bytes × (268435456 < size + length bytes)
 Refuses count size bytes e = ⊥
 
--- a file with these bytes stands at the label; where its read failed, nothing is known of it
+-- a file with these bytes is at the label; if its read failed, nothing is known of it
 abbrev pub Stands : Held → List ℕ → List ℕ → ServeError → Type 0
 Stands held l bytes BadFile = ⊤
 Stands held l bytes e = held l ≡ Some bytes

@@ -16,7 +16,7 @@ Turns found (turn.Next r) =
     × (found.fresh.items ≡ [] → ⊥)
 Turns found (turn.End f) = (f ≡ found) × (found.fresh.items ≡ [])
 
--- a further round begins after this one, with more files than so many; or the reading has come to its end
+-- a further round begins after this one, with more files than `count`; or the reading has come to its end
 abbrev pub IsTurn : Said → Words → ℕ → ℕ → Turn → Type 0
 IsTurn said words d count (turn.Next r) =
     IsOnWay said words (suc d) r.found (labels_of r.waiting.keys) × AllRead r.found.looked

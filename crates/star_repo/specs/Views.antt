@@ -1,4 +1,4 @@
--- What the program's values stand for.
+-- The program's states of a reading, as contracts see them.
 use Rattle.std.specs.Prelude.{◌≡◌, ℕ, ⊤, List, [], ◌∷◌, ◌++◌, map, All, Option, None, Some, IfSome, option_map, Result, Ok, Err, String, string_bytes}
 use Rattle.std.specs.BTreeMap.{BTreeMap, insert_entry, values}
 use Rattle.std.specs.Cmp.Lexicographic.{slice_cmp}
@@ -23,18 +23,18 @@ use Rattle.star_repo.specs.declared.error.ReadError.TheVariants as why
 use Rattle.star_repo.specs.declared.found.Found.{Found}
 use Rattle.star_repo.specs.declared.found.ReadFile.{ReadFile}
 
--- what a run asks for: these labels
+-- a run asks for these labels
 abbrev pub words_of : List Label → Words
 words_of labels = record { roots = labels_of labels; prelude = None }
 
--- what was found at a label
+-- the result of a look-up at a label
 abbrev pub answer_of : Label × Option ReadFile → Answer
 answer_of e = (text_of e.0, option_map (λ f. string_bytes f.text) e.1)
 
 abbrev pub fresh_answer : Label × String Global → Answer
 fresh_answer f = (text_of f.0, Some (string_bytes f.1))
 
--- what was looked up: the fresh files, and what was found before them
+-- the labels that were looked up: the fresh files, and those that were found before them
 abbrev pub answers_in : List (Label × String Global) → List (Label × Option ReadFile) → List Answer
 answers_in fresh looked = map fresh_answer fresh ++ map answer_of looked
 
@@ -44,7 +44,7 @@ IsOnWay said words d found rest =
     IsWay said words d (answers_in found.fresh.items found.looked.entries) (map file_of found.fresh.items) rest
     found.count found.size
 
--- each file that was read is beside what the parser has made of its text
+-- each file that was read is beside the result of parsing its text
 abbrev pub IsRead : Option ReadFile → Type 0
 IsRead o = IfSome o (λ f. IsParsed (string_bytes f.text) f.parsed)
 
@@ -55,13 +55,13 @@ AllRead looked = All IsRead (values looked)
 abbrev pub IsUnknown : Label → List (Label × Option ReadFile) → Type 0
 IsUnknown label looked = IsLooked (text_of label) (map answer_of looked) → ⊥
 
--- what an error says: the files of the run are refused so at this label, or memory ran out
+-- the meaning of an error: the files of the run are refused so at this label, or memory ran out
 abbrev pub Says : Said → Words → ReadError → Type 0
 Says said words (why.Refused label error) =
     (held : Held) × Fits said held × IsRefusedAt held words (text_of label) error
 Says said words why.Memory = ⊤
 
--- one read failed where the answer is so, and else none
+-- one read failed if the answer is so, else none
 abbrev pub failed_read : ReadError → ℕ
 failed_read (why.Refused label BadFile) = 1
 failed_read e = 0
@@ -75,7 +75,7 @@ abbrev pub IsNamed : List ℕ → List Written → List ℕ → Type 0
 IsNamed here ws m = (w : Written) × IsIn w ws
     × (p : List ℕ) × (n : List ℕ) × Reads here w.module_string.text p n × (m ≡ label_text p n)
 
--- a file is kept after the others, beside what the parser has made of it; nothing is where there is no file
+-- a file is kept after the others, beside the result of parsing it; an absent one is not
 abbrev pub IsKept : List (Label × String Global) → List ParsedView → Label → Option ReadFile
     → List (Label × String Global) → List ParsedView → Type 0
 IsKept texts parses label None more others = (more ≡ texts) × (others ≡ parses)

@@ -1,4 +1,4 @@
--- How far the reading of a run has come: by rounds, and within a round by the order of the labels.
+-- The state of a reading: by rounds, and within a round by the order of the labels.
 use Rattle.std.specs.Prelude.{◌≡◌, ◌↔◌, ◌⊎◌, ℕ, ◌<◌, List, length, Option, Some}
 use Rattle.std.specs.Cmp.Lexicographic.{slice_cmp}
 use Rattle.std.specs.Ordering.{nat_cmp}
@@ -15,7 +15,7 @@ use Rattle.star_words.specs.Rows.{IsIn}
 abbrev pub IsBelow : List ℕ → List (List ℕ) → Type 0
 IsBelow l rest = (r : List ℕ) → IsIn r rest → slice_cmp nat_cmp l r ≡ Less
 
--- what was found at a label: a text, or no file
+-- the result of a look-up at a label: a text, or no file
 abbrev pub Answer : Type 0
 Answer = List ℕ × Option (List ℕ)
 
@@ -29,7 +29,7 @@ Agrees held answers = (l : List ℕ) (o : Option (List ℕ)) → IsIn (l, o) ans
 abbrev pub IsEarlier : Held → Words → ℕ → List ℕ → Type 0
 IsEarlier held words d l = (e : ℕ) × (e < d) × IsRound held words e l
 
--- a label of this round, before those that wait, whose file is fresh where it has one
+-- a label of this round, before those that wait, whose file is fresh if it has one
 pub record IsDone (held : Held) (words : Words) (d : ℕ) (fresh : List File) (rest : List (List ℕ)) (l : List ℕ)
     (o : Option (List ℕ)) : Type 0 where
   pub round : IsRound held words d l
@@ -47,8 +47,8 @@ pub record IsAtRound (held : Held) (words : Words) (d : ℕ) (answers : List Ans
   pub all_now : (l : List ℕ) → ReachedIn held words d l → IsIn l rest ⊎ IsLooked l answers
   pub all_before : (e : ℕ) (l : List ℕ) → e < d → ReachedIn held words e l → IsLooked l answers
 
--- The reading has come so far, whatever the folder holds that agrees with what was found. The files so far pass, and
--- are so many with so many bytes.
+-- The reading has come so far, in each folder that agrees with the found files. The files so far pass, and `count` and
+-- `size` are their number and their bytes.
 pub record IsWay (said : Said) (words : Words) (d : ℕ) (answers : List Answer) (fresh : List File)
     (rest : List (List ℕ)) (count size : ℕ) : Type 0 where
   pub fits : (l : List ℕ) (o : Option (List ℕ)) → IsIn (l, o) answers → Tells (said l) o
@@ -61,6 +61,6 @@ pub record IsWay (said : Said) (words : Words) (d : ℕ) (answers : List Answer)
   pub counted : length files ≡ count
   pub sized : size_of files ≡ size
 
--- what the texts of these files load
+-- the labels that the texts of these files load
 abbrev pub IsLoadedBy : List File → List ℕ → Type 0
 IsLoadedBy files m = (l : List ℕ) × (t : List ℕ) × IsIn (l, t) files × LoadsLabel (package_of l) t m

@@ -15,8 +15,8 @@ use std::alloc::Global;
 use std::sync::Wait;
 use std::thread::Threads;
 
-/// As `read_reached`, for the texts of the labels of roots and of a prelude. Before anything is read, `BadRoot` where a
-/// root is no label in normal form, else `BadPrelude` where the prelude is none.
+/// As `read_reached`, for the texts of the labels of roots and of a prelude. Before anything is read, `BadRoot` if a
+/// root is not a label in normal form, else `BadPrelude` if the prelude is not one.
 pub fn read_asked<'t, R: Threads + Wait + Sync, F: Repo>(
     rt: &R,
     alloc: Global,

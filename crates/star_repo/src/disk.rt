@@ -1,4 +1,4 @@
-//! A folder on the disk whose files are found by their labels.
+//! A `Repo` on the disk: each file is found by its label.
 
 ghost use Rattle.std.specs.Prelude.{◌≡◌, ◌≤◌, IfOk, IfSome, string_bytes, take, vec_len};
 ghost use Rattle.star_label.specs.View.{text_of};
@@ -17,8 +17,8 @@ use std::fs::{self, DirEntry};
 use std::io::{self, ErrorKind};
 use std::rt::Files;
 
-/// The folder at a path of the disk. It counts its failures, and says nothing of what it holds: no contract can say
-/// what a disk gives. Links are followed.
+/// The folder at a path of the disk. It counts its failures. It promises nothing of its content, since no contract can
+/// say what a disk gives. Links are followed.
 #[derive(Drop)]
 pub struct DiskRepo<'a, R> {
     rt: &'a R,
@@ -58,7 +58,7 @@ impl<'a, R: Files + AllocGlobal> Repo for DiskRepo<'a, R> {
     }
 }
 
-/// What was found at a path: the first bytes of a text, or no file.
+/// The result of a look-up at a path: the first bytes of a text, or no file.
 #[derive(Drop)]
 struct Found {
     path: String,
@@ -76,7 +76,7 @@ fn leads_nowhere(kind: ErrorKind) -> bool {
     )
 }
 
-/// How many bytes the file has that a path leads to, through links too: none where it leads to no file.
+/// The size in bytes of the file that a path leads to, through links too; `None` if it leads to no file.
 fn size_at<R: Files>(rt: &R, path: &str) -> io::Result<Option<u64>> {
     match fs::metadata(rt, path) {
         Ok(metadata) if metadata.is_file() => Ok(Some(metadata.len())),
@@ -102,7 +102,7 @@ fn text_in(alloc: Global, mut bytes: Vec<u8>) -> Result<Vec<u8>, AllocError>
     Ok(bytes)
 }
 
-/// What is found at a path.
+/// Looks a path up.
 fn found_at<R: Files + AllocGlobal>(rt: &R, path: String) -> io::Result<Found>
     ensures path { IfOk result (λ found. string_bytes found.path ≡ string_bytes path) }
     ensures few { IfOk result (λ found. IfSome found.text (λ text. vec_len text ≤ 1048577)) }
@@ -118,7 +118,7 @@ fn found_at<R: Files + AllocGlobal>(rt: &R, path: String) -> io::Result<Found>
     })
 }
 
-/// What is found at the path of a label in the folder at `top`.
+/// Looks the path of a label up in the folder at `top`.
 fn found_of<R: Files + AllocGlobal>(rt: &R, top: &str, label: &Label) -> io::Result<Found>
     ensures path { IfOk result (λ found. string_bytes found.path ≡ file_at top.now (text_of label.now)) }
     ensures few { IfOk result (λ found. IfSome found.text (λ text. vec_len text ≤ 1048577)) }
@@ -127,7 +127,7 @@ fn found_of<R: Files + AllocGlobal>(rt: &R, top: &str, label: &Label) -> io::Res
     found_at(rt, path)
 }
 
-/// The entry of a folder: none where its name is not UTF-8.
+/// The entry of a folder; `None` if its name is not UTF-8.
 fn entry_of<R: Files + AllocGlobal + Clone + Drop>(
     alloc: Global,
     entry: io::Result<DirEntry<R>>,

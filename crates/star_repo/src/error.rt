@@ -1,4 +1,4 @@
-//! Why the files of a run were not read.
+//! Why the files of a run were not read: a refusal, with its label.
 
 ghost use Rattle.std.specs.Prelude.{◌≡◌};
 ghost use Rattle.star_repo.specs.declared.error.ReadError.TheVariants.{Memory};
@@ -14,7 +14,7 @@ pub enum ReadError {
     /// The file of a label is refused.
     #[error("{error}: {label}")]
     Refused { label: Label, error: ServeError },
-    /// A growth was refused.
+    /// An allocation failed.
     #[error("out of memory")]
     Memory,
 }

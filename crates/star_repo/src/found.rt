@@ -1,4 +1,4 @@
-//! What the reading of a run has found so far.
+//! The files that the reading of a run has found so far.
 
 ghost use Rattle.std.specs.Prelude.{◌≤◌};
 
@@ -6,17 +6,17 @@ use star_label::label::Label;
 use star_reading::parses::Parsed;
 use std::collections::BTreeMap;
 
-/// A file that was read: its text, and what the parser has made of it.
+/// A file that was read: its text, and the result of parsing it.
 #[derive(Drop)]
 pub(crate) struct ReadFile<'t> {
     pub(crate) text: String,
     pub(crate) parsed: Parsed<'t>,
 }
 
-/// What was found so far.
+/// The files that were found so far.
 #[derive(Drop)]
 pub(crate) struct Found<'t> {
-    /// What stands at the labels that were looked up: a file, or none. The fresh files are not among these.
+    /// The labels that were looked up: with a file, or without. The fresh files are not among these.
     pub(crate) looked: BTreeMap<Label, Option<ReadFile<'t>>>,
     /// The files of this round, which are not parsed yet.
     pub(crate) fresh: Vec<(Label, String)>,

@@ -1,13 +1,14 @@
-//! Laws of the files that roots reach.
+//! Laws of reached labels and of refusals, true of every folder.
 
 ghost use Rattle.star_repo.specs.Laws.{OneMap, OneMapOfSaid, OneRefusal, OthersChangeNothing, ReachedByRounds, ReachedIsLeast, RefusedOrNot, SameWhereReached};
 
-/// The reached labels stand in each set that has the roots, the prelude and what the texts of its members load.
+/// The reached labels are in each set that has the roots, the prelude and all labels that the texts of its members
+/// load.
 pub fn reached_is_least()
     ensures { ReachedIsLeast }
 {}
 
-/// A label is reached just where it is reached after some number of loads.
+/// A label is reached just if it is reached after some number of loads.
 pub fn reached_by_rounds()
     ensures { ReachedByRounds }
 {}
@@ -17,28 +18,27 @@ pub fn one_map()
     ensures { OneMap }
 {}
 
-/// A folder that says what stands at each label has at most one.
+/// A folder that tells the file at each label has at most one such map.
 pub fn one_map_of_said()
     ensures { OneMapOfSaid }
 {}
 
-/// What stands at labels that are not reached changes nothing.
+/// Files at labels that are not reached change nothing.
 pub fn others_change_nothing()
     ensures { OthersChangeNothing }
 {}
 
-/// The map of a run has of the reached labels just what the map of the whole folder has.
+/// At the reached labels, the map of a run has exactly the files of the map of the whole folder.
 pub fn same_where_reached()
     ensures { SameWhereReached }
 {}
 
-/// The files of a run are refused at one label and for one reason, whatever the number of loaders, but where a read
-/// fails.
+/// The files of a run are refused at one label and for one reason, whatever the number of loaders, unless a read fails.
 pub fn one_refusal()
     ensures { OneRefusal }
 {}
 
-/// Files of a run that all pass are not refused, but where a read fails.
+/// Files of a run that all pass are not refused, unless a read fails.
 pub fn refused_or_not()
     ensures { RefusedOrNot }
 {}

@@ -1,10 +1,17 @@
-//! The files that roots reach in a folder, each found by its label when it is loaded.
+//! Files on demand: the files that roots reach in a folder, each found by its label when a load statement asks for it
+//! (`docs/FOLDERS.md`). Nothing is listed, and no text is parsed twice.
 //!
-//! `reach::read_reached` goes in rounds: it looks up the labels of a round in byte order, parses their texts side by
-//! side, and takes the labels that their load statements name as the next round. Nothing is listed, and no text is
-//! parsed twice. `Repo` is the folder (`DiskRepo`, `MemoryRepo`); `words::label_of` is the label that a path names.
-//! The definitions are in `specs/Reach` (the least set of labels) and `specs/Refusal` (the one refusal, by round and
-//! then by label).
+//! - `Repo` is a trait: it finds the file of a label, and its ghost members, which only contracts see, say which files
+//!   it has. `DiskRepo` is the disk, `MemoryRepo` a table.
+//! - `reach::read_reached` goes in rounds (`round`): it looks up the labels of a round in byte order (`read`), parses
+//!   their texts side by side (`parse`), and takes the labels that these load as the next round. `Reached` is the
+//!   result: the numbered files, with their parsed trees.
+//! - `asked::read_asked` begins with the words of the command line.
+//! - `RepoError` is a refusal with its label; `wanting` finds the load statement to name beside it.
+//!
+//! Begin at `reach.rt`, from its end. The promise is the contract of `read_reached`: the files of the least set of
+//! labels that has the roots and all loads of its members (`specs/Reach`), or the one refusal that comes first, by
+//! round and then by label (`specs/Refusal`).
 #![tactic(auto)]
 
 pub mod asked;

@@ -1,4 +1,5 @@
-//! The text that the bytes of a file are, and how much of it is read.
+//! The byte order mark at the front of a file, which does not belong to its text; and how many bytes of a file are
+//! read.
 
 ghost use Rattle.std.specs.Prelude.{◌≡◌, IfOk, take};
 ghost use Rattle.star_repo.specs.Held.{unmarked};
@@ -11,7 +12,7 @@ pub(crate) const FRONT: usize = 1_048_577;
 /// The byte order mark, in UTF-8.
 pub(crate) const MARK: [u8; 3] = [0xef, 0xbb, 0xbf];
 
-/// The text that the bytes of a file are: a byte order mark at the front is no part of it.
+/// The text of a file's bytes: a byte order mark at the front does not belong to it.
 pub(crate) fn unmarked(bytes: &[u8]) -> &[u8]
     ensures { result.now ≡ unmarked bytes.now }
 {

@@ -1,4 +1,4 @@
-//! A folder in memory whose files are found by their labels.
+//! A `Repo` in memory, for tests and for callers who have the files at hand.
 
 ghost use Rattle.std.specs.Prelude.{◌≡◌, option_map};
 ghost use Rattle.star_repo.specs.Memory.{bytes_among, said_by};

@@ -1,4 +1,4 @@
-//! What the parser makes of texts, several of which are parsed side by side.
+//! Parsing several texts side by side.
 
 ghost use Rattle.std.specs.Prelude.{◌≡◌, ◌*◌, ◌<◌, ℕ, List, IfOk, String, length, take};
 ghost use Rattle.std.specs.declared.alloc.Global.{Global as GlobalView};
@@ -12,7 +12,7 @@ use std::alloc::{AllocError, Global};
 use std::sync::Wait;
 use std::thread::{self, Threads};
 
-/// For so many texts a thread more parses.
+/// With each further group of this many texts one more thread parses.
 const SHARE: usize = 16;
 
 /// Parses one text after another.
@@ -31,7 +31,7 @@ fn parsed_each<'t, R: Wait>(
     Ok(parses)
 }
 
-/// What was made of all texts, by what was made of the parts of their list.
+/// The results of parsing all texts, joined from those of the parts of their list.
 fn joined<'t>(
     alloc: Global,
     parts: Vec<Result<Vec<Parsed<'t>>, AllocError>>,
@@ -70,7 +70,7 @@ fn parsed_parts<'t, R: Threads + Wait + Sync>(
     joined(alloc, parts)
 }
 
-/// Parses texts by at most so many threads.
+/// Parses texts by at most `threads` threads.
 pub(crate) fn parsed_all<'t, R: Threads + Wait + Sync>(
     rt: &R,
     alloc: Global,

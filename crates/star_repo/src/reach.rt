@@ -1,4 +1,4 @@
-//! The files of a run.
+//! `read_reached`: the files that roots reach, found round by round.
 
 ghost use Rattle.std.specs.Prelude.{◌≡◌, ◌+◌, ◌↔◌, ℕ, List, [], None, Some, IfOk, IfErr, OnOk, map};
 ghost use Rattle.star_label.specs.Files.{IsOrdered, file_of, limit_passed};
@@ -25,15 +25,15 @@ use std::collections::{BTreeMap, BTreeSet};
 use std::sync::Wait;
 use std::thread::Threads;
 
-/// The files that a run reaches, numbered by the order of their labels, and by their numbers what the parser has made
-/// of their texts.
+/// The files that a run reaches, numbered by the order of their labels, and by their numbers the results of parsing
+/// their texts.
 #[derive(Drop)]
 pub struct Reached<'t> {
     pub files: Files,
     pub parses: Vec<Parsed<'t>>,
 }
 
-/// Keeps the file that was read at a label, where there is one.
+/// Keeps the file that was read at a label, if there is one.
 fn keep<'t>(
     texts: &mut BTreeMap<Label, String>,
     parses: &mut Vec<Parsed<'t>>,
@@ -51,7 +51,7 @@ fn keep<'t>(
     Ok(())
 }
 
-/// The files that were read, and what the parser has made of each.
+/// The files that were read, and the result of parsing each.
 fn kept<'t>(
     alloc: Global,
     mut looked: BTreeMap<Label, Option<ReadFile<'t>>>,
@@ -125,7 +125,7 @@ enum Turn<'t> {
     End(Found<'t>),
 }
 
-/// What comes after the labels that waited were looked up: no further round where none of them has a file.
+/// The turn after all waiting labels were looked up: no further round unless one of them has a file.
 fn turned<'t, R: Threads + Wait + Sync>(
     rt: &R,
     alloc: Global,
@@ -174,7 +174,7 @@ fn next_turn<'t, R: Threads + Wait + Sync, F: Repo>(
 
 /// The files that these labels reach in a folder. Each label is looked up once, when it is met: first these, and in
 /// each further round those that the files of the round before load; in a round in the order of the labels. The texts
-/// of a round are then parsed by at most so many threads, and their trees are kept with the others.
+/// of a round are then parsed by at most `threads` threads, and their trees are kept with the others.
 ///
 /// It stops at the first label, by its round and its bytes, whose file does not pass: `BadFile`, it cannot be read;
 /// `TooMany`, it is the 10,001st; `TooLong`, it has more than 1,048,576 bytes; `NotText`, it is not UTF-8; `TooBig`,

@@ -1,4 +1,4 @@
-//! The file of one label.
+//! Reads the file of one label, and refuses it if it is one too many, too long or not text.
 
 ghost use Rattle.std.specs.Prelude.{◌≡◌, ◌≢◌, ◌+◌, ◌<◌, ◌≤◌, ◌∷◌, ℕ, List, None, Some, IfOk, IfErr, length, string_bytes, vec_len};
 ghost use Rattle.std.specs.Str.{IsUtf8};
@@ -26,8 +26,8 @@ const BYTES: usize = 1_048_576;
 /// The most bytes of all texts.
 const ALL_BYTES: usize = 268_435_456;
 
-/// The text that is found after so many files and bytes: `TooMany`, `TooLong`, `NotText`, `TooBig`, whichever comes
-/// first.
+/// The text of a file with these bytes, read after `count` files of `size` bytes together. Refused as `TooMany`,
+/// `TooLong`, `NotText`, `TooBig`, whichever comes first.
 fn passed(count: usize, size: usize, bytes: Vec<u8>) -> Result<String, ServeError>
     requires count { count ≤ 10000 }
     requires size { size ≤ 268435456 }
@@ -54,7 +54,7 @@ fn passed(count: usize, size: usize, bytes: Vec<u8>) -> Result<String, ServeErro
     Ok(text)
 }
 
-/// No file stands at a label.
+/// There is no file at a label.
 fn without_file<'t>(found: Found<'t>, label: Label) -> Result<Found<'t>, ReadError>
     ensures on_way { IfOk result (λ after. (said : Said) (words : Words) (d : ℕ) (rest : List (List ℕ))
         → IsUnknown label found.entry.looked.entries → IsBelow (text_of label) rest → Tells (said (text_of label)) None

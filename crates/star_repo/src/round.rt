@@ -1,4 +1,4 @@
-//! The rounds of a reading.
+//! A round of the reading: looks up the labels that wait, parses their texts, and collects their loads.
 
 ghost use Rattle.std.specs.Prelude.{◌≡◌, ◌+◌, ◌↔◌, ◌⊎◌, ℕ, suc, List, [], IfOk, IfErr, OnOk, true, vec_len};
 ghost use Rattle.star_label.specs.Label.{is_package, package_of};
@@ -97,7 +97,7 @@ pub(crate) fn add_loads(
     Ok(())
 }
 
-/// The labels that a file loads wait; none where its text does not parse.
+/// The labels that a file loads wait to be looked up; none if its text does not parse.
 fn add_file(
     alloc: Global,
     waiting: &mut BTreeSet<Label>,
@@ -114,7 +114,7 @@ fn add_file(
     }
 }
 
-/// A fresh file stands beside what the parser has made of it, and the labels that it loads wait.
+/// A fresh file is put beside the result of parsing it, and the labels that it loads wait.
 fn settle<'t>(
     alloc: Global,
     looked: &mut BTreeMap<Label, Option<ReadFile<'t>>>,
@@ -134,7 +134,7 @@ fn settle<'t>(
     Ok(())
 }
 
-/// The round ends: the fresh files stand beside what the parser has made of them, and the labels that they load wait.
+/// The round ends: each fresh file is put beside the result of parsing it, and the labels that they load wait.
 pub(crate) fn settled<'t>(
     alloc: Global,
     found: Found<'t>,

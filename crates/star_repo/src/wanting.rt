@@ -1,4 +1,4 @@
-//! Which load statement asks for a label.
+//! The load statement that asks for a label, for the text of a refusal.
 
 ghost use Rattle.std.specs.Prelude.{◌≡◌, true};
 ghost use Rattle.star_label.specs.Label.{is_package};
@@ -17,7 +17,7 @@ use std::sync::Wait;
 /// The most labels that are looked at.
 const LABELS: usize = 1_000_000;
 
-/// Where a load statement stands.
+/// The place of a load statement.
 #[derive(Debug, Drop)]
 pub struct LoadAt {
     /// The label of its file.
@@ -66,7 +66,7 @@ fn line_of(
     Ok(None)
 }
 
-/// The tree of the file at a label: none where there is no file, or one that cannot be read or does not parse.
+/// The tree of the file at a label; `None` if there is no file, or one that cannot be read or does not parse.
 fn tree_at<'t, R: Wait, F: Repo>(
     rt: &R,
     alloc: Global,
@@ -89,8 +89,9 @@ fn tree_at<'t, R: Wait, F: Repo>(
     }
 }
 
-/// A load statement of the files that these labels reach in a folder which asks for a label: none where the labels
-/// alone do. It reads the files anew, in the order of their labels as they are met, and is for the text of a refusal.
+/// A load statement that asks for a label, in the files that these labels reach in a folder; `None` if only the labels
+/// themselves ask for it. It reads the files anew, in the order of their labels as they are met, and is for the text of
+/// a refusal.
 pub fn wanting<R: Wait, F: Repo>(
     rt: &R,
     alloc: Global,

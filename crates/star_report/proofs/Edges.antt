@@ -1,5 +1,5 @@
 -- The edges of the graph are the loads.
-use Rattle.std.proofs.Common.{arith, ◌≡◌, ◌<◌, ◌↔◌, ◌⊎◌, ◌||◌, inl, inr, ℕ, zero, suc, Bool, true, false, List, [], ◌∷◌, ◌++◌, length, map, get_or, refl, ap, sym, subst, ◌∙◌, eqb-true, if◌then◌else◌}
+use Rattle.std.proofs.Common.{arith, ◌≡◌, ◌<◌, ◌||◌, ℕ, zero, suc, Bool, true, false, List, [], ◌∷◌, ◌++◌, length, map, get_or, refl, ap, sym, subst, ◌∙◌, eqb-true, if◌then◌else◌}
 use Rattle.std.specs.Prelude.{All, Contains, is_some, nat_eq}
 use Rattle.std.specs.List.{filter, list_any}
 use Rattle.std.proofs.lemmas.List.{get_or-map, length-map}
@@ -8,13 +8,11 @@ use Rattle.indexmap.proofs.CallerLemmas.{Contains-insert_key}
 use Rattle.indexmap.specs.IndexSet.{insert_all, insert_key}
 use Rattle.star_scope.specs.Definitions.{AllDiffer}
 use Rattle.star_scope.specs.declared.loads.Load.{Load}
-use Rattle.star_label.specs.Files.{File}
-use Rattle.star_plan.specs.Plan.{Plan, loads_of}
+use Rattle.star_plan.specs.Plan.{loads_of}
 use Rattle.star_plan.specs.Reached.{IsReached}
 use Rattle.star_reading.proofs.Finds.{by_cases, contains_here, contains_one}
-use Rattle.star_report.specs.Graph.{IsGraph, IsNode, Node, targets}
+use Rattle.star_report.specs.Graph.{IsNode, Node, targets}
 use Rattle.star_report.specs.Laws.{EdgesAreLoads, EdgesStandOnce, HasEdge, ReportAsBefore}
-use Rattle.star_report.specs.declared.graph.Edge.{Edge}
 use Rattle.star_report.proofs.Drawings.{targets_all}
 use Rattle.star_report.proofs.Nothing.{nothing_more_wanted}
 

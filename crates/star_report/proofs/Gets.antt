@@ -26,7 +26,7 @@ use Rattle.star_outcome.specs.declared.module.Module.{Module}
 use Rattle.star_report.specs.Gets.{HasJson, IsJsonFor, got_in, got_stored}
 use Rattle.star_report.specs.Got.{AreGot, HasGot, IsFirstLack, data_got, data_or, got_text, public_global}
 use Rattle.star_report.specs.Shelf.{shelf_in}
-use Rattle.star_report.specs.Table.{HasModule, IsTable, Table}
+use Rattle.star_report.specs.Table.{IsTable, Table}
 use Rattle.star_report.specs.declared.got.Lack.{Lack}
 use Rattle.star_report.proofs.Stores.{same_data, stores_say}
 

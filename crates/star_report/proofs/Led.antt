@@ -1,15 +1,15 @@
 -- What is found of the files to which one leads.
-use Rattle.std.proofs.Common.{◌≡◌, ◌+◌, ◌<◌, ◌≢◌, ◌⊎◌, inl, inr, ℕ, zero, suc, Bool, true, false, List, [], ◌∷◌, ◌++◌, map, length, replicate, get_or, refl, ap, sym, ◌∙◌, subst, arith, length-append}
+use Rattle.std.proofs.Common.{◌≡◌, ◌<◌, ◌≢◌, inl, inr, ℕ, zero, suc, Bool, true, false, List, [], ◌∷◌, ◌++◌, map, length, replicate, get_or, refl, ap, sym, ◌∙◌, subst, arith}
 use Rattle.std.specs.Prelude.{All, Contains}
-use Rattle.std.proofs.lemmas.List.{get_or-replicate, length-map, length-replicate, get_or-map}
-use Rattle.std.proofs.lemmas.List.Elements.{All-contains, Contains-append_cases, Contains-append_right, Contains-get_or}
+use Rattle.std.proofs.lemmas.List.{get_or-replicate, length-replicate}
+use Rattle.std.proofs.lemmas.List.Elements.{Contains-append_cases}
 use Rattle.star_cache.specs.State.{Loads}
 use Rattle.star_cache.specs.Walk.{LeadsTo, Walk}
 use Rattle.star_cache.proofs.Cycles.{LeadsTo-push}
 use Rattle.star_scope.specs.declared.loads.Load.{Load}
-use Rattle.star_reading.specs.Found.{Grew, IsMarked, left_of}
+use Rattle.star_reading.specs.Found.{Grew, IsMarked}
 use Rattle.star_reading.specs.Readings.{Row, loads_at}
-use Rattle.star_reading.proofs.Finds.{by_cases, contains_here, contains_one, marked_within, same_or_not}
+use Rattle.star_reading.proofs.Finds.{by_cases, contains_one, marked_within, same_or_not}
 use Rattle.star_reading.proofs.PlacesRead.{all_front, all_last}
 use Rattle.star_report.specs.Drawn.{LeadWithin}
 use Rattle.star_report.specs.Leads.{AreLed, IsSeen, loaded_at}

@@ -14,3 +14,4 @@ pub mod Led
 pub mod Drawings
 pub mod Edges
 pub mod Lines
+pub mod Told

@@ -24,6 +24,7 @@ use Rattle.star_scope.specs.declared.loads.Load.{Load}
 use Rattle.star_plan.specs.Plan.{Plan, loads_of}
 use Rattle.star_plan.specs.Results.{Outcome, Ran, Static, Unloaded}
 use Rattle.star_report.specs.Values.{global_data, is_opaque, put_some, value_members, with_value}
+use Rattle.star_data.proofs.Ints.{int_is}
 use Rattle.star_report.specs.Wanted.{AreMore, AreWanted, Full, HasLoads, HasSteps, HasStepsAs, HasValues, added, followed, full_data, load_member, put_in}
 use Rattle.star_report.specs.declared.wanted.Wanted.{Wanted}
 use Rattle.star_plan.specs.Causes.{Cause, Culprit, Cycle}
@@ -116,7 +117,7 @@ int_plain (negsuc n) = refl
 value_plain : (look : Value → Option Cell) (f : Value → Option Data) → Plain f → Plain (value_data look f)
 value_plain look f h value.NoneValue d e = let same : null ≡ d = cc in ap has_float (sym same)
 value_plain look f h (value.Bool b) d e = let same : boolean b ≡ d = cc in ap has_float (sym same)
-value_plain look f h (value.Int i) d e = let same : number (of_integer i) ≡ d = cc in ap has_float (sym same) ∙ int_plain i
+value_plain look f h (value.Int i) d e = ap has_float (sym (int_is i d e).1) ∙ int_plain i
 value_plain look f h (value.Ref a b) d e = cell_plain look f h (look (value.Ref a b)) d e
 value_plain look f h (value.Builtin b) d e = absurd (let no : ⊥ = cc in no)
 

@@ -1,13 +1,23 @@
 -- Laws of the report with what is wanted more of each module.
-use Rattle.std.specs.Prelude.{◌≡◌, ◌↔◌, ℕ, Bool, true, List, Contains, is_some, map}
+use Rattle.std.specs.Prelude.{◌≡◌, ◌↔◌, ◌⊎◌, ◌+◌, ℕ, zero, suc, Bool, true, false, not, List, Option, Some, None, Contains, is_some, length, map}
+use Rattle.std.specs.List.{filter}
+use Rattle.serde_json.specs.Data.{Data, Members, member, no_members}
+use Rattle.serde_json.specs.Find.{get_member}
 use Rattle.star_label.specs.Files.{File}
+use Rattle.star_store.specs.declared.values.Value.{Value}
+use Rattle.star_store.specs.Store.{Shelf}
+use Rattle.star_data.specs.Data.{on_shelf}
+use Rattle.star_meaning.specs.Module.{Good}
 use Rattle.star_scope.specs.Definitions.{AllDiffer}
+use Rattle.star_scope.specs.Loads.{is_private}
 use Rattle.star_scope.specs.declared.loads.Load.{Load}
 use Rattle.star_plan.specs.Plan.{Plan, loads_of}
 use Rattle.star_plan.specs.Reached.{IsReached}
+use Rattle.star_plan.specs.Results.{IsOutcome, Ran}
 use Rattle.star_plan.specs.Text.{IsReportText}
 use Rattle.star_report.specs.Graph.{IsGraph, Node}
 use Rattle.star_report.specs.Output.{IsAnswer, IsOutput}
+use Rattle.star_report.specs.Values.{global_data, opaque_names, shown_values}
 use Rattle.star_report.specs.Wanted.{IsFullText, nothing_more}
 use Rattle.star_report.specs.declared.wanted.Output.TheVariants.{Report}
 use Rattle.star_report.specs.declared.wanted.Wanted.{Wanted}
@@ -44,3 +54,32 @@ abbrev pub EdgesStandOnce : Type 0
 EdgesStandOnce =
     (plan : Plan) (nodes : List Node) → IsGraph plan nodes → (v : Node) → Contains nodes v
     → AllDiffer (map (λ e. e.to) v.edges)
+
+-- what becomes of a name among those of a module's globals, where the globals have these data: unless it is private, it
+-- is a member of the values, with its data, or it stands among the names of those that have none; and no other does
+pub record IsToldOnce (f : List ℕ → Option Data) (names : List (List ℕ)) (name : List ℕ) : Type 0 where
+  pub told : Contains names name → is_private name ≡ false
+      → ((d : Data) × (get_member name (shown_values f names) ≡ Some d)) ⊎ Contains (opaque_names f names) name
+  pub shown : (d : Data) → get_member name (shown_values f names) ≡ Some d
+      → Contains names name × (is_private name ≡ false) × (f name ≡ Some d)
+  pub opaque : Contains (opaque_names f names) name → Contains names name × (is_private name ≡ false) × (f name ≡ None)
+
+abbrev pub NoneDropped : Type 0
+NoneDropped = (f : List ℕ → Option Data) (names : List (List ℕ)) (name : List ℕ) → IsToldOnce f names name
+
+abbrev pub member_count : Members → ℕ
+member_count no_members = zero
+member_count (member k d ms) = suc (member_count ms)
+
+-- there are as many values and opaque names together as names that are not private
+abbrev pub AreToldOnce : (List ℕ → Option Data) → List (List ℕ) → Type 0
+AreToldOnce f names =
+    member_count (shown_values f names) + length (opaque_names f names)
+    ≡ length (filter (λ n. not (is_private n)) names)
+
+-- no global of a file that ended well is told twice
+abbrev pub NoneTwice : Type 0
+NoneTwice =
+    (plan : Plan) (n : ℕ) (shelf : Shelf) (globals : List (List ℕ × Value)) (texts : List (List ℕ × List ℕ))
+    (lines : List (List ℕ)) → IsOutcome plan n (Ran (Good shelf globals texts lines))
+    → AreToldOnce (global_data (on_shelf shelf) globals) (map (λ g. g.0) texts)

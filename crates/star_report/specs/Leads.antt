@@ -1,5 +1,5 @@
 -- Which files lead to which by loads.
-use Rattle.std.specs.Prelude.{◌≢◌, ◌<◌, ◌⊎◌, ℕ, List, Bool, Contains, length, map}
+use Rattle.std.specs.Prelude.{◌≢◌, ◌⊎◌, ℕ, List, Bool, Contains, map}
 use Rattle.std.specs.List.{All}
 use Rattle.star_cache.specs.State.{Loads}
 use Rattle.star_cache.specs.Walk.{LeadsTo}

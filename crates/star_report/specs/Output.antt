@@ -1,16 +1,17 @@
--- What is written of a plan: the report, the globals of the roots, or the graph of loads.
+-- The text that is written of a plan: the report, the globals of the roots, the graph of loads, or the check.
 use Rattle.std.specs.Prelude.{◌≡◌, ℕ, List, [], Bool, true, false, Option, string_bytes}
 use Rattle.serde_json.specs.Data.{Data}
 use Rattle.star_label.specs.Files.{File}
 use Rattle.star_plan.specs.Plan.{Plan}
 use Rattle.star_plan.specs.Reading.{IsPlanOf}
+use Rattle.star_check.specs.Text.{IsCheckAnswer, IsCheckText}
 use Rattle.star_outcome.specs.Kept.{AllGood, AreModules, KeptView}
 use Rattle.star_report.specs.Got.{AreGot, IsFirstLack, got_text, lack_line}
 use Rattle.star_report.specs.Graph.{IsGraphText}
 use Rattle.star_report.specs.Wanted.{IsFullText}
 use Rattle.star_report.specs.declared.got.Lack.{Lack}
 use Rattle.star_report.specs.declared.wanted.Output.{Output}
-use Rattle.star_report.specs.declared.wanted.Output.TheVariants.{Global, Graph, Report}
+use Rattle.star_report.specs.declared.wanted.Output.TheVariants.{Check, Global, Graph, Report}
 
 -- the answer is whether each of the modules, which are those of exactly the reached files, each with its file's
 -- outcome, is good
@@ -28,6 +29,7 @@ IsOutput (Global name) files plan text true =
 IsOutput (Global name) files plan text false =
     ((n : ℕ) × (why : Lack) × IsFirstLack plan (string_bytes name) plan.roots n why) × (text ≡ [])
 IsOutput Graph files plan text ok = IsGraphText files plan text × IsAnswer plan ok
+IsOutput (Check only_roots) files plan text ok = IsCheckText only_roots files plan text × IsCheckAnswer plan ok
 
 -- this is said beside it: of the first root that has no global, which that is, and why
 abbrev pub IsSaid : Output → List File → Plan → Bool → List ℕ → Type 0
@@ -36,6 +38,7 @@ IsSaid (Global name) files plan true line = line ≡ []
 IsSaid (Global name) files plan false line =
     (n : ℕ) × (why : Lack) × IsFirstLack plan (string_bytes name) plan.roots n why × (line ≡ lack_line files n why)
 IsSaid Graph files plan ok line = line ≡ []
+IsSaid (Check only_roots) files plan ok line = line ≡ []
 
 -- so it is in the plan that files have for roots, a prelude and a number of steps
 abbrev pub InPlanOf : List File → List ℕ → Option ℕ → ℕ → (Plan → Type 0) → Type 0

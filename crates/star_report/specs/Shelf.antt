@@ -1,4 +1,4 @@
--- What is found of a module on the shelf of its stores.
+-- The globals of a module, found in its stores.
 use Rattle.std.specs.Prelude.{ℕ, ◌<◌, Bool, List, [], ◌∷◌, All, Option, Some, None, codes, fold, length, map, slice_get, string_bytes, if◌then◌else◌}
 use Rattle.std.specs.Option.{option_flatten}
 use Rattle.serde_json.specs.Data.{Data, Members, member, no_members, number, unsigned}

@@ -1,4 +1,4 @@
--- How modules are shown in the report.
+-- Modules of the code, as the report shows them.
 use Rattle.std.specs.Prelude.{◌≡◌, ℕ, Bool, List, [], map, codes, Option}
 use Rattle.std.specs.List.{All}
 use Rattle.serde_json.specs.Data.{Data, string}

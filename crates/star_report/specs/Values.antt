@@ -27,11 +27,19 @@ with_value f ms name = if is_private name then ms else put_some name (f name) ms
 abbrev pub is_opaque : (List ℕ → Option Data) → List ℕ → Bool
 is_opaque f name = not (is_private name) && not (is_some (f name))
 
+-- the globals of these names that are data, each at its name
+abbrev pub shown_values : (List ℕ → Option Data) → List (List ℕ) → Members
+shown_values f names = fold (with_value f) no_members names
+
+-- the names of the others, in order
+abbrev pub opaque_names : (List ℕ → Option Data) → List (List ℕ) → List (List ℕ)
+opaque_names f names = filter (is_opaque f) names
+
 -- the members `opaque` and `values`, of globals with these names
 abbrev pub value_members_by : (List ℕ → Option Data) → List (List ℕ) → Members
 value_members_by f names =
-    member (codes "opaque") (array (items_of (map string (filter (is_opaque f) names))))
-    (member (codes "values") (object (fold (with_value f) no_members names)) no_members)
+    member (codes "opaque") (array (items_of (map string (opaque_names f names))))
+    (member (codes "values") (object (shown_values f names)) no_members)
 
 -- the members of a module that ended well; of another there are none
 abbrev pub value_members : Outcome → Members

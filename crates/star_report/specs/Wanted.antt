@@ -1,4 +1,4 @@
--- The report with what is wanted more of each module.
+-- The report with the further members that were asked for of each module.
 use Rattle.std.specs.Prelude.{◌≡◌, ℕ, Bool, true, false, not, ◌||◌, nat_eq, List, ◌∷◌, ◌++◌, [], codes, is_some, map}
 use Rattle.std.specs.List.{All, filter, list_any}
 use Rattle.serde_json.specs.Data.{Data, Members, array, member, no_members, number, object, put, string, unsigned}

@@ -1,4 +1,4 @@
-//! Whether a file leads to another by loads.
+//! Whether a file leads to another by loads, for the graph of loads.
 
 ghost use Rattle.std.specs.Prelude.{◌≡◌, ◌<◌, ◌∷◌, ◌++◌, ◌↔◌, ℕ, [], All, IfOk, MatchOption, OnOk, false, length, map, replicate, slice_set, true};
 ghost use Rattle.star_cache.specs.State.{Loads};

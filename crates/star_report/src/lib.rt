@@ -1,9 +1,15 @@
-//! The report of a run: one JSON text.
+//! The report of a run: one JSON text on one line (`docs/REPORT.md`).
 //!
-//! `report` (in `pages`) writes a page for each module, in several threads where there are many, and joins them in
-//! the order of labels. `values` writes the globals of a module as JSON; `wanted` says what more is asked for. The
-//! text is exactly that of the definition (`star_plan/specs/Text`, and `star_data` for values), for any number of
-//! threads. In its place `got` writes a global of each root as JSON, and `graph` the graph of loads.
+//! - `report` (in `pages`, for `report.rt`) writes a page for each module, in several threads if there are many, and
+//!   joins the pages in the order of labels. `report.rt` makes the JSON of a module.
+//! - `Wanted` says which members are wanted beside the usual ones: values as JSON (`values`, with `star_data`), loads,
+//!   steps (`more`).
+//! - `Output` is what is written of a run: the report; or in its place a global of each root as JSON (`got`), or the
+//!   graph of loads as DOT (`graph`). It may also be the check of files, of which `star_check` makes the text: none runs.
+//!
+//! Begin at `report.rt::module_value`. The promise is the contract of `report`: the text is exactly that of the
+//! definition (`star_plan/specs/Text`, and `specs/Wanted` for the options), for any number of threads. The laws say
+//! that an input has one such text, and without options the plain report.
 #![tactic(auto)]
 
 pub mod got;
@@ -18,5 +24,6 @@ mod values;
 pub mod wanted;
 
 pub use law::{
-    edges_are_loads, edges_stand_once, nothing_more_wanted, one_full_text, report_as_before,
+    edges_are_loads, edges_stand_once, none_dropped, none_twice, nothing_more_wanted,
+    one_full_text, report_as_before,
 };

@@ -1,4 +1,4 @@
-//! The report.
+//! `report`: the report of a run as one text, and the JSON of each module.
 
 ghost use Rattle.std.specs.Prelude.{◌≡◌, ◌<◌, ◌↔◌, ℕ, true, false, [], All, Contains, Some, IfOk, IfSome, OnOk};
 ghost use Rattle.std.specs.Prelude.{codes, fold, length, map, string_bytes, vec_len};

@@ -1,4 +1,5 @@
-//! What is wanted of each module beside what the report always has, and of which modules; and what is written of a run.
+//! The options of a report: what is wanted of each module beside what the report always has, of which modules, and in
+//! which form.
 
 /// What is wanted more of each module, and of which modules.
 #[derive(Clone, Copy, Debug, PartialEq, Eq)]
@@ -32,4 +33,7 @@ pub enum Output {
     Global(String),
     /// The graph of loads.
     Graph,
+    /// What is told of the files before any runs (`star_check`), and whether of those against which there is nothing the
+    /// roots are shown alone.
+    Check { only_roots: bool },
 }

@@ -1,4 +1,4 @@
--- What two sets of names know of the bindings so far, and conflicts that are found one after another.
+-- Two sets of names and the bindings so far that they know, and conflicts that are found one after another.
 use Rattle.std.proofs.Common.{◌≡◌, ◌<◌, ◌+◌, ℕ, Bool, true, false, ◌&&◌, ◌||◌, List, [], ◌∷◌, ◌++◌, refl, ap, sym, ◌∙◌, length, map, take, if◌then◌else◌, append-nil, subst, ◌⊎◌, inl, inr}
 use Rattle.std.specs.Ordering.{nat_cmp, match_ordering}
 use Rattle.std.specs.declared.cmp.Ordering.{Ordering}
@@ -35,7 +35,7 @@ twice : (a c : Bool) → (a || c) ≡ (a || (a || c))
 twice true c = refl
 twice false c = refl
 
--- a name is among those of a set with one more
+-- a name is in a set with one name more
 at_ordering : (o : Ordering) (k y x : List ℕ) (ys more : List (List ℕ)) → slice_cmp nat_cmp k y ≡ o
     → list_any (bytes_eq x) more ≡ (bytes_eq x k || list_any (bytes_eq x) ys)
     → list_any (bytes_eq x) (match_ordering o (k ∷ y ∷ ys) (y ∷ ys) (y ∷ more)) ≡ (bytes_eq x k || (bytes_eq x y || list_any (bytes_eq x) ys))
@@ -49,7 +49,7 @@ pub has_inserted : (ks : List (List ℕ)) (k x : List ℕ) → list_any (bytes_e
 has_inserted [] k x = refl
 has_inserted (y ∷ ys) k x = at_ordering (slice_cmp nat_cmp k y) k y x ys (insert_key (slice_cmp nat_cmp) ys k) refl (has_inserted ys k x)
 
--- the same of a set of borrowed texts
+-- a name is in a set of borrowed texts with one text more
 abbrev texts : List (Bor (List ℕ)) → List (List ℕ)
 texts ks = map (λ x. x.now) ks
 
@@ -127,7 +127,7 @@ bind_both bs cs a b c f g earlier k =
           ∙ ap (λ fs. first_from a.found fs) (sym (conflicts_both earlier bs cs)),
     )
 
--- the bindings of one parameter more
+-- the bindings of parameters and one parameter more
 pub parameters_more : (ps : List Parameter) (i : ℕ) (p : Parameter) → i < length ps → p ≡ get_or ps i p
     → parameter_bindings (take (i + 1) ps) ≡ parameter_bindings (take i ps) ++ parameter_binding p
 parameters_more ps i p lt is =

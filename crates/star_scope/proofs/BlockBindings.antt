@@ -26,7 +26,7 @@ use Rattle.star_scope.specs.Bound.{Binds}
 use Rattle.star_scope.specs.Conflicts.{Bindings, all_of, arm_bindings, arm_step, arms_bindings, form_bindings, form_step, loaded_binding, nothing, shared, statement_bindings, statement_step, statements_bindings, target_bindings, target_step, targets_bindings}
 use Rattle.star_scope.proofs.Bindings.{bind_both}
 
--- a turn of a loop that binds what a list's items bind, and its end
+-- a turn of a loop that adds the bindings of a list's items, and its end
 pub binds_turn : {A : Type 0} (one : A → Bindings) (each : List A → Bindings) (next : (xs : List A) (x : A) → each (xs ++ x ∷ []) ≡ each xs ++ one x)
     (xs : List A) (i : ℕ) (x : A) (a b c : Bound) → i < length xs → x ≡ get_or xs i x → Binds (each (take i xs)) a b → Binds (one x) b c → Binds (each (take (i + 1) xs)) a c
 binds_turn one each next xs i x a b c lt is f g =

@@ -33,7 +33,7 @@ pub with_one : (known : Names) (n : List ℕ) → with_names known (n ∷ []) �
 unfolding with_names
 with_one known n = refl
 
--- a turn of a loop over things that bind names, and its end
+-- a turn of a loop over parts that bind names, and its end
 pub names_turn : {A : Type 0} (one : A → Names) (each : List A → Names) (next : (x : A) (xs : List A) → each (x ∷ xs) ≡ one x ++ each xs)
     (xs : List A) (i : ℕ) (x : A) (old more total : Names) → i < length xs → x ≡ get_or xs i x → more ≡ with_names old (one x)
     → with_names old (each (drop i xs)) ≡ total → with_names more (each (drop (i + 1) xs)) ≡ total

@@ -1,4 +1,4 @@
--- Numbers of which no two are equal.
+-- Numbers that all differ.
 use Rattle.std.proofs.Common.{arith, ◌≡◌, ℕ, zero, suc, Bool, true, false, List, [], ◌∷◌, ◌++◌, Option, Some, None, refl, ap, sym, ◌∙◌, subst, map, nat_eq, if◌then◌else◌, inl, inr}
 use Rattle.std.specs.List.{Contains, position}
 use Rattle.std.specs.Option.{option_map}
@@ -26,7 +26,7 @@ neither true o e = cc
 neither false None e = (refl, refl)
 neither false (Some i) e = cc
 
--- a number that nothing has is not among the numbers
+-- a number that no item has is not among the numbers of the items
 pub not_numbered : {A : Type 0} (number_of : A → ℕ) (xs : List A) (n : ℕ) → position (λ x. nat_eq (number_of x) n) xs ≡ None → Contains (map number_of xs) n → ⊥
 not_numbered number_of [] n e h = in_none n h
 not_numbered number_of (x ∷ xs) n e (zero, lt, is) = let k = neither (nat_eq (number_of x) n) _ (sym (position_next (λ y. nat_eq (number_of y) n) x xs) ∙ e) in grind (arith, k.0)

@@ -1,4 +1,4 @@
--- The first of faults that are joined, and of the faults of a list's items one after another.
+-- The first fault of two lists joined, and of the items of a list, one after another.
 use Rattle.std.proofs.Common.{◌≡◌, ◌<◌, ◌≤◌, ◌+◌, ℕ, List, [], ◌∷◌, ◌++◌, Option, refl, ap, sym, ◌∙◌, length, drop}
 use Rattle.std.proofs.Math.ListN.{get_or, drop_of_length-le}
 use Rattle.std.proofs.lemmas.List.{at_drop_more}

@@ -1,4 +1,4 @@
--- Which of faults is the first: an order, and the first of what was found in two places.
+-- The first of several faults: the order of faults, and the first of the faults found in two places.
 use Rattle.std.proofs.Common.{arith, ◌≡◌, ℕ, Bool, true, false, ◌&&◌, ◌||◌, List, [], ◌∷◌, Option, Some, None, refl, ap, sym, ◌∙◌, nat_lt, nat_eq, if◌then◌else◌, ◌⊎◌, inl, inr}
 use Rattle.star_scope.specs.declared.error.Refusal.{Refusal}
 use Rattle.star_scope.specs.Faults.{FirstIsFirst, IsFirst, earlier, first_from, first_of, rank, stands_before}
@@ -30,7 +30,7 @@ alone : (k : Bool) (b c : Refusal) → (if k then Some c else Some b) ≡ first_
 alone true b c = refl
 alone false b c = refl
 
--- of three, in either way
+-- the earliest of three faults, compared in either way
 pub earlier_both : (found : Option Refusal) (b c : Refusal) → earlier (earlier found b) c ≡ first_of found (earlier (Some b) c)
 earlier_both None b c = alone (stands_before c b) b c
 earlier_both (Some a) b c =
@@ -40,7 +40,7 @@ joined : (found more : Option Refusal) (f : Refusal) → first_of (earlier found
 joined found None f = refl
 joined found (Some g) f = earlier_both found f g
 
--- the first of what was found, and of the first of further faults
+-- the first of a fault found and further faults is the earlier of it and the first of these
 pub first_apart : (found : Option Refusal) (fs : List Refusal) → first_from found fs ≡ first_of found (first_from None fs)
 unfolding first_from
 first_apart found [] = refl
@@ -55,17 +55,17 @@ never : (found : Option Refusal) (more : Refusal) → earlier found more ≡ Non
 never None more e = cc
 never (Some f) more e = picked (stands_before more f) more f e
 
--- where nothing was found in two places, nothing was found in the second
+-- if nothing was found in two places, nothing was found in the second
 pub none_of : (found more : Option Refusal) → first_of found more ≡ None → more ≡ None
 none_of found None e = refl
 none_of found (Some r) e = elim (never found r e) [ ]
 
--- ---- the first of faults is one of them, and none stands before it
+-- ---- the first of faults is one of them, and none comes before it
 
 not_itself : (t r : ℕ) → before t r t r ≡ false
 not_itself t r = grind arith
 
--- what stands before the first would stand before another
+-- a fault that came before the first would come before another one too
 not_less : (p q s : Bool) → (p ≡ true → q ≡ true → s ≡ true) → q ≡ true → s ≡ false → p ≡ false
 not_less false q s f x y = refl
 not_less true q s f x y = let z = f refl x in cc

@@ -1,4 +1,4 @@
--- Names one after another are each name once, where it stands first.
+-- Names added one after another: each name once, at its first place.
 use Rattle.std.proofs.Common.{arith, ◌≡◌, ℕ, Bool, true, false, not, ◌&&◌, ◌||◌, List, [], ◌∷◌, ◌++◌, refl, ap, sym, ◌∙◌, if◌then◌else◌, append-nil, cond}
 use Rattle.std.specs.List.{filter}
 use Rattle.std.proofs.lemmas.List.{append_assoc}
@@ -6,7 +6,7 @@ use Rattle.std.proofs.lemmas.List.Folds.{list_any-append}
 use Rattle.std.proofs.lemmas.Slice.Eq.{bytes_eq-Decides}
 use Rattle.star_scope.specs.Names.{Names, has_name, once, same_name, with_name, with_names}
 
--- those of names that are not among others
+-- the names that are not among others
 abbrev pub others : Names → Names → Names
 others known ns = filter (λ m. not (has_name known m)) ns
 
@@ -51,7 +51,7 @@ one_more false known n ns e =
     (sym (filter_both (λ m. not (has_name known m)) (λ m. not (same_name m n)) (λ m. not (has_name (known ++ n ∷ []) m))
     (λ m. ap not (list_any-append (same_name m) known (n ∷ [])) ∙ either (has_name known m) (same_name m n)) ns))
 
--- names with further ones: those that are not among them, each once
+-- names with further ones: the further names that are not among them follow, each once
 pub with_names_are : (known ns : Names) → with_names known ns ≡ known ++ others known (once ns)
 unfolding with_names
 with_names_are known [] = sym (append-nil known)

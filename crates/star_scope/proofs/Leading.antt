@@ -1,4 +1,4 @@
--- Where spots lead in rows of values.
+-- The values that spots lead to in rows of values.
 use Rattle.std.proofs.Common.{arith, ◌≡◌, ◌+◌, ℕ, suc, Bool, true, false, List, [], ◌∷◌, Option, Some, None, refl, ap, sym, ◌∙◌, subst, length, if◌then◌else◌}
 use Rattle.std.specs.Prelude.{slice_get}
 use Rattle.std.specs.Option.{option_map}
@@ -26,7 +26,7 @@ beside_next true o v vs rest h = (v, refl, refl)
 beside_next false None v vs rest h = h
 beside_next false (Some i) v vs rest h = h
 
--- the value beside a name stands at the name's slot
+-- the value beside a name is the one at the name's slot
 beside : {V : Type 0} (name : List ℕ) (ns : Names) (vs : List V) → length vs ≡ length ns → Beside (slot_of name ns) vs (value_beside name ns vs)
 beside name [] vs e = refl
 beside name (n ∷ ns) [] e = absurd (none e)
@@ -39,7 +39,7 @@ beside name (n ∷ ns) (v ∷ vs) e =
 
 -- ---- in a chain of rows
 
--- a spot found from a block of the chain on, so many blocks up
+-- a spot found from a block of the chain on, which is `up` blocks up
 abbrev Found : {V : Type 0} → List Block → Option Names → List ℕ → ℕ → List (Row V) → Option Spot → Type 0
 Found {V = V} blocks prelude name up rows (Some (spot.Frame u slot)) = (k : ℕ) × (v : V) × (u ≡ up + k) × (value_at k slot rows ≡ Some v) × (nearest blocks name rows ≡ Some v)
 Found blocks prelude name up rows (Some spot.Prelude) = (nearest blocks name rows ≡ None) × (outside_spot prelude name ≡ Some spot.Prelude)
@@ -57,7 +57,7 @@ outside V blocks prelude name up (Some spot.Prelude) e = (refl, e)
 outside V blocks prelude name up (Some spot.Outermost) e = (refl, e)
 outside V blocks prelude name up None e = (refl, e)
 
--- after a row that has not the name
+-- after a row without the name
 further : {V : Type 0} (blocks : List Block) (prelude : Option Names) (name : List ℕ) (up : ℕ) (r : Row V) (rs : List (Row V)) (o : Option Spot)
     → value_beside name (names_in blocks r.block) r.values ≡ None → Found blocks prelude name (up + 1) rs o → Found blocks prelude name up (r ∷ rs) o
 further blocks prelude name up r rs (Some (spot.Frame u slot)) none h = (suc h.0, h.1, (omega (arith, h.2)), h.3, ap (λ o. first_there o (nearest blocks name rs)) none ∙ h.4)

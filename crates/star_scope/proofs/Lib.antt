@@ -19,3 +19,4 @@ pub mod StatementForms
 pub mod Leading
 pub mod Differ
 mod Noted
+pub mod Spotted

@@ -80,7 +80,7 @@ level p (form.Def n ps body) other = refl
 pub not_load : (p : Position) (f : Form) → ((l : Literal) (ns : List LoadedName) → f ≡ v.Load l ns → ⊥) → load_in p (out-Form f) ≡ []
 not_load p f other = level p (out-Form f) (λ l ns e. other l ns (sym (roll-out-Form f) ∙ ap roll-Form e ∙ v.rolls-Load l ns))
 
--- the load statements of one statement more
+-- the load statements of statements and one statement more
 pub written_more : (ss : List Statement) (i : ℕ) (s : Statement) → i < length ss → s ≡ get_or ss i s → written (take (i + 1) ss) ≡ written (take i ss) ++ written_in s
 written_more ss i s lt is =
     ap written (take_more ss i s lt) ∙ flat_map-append written_in (take i ss) (get_or ss i s ∷ [])

@@ -1,4 +1,4 @@
--- Numbers that are noted for names, and what stays noted when one more is.
+-- Numbers that are noted for names, and stay noted when a further one is.
 use Rattle.std.proofs.Common.{arith, ◌≡◌, ◌<◌, ◌≤◌, ◌+◌, ◌⊎◌, inl, inr, ◌||◌, ℕ, zero, suc, Bool, true, false, cond, List, [], ◌∷◌, ◌++◌, Option, Some, None, refl, ap, sym, ◌∙◌, subst, length, map, take}
 use Rattle.std.specs.List.{find}
 use Rattle.std.specs.Option.{is_some, option_map, unwrap_or}
@@ -37,7 +37,7 @@ noted_past [] i k le = refl
 noted_past (x ∷ xs) zero k le = absurd (omega (arith, le))
 noted_past (x ∷ xs) (suc i) k le = noted_past xs i k (omega (arith, le))
 
--- a name for which nothing was noted gets numbers of its own
+-- a name without noted numbers gets numbers of its own
 pub kept_new : (sets : List (BTreeSet ℕ)) (s : BTreeSet ℕ) (old new : BTreeMap (Bor (List ℕ)) ℕ) (name : Bor (List ℕ)) (id : ℕ)
     → ((k : ℕ) → noted_at sets (get_by (λ x. slice_cmp nat_cmp name.now x.now) old) k ≡ false)
     → Updates (λ x y. slice_cmp nat_cmp x.now y.now) old new name (Some id)
@@ -70,7 +70,7 @@ any_last (m ∷ ms) x n h = elim (or_cases (same_name n m) (has_name (ms ++ x �
 abbrev pub Kept : Binders → Binders → Type 0
 Kept old new = (n : List ℕ) (k : ℕ) → binds old n k ≡ true → binds new n k ≡ true
 
--- so many of these names are noted for a number
+-- a number is noted for each of these names
 abbrev pub NamesNoted : List (Bor (List ℕ)) → ℕ → Binders → Type 0
 NamesNoted names number b = (n : List ℕ) → has_name (map (λ m. m.now) names) n ≡ true → binds b n number ≡ true
 

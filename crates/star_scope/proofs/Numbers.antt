@@ -1,4 +1,4 @@
--- The first place in a list at which a test passes.
+-- The first index of a list whose item passes a test.
 use Rattle.std.proofs.Common.{◌≡◌, ◌+◌, ℕ, suc, Bool, true, false, ◌||◌, List, [], ◌∷◌, ◌++◌, Option, Some, None, arith, refl, ap, sym, ◌∙◌, length, map, nat_lt, not, cond, if◌then◌else◌}
 use Rattle.std.specs.List.{find, list_any, position, position_or_len}
 use Rattle.std.specs.Option.{option_map, option_and_then, option_or, is_some}
@@ -32,7 +32,7 @@ further false c (Some i) n = refl
 further false true None n = refl
 further false false None n = refl
 
--- of a list with one thing more
+-- the first such index in a list with one item more
 pub position_pushed : {A : Type 0} (p : A → Bool) (xs : List A) (x : A) → position p (xs ++ x ∷ []) ≡ option_or (position p xs) (if p x then Some (length xs) else None)
 position_pushed p [] x = position_next p x [] ∙ last (p x)
 position_pushed p (y ∷ ys) x =
@@ -45,7 +45,7 @@ is_there true o = refl
 is_there false None = refl
 is_there false (Some i) = refl
 
--- there is such a place where the test passes at some thing
+-- there is such an index if an item passes the test
 pub position_any : {A : Type 0} (p : A → Bool) (xs : List A) → is_some (position p xs) ≡ list_any p xs
 position_any p [] = refl
 position_any p (x ∷ xs) = ap is_some (position_next p x xs) ∙ is_there (p x) (position p xs) ∙ ap (λ b. p x || b) (position_any p xs)
@@ -55,7 +55,7 @@ found_there true o x xs = refl
 found_there false None x xs = refl
 found_there false (Some i) x xs = refl
 
--- what stands there is the first thing at which the test passes
+-- the item at that index is the first item that passes the test
 pub find_position : {A : Type 0} (p : A → Bool) (xs : List A) → find p xs ≡ option_and_then (slice_get xs) (position p xs)
 find_position p [] = refl
 find_position p (x ∷ xs) = ap (λ o. cond (p x) (Some x) o) (find_position p xs) ∙ found_there (p x) (position p xs) x xs ∙ ap (option_and_then (slice_get (x ∷ xs))) (sym (position_next p x xs))
@@ -68,7 +68,7 @@ pub find_mapped : {A B : Type 0} (f : A → B) (p : B → Bool) (xs : List A) �
 find_mapped f p [] = refl
 find_mapped f p (x ∷ xs) = ap (λ o. cond (p (f x)) (Some (f x)) o) (find_mapped f p xs) ∙ mapped (p (f x)) f x (find (λ y. p (f y)) xs)
 
--- ---- things found by their numbers
+-- ---- items found by their numbers
 
 pub finds_pushed : {A : Type 0} (number_of : A → ℕ) (xs : List A) (x : A) (old new : Index)
     → Finds number_of xs old

@@ -1,4 +1,4 @@
--- A definition or a comprehension more.
+-- An outline with one more definition or comprehension.
 use Rattle.std.proofs.Common.{◌≡◌, ◌+◌, ℕ, List, [], ◌∷◌, ◌++◌, ap, sym, ◌∙◌, append-nil}
 use Rattle.star_tree.specs.declared.tree.Clauses.{Clauses}
 use Rattle.star_tree.specs.declared.tree.Parameter.{Parameter}

@@ -1,4 +1,4 @@
--- What is found in the parts of a file, one level of the tree at a time.
+-- The outlines of the parts of a file, one level of the tree at a time.
 use Rattle.std.proofs.Common.{◌≡◌, ◌<◌, ◌≤◌, ◌+◌, ℕ, List, [], ◌∷◌, ◌++◌, Some, None, refl, ap, sym, ◌∙◌, length, map, drop, append-nil, ◌⊎◌, inl, inr}
 use Rattle.std.proofs.Math.ListN.{get_or}
 use Rattle.std.proofs.lemmas.List.{append_assoc}
@@ -46,7 +46,7 @@ pub found_four : (a b c d all old one two three new : Found) → all ≡ and a (
 found_four a b c d all old one two three new whole first second third fourth =
     found_both a (and b (and c d)) all old one new whole first (found_three b c d (and b (and c d)) one two three new refl second third fourth)
 
--- a turn of a loop over things in which something is found, and its end
+-- a turn of a loop that adds the outlines of a list's items, and its end
 pub found_turn : {A : Type 0} (one : A → Found) (each : List A → Found) (next : (x : A) (xs : List A) → each (x ∷ xs) ≡ and (one x) (each xs))
     (xs : List A) (i : ℕ) (x : A) (old more total : Found) → i < length xs → x ≡ get_or xs i x → more ≡ and old (one x)
     → and old (each (drop i xs)) ≡ total → and more (each (drop (i + 1) xs)) ≡ total

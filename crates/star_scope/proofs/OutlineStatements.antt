@@ -1,4 +1,4 @@
--- What is found in statements, one level of the tree at a time.
+-- The outlines of statements, one level of the tree at a time.
 use Rattle.std.proofs.Common.{◌≡◌, List, refl, ap, sym, ◌∙◌, ◌⊎◌, inl, inr}
 use Rattle.star_tree.specs.declared.tree.Form.{Form, out-Form, roll-Form, roll-out-Form, out-roll-Form, para-roll-Form}
 use Rattle.star_tree.specs.declared.tree.Arm.{Arm, out-Arm, roll-out-Arm, para-roll-Arm}

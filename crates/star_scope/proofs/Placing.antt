@@ -45,7 +45,7 @@ place_one scope n chain s old new short is keeps put same = record {
   found = same ∙ sym (first_none old.first) ∙ ap (λ fs. first_from old.first fs) (sym (append-nil (undefined_at n (spot_of scope.blocks.now (names_outside scope.prelude) n.text chain)) ∙ ap (undefined_at n) is));
 }
 
--- one name that is undefined
+-- one undefined name
 pub place_undefined : (scope : Scope) (n : Name) (chain : List ℕ) (old new : Placed)
     → length chain ≤ chain_length → spot_of scope.blocks.now (names_outside scope.prelude) n.text chain ≡ None
     → new.spots ≡ old.spots → new.first ≡ first_from old.first (undefined_at n None) → Places scope (one_use n chain) old new
@@ -102,7 +102,7 @@ pub place_done : {A : Type 0} (one : A → Within) (scope : Scope) (chain : List
     → Places scope (all_uses one (take i xs) chain) a b → Places scope (all_uses one xs chain) a b
 place_done one scope chain xs i a b le ge f = subst (λ ys. Places scope (all_uses one ys chain) a b) (ap (λ k. take k xs) (omega (arith, le, ge)) ∙ take-length xs) f
 
--- ---- where no name is undefined, each has its spot
+-- ---- if no name is undefined, each has its spot
 
 pub found_stays : (fs : List Refusal) (found : Refusal) → first_from (Some found) fs ≡ None → ⊥
 unfolding first_from

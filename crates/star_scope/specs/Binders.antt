@@ -1,4 +1,4 @@
--- Which blocks bind a name: where a block has the name, its number is among those that are noted for the name.
+-- The blocks that bind each name, as the code notes them.
 use Rattle.std.specs.Prelude.{◌≡◌, ℕ, Bool, true, false, List, Option, Some, None, slice_get}
 use Rattle.std.specs.Cmp.Lexicographic.{slice_cmp}
 use Rattle.std.specs.Ordering.{nat_cmp}

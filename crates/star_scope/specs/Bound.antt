@@ -1,4 +1,4 @@
--- What two sets of names know of the bindings so far.
+-- The code's two sets of names: all names bound so far, and the names that must be bound alone.
 use Rattle.std.specs.Prelude.{◌≡◌, ℕ, ◌&&◌, List, [], ◌∷◌, map, Bool}
 use Rattle.std.specs.List.{list_any}
 use Rattle.std.specs.Str.{bytes_eq}
@@ -16,7 +16,7 @@ names_of s = map (λ x. x.now) s.keys
 abbrev pub is_in : List (List ℕ) → List ℕ → Bool
 is_in names x = list_any (bytes_eq x) names
 
--- one set has the names of all bindings so far, the other those that are alone
+-- one set has the names of all bindings so far, the other the names that are bound alone
 abbrev pub Knows : Bound → List Binding → Type 0
 Knows b earlier = ((x : List ℕ) → is_in (names_of b.all) x ≡ list_any (λ e. bytes_eq x e.text) earlier)
     × ((x : List ℕ) → is_in (names_of b.alone) x ≡ list_any (λ e. bytes_eq x e.text && e.alone) earlier)
@@ -26,7 +26,7 @@ abbrev pub after : List Binding → List Binding → List Binding
 after earlier [] = earlier
 after earlier (b ∷ bs) = after (b ∷ earlier) bs
 
--- what is known of earlier bindings becomes what is known of these too, and the first of their conflicts is found
+-- the sets that know earlier bindings now know these too, and the first of their conflicts is found
 abbrev pub Binds : List Binding → Bound → Bound → Type 0
 Binds bs old new =
     (earlier : List Binding) → Knows old earlier → Knows new (after earlier bs)

@@ -1,4 +1,4 @@
--- The chain of the blocks around a part and what stands outside of them, as the code has it.
+-- The chain of the blocks around a part and the names outside of them, as the code has it.
 use Rattle.std.specs.Prelude.{ℕ, ◌+◌, List, [], ◌∷◌, Option}
 use Rattle.std.specs.Option.{option_map}
 use denote.Ref.{Bor}

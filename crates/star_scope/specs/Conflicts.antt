@@ -1,4 +1,4 @@
--- Names that are bound more than once where one binding has to be the only one.
+-- Names that are bound more than once though one of the bindings must be the only one.
 use Rattle.std.specs.Prelude.{ℕ, Bool, true, false, ◌&&◌, ◌||◌, List, [], ◌∷◌, ◌++◌, map, if◌then◌else◌}
 use Rattle.std.specs.List.{flat_map, list_any}
 use Rattle.star_tree.specs.declared.tree.Name.{Name}
@@ -23,7 +23,7 @@ use Rattle.star_scope.specs.declared.error.Refusal.{Refusal}
 use Rattle.star_scope.specs.Faults.{at}
 use Rattle.star_scope.specs.Names.{same_name}
 
--- a binding of a name; it is alone where the name may have no other: a parameter, or a loaded name
+-- a binding of a name; it is alone if the name may have no other: the name of a parameter, or a loaded name
 pub record Binding : Type 0 where
   pub text : List ℕ
   pub position : Position
@@ -80,7 +80,7 @@ abbrev pub all_of : List Bindings → Bindings
 all_of [] = []
 all_of (b ∷ bs) = b ++ all_of bs
 
--- a target binds its own name, or those of its parts; an index binds none
+-- a target binds its own name, or the names of its parts; an index binds no name
 abbrev pub target_step : tree.Target-F Bindings Bindings Bindings Bindings Bindings Bindings Bindings → Bindings
 target_step (tree.Target-F.Target::Name n) = shared n
 target_step (tree.Target-F.Target::Index e i) = []
@@ -99,7 +99,7 @@ targets_bindings ts = all_of (map target_bindings ts)
 abbrev pub loaded_binding : LoadedName → Bindings
 loaded_binding n = alone n.local
 
--- a `def` binds its own name, and none of its body
+-- a `def` binds its own name, and no names of its body
 abbrev pub form_step : form.Form-F Bindings Bindings Bindings → Bindings
 form_step (form.Expression e) = []
 form_step (form.Assign t e) = target_bindings t

@@ -8,12 +8,12 @@ use Rattle.star_scope.specs.declared.outline.Body.{Body as OneBody}
 use Rattle.star_scope.specs.declared.outline.Body.TheVariants as one
 use Rattle.star_scope.specs.declared.outline.Definition.{Definition as OneDefinition}
 
--- what a call runs: the statements of a `def`, or the expression of a `lambda`
+-- the body of a definition: the statements of a `def`, or the expression of a `lambda`
 pub data Body : Type 0 where
   Statements : List Statement → Body
   Answer : Expression → Body
 
--- a definition, by the number of the token at which it begins
+-- a definition, by the number of its first token
 pub record Definition : Type 0 where
   pub number : ℕ
   pub parameters : List Parameter
@@ -23,7 +23,7 @@ pub record Definition : Type 0 where
 abbrev pub definition_in : List Definition → ℕ → Option Definition
 definition_in definitions number = find (λ d. nat_eq d.number number) definitions
 
--- no number stands twice
+-- no number occurs twice
 abbrev pub AllDiffer : List ℕ → Type 0
 AllDiffer [] = Unit {0}
 AllDiffer (n ∷ ns) = (Contains ns n → ⊥) × AllDiffer ns

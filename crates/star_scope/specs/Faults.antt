@@ -1,4 +1,4 @@
--- The static faults of a file, each with the token at which it stands, and which of them is the first.
+-- The static faults of a file, each with its token, and the first of them.
 use Rattle.std.specs.Prelude.{◌≡◌, ◌⊎◌, ℕ, Bool, false, nat_lt, nat_eq, ◌&&◌, ◌||◌, List, [], ◌∷◌, Option, Some, None, if◌then◌else◌}
 use Rattle.star_scope.specs.declared.error.ScopeFault.{ScopeFault}
 use Rattle.star_scope.specs.declared.error.ScopeFault.TheVariants as fault
@@ -15,20 +15,20 @@ rank (fault.NoFile line) = 5
 rank (fault.BadLabel line) = 6
 rank fault.Memory = 7
 
--- a fault stands at a token
+-- a fault at a token
 abbrev pub at : Position → (ℕ → ScopeFault) → Refusal
 at p f = record { token = p.token; fault = f p.line }
 
--- its token stands first; at one token, its kind has the lower number
+-- its token comes first; at one token, its kind has the lower number
 abbrev pub stands_before : Refusal → Refusal → Bool
 stands_before a b = nat_lt a.token b.token || (nat_eq a.token b.token && nat_lt (rank a.fault) (rank b.fault))
 
--- the first of what was found and one more
+-- the earlier of the fault found so far and one more
 abbrev pub earlier : Option Refusal → Refusal → Option Refusal
 earlier None more = Some more
 earlier (Some found) more = if stands_before more found then Some more else Some found
 
--- the first of what was found and of further faults
+-- the earliest of the fault found so far and further faults
 unfoldable pub first_from : Option Refusal → List Refusal → Option Refusal
 first_from found [] = found
 first_from found (f ∷ fs) = first_from (earlier found f) fs
@@ -37,7 +37,7 @@ first_from found (f ∷ fs) = first_from (earlier found f) fs
 abbrev pub first : List Refusal → Option Refusal
 first fs = first_from None fs
 
--- the first of what was found in two places
+-- the earlier of two faults
 abbrev pub first_of : Option Refusal → Option Refusal → Option Refusal
 first_of found None = found
 first_of found (Some more) = earlier found more
@@ -47,11 +47,11 @@ abbrev pub IsAmong : List Refusal → Refusal → Type 0
 IsAmong [] r = ⊥
 IsAmong (f ∷ fs) r = (r ≡ f) ⊎ IsAmong fs r
 
--- it is the first of these: one of them, and none of them stands before it
+-- it is one of these, and no other of them comes before it
 abbrev pub IsFirst : List Refusal → Refusal → Type 0
 IsFirst fs r = IsAmong fs r × ((f : Refusal) → IsAmong fs f → stands_before f r ≡ false)
 
--- what `first` answers: the first fault, or none exactly where there is none
+-- the answer of `first`: the first fault; `None` exactly for an empty list
 pub record FirstIsFirst : Type 0 where
   pub some : (fs : List Refusal) (r : Refusal) → first fs ≡ Some r → IsFirst fs r
   pub none : (fs : List Refusal) → first fs ≡ None → fs ≡ []

@@ -1,4 +1,4 @@
--- Numbered things in a list, and the slots of names: what is found at a number or under a name.
+-- Tables by number, and the slots of names.
 use Rattle.std.specs.Prelude.{◌≡◌, ℕ, nat_eq, List, Option, slice_get}
 use Rattle.std.specs.List.{position}
 use Rattle.std.specs.Option.{option_flatten}
@@ -9,11 +9,11 @@ use denote.Ref.{Bor}
 use Rattle.star_scope.specs.declared.index.Index.{Index}
 use Rattle.star_scope.specs.Names.{Names, slot_of}
 
--- the place of the thing with a number
+-- the index of the item with a number
 abbrev pub place_at : Index → ℕ → Option ℕ
 place_at index number = option_flatten (slice_get index.places.items number)
 
--- each number has the place of the thing with it
+-- each number has the index of the item with it
 abbrev pub Finds : {A : Type 0} → (A → ℕ) → List A → Index → Type 0
 Finds number_of things index = (number : ℕ) → place_at index number ≡ position (λ x. nat_eq (number_of x) number) things
 

@@ -1,3 +1,5 @@
+-- The program of a file and its static faults. In reading order: Names, Outlines, Places, Uses, Placement, Conflicts,
+-- Loads, Faults, Resolve.
 pub mod Faults
 pub mod Placement
 pub mod Loads

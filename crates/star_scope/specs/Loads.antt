@@ -1,4 +1,4 @@
--- The loads of a file: what each module string leads to, and the faults of load statements.
+-- The loads of a file: the target of each module string, and the faults of load statements.
 use Rattle.std.specs.Prelude.{◌≡◌, ◌<◌, ◌==◌, ℕ, Bool, false, List, [], ◌∷◌, ◌++◌, map, length, Option, Some, None, if◌then◌else◌}
 use Rattle.std.specs.List.{flat_map}
 use Rattle.star_label.specs.Files.{File, label_at}
@@ -17,7 +17,7 @@ use Rattle.star_scope.specs.declared.loads.Lead.TheVariants as lead
 use Rattle.star_scope.specs.declared.loads.Load.{Load}
 use Rattle.star_scope.specs.Faults.{at, first_from}
 
--- in the package `here`, a module string is the label of the file n, or the label of no file, or no label
+-- in the package `here`, a module string is the label of the file n, or a label that no file has, or not a label
 abbrev pub LeadsTo : List File → List ℕ → List ℕ → Lead → Type 0
 LeadsTo files here text (lead.File n) =
     (p : List ℕ) × (m : List ℕ) × Reads here text p m × (n < length files) × (label_at files n ≡ label_text p m)
@@ -26,7 +26,7 @@ LeadsTo files here text lead.NoFile =
     × ((n : ℕ) → n < length files → label_at files n ≡ label_text p m → ⊥)
 LeadsTo files here text lead.BadLabel = (p m : List ℕ) → Reads here text p m → ⊥
 
--- a load statement: where it stands, its module string, and the names that it loads
+-- a load statement: its position, its module string, and the names that it loads
 pub record Written : Type 0 where
   pub position : Position
   pub module_string : Literal
@@ -43,7 +43,7 @@ written_in s = load_in (out-Statement s).position (out-Form (out-Statement s).fo
 abbrev pub written : List Statement → List Written
 written ss = flat_map written_in ss
 
--- a load statement beside what its module string leads to
+-- a load statement beside the target of its module string
 abbrev pub Read : Type 0
 Read = Written × Lead
 
@@ -51,7 +51,7 @@ abbrev pub AllLead : List File → List ℕ → List Read → Type 0
 AllLead files here [] = Unit {0}
 AllLead files here (r ∷ rs) = LeadsTo files here r.0.module_string.text r.1 × AllLead files here rs
 
--- these are the load statements, each beside what it leads to
+-- these are the load statements, each beside its target
 abbrev pub AreRead : List File → List ℕ → List Written → List Read → Type 0
 AreRead files here ws reads = (map (λ r. r.0) reads ≡ ws) × AllLead files here reads
 
@@ -68,7 +68,7 @@ module_fault p (lead.File n) = []
 module_fault p lead.NoFile = at p (λ line. fault.NoFile line) ∷ []
 module_fault p lead.BadLabel = at p (λ line. fault.BadLabel line) ∷ []
 
--- the faults of a load statement stand at its module string and at the strings of its names
+-- the faults of a load statement are at its module string and at the strings of its names
 abbrev pub faults_of : Read → List Refusal
 faults_of r = module_fault r.0.module_string.position r.1 ++ flat_map private_fault r.0.names
 
@@ -81,7 +81,7 @@ load_at p lead.BadLabel = []
 abbrev pub load_of : Read → List Load
 load_of r = load_at r.0.position r.1
 
--- to the loads before come those of load statements; and what was found first, in these and before
+-- the loads of load statements are added to those before; and the first fault, in these and before
 pub record Adds (files : List File) (here : List ℕ) (ws : List Written) (before after : List Load)
     (found more : Option Refusal) : Type 0 where
   pub reads : List Read
@@ -89,12 +89,12 @@ pub record Adds (files : List File) (here : List ℕ) (ws : List Written) (befor
   pub loads : after ≡ before ++ flat_map load_of reads
   pub faults : more ≡ first_from found (flat_map faults_of reads)
 
--- the load of the prelude stands at no token, in line 1
+-- the load of the prelude has no token, and line 1
 abbrev pub prelude_loads : Option ℕ → List Load
 prelude_loads None = []
 prelude_loads (Some n) = record { file = n; line = 1; token = None } ∷ []
 
--- the loads of the file n: the prelude's, then those of its statements; and the first fault of its load statements
+-- the loads of the file n: the prelude's, then its statements'; and the first fault of its load statements
 abbrev pub IsLoads : List File → ℕ → Option ℕ → List Statement → List Load → Option Refusal → Type 0
 IsLoads files n prelude ss loads found =
     Adds files (package_of (label_at files n)) (written ss) (prelude_loads prelude) loads None found

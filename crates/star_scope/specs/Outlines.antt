@@ -1,4 +1,4 @@
--- What stands in a file: the names that its blocks bind, and its definitions, read off its tree.
+-- The outline of a file, read off its tree: the names that its blocks bind, and its definitions.
 use Rattle.std.specs.Prelude.{ℕ, ◌+◌, nat_eq, List, [], ◌∷◌, ◌++◌, map, Option, Some, None}
 use Rattle.std.specs.List.{find, flat_map}
 use Rattle.std.specs.Option.{option_map, unwrap_or}
@@ -18,8 +18,8 @@ use Rattle.star_tree.specs.declared.tree.Form.TheOpen as form
 use Rattle.star_tree.specs.declared.tree.Form.TheFolds as form_folds
 use Rattle.star_tree.specs.declared.tree.Position.{Position}
 use Rattle.star_tree.specs.declared.tree.LoadedName.{LoadedName}
--- a block with the names that are bound in it: the file's own has number 0, that of a definition or a comprehension one
--- more than the number of the token at which it begins
+-- a block with the names that are bound in it. The file's own block has number 0, the block of a definition or a
+-- comprehension one more than the number of its first token
 pub use Rattle.star_scope.specs.declared.blocks.Block.{Block}
 pub use Rattle.star_scope.specs.Definitions.{Body, Statements, Answer, Definition, definition_in}
 -- definitions and blocks
@@ -27,7 +27,7 @@ pub use Rattle.star_scope.specs.declared.outline.Found.{Found}
 use Rattle.star_scope.specs.Syntax.{StatementForm, ParameterForm, ClauseForm, parameter, clause, form_of}
 use Rattle.star_scope.specs.Names.{Names, once}
 
--- what stands in a file: its definitions, its blocks, and the names that it loads
+-- the outline of a part of a file: its definitions, its blocks, and the names that it loads
 pub record Outline : Type 0 where
   pub definitions : List Definition
   pub blocks : List Block
@@ -44,7 +44,7 @@ abbrev pub all_names : List Names → Names
 all_names [] = []
 all_names (n ∷ ns) = n ++ all_names ns
 
--- the names that a target binds: its own, or those of its parts; an index binds none
+-- the names that a target binds: its own, or the names of its parts; an index binds no name
 abbrev pub target_step : tree.Target-F Names Names Names Names Names Names Names → Names
 target_step (tree.Target-F.Target::Name n) = n.text ∷ []
 target_step (tree.Target-F.Target::Index e i) = []
@@ -87,8 +87,8 @@ parameter_names p = parameter_step (parameter p)
 abbrev pub all_parameter_names : List Parameter → Names
 all_parameter_names ps = all_names (map parameter_names ps)
 
--- the names that a statement binds in its block: a `def` binds its own name, and none of its body; a load binds in the
--- file's block, wherever it stands
+-- the names that a statement binds in its block: a `def` binds its own name, and no names of its body; a load binds in
+-- the file's block, wherever it is
 abbrev pub local_name : LoadedName → List ℕ
 local_name n = n.local.text
 
@@ -120,7 +120,7 @@ arm_names = form_folds.fold-Arm Names Names Names bound_step arm_step names_step
 abbrev pub form_names : Form → Names
 form_names = form_folds.fold-Form Names Names Names bound_step arm_step names_step
 
--- the local names of all loads in a statement, also where they stand in a body
+-- the local names of all loads in a statement, also of those in a body
 abbrev pub loads_step : form.Form-F Names Names Names → Names
 loads_step (form.Expression e) = []
 loads_step (form.Assign t e) = []
@@ -147,7 +147,7 @@ form_loaded = form_folds.fold-Form Names Names Names loads_step arm_step names_s
 abbrev pub block_names : List Statement → Names
 block_names ss = all_names (map statement_names ss)
 
--- those that the cases of an `if` bind, and that they load
+-- the names that the cases of an `if` bind, and the local names that they load
 abbrev pub arms_names : List Arm → Names
 arms_names arms = all_names (map arm_names arms)
 
@@ -166,16 +166,16 @@ file_names ss = once (block_names ss ++ loaded_names ss)
 unfoldable pub nothing : Found
 nothing = record { definitions = []; blocks = [] }
 
--- those of one part, then those of another
+-- the outline of one part, then of another
 unfoldable pub and : Found → Found → Found
 and a b = record { definitions = a.definitions ++ b.definitions; blocks = a.blocks ++ b.blocks }
 
--- what is found in the parts of a layer, each of which stands beside what is found in it
+-- the outline of the parts of a layer, from parts each beside its own outline
 abbrev pub in_all : {A : Type 0} → List (A × Found) → Found
 in_all [] = nothing
 in_all (x ∷ xs) = and x.1 (in_all xs)
 
--- what is found in things of one kind
+-- the outline of several parts of one kind
 abbrev pub in_each : {A : Type 0} → (A → Found) → List A → Found
 in_each one xs = in_all (map (λ x. (x, one x)) xs)
 
@@ -204,7 +204,7 @@ comprehension number cs =
 abbrev pub firsts : {A : Type 0} → List (A × Found) → List A
 firsts xs = map (λ x. x.0) xs
 
--- the layers of expressions, with what is found in their parts
+-- the layers of expressions, with the outlines of their parts
 abbrev pub expression_found : tree.Expression-F (Argument × Found) (Clause × Found) (Expression × Found)
     (Parameter × Found) (Target × Found) (Clauses × Found) (Entry × Found) → Found
 expression_found (tree.Expression-F.Expression::Name n) = nothing
@@ -259,7 +259,7 @@ abbrev pub entry_found : tree.Entry-F (Argument × Found) (Clause × Found) (Exp
     (Target × Found) (Clauses × Found) (Entry × Found) → Found
 entry_found e = and e.key.1 e.value.1
 
--- what is found in an expression, a target or a parameter
+-- the outline of an expression, a target or a parameter
 abbrev pub in_expression : Expression → Found
 in_expression =
     folds.para-Expression Found Found Found Found Found Found Found argument_found clause_found expression_found

@@ -1,4 +1,4 @@
--- Statements that stand where they must not.
+-- Misplaced statements.
 use Rattle.std.specs.Prelude.{Bool, true, false, List, [], ◌∷◌, ◌++◌, map}
 use Rattle.star_tree.specs.declared.tree.Form.{Form}
 use Rattle.star_tree.specs.declared.tree.Arm.{Arm}
@@ -11,7 +11,7 @@ use Rattle.star_scope.specs.declared.error.Refusal.{Refusal}
 use Rattle.star_scope.specs.declared.placement.Standing.{Standing}
 use Rattle.star_scope.specs.Faults.{at}
 
--- the misplaced statements of a part, by where it stands
+-- the misplaced statements of a part, by its surroundings
 abbrev pub Misplaced : Type 0
 Misplaced = Standing → List Refusal
 
@@ -27,7 +27,7 @@ of_file = record { in_file = true; in_function = false; in_loop = false }
 abbrev pub of_prelude : Standing
 of_prelude = record { in_file = false; in_function = false; in_loop = false }
 
--- inside an `if`, inside the body of a loop, and inside the body of a function, which is in no loop of its own
+-- inside an `if`, inside the body of a loop, and inside the body of a function, which starts outside of every loop
 abbrev pub of_if : Standing → Standing
 of_if here = record { in_file = false; in_function = here.in_function; in_loop = here.in_loop }
 
@@ -37,7 +37,7 @@ of_loop here = record { in_file = false; in_function = here.in_function; in_loop
 abbrev pub of_function : Standing
 of_function = record { in_file = false; in_function = true; in_loop = false }
 
--- a statement that may stand there only where this is true
+-- a statement that is misplaced unless this is true
 abbrev pub only : Bool → Position → List Refusal
 only true p = []
 only false p = at p (λ line. fault.BadPlace line) ∷ []
@@ -70,7 +70,7 @@ in_arm = form_folds.fold-Arm (Position → Misplaced) Misplaced Misplaced form_s
 abbrev pub in_form : Form → Position → Misplaced
 in_form = form_folds.fold-Form (Position → Misplaced) Misplaced Misplaced form_step arm_step statement_step
 
--- those of statements and of arms that stand somewhere
+-- the misplaced ones of statements and of arms, in some surroundings
 abbrev pub in_statements : List Statement → Misplaced
 in_statements ss = each (map in_statement ss)
 

@@ -1,4 +1,4 @@
--- Where the value of a name is found, and which names have no place.
+-- The spot of a name in a chain of blocks, and the names that have none.
 use Rattle.std.specs.Prelude.{◌≡◌, ◌≤◌, ℕ, ◌+◌, Bool, true, false, not, ◌&&◌, List, [], ◌∷◌, length, Option, Some, None, if◌then◌else◌, codes, slice_get}
 use Rattle.std.specs.List.{flat_map}
 use Rattle.std.specs.Option.{option_and_then}
@@ -13,8 +13,8 @@ use Rattle.star_scope.specs.Names.{Names, has_name, same_name, slot_of}
 use Rattle.star_scope.specs.Outlines.{Block, names_in}
 use Rattle.star_scope.specs.Uses.{Use, Named, Defined}
 
--- the most blocks that stand in one another: the file's own; one for each of the 100 that the nesting weight lets stand
--- in one another; and one for a `def` on one line, which the `;` after it forgets
+-- the most blocks that can be nested: the file's own; one for each of the 100 that the nesting weight allows; and one
+-- for a `def` on one line, which the `;` after it forgets
 abbrev pub chain_length : ℕ
 chain_length = 102
 
@@ -67,7 +67,7 @@ undefined blocks prelude us = flat_map (undefined_in blocks prelude) us
 abbrev pub Spots : Type 0
 Spots = ℕ → Option Spot
 
--- a use of a name stands in no more blocks than a chain may have, and its token has its spot
+-- a use of a name is in no more blocks than a chain may have, and its token has its spot
 abbrev pub IsPlaced : Spots → List Block → Option Names → Use → Type 0
 IsPlaced spots blocks prelude (Named n chain) =
     (length chain ≤ chain_length) × (spots n.position.token ≡ spot_of blocks prelude n.text chain)
@@ -77,7 +77,7 @@ abbrev pub AllPlaced : Spots → List Block → Option Names → List Use → Ty
 AllPlaced spots blocks prelude [] = Unit {0}
 AllPlaced spots blocks prelude (u ∷ us) = IsPlaced spots blocks prelude u × AllPlaced spots blocks prelude us
 
--- ---- what a spot is for: rows of values, one for each block of a chain
+-- ---- the use of a spot: rows of values, one for each block of a chain
 
 -- the values that the names of a block have, in the order of the names
 pub record Row (V : Type 0) : Type 0 where
@@ -107,12 +107,12 @@ nearest blocks name [] = None
 nearest blocks name (r ∷ rs) =
     first_there (value_beside name (names_in blocks r.block) r.values) (nearest blocks name rs)
 
--- the value that stands so many rows up, at this slot
+-- the value in the row that is `up` rows up, at this slot
 abbrev pub value_at : {V : Type 0} → ℕ → ℕ → List (Row V) → Option V
 value_at up slot rows = option_and_then (λ r. slice_get r.values slot) (slice_get rows up)
 
--- where the spot of a name leads in rows: to the value of the name in the nearest row that has it; outside of the rows
--- only where no row has the name; to the outermost block only where the prelude has it neither; and a name without a
+-- the value that the spot of a name leads to: the value of the name in the nearest row that has it. It leads outside of
+-- the rows only if no row has the name, and to the outermost block only if the prelude lacks it too. A name without a
 -- spot is nowhere
 pub record Leads (V : Type 0) (blocks : List Block) (prelude : Option Names) (name : List ℕ) (rows : List (Row V))
     (s : Option Spot) : Type 0 where
@@ -124,7 +124,7 @@ pub record Leads (V : Type 0) (blocks : List Block) (prelude : Option Names) (na
   pub nowhere : s ≡ None → (nearest blocks name rows ≡ None) × (prelude_has prelude name ≡ false)
       × (has_name outermost_names name ≡ false)
 
--- the law of spots: they lead right in all rows that fit
+-- the law of spots: they lead to the right values in all rows that fit
 abbrev pub SpotsLead : Type 0 → Type 0
 SpotsLead V =
     (blocks : List Block) (prelude : Option Names) (name : List ℕ) (chain : List ℕ) (rows : List (Row V))

@@ -1,4 +1,4 @@
--- All static faults of a file, and what a file means to those that run it.
+-- All static faults of a file, and the program of a file that has none.
 use Rattle.std.specs.Prelude.{◌≡◌, ◌⊎◌, ℕ, nat_eq, List, [], ◌++◌, map, Option, Some, None, Result, Ok, Err, if◌then◌else◌}
 use Rattle.std.specs.List.{flat_map}
 use Rattle.std.specs.Option.{option_map}
@@ -22,7 +22,7 @@ use Rattle.star_scope.specs.Places.{AllPlaced, undefined}
 use Rattle.star_scope.specs.Spots.{spot_at}
 use Rattle.star_scope.specs.Uses.{uses}
 
--- the names of the prelude's block: those that its file's block binds, and none where its text does not parse
+-- the names of the prelude's block: the names that its file's block binds; no names if its text does not parse
 abbrev pub prelude_names : Option (List Statement) → Names
 prelude_names None = []
 prelude_names (Some ss) = file_names ss
@@ -32,7 +32,7 @@ abbrev pub seen_by : ℕ → Option Prelude → Option Prelude
 seen_by n None = None
 seen_by n (Some p) = if nat_eq p.file n then None else Some p
 
--- how the statements of a file itself stand: in the prelude's own file a load stands where it must not
+-- the surroundings of the statements of a file itself: in the prelude's own file a load is misplaced
 abbrev pub standing_in : ℕ → Option Prelude → Standing
 standing_in n None = of_file
 standing_in n (Some p) = if nat_eq p.file n then of_prelude else of_file
@@ -41,15 +41,15 @@ standing_in n (Some p) = if nat_eq p.file n then of_prelude else of_file
 abbrev pub repeated : List Definition → List Refusal
 repeated ds = flat_map (λ d. repeated_parameters d.parameters) ds
 
--- all static faults of a file, by how its statements stand, the names of the prelude that it sees, and its load
--- statements, each beside what it leads to
+-- all static faults of a file, by the surroundings of its statements, the names of the prelude that it sees, and its
+-- load statements, each beside its target
 abbrev pub static_faults : Standing → Option Names → List Statement → List Read → List Refusal
 static_faults here outer ss reads =
     in_statements ss here ++ (flat_map faults_of reads
     ++ (block_conflicts ss ++ (repeated (outline ss).definitions ++ undefined (outline ss).blocks outer (uses ss))))
 
--- a program is that of a file: its loads are the prelude's and its statements', and it has the file's definitions, no
--- two with one number, its blocks, the names that the file loads, and the spot of each name
+-- a program is the program of a file. Its loads are the prelude's and its statements'. It has the file's definitions,
+-- no two with one number, its blocks, the names that the file loads, and the spot of each name
 pub record IsProgram (n : ℕ) (prelude : Option Prelude) (ss : List Statement) (reads : List Read) (p : Program) : Type
     0 where
   pub loads : p.loads.items ≡ prelude_loads (option_map (λ q. q.file) (seen_by n prelude)) ++ flat_map load_of reads
@@ -65,11 +65,11 @@ abbrev pub faults_in : ℕ → Option Prelude → List Statement → List Read �
 faults_in n prelude ss reads =
     static_faults (standing_in n prelude) (option_map (λ q. q.names) (seen_by n prelude)) ss reads
 
--- these are the load statements of the file n, each beside what it leads to
+-- these are the load statements of the file n, each beside its target
 abbrev pub AreReadIn : List File → ℕ → List Statement → List Read → Type 0
 AreReadIn files n ss reads = AreRead files (package_of (label_at files n)) (written ss) reads
 
--- the answer on a file: its program where it has no static fault, else the first of them; or that memory was refused
+-- the answer on a file: its program if it has no static fault, else the first of them; or `Memory`
 abbrev pub Resolves : List File → ℕ → Option Prelude → List Statement → Result Program ScopeFault → Type 0
 Resolves files n prelude ss (Ok p) =
     (reads : List Read) × AreReadIn files n ss reads × (first (faults_in n prelude ss reads) ≡ None)

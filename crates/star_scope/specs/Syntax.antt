@@ -1,4 +1,4 @@
--- One layer of the tree of a file: what an expression, a target or a statement is made of.
+-- One layer of the tree of a file: the parts of an expression, a target or a statement.
 use Rattle.star_tree.specs.declared.tree.Argument.{Argument, out-Argument}
 use Rattle.star_tree.specs.declared.tree.Clause.{Clause, out-Clause}
 use Rattle.star_tree.specs.declared.tree.Clauses.{Clauses}

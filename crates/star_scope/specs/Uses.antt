@@ -1,4 +1,4 @@
--- The names and the definitions that stand in a file, each with the chain of the blocks in which it stands.
+-- The names and the definitions of a file, each with the chain of the blocks around it.
 use Rattle.std.specs.Prelude.{ℕ, ◌+◌, List, [], ◌∷◌, ◌++◌, map, Option, Some, None}
 use Rattle.std.specs.List.{flat_map}
 use Rattle.star_tree.specs.declared.tree.Argument.{Argument}
@@ -18,13 +18,13 @@ use Rattle.star_tree.specs.declared.tree.Argument.TheFolds as folds
 use Rattle.star_tree.specs.declared.tree.Form.TheOpen as form
 use Rattle.star_tree.specs.declared.tree.Form.TheFolds as form_folds
 
--- a name where it is read or bound, or a definition by its number, with the numbers of the blocks around it, the
+-- a use of a name, read or bound, or a definition by its number, with the numbers of the blocks around it, the
 -- innermost first
 pub data Use : Type 0 where
   Named : Name → List ℕ → Use
   Defined : ℕ → List ℕ → Use
 
--- the names of a part that stands in a chain of blocks
+-- the names of a part in a chain of blocks
 abbrev pub Within : Type 0
 Within = List ℕ → List Use
 
@@ -51,16 +51,16 @@ abbrev pub maybe_use : Option Within → Within
 maybe_use None c = []
 maybe_use (Some a) c = a c
 
--- a part stands in a block of its own, whose number is one more than that of the token at which it begins
+-- a part in its own block; the block's number is one more than the number of its first token
 abbrev pub inside : ℕ → Within → Within
 inside token a c = a ((1 + token) ∷ c)
 
--- the clauses of a comprehension: the first iterable stands outside of its block
+-- the clauses of a comprehension: the first iterable is outside of its block
 pub record ClauseUses : Type 0 where
   pub first : Within
   pub rest : Within
 
--- a parameter: its default stands outside of the definition's block
+-- a parameter: its default is outside of the definition's block
 pub record ParameterUses : Type 0 where
   pub outer : Within
   pub inner : Within
@@ -174,7 +174,7 @@ abbrev pub in_returned : Option Expression → Within
 in_returned None = no_use
 in_returned (Some e) = in_expression e
 
--- the names of a statement's form; that of a `def` has a block of its own, which begins at the statement's first token
+-- the names of a statement's form; a `def` has its own block, which begins at the statement's first token
 abbrev pub OfForm : Type 0
 OfForm = ℕ → Within
 
@@ -215,6 +215,6 @@ in_arm = form_folds.fold-Arm OfForm Within Within form_uses arm_uses statement_u
 abbrev pub in_statement : Statement → Within
 in_statement = form_folds.fold-Statement OfForm Within Within form_uses arm_uses statement_uses
 
--- all names and definitions that stand in a file
+-- all names and definitions of a file
 abbrev pub uses : List Statement → List Use
 uses ss = flat_map (λ s. in_statement s (0 ∷ [])) ss

@@ -1,4 +1,4 @@
-//! Which blocks of a file bind a name.
+//! The blocks that bind each name of a file, to look names up quickly.
 
 ghost use Rattle.std.specs.Prelude.{◌≡◌, ◌+◌, ℕ, List, true, map, Some, IfOk, OnOk};
 ghost use Rattle.star_scope.specs.Binders.{AreBinders, Covers, binds, is_binder};
@@ -18,7 +18,7 @@ struct Binders<'t> {
 }
 
 impl<'t> Binders<'t> {
-    /// The block with this number is one more that binds a name.
+    /// Records that the block with this number binds a name.
     fn add(&mut self, alloc: Global, name: &'t str, number: usize) -> Result<(), AllocError>
         ensures here { OnOk result (binds self.new name.now number ≡ true) }
         ensures kept { OnOk result ((n : List ℕ) (k : ℕ) → binds self.old n k ≡ true → binds self.new n k ≡ true) }
@@ -37,7 +37,7 @@ impl<'t> Binders<'t> {
         Ok(())
     }
 
-    /// The block with this number binds these names.
+    /// Records that the block with this number binds these names.
     fn add_all(&mut self, alloc: Global, names: &[&'t str], number: usize) -> Result<(), AllocError>
         ensures all { OnOk result ((n : List ℕ) → has_name (map (λ m. m.now) names.now) n ≡ true
             → binds self.new n number ≡ true) }
@@ -49,7 +49,7 @@ impl<'t> Binders<'t> {
         Ok(())
     }
 
-    /// All that bind a name, in these blocks.
+    /// The binders of all names of these blocks.
     fn of(alloc: Global, blocks: &Blocks<'t>) -> Result<Binders<'t>, AllocError>
         ensures { IfOk result (λ binders. Covers blocks.now binders) }
     {
@@ -74,8 +74,8 @@ impl<'t> Binders<'t> {
     }
 }
 
-/// The blocks of a file, with those that bind a name: for a name that is looked for in one block after another, most of
-/// which do not bind it.
+/// The blocks of a file, and for each name the blocks that bind it. So a look-up through many nested blocks is quick,
+/// though most of them do not bind the name.
 #[derive(Drop)]
 pub(crate) struct Bound<'s, 't> {
     blocks: &'s Blocks<'t>,
@@ -102,7 +102,7 @@ impl<'s, 't> Bound<'s, 't> {
         Ok(Bound { blocks, binders })
     }
 
-    /// The numbers of the blocks that bind a name: of no others.
+    /// The numbers of exactly the blocks that bind a name.
     pub(crate) fn binders(&self, name: &str) -> Option<&BTreeSet<usize>>
         ensures { AreBinders self.now name.now result }
     {
@@ -116,7 +116,7 @@ impl<'s, 't> Bound<'s, 't> {
         self.blocks.slot(number, name)
     }
 
-    /// The slot of a name, which these blocks bind, in the block that begins at this token.
+    /// The slot of a name with these binders in the block that begins at this token.
     pub(crate) fn slot_at(
         &self,
         binders: Option<&BTreeSet<usize>>,

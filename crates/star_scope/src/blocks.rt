@@ -1,4 +1,4 @@
-//! The blocks of a file, with the names that are bound in them.
+//! The blocks of a file: the file itself, functions and comprehensions, with the names that each binds.
 
 ghost use Rattle.std.specs.Prelude.{◌≡◌, ◌∷◌, ◌++◌, ◌+◌, ◌==◌, ℕ, [], length, map, OnOk};
 ghost use Rattle.std.specs.Option.{option_copied, unwrap_or};
@@ -10,7 +10,7 @@ use std::alloc::{AllocError, Global};
 use std::collections::BTreeMap;
 use std::marker::Model;
 
-/// The names of a block, each once, in the order in which they are first bound. A name's slot is its place among them.
+/// The names of a block, each once, in the order of their first bindings. A name's slot is its index among them.
 #[derive(Drop)]
 pub struct BlockNames<'t> {
     names: Vec<&'t str>,
@@ -38,35 +38,35 @@ impl<'t> BlockNames<'t> {
         }
     }
 
-    /// The slot of a name.
+    /// The slot of a name; `None` if the block does not bind it.
     pub fn slot(&self, name: &str) -> Option<usize>
         ensures { result ≡ slot_of name.now self.now }
     {
         self.slots.get(name).copied()
     }
 
-    /// How many names there are.
+    /// The number of names.
     pub fn len(&self) -> usize
         ensures { result ≡ length self.now }
     {
         self.names.len()
     }
 
-    /// Whether there is no name.
+    /// Whether the block has no names.
     pub fn is_empty(&self) -> bool
         ensures { result ≡ (length self.now == 0) }
     {
         self.names.is_empty()
     }
 
-    /// The names, by their slots.
+    /// The names, in the order of their slots.
     pub fn as_slice(&self) -> &[&'t str]
         ensures { map (λ n. n.now) result.now ≡ self.now }
     {
         self.names.as_slice()
     }
 
-    /// A name more, where it is not there yet.
+    /// Adds a name, if it is not there yet.
     pub(crate) fn add(&mut self, name: &'t str) -> Result<(), AllocError>
         ensures { OnOk result (self.new ≡ with_name self.old name.now) }
     {
@@ -85,15 +85,15 @@ impl<'t> BlockNames<'t> {
     }
 }
 
-/// A block: the file's own has number 0, that of a definition or a comprehension one more than the number of the token
-/// at which it begins.
+/// A block. The file's own block has number 0, the block of a definition or a comprehension one more than the number of
+/// its first token.
 #[derive(Drop)]
 pub struct Block<'t> {
     pub number: usize,
     pub names: BlockNames<'t>,
 }
 
-/// The blocks of a file. Of two with one number the first is found.
+/// The blocks of a file. Of two blocks with one number the first is found.
 #[derive(Drop)]
 pub struct Blocks<'t> {
     blocks: Vec<Block<'t>>,
@@ -122,14 +122,14 @@ impl<'t> Blocks<'t> {
         }
     }
 
-    /// All of them.
+    /// All blocks.
     pub(crate) fn as_slice(&self) -> &[Block<'t>]
         ensures { result.now ≡ self.now }
     {
         self.blocks.as_slice()
     }
 
-    /// The slot of a name in the block with this number: none where the block does not bind it.
+    /// The slot of a name in the block with this number; `None` if the block does not bind it.
     pub fn slot(&self, number: usize, name: &str) -> Option<usize>
         ensures { result ≡ slot_of name.now (names_in self.now number) }
     {
@@ -139,7 +139,7 @@ impl<'t> Blocks<'t> {
         }
     }
 
-    /// The slot of a name in the block that begins at this token: none where no block begins there, or it does not bind
+    /// The slot of a name in the block that begins at this token; `None` if no block begins there, or it does not bind
     /// the name.
     pub(crate) fn slot_at(&self, token: usize, name: &str) -> Option<usize>
         ensures { result ≡ slot_of name.now (names_in self.now (1 + token)) }
@@ -150,7 +150,7 @@ impl<'t> Blocks<'t> {
         }
     }
 
-    /// The names of the block with this number: none where there is no such block.
+    /// The names of the block with this number; `None` if no block has it.
     pub fn names(&self, number: usize) -> Option<&BlockNames<'t>>
         ensures { unwrap_or (option_copied result) [] ≡ names_in self.now number }
     {
@@ -160,7 +160,7 @@ impl<'t> Blocks<'t> {
         }
     }
 
-    /// A block more.
+    /// Adds a block.
     pub(crate) fn push(&mut self, number: usize, names: BlockNames<'t>) -> Result<(), AllocError>
         ensures { OnOk result (self.new ≡ self.old ++ record { number = number; names = names.entry } ∷ []) }
     {
@@ -175,7 +175,7 @@ impl<'t> Blocks<'t> {
         }
     }
 
-    /// A block more, which begins at this token.
+    /// Adds a block that begins at this token.
     pub(crate) fn push_at(&mut self, token: usize, names: BlockNames<'t>) -> Result<(), AllocError>
         ensures { OnOk result (self.new ≡ self.old ++ record { number = 1 + token; names = names.entry } ∷ []) }
     {

@@ -1,4 +1,4 @@
-//! The blocks around a part of a file.
+//! The chain of blocks around a part of a file, the innermost first. A name is looked up along it.
 
 ghost use Rattle.std.specs.Prelude.{◌≡◌, ◌≤◌, ◌∷◌, [], ◌+◌, length, map, IfOk};
 ghost use Rattle.star_scope.specs.Chains.{names_outside};
@@ -12,7 +12,7 @@ use crate::spot::Spot;
 use std::alloc::AllocError;
 use std::marker::Model;
 
-/// So many blocks stand in one another at most.
+/// The greatest number of blocks nested in one another.
 const CHAIN_LENGTH: usize = 102;
 
 /// The file's own block, or the block that begins at a token, with the blocks around it.
@@ -41,7 +41,7 @@ impl<'c> Model for Chain<'c> {
     ghost invariant = { λ c. (length_of (numbers c.link) ≡ c.length) × (c.length ≤ chain_length) };
 }
 
-/// What a name may be bound by: the blocks of the file, and the names of the prelude's block, where there is a prelude.
+/// The binders of a name: the blocks of the file and, if there is a prelude, the names of the prelude's block.
 #[derive(Clone, Copy)]
 pub(crate) struct Scope<'s, 't> {
     pub(crate) blocks: &'s Bound<'s, 't>,
@@ -103,7 +103,7 @@ fn is_outermost(name: &str) -> bool
     is_among(&OUTERMOST, name)
 }
 
-/// The spot of a name outside of the file.
+/// The spot of a name outside of the file; `None` if neither the prelude nor the outermost block has it.
 fn outside_spot(prelude: Option<&BlockNames<'_>>, name: &str) -> Option<Spot>
     ensures { result ≡ outside_spot (names_outside prelude.entry) name.now }
 {
@@ -127,8 +127,8 @@ impl<'c> Chain<'c> {
         }
     }
 
-    /// The chain inside a block that begins at a token. Too long a chain is refused like a growth: it comes of no text,
-    /// since the nesting of a text is bounded, but of a tree that was made by hand.
+    /// The chain inside a block that begins at a token. A chain of more than 102 blocks is refused with `AllocError`.
+    /// Only a tree that was made by hand gives one, since the nesting of a text is bounded.
     pub(crate) fn inside(&'c self, token: usize) -> Result<Chain<'c>, AllocError>
         ensures { IfOk result (λ c. c ≡ (1 + token) ∷ self.now) }
     {
@@ -144,7 +144,7 @@ impl<'c> Chain<'c> {
         })
     }
 
-    /// The spot of a name: in the first block that binds it, else outside of the file.
+    /// The spot of a name: in the first block that binds it, else outside of the file. `None` if the name is undefined.
     pub(crate) fn spot_of(&self, scope: &Scope<'_, '_>, name: &str) -> Option<Spot>
         ensures spot { result ≡ spot_of scope.now.blocks.now (names_outside scope.now.prelude) name.now self.now }
         ensures short { length self.now ≤ chain_length }

@@ -1,4 +1,4 @@
-//! Names that are bound more than once where one binding has to be the only one.
+//! Conflicts: names that are bound more than once though one of the bindings must be the only one.
 
 ghost use Rattle.std.specs.Prelude.{◌≡◌, ◌∷◌, [], List, if◌then◌else◌, IfOk, IfErr, OnOk};
 ghost use Rattle.std.specs.List.{flat_map};
@@ -18,7 +18,7 @@ use std::collections::BTreeSet;
 /// Names, each once.
 type Names<'a> = BTreeSet<&'a str>;
 
-/// The names that are bound so far, those of them that may be bound but once, and the first conflict.
+/// The names that are bound so far, the names among them that must be bound alone, and the first conflict.
 #[derive(Drop)]
 struct Bound<'a> {
     all: Names<'a>,
@@ -49,7 +49,7 @@ fn has(names: &Names<'_>, name: &str) -> bool
     names.contains(name)
 }
 
-/// An earlier binding has the name, and it or this one is alone.
+/// Whether an earlier binding has the name, and it or this one must be alone.
 fn clashes(bound: &Bound<'_>, name: &str, alone: bool) -> bool
     ensures { result ≡ is_in (if alone then names_of bound.now.all else names_of bound.now.alone) name.now }
 {
@@ -60,7 +60,7 @@ fn clashes(bound: &Bound<'_>, name: &str, alone: bool) -> bool
     }
 }
 
-/// What was found first, with a conflict where there is one.
+/// The fault found so far, or the conflict at `position` if it comes first.
 #[tactic(auto, unfolding(crate::specs::Faults::first_from))]
 fn conflict(found: Option<Refusal>, clashes: bool, position: Position) -> Option<Refusal>
     ensures { result ≡ first_from found (conflict_at clashes position) }
@@ -113,7 +113,7 @@ fn bind_parameters<'a>(bound: &mut Bound<'a>, parameters: &'a [Parameter]) -> Re
 }
 
 /// The first parameter of a `def` or `lambda` whose name an earlier one has: a `Conflict` at its name
-/// (`docs/LANGUAGE.md`, "Scopes and static faults"). `Memory` where a growth is refused, and no other error.
+/// (`docs/LANGUAGE.md`, "Scopes and static faults"). `Memory` if an allocation fails, and no other error.
 pub fn repeated_parameter(
     alloc: Global,
     parameters: &[Parameter],
@@ -202,9 +202,9 @@ fn bind_arms<'a>(bound: &mut Bound<'a>, arms: &'a [Arm]) -> Result<(), AllocErro
     Ok(())
 }
 
-/// The first conflict in the file's block: a name that has an earlier binding, where this one or an earlier one is that
-/// of a load statement (`docs/LANGUAGE.md`, "Scopes and static faults"). `Memory` where a growth is refused, and no
-/// other error.
+/// The first conflict in the file's block: a binding of a name that is bound already, if one of these bindings is by a
+/// load statement (`docs/LANGUAGE.md`, "Scopes and static faults"). `Memory` if an allocation fails, and no other
+/// error.
 pub fn block_conflict(
     alloc: Global,
     statements: &[Statement],

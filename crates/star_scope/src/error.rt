@@ -1,4 +1,4 @@
-//! The static faults of a file.
+//! `ScopeFault`: the static faults of a file's names, loads and statements, and their order.
 
 ghost use Rattle.std.specs.Prelude.{◌≡◌, Some};
 ghost use Rattle.star_scope.specs.declared.error.ScopeFault.TheVariants.{Memory};
@@ -7,7 +7,7 @@ ghost use Rattle.star_scope.specs.Faults.{rank, stands_before, earlier};
 use std::alloc::{AllocError, AllocFailed};
 use thiserror::Error;
 
-/// Why a file has no program: `docs/LANGUAGE.md`, "Scopes and static faults". Each fault has the line of its token.
+/// Why a file has no program (`docs/LANGUAGE.md`, "Scopes and static faults"). Each fault has the line of its token.
 #[derive(Clone, Copy, Debug, PartialEq, Eq, Error)]
 pub enum ScopeFault {
     /// A name is read that no block around it and no built-in binds.
@@ -23,13 +23,13 @@ pub enum ScopeFault {
     /// A loaded name begins with `_`.
     #[error("private name in line {line}")]
     Private { line: usize },
-    /// There is no file that a load names.
+    /// A load names a file that does not exist.
     #[error("no such file in line {line}")]
     NoFile { line: usize },
-    /// The module string of a load is no label.
+    /// The module string of a load is not a label.
     #[error("bad label in line {line}")]
     BadLabel { line: usize },
-    /// The allocator refused.
+    /// An allocation failed.
     #[error("out of memory")]
     Memory,
 }
@@ -51,7 +51,7 @@ impl<T: Drop> From<AllocFailed<T>> for ScopeFault {
 }
 
 impl ScopeFault {
-    /// Which of two faults at one token comes first: the one with the lower number.
+    /// The number of its kind. Of two faults at one token the one with the lower number comes first.
     pub fn rank(self) -> u8
         ensures { result ≡ rank self }
     {
@@ -67,7 +67,7 @@ impl ScopeFault {
     }
 }
 
-/// A fault with the number of the token at which it stands.
+/// A fault with the number of its token.
 #[derive(Clone, Copy, Debug, PartialEq, Eq)]
 pub struct Refusal {
     pub token: usize,
@@ -75,7 +75,7 @@ pub struct Refusal {
 }
 
 impl Refusal {
-    /// Its token stands first, or it stands at the same token and has the lower number.
+    /// Whether it comes before another fault: its token comes first, or it has the same token and the lower number.
     pub fn stands_before(self, other: Refusal) -> bool
         ensures { result ≡ stands_before self other }
     {
@@ -84,7 +84,7 @@ impl Refusal {
     }
 }
 
-/// The first of what was found and one more.
+/// The earlier of the fault found so far and one more.
 pub fn earlier(found: Option<Refusal>, more: Refusal) -> Option<Refusal>
     ensures { result ≡ earlier found more }
 {

@@ -1,4 +1,4 @@
-//! Numbers of tokens, and what stands at each of them.
+//! `Index`: the indexes of a list's items, by the items' numbers.
 
 ghost use Rattle.std.specs.Prelude.{◌≡◌, ◌<◌, ◌+◌, length, ℕ, nat_eq, None, Some, OnOk, OnErr, if◌then◌else◌, ◌^◌};
 ghost use Rattle.std.specs.Option.{option_or};
@@ -6,7 +6,8 @@ ghost use Rattle.star_scope.specs.Index.{place_at};
 
 use std::alloc::{AllocError, Global};
 
-/// The places of numbered things in a list, found by their numbers in constant time.
+/// The index of each numbered item of a list, found by its number in constant time. Numbers are token numbers or block
+/// numbers.
 #[derive(Debug, Drop)]
 pub(crate) struct Index {
     places: Vec<Option<usize>>,
@@ -21,7 +22,7 @@ impl Index {
         }
     }
 
-    /// The place of the thing with this number.
+    /// The index of the item with this number.
     pub(crate) fn get(&self, number: usize) -> Option<usize>
         ensures { result ≡ place_at self.now number }
     {
@@ -31,7 +32,7 @@ impl Index {
         }
     }
 
-    /// The place of the thing whose number is one more than this one.
+    /// The index of the item whose number is one more than this one.
     pub(crate) fn get_after(&self, number: usize) -> Option<usize>
         ensures { result ≡ place_at self.now (1 + number) }
     {
@@ -42,7 +43,8 @@ impl Index {
         }
     }
 
-    /// The thing with this number has this place, where none has the number yet: the first one keeps it.
+    /// Records the index of the item with this number, if no item has the number yet. If an allocation fails, the table
+    /// is as it was.
     pub(crate) fn put(&mut self, number: usize, place: usize) -> Result<(), AllocError>
         ensures same { OnErr result ((n : ℕ) → place_at self.new n ≡ place_at self.old n) }
         ensures put { OnOk result ((n : ℕ) → place_at self.new n

@@ -1,19 +1,18 @@
-//! Laws of spots and of faults: what a reader knows to be true of every file.
+//! Laws of bindings and of faults, true of every file.
 
 ghost use Rattle.star_scope.specs.Faults.{FirstIsFirst};
 ghost use Rattle.star_scope.specs.Places.{SpotsLead};
 
-/// What a spot is for. Take a row of values for each block of a chain, with a value for each name of the block. Where
-/// the spot of a name is so many frames up at a slot, the row that is so many rows up has at this slot the value of the
-/// name in the nearest row whose block binds it. A spot in the prelude or in the outermost block comes only where no
-/// row has the name, the latter only where the prelude has it neither; and a name without a spot is in none of them.
-/// (`docs/LANGUAGE.md`, "Scopes and static faults".)
+/// The promise of a spot. Take a row of values for each block of a chain, with a value for each name of the block. If
+/// the spot of a name is `up` frames up at a slot, then the row that is `up` rows up has, at this slot, the value of
+/// the name in the nearest row whose block binds it. A spot is in the prelude or in the outermost block only if no row
+/// has the name, and in the outermost block only if the prelude lacks it too. If a name has no spot, then neither a row
+/// nor the prelude nor the outermost block has it. (`docs/LANGUAGE.md`, "Scopes and static faults".)
 pub fn spots_lead<V>()
     ensures { SpotsLead V }
 {}
 
-/// The first of faults is one of them, and none of them stands before it; there is none exactly where there are no
-/// faults.
+/// The first of several faults is one of them, and no other comes before it. It is `None` exactly for an empty list.
 pub fn first_is_first()
     ensures { FirstIsFirst }
 {}

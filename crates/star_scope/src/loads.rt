@@ -1,4 +1,4 @@
-//! The loads of a file.
+//! The load statements of a file: the files that their module strings lead to, and the faults of such statements.
 
 ghost use Rattle.std.specs.Prelude.{◌≡◌, ◌<◌, ◌++◌, length, true, IfOk, IfErr, OnOk};
 ghost use Rattle.star_label.specs.Label.{is_package};
@@ -14,14 +14,14 @@ use star_label::label::Label;
 use star_tree::tree::{Form, LoadedName, Position, Statement};
 use std::alloc::{AllocError, Global};
 
-/// What a module string leads to.
+/// The target of a module string.
 #[derive(Clone, Copy, Debug, PartialEq, Eq)]
 pub enum Lead {
     /// The file with this number.
     File(usize),
-    /// It is a label of no file.
+    /// The string is a label, and no file has it.
     NoFile,
-    /// It is no label.
+    /// The string is not a label.
     BadLabel,
 }
 
@@ -32,19 +32,19 @@ pub struct Load {
     pub file: usize,
     /// The line of the statement; 1 for the prelude.
     pub line: usize,
-    /// The number of the statement's first token; none for the prelude.
+    /// The number of the statement's first token; `None` for the prelude.
     pub token: Option<usize>,
 }
 
 /// The loads of a file, and the first fault of its load statements.
 #[derive(Debug, Drop)]
 pub struct Loads {
-    /// In source order, those that lead to a file.
+    /// The loads that lead to a file, in source order.
     pub loads: Vec<Load>,
     pub first: Option<Refusal>,
 }
 
-/// What a module string leads to in a file of this package.
+/// The target of a module string in a file of this package.
 fn lead_of(alloc: Global, files: &Files, package: &str, text: &str) -> Result<Lead, ScopeFault>
     requires { is_package «package».now ≡ true }
     ensures leads { IfOk result (λ l. LeadsTo files.now «package».now text.now l) }
@@ -62,7 +62,7 @@ fn lead_of(alloc: Global, files: &Files, package: &str, text: &str) -> Result<Le
     }
 }
 
-/// A loaded name that begins with `_`.
+/// Whether a name begins with `_`.
 pub(crate) fn is_private(text: &str) -> bool
     ensures { result ≡ is_private text.now }
 {
@@ -72,7 +72,7 @@ pub(crate) fn is_private(text: &str) -> bool
     }
 }
 
-/// What was found first, with the fault of a module string.
+/// The fault found so far, or the fault of a module string if it comes first.
 #[tactic(auto, unfolding(crate::specs::Faults::first_from))]
 fn module_fault(found: Option<Refusal>, position: Position, lead: Lead) -> Option<Refusal>
     ensures { result ≡ first_from found (module_fault position lead) }
@@ -95,7 +95,7 @@ fn module_fault(found: Option<Refusal>, position: Position, lead: Lead) -> Optio
     )
 }
 
-/// What was found first, with the fault of a loaded name.
+/// The fault found so far, or `Private` for a loaded name if that comes first.
 #[tactic(auto, unfolding(crate::specs::Faults::first_from))]
 fn private_fault(found: Option<Refusal>, name: &LoadedName) -> Option<Refusal>
     ensures { result ≡ first_from found (private_fault name.now) }
@@ -114,7 +114,7 @@ fn private_fault(found: Option<Refusal>, name: &LoadedName) -> Option<Refusal>
     )
 }
 
-/// What was found first, with the faults of loaded names.
+/// The fault found so far, or the first private name among loaded names if it comes first.
 fn private_faults(mut found: Option<Refusal>, names: &[LoadedName]) -> Option<Refusal>
     ensures { result ≡ first_from found (flat_map private_fault names.now) }
 {
@@ -124,7 +124,7 @@ fn private_faults(mut found: Option<Refusal>, names: &[LoadedName]) -> Option<Re
     found
 }
 
-/// Puts the load of a statement after the others, where its module string leads to a file.
+/// Adds the load of a statement after the others, if its module string leads to a file.
 fn push_load(loads: &mut Vec<Load>, position: Position, lead: Lead) -> Result<(), AllocError>
     ensures { OnOk result (loads.new.items ≡ loads.old.items ++ load_at position lead) }
 {
@@ -166,7 +166,7 @@ fn add_statement(
     }
 }
 
-/// The load of the prelude, where there is one.
+/// The load of the prelude, if there is one.
 fn prelude_loads(alloc: Global, prelude: Option<usize>) -> Result<Vec<Load>, AllocError>
     ensures { IfOk result (λ loads. loads.items ≡ prelude_loads prelude) }
 {
@@ -181,9 +181,9 @@ fn prelude_loads(alloc: Global, prelude: Option<usize>) -> Result<Vec<Load>, All
     Ok(loads)
 }
 
-/// The loads of the file `n`, whose statements are these: that of the prelude first, where there is one. And the first
+/// The loads of the file `n` with these statements, the load of the prelude first, if there is one. Also the first
 /// fault of its load statements: `BadLabel` and `NoFile` at the module string, `Private` at a loaded name that begins
-/// with `_` (`docs/LANGUAGE.md`, "Scopes and static faults"). `Memory` where a growth is refused, and no other error.
+/// with `_` (`docs/LANGUAGE.md`, "Scopes and static faults"). `Memory` if an allocation fails, and no other error.
 pub fn find_loads(
     alloc: Global,
     files: &Files,

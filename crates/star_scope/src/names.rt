@@ -1,4 +1,4 @@
-//! The names that the parts of a file bind.
+//! The names that statements, targets and parameters bind, and sets of names.
 
 ghost use Rattle.std.specs.Prelude.{◌≡◌, ◌∷◌, [], map, OnOk};
 ghost use Rattle.star_scope.specs.Names.{with_names};
@@ -121,7 +121,7 @@ fn add_form<'t>(names: &mut BlockNames<'t>, form: &'t Form) -> Result<(), AllocE
     Ok(())
 }
 
-/// Adds the names that statements bind in their block, without those that they load.
+/// Adds the names that statements bind in their block, without the names that they load.
 #[cycle(block)]
 pub(crate) fn add_statements<'t>(
     names: &mut BlockNames<'t>,

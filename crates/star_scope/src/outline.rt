@@ -1,4 +1,4 @@
-//! What stands in a file: its definitions and its blocks.
+//! The outline of a file: its definitions, and its blocks with the names that they bind.
 
 ghost use Rattle.std.specs.Prelude.{◌≡◌, ◌∷◌, ◌++◌, [], map, ◌+◌, OnOk};
 ghost use Rattle.std.specs.Option.{option_map};
@@ -17,7 +17,7 @@ use star_tree::tree::{
 use std::alloc::{AllocError, Global};
 use std::marker::Model;
 
-/// What a call runs.
+/// The body of a definition.
 #[derive(Clone, Copy)]
 pub enum Body<'t> {
     /// The statements of a `def`.
@@ -26,7 +26,7 @@ pub enum Body<'t> {
     Answer(&'t Expression),
 }
 
-/// A `def` or a `lambda`. Its number is that of the token at which it begins.
+/// A `def` or a `lambda`. Its number is the number of its first token.
 #[derive(Clone, Copy)]
 pub struct Definition<'t> {
     pub number: usize,
@@ -70,7 +70,7 @@ impl<'t> Definitions<'t> {
         }
     }
 
-    /// All of them.
+    /// All definitions.
     pub(crate) fn as_slice(&self) -> &[Definition<'t>]
         ensures items { map definition_of result.now ≡ self.now }
         ensures differ { AllDiffer (map (λ d. d.number) self.now) }
@@ -78,7 +78,7 @@ impl<'t> Definitions<'t> {
         self.definitions.as_slice()
     }
 
-    /// The definition with this number, in constant time.
+    /// The definition with this number, in constant time; `None` if no definition has it.
     pub fn get(&self, number: usize) -> Option<Definition<'t>>
         ensures { option_map definition_of result ≡ definition_in self.now number }
     {
@@ -88,8 +88,8 @@ impl<'t> Definitions<'t> {
         }
     }
 
-    /// A definition more. A number that another definition has is refused like a growth: it comes of no text, since
-    /// each definition of a text begins at a token of its own, but of a tree that was made by hand.
+    /// Adds a definition. A number that another definition has is refused with `AllocError`. Only a tree that was made
+    /// by hand has such a number twice, since each definition of a text begins at a token of its own.
     fn push(
         &mut self,
         number: usize,
@@ -118,7 +118,7 @@ impl<'t> Definitions<'t> {
     }
 }
 
-/// The definitions and the blocks of a part of a file, each kind in the order in which they begin.
+/// The definitions and the blocks of a part of a file, each kind in the order of their first tokens.
 #[derive(Drop)]
 pub struct Found<'t> {
     pub definitions: Definitions<'t>,
@@ -167,7 +167,7 @@ fn add_comprehension<'t>(
     Ok(())
 }
 
-/// What is found in an expression: its definitions and blocks, each before those in its parts.
+/// The outline of an expression: its definitions and blocks, each before those inside it.
 #[cycle(expressions)]
 #[tactic(auto, using(crate::proofs::OutlineLevels::and_nothing, crate::proofs::OutlineLevels::expression_opened))]
 fn find_in_expression<'t>(
@@ -190,18 +190,18 @@ fn find_in_expression<'t>(
             element,
             clauses,
         } => {
-            add_comprehension(alloc, found, position.token, clauses)?;
+            add_comprehension(alloc, found, position.token, clauses.get())?;
             find_in_expression(alloc, found, element.get())?;
-            find_in_clauses(alloc, found, clauses)?;
+            find_in_clauses(alloc, found, clauses.get())?;
         }
         Expression::DictComprehension {
             position,
             entry,
             clauses,
         } => {
-            add_comprehension(alloc, found, position.token, clauses)?;
+            add_comprehension(alloc, found, position.token, clauses.get())?;
             find_in_entry(alloc, found, entry.get())?;
-            find_in_clauses(alloc, found, clauses)?;
+            find_in_clauses(alloc, found, clauses.get())?;
         }
         Expression::Unary { operand: value, .. } | Expression::Attribute { value, .. } =>
             find_in_expression(alloc, found, value.get())?,
@@ -234,10 +234,10 @@ fn find_in_expression<'t>(
                 alloc,
                 found,
                 position.token,
-                parameters.as_slice(),
+                parameters.get().as_slice(),
                 Body::Answer(body.get()),
             )?;
-            find_in_parameters(alloc, found, parameters.as_slice())?;
+            find_in_parameters(alloc, found, parameters.get().as_slice())?;
             find_in_expression(alloc, found, body.get())?;
         }
         Expression::Call {
@@ -300,8 +300,8 @@ fn find_in_entry<'t>(
 ) -> Result<(), AllocError>
     ensures { OnOk result (found.new ≡ and found.old (in_entry entry.now)) }
 {
-    find_in_expression(alloc, found, entry.key.get())?;
-    find_in_expression(alloc, found, entry.value.get())?;
+    find_in_expression(alloc, found, &entry.key)?;
+    find_in_expression(alloc, found, &entry.value)?;
     Ok(())
 }
 
@@ -555,7 +555,7 @@ fn find_in_statement<'t>(
     Ok(())
 }
 
-/// What is found in statements: their definitions and blocks, each before those in its parts.
+/// The outline of statements: their definitions and blocks, each before those inside it.
 #[cycle(statements)]
 pub(crate) fn find_in_statements<'t>(
     alloc: Global,

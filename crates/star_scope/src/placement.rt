@@ -1,4 +1,4 @@
-//! Statements that stand where they must not.
+//! Misplaced statements: `return`, `break`, `continue` and `load` in a place that does not allow them.
 
 ghost use Rattle.std.specs.Prelude.{◌≡◌};
 ghost use Rattle.star_scope.specs.Faults.{first, first_from};
@@ -7,14 +7,14 @@ ghost use Rattle.star_scope.specs.Placement.{in_arms, in_form, in_statements, mi
 use crate::error::{Refusal, ScopeFault, earlier};
 use star_tree::tree::{Arm, Form, Position, Statement};
 
-/// Where a statement stands.
+/// The surroundings of a statement.
 #[derive(Clone, Copy, Debug, PartialEq, Eq)]
 pub struct Standing {
     /// Whether it is a statement of the file itself.
     pub in_file: bool,
-    /// Whether it stands in the body of a function.
+    /// Whether it is in the body of a function.
     pub in_function: bool,
-    /// Whether it stands in the body of a loop of that function, or of the file.
+    /// Whether it is in the body of a loop of that function, or of the file.
     pub in_loop: bool,
 }
 
@@ -60,7 +60,7 @@ impl Standing {
     }
 }
 
-/// A statement that may stand there only where `allowed` is true.
+/// The fault of a statement that is misplaced unless `allowed`.
 #[tactic(auto, unfolding(crate::specs::Faults::first_from))]
 fn only(found: Option<Refusal>, allowed: bool, position: Position) -> Option<Refusal>
     ensures { result ≡ first_from found (only allowed position) }
@@ -103,7 +103,7 @@ fn in_form(
     }
 }
 
-/// What was found first, with the misplaced statements among these, which stand here.
+/// The fault found so far, or the first misplaced one of these statements, in these surroundings.
 #[cycle(placement)]
 #[tactic(auto, using(crate::proofs::Faults::first_joined, crate::proofs::Placements::statements_next, crate::proofs::Faults::first_none))]
 pub(crate) fn in_statements(
@@ -130,9 +130,9 @@ fn in_arms(mut found: Option<Refusal>, here: Standing, arms: &[Arm]) -> Option<R
     found
 }
 
-/// The first statement of a file that stands where it must not: `return` outside of a function, `break` or `continue`
-/// outside of a loop of the same function, `load` elsewhere than as a statement of the file itself (`docs/LANGUAGE.md`,
-/// "Scopes and static faults"). It takes no memory.
+/// The first misplaced statement of a file: `return` outside of a function, `break` or `continue` outside of a loop of
+/// the same function, `load` elsewhere than as a statement of the file itself (`docs/LANGUAGE.md`, "Scopes and static
+/// faults"). It takes no memory.
 pub fn misplaced(statements: &[Statement]) -> Option<Refusal>
     ensures { result ≡ first (misplaced statements.now) }
 {

@@ -1,4 +1,4 @@
-//! The program of a file: what it means to those that run it, or its first static fault.
+//! The program of a file: its names, loads, definitions and blocks resolved; or its first static fault.
 
 ghost use Rattle.std.specs.Prelude.{◌≡◌, ◌<◌, length, map, IfOk, IfErr, OnOk, Some, None};
 ghost use Rattle.std.specs.Option.{is_some, option_copied, option_map};
@@ -49,8 +49,8 @@ fn names_of_file<'t>(
 }
 
 impl<'t> Prelude<'t> {
-    /// The file `n` as the prelude: its block has the names that the tree binds, and none where its text does not
-    /// parse. `Memory` where a growth is refused, and no other error.
+    /// The file `n` as the prelude: its block has the names that the tree binds, and no names if its text does not
+    /// parse. `Memory` if an allocation fails, and no other error.
     pub fn new(alloc: Global, n: usize, tree: Option<&'t Tree>) -> Result<Prelude<'t>, ScopeFault>
         ensures file { IfOk result (λ p. p.file ≡ n) }
         ensures names { IfOk result (λ p. p.names ≡ prelude_names (option_map (λ t. t.now.statements) tree.entry)) }
@@ -64,7 +64,7 @@ impl<'t> Prelude<'t> {
     }
 }
 
-/// The first of what was found in two places.
+/// The earlier of two faults, from two walks.
 fn first_of(found: Option<Refusal>, more: Option<Refusal>) -> Option<Refusal>
     ensures { result ≡ first_of found more }
 {
@@ -136,7 +136,7 @@ fn seen_by<'p, 't>(n: usize, prelude: Option<&'p Prelude<'t>>) -> Option<&'p Pre
     }
 }
 
-/// How the statements of the file `n` itself stand.
+/// The surroundings of the statements of the file `n` itself.
 fn standing_in(n: usize, prelude: Option<&Prelude<'_>>) -> Standing
     ensures { result ≡ standing_in n (option_copied prelude.entry) }
 {
@@ -164,7 +164,7 @@ fn names_of<'p, 't>(prelude: Option<&'p Prelude<'t>>) -> Option<&'p BlockNames<'
     }
 }
 
-/// The first static fault of a file, by the first of its load statements and its first undefined name.
+/// The first static fault of a file, given the first fault of its load statements and its first undefined name.
 fn first_fault(
     alloc: Global,
     here: Standing,
@@ -185,8 +185,7 @@ fn first_fault(
     Ok(first_of(found, undefined))
 }
 
-/// What a file means to those that run it. Its statements, and the parameters and bodies of its definitions, are those
-/// of the tree, which it borrows.
+/// A resolved file. Its statements, and the parameters and bodies of its definitions, are borrowed from the tree.
 #[derive(Drop)]
 pub struct Program<'t> {
     loads: Vec<Load>,
@@ -198,7 +197,7 @@ pub struct Program<'t> {
 }
 
 impl<'t> Program<'t> {
-    /// The files that the file loads, in the order of the load statements: the prelude first, where it sees one.
+    /// The files that the file loads, in the order of the load statements: the prelude first, if the file sees one.
     pub fn loads(&self) -> &[Load]
         ensures { result.now ≡ self.now.loads.items }
     {
@@ -212,14 +211,14 @@ impl<'t> Program<'t> {
         self.statements
     }
 
-    /// The definitions of the file, in the order in which they begin.
+    /// The definitions of the file, in the order of their first tokens.
     pub fn definitions(&self) -> &[Definition<'t>]
         ensures { map definition_of result.now ≡ self.now.definitions }
     {
         self.definitions.as_slice()
     }
 
-    /// The definition that begins at this token, in constant time.
+    /// The definition that begins at this token, in constant time; `None` if none does.
     pub fn definition(&self, number: usize) -> Option<Definition<'t>>
         ensures { option_map definition_of result ≡ definition_in self.now.definitions number }
     {
@@ -233,7 +232,7 @@ impl<'t> Program<'t> {
         &self.blocks
     }
 
-    /// How many slots the block with this number has.
+    /// The number of slots of the block with this number; 0 if no block has it.
     pub fn slots(&self, block: usize) -> usize
         ensures { result ≡ length (names_in self.now.blocks block) }
     {
@@ -243,7 +242,8 @@ impl<'t> Program<'t> {
         }
     }
 
-    /// The spot of the name at this token, in constant time.
+    /// The spot of the name at this token, in constant time; `None` if the token is not a name.
+    #[inline(always)]
     pub fn spot(&self, token: usize) -> Option<Spot>
         ensures { result ≡ spot_at self.now.spots token }
     {
@@ -258,11 +258,11 @@ impl<'t> Program<'t> {
     }
 }
 
-/// The program of the file `n` with this tree, or its first static fault: the one whose token stands first; at one
-/// token, the one whose kind has the lower number (`docs/LANGUAGE.md`, "Scopes and static faults"). The prelude is seen
-/// by every file but its own, in which every load is misplaced. `Memory` where a growth is refused, and for a tree that
-/// no text has: where two definitions, or two names with different spots, have one token, or more than 102 blocks stand
-/// in one another.
+/// The program of the file `n` with this tree, or its first static fault: the one whose token comes first; at one
+/// token, the one whose kind has the lower number (`docs/LANGUAGE.md`, "Scopes and static faults"). Every file but the
+/// prelude itself sees the prelude. In the prelude every load is misplaced. `Memory` if an allocation fails, and for a
+/// tree that no text has: if two definitions, or two names with different spots, have one token, or more than 102
+/// blocks are nested.
 pub fn resolve<'t>(
     alloc: Global,
     files: &Files,

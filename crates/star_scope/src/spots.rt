@@ -1,62 +1,131 @@
-//! A table from the numbers of tokens to spots.
+//! `Spots`: the table from the number of a name's token to its spot.
 
-ghost use Rattle.std.specs.Prelude.{◌≡◌, ◌<◌, ℕ, [], length, Some, OnOk};
-ghost use Rattle.star_scope.specs.Spots.{Keeps, spot_at};
+ghost use Rattle.std.specs.Prelude.{◌≡◌, [], Option, Some, OnOk, IfSome, slice_get};
+ghost use Rattle.star_scope.specs.declared.spot.Spot.{Spot as OneSpot};
+ghost use Rattle.star_scope.specs.Spots.{IsPutAt, Keeps, found, spot_at, spot_in};
 
 use crate::spot::Spot;
 use std::alloc::{AllocError, Global};
 use std::marker::Model;
 
-/// The spots of names, by the numbers of the tokens at which the names stand. A look-up takes constant time.
+/// The entry of the table for a token, in eight bytes. A spot with numbers too large for that is `Far`: it is in the
+/// row `far`.
+#[derive(Clone, Copy, Debug)]
+enum Entry {
+    Empty,
+    Frame { up: u16, slot: u32 },
+    Prelude,
+    Outermost,
+    Far,
+}
+
+/// The bindings of names, by the numbers of their tokens. A look-up takes constant time.
 #[derive(Debug, Drop)]
 pub struct Spots {
-    entries: Vec<Option<Spot>>,
+    entries: Vec<Entry>,
+    /// The spots that no entry has room for, by the numbers of their tokens. No file that a person writes has one.
+    far: Vec<Option<Spot>>,
 }
 
 impl Model for Spots {
     ghost use Rattle.std.specs.Prelude.{List, Option};
+    ghost use Rattle.star_scope.specs.Spots.{spots_of};
     ghost use Rattle.star_scope.specs.declared.spot.Spot.{Spot as OneSpot};
 
     ghost Value = { List (Option OneSpot) };
 
-    ghost view = { λ s. s.entries.items };
+    ghost view = { λ s. spots_of s.entries.items s.far.items };
 }
 
-/// Adds empty entries until there is one for a token.
-fn reach(entries: &mut Vec<Option<Spot>>, token: usize) -> Result<(), AllocError>
-    ensures same { (t : ℕ) → spot_at entries.new.items t ≡ spot_at entries.old.items t }
-    ensures reached { OnOk result (token < length entries.new.items) }
+/// The entry of a spot, if it has room for it; else `None`.
+#[tactic(auto, unfolding(crate::specs::Spots::spot_in))]
+fn entry_of(spot: Spot) -> Option<Entry>
+    ensures { IfSome result (λ entry. (far : Option OneSpot) → spot_in entry far ≡ Some spot) }
 {
-    if token < entries.len() {
-        return Ok(());
+    match spot {
+        Spot::Frame { up, slot } => match (u16::try_from(up), u32::try_from(slot)) {
+            (Ok(up), Ok(slot)) => Some(Entry::Frame { up, slot }),
+            _ => None,
+        },
+        Spot::Prelude => Some(Entry::Prelude),
+        Spot::Outermost => Some(Entry::Outermost),
     }
-    entries.resize(token, None)?;
-    entries.push(None)?;
+}
+
+/// Puts a value at an index of a row. A row that is too short is filled up with empty values.
+fn put_at<T: Copy>(row: &mut Vec<T>, at: usize, value: T, empty: T) -> Result<(), AllocError>
+    ensures { OnOk result (IsPutAt row.old.items row.new.items at value empty) }
+{
+    if row.len() <= at {
+        row.resize(at, empty)?;
+        row.push(value)?;
+    } else {
+        row[at] = value;
+    }
     Ok(())
 }
 
+/// The entry at a token; `Empty` after the last one.
+#[inline(always)]
+#[tactic(auto, unfolding(crate::specs::Spots::found, crate::specs::Spots::spot_in))]
+fn entry_at(entries: &[Entry], token: usize) -> Entry
+    ensures { (far : Option OneSpot) → spot_in result far ≡ found (slice_get entries.now token) far }
+{
+    match entries.get(token) {
+        Some(entry) => *entry,
+        None => Entry::Empty,
+    }
+}
+
+/// The spot that a row has at a token.
+#[inline(never)]
+fn far_at(far: &[Option<Spot>], token: usize) -> Option<Spot>
+    ensures { result ≡ spot_at far.now token }
+{
+    match far.get(token) {
+        Some(spot) => *spot,
+        None => None,
+    }
+}
+
 impl Spots {
-    /// No token has a spot.
+    /// A table with no spots.
+    #[tactic(auto, unfolding(crate::specs::Spots::spots_of))]
     pub(crate) fn new(alloc: Global) -> Spots
         ensures { result ≡ [] }
     {
         Spots {
             entries: Vec::new(alloc),
+            far: Vec::new(alloc),
         }
     }
 
-    /// The spot of the name at a token; none where no name stands there, or one that is undefined.
+    /// Gives back the memory that the entries do not need.
+    pub(crate) fn settle(&mut self)
+        ensures { self.new ≡ self.old }
+    {
+        self.entries.shrink_to_fit();
+    }
+
+    /// The spot of the name at a token; `None` if the token is not a name, or the name is undefined.
+    #[inline(always)]
     pub fn get(&self, token: usize) -> Option<Spot>
         ensures { result ≡ spot_at self.now token }
     {
-        match self.entries.get(token) {
-            Some(entry) => *entry,
-            None => None,
+        match entry_at(self.entries.as_slice(), token) {
+            Entry::Frame { up, slot } => Some(Spot::Frame {
+                up: up as usize,
+                slot: slot as usize,
+            }),
+            Entry::Prelude => Some(Spot::Prelude),
+            Entry::Outermost => Some(Spot::Outermost),
+            Entry::Far => far_at(self.far.as_slice(), token),
+            Entry::Empty => None,
         }
     }
 
-    /// The name at a token has this spot. Another spot at the same token is refused like a growth: it comes of no text,
-    /// since each name of a text has a token of its own, but of a tree that was made by hand.
+    /// Records the spot of the name at a token. Another spot at the same token is refused with `AllocError`. Only a
+    /// tree that was made by hand gives two, since each name of a text has a token of its own.
     pub(crate) fn put(&mut self, token: usize, spot: Spot) -> Result<(), AllocError>
         ensures keeps { OnOk result (Keeps self.old self.new) }
         ensures put { OnOk result (spot_at self.new token ≡ Some spot) }
@@ -68,8 +137,12 @@ impl Spots {
                 Err(AllocError)
             };
         }
-        reach(&mut self.entries, token)?;
-        self.entries[token] = Some(spot);
-        Ok(())
+        match entry_of(spot) {
+            Some(entry) => put_at(&mut self.entries, token, entry, Entry::Empty),
+            None => {
+                put_at(&mut self.far, token, Some(spot), None)?;
+                put_at(&mut self.entries, token, Entry::Far, Entry::Empty)
+            }
+        }
     }
 }

@@ -1,4 +1,4 @@
-//! The spots of all names of a file.
+//! Resolves all names of a file: a walk that gives each use its spot and finds the first undefined name.
 
 ghost use Rattle.std.specs.Prelude.{◌≡◌, ◌∷◌, ◌++◌, [], None, IfOk, IfErr, OnOk};
 ghost use Rattle.std.specs.Option.{option_map};
@@ -23,14 +23,14 @@ use star_tree::tree::{
 };
 use std::alloc::{AllocError, Global};
 
-/// The spots of the names of a file, and the first name that has none.
+/// The spots of the names of a file, and the first undefined name.
 #[derive(Debug, Drop)]
 pub struct Placed {
     pub spots: Spots,
     pub first: Option<Refusal>,
 }
 
-/// What was found first, with a name that is undefined.
+/// The fault found so far, or an undefined name if it comes first.
 #[tactic(auto, unfolding(crate::specs::Faults::first_from))]
 fn undefined(found: Option<Refusal>, position: Position) -> Option<Refusal>
     ensures { result ≡ first_from found (at position (λ line. fault.Undefined line) ∷ []) }
@@ -121,7 +121,7 @@ fn place_expression(
             clauses,
         } => {
             let inner = Chain::inside(&*chain, position.token)?;
-            place_clauses(placed, scope, chain, &inner, clauses)?;
+            place_clauses(placed, scope, chain, &inner, clauses.get())?;
             place_expression(placed, scope, &inner, element.get())?;
         }
         Expression::DictComprehension {
@@ -130,7 +130,7 @@ fn place_expression(
             clauses,
         } => {
             let inner = Chain::inside(&*chain, position.token)?;
-            place_clauses(placed, scope, chain, &inner, clauses)?;
+            place_clauses(placed, scope, chain, &inner, clauses.get())?;
             place_entry(placed, scope, &inner, entry.get())?;
         }
         Expression::Unary { operand: value, .. } | Expression::Attribute { value, .. } =>
@@ -162,8 +162,9 @@ fn place_expression(
             body,
         } => {
             let inner = Chain::inside(&*chain, position.token)?;
-            place_defaults(placed, scope, chain, parameters.as_slice())?;
-            place_parameter_names(placed, scope, &inner, parameters.as_slice())?;
+            let parameters = parameters.get().as_slice();
+            place_defaults(placed, scope, chain, parameters)?;
+            place_parameter_names(placed, scope, &inner, parameters)?;
             place_expression(placed, scope, &inner, body.get())?;
         }
         Expression::Call {
@@ -229,8 +230,8 @@ fn place_entry(
 ) -> Result<(), AllocError>
     ensures { OnOk result (Places scope.now (in_entry entry.now chain.now) placed.old placed.new) }
 {
-    place_expression(placed, scope, chain, entry.key.get())?;
-    place_expression(placed, scope, chain, entry.value.get())?;
+    place_expression(placed, scope, chain, &entry.key)?;
+    place_expression(placed, scope, chain, &entry.value)?;
 
     Ok(())
 }
@@ -283,7 +284,8 @@ fn place_arguments(
     Ok(())
 }
 
-/// The first iterable of a comprehension stands outside of its block, and the other parts of its clauses inside.
+/// Places the names of a comprehension's clauses. The first iterable is outside of the comprehension's block, the other
+/// parts are inside.
 #[cycle(expressions)]
 fn place_clauses(
     placed: &mut Placed,
@@ -537,7 +539,7 @@ fn place_arms(
     Ok(())
 }
 
-/// The spots of all names of a file in a scope, and the first name that has none.
+/// The spots of all names of a file in a scope, and the first undefined name.
 fn place_all(
     alloc: Global,
     scope: &Scope<'_, '_>,
@@ -557,11 +559,12 @@ fn place_all(
     Ok(placed)
 }
 
-/// The spots of all names of a file whose statements these are and whose blocks these are, beside the names of the
-/// prelude's block where there is a prelude; and the first name that no block around it, no prelude and no built-in
-/// binds: an `Undefined` at its token (`docs/LANGUAGE.md`, "Scopes and static faults"). `Memory` where a growth is
-/// refused, and for a tree that no text has: where two names with different spots have one token, or more than 102
-/// blocks stand in one another. No other error.
+/// The spots of all names of a file with these statements and blocks and, if there is one, this prelude's block. Also
+/// the first undefined name: one that no block around it, no prelude and no built-in binds (`docs/LANGUAGE.md`, "Scopes
+/// and static faults").
+///
+/// `Memory` if an allocation fails, and for a tree that no text has: if two names with different spots have one token,
+/// or more than 102 blocks are nested. No other error comes.
 pub fn place_names<'s, 't>(
     alloc: Global,
     blocks: &'s Blocks<'t>,
@@ -579,5 +582,7 @@ pub fn place_names<'s, 't>(
         blocks: &bound,
         prelude,
     };
-    Ok(place_all(alloc, &scope, statements)?)
+    let mut placed = place_all(alloc, &scope, statements)?;
+    placed.spots.settle();
+    Ok(placed)
 }

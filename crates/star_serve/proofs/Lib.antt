@@ -6,3 +6,4 @@ pub mod Traced
 pub mod RepoRefusals
 pub mod Zipped
 pub mod WrittenTexts
+pub mod Checked

@@ -14,7 +14,7 @@ use Rattle.star_report.specs.Shelf.{LeadToFiles}
 use Rattle.star_report.specs.Shown.{IsReportBut}
 use Rattle.star_report.specs.Wanted.{Full, IsFullText}
 use Rattle.star_report.specs.declared.wanted.Output.{Output}
-use Rattle.star_report.specs.declared.wanted.Output.TheVariants.{Global, Graph, Report}
+use Rattle.star_report.specs.declared.wanted.Output.TheVariants.{Check, Global, Graph, Report}
 use Rattle.star_report.specs.declared.wanted.Wanted.{Wanted}
 use Rattle.star_report.proofs.Planned.{lead_to_files}
 use Rattle.star_serve.specs.Trace.{is_said}
@@ -55,6 +55,7 @@ none_said (Report wanted) files plan ok line is none = is
 none_said (Global name) files plan true line is none = is
 none_said (Global name) files plan false line is none = absurd (let no : ⊥ = cc in no)
 none_said Graph files plan ok line is none = is
+none_said (Check only_roots) files plan ok line is none = is
 
 -- where no line is said beside what is wanted, none is
 pub not_said : (output : Output) (files : List File) (roots : List ℕ) (prelude : Option ℕ) (steps : ℕ) (ok : Bool) (line : List ℕ) → InPlanOf files roots prelude steps (λ plan. IsSaid output files plan ok line) → is_said output ok ≡ false → line ≡ []

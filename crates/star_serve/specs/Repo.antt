@@ -1,4 +1,4 @@
--- What the program answers where the files are those that roots reach in a folder.
+-- The answer of the program for files that roots reach in a folder.
 use Rattle.std.specs.Prelude.{◌≡◌, ℕ, List, Option, Result, Ok, Err}
 use Rattle.star_label.specs.Files.{File}
 use Rattle.star_bundle.specs.Bundle.{Asked, asked_among}

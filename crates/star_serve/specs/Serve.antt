@@ -1,4 +1,4 @@
--- What the program answers.
+-- The answer of the program for a bundle, or for the files of a folder by its walk.
 use Rattle.std.specs.Prelude.{◌≡◌, ⊤, ℕ, ◌≤◌, List, length, Bool, Option, Result, Ok, Err}
 use Rattle.star_serve.specs.Stream.{Adds, GivesAll, Said}
 use Rattle.star_bundle.specs.Bundle.{Asked}

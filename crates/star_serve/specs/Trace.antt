@@ -1,4 +1,4 @@
--- What is written of the refused loads.
+-- The lines that are written of the refused loads.
 use Rattle.std.specs.Prelude.{◌≡◌, ℕ, Bool, false, not, List, [], ◌∷◌, ◌++◌, Option, codes}
 use Rattle.star_label.specs.Files.{File, label_at}
 use Rattle.star_bundle.specs.Bundle.{Asked}
@@ -6,7 +6,7 @@ use Rattle.star_outcome.specs.Refusals.{AreRefusalsOf}
 use Rattle.star_outcome.specs.declared.trace.Refused.{Refused}
 use Rattle.star_report.specs.Output.{InPlanOf, IsSaid}
 use Rattle.star_report.specs.declared.wanted.Output.{Output}
-use Rattle.star_report.specs.declared.wanted.Output.TheVariants.{Global, Graph, Report}
+use Rattle.star_report.specs.declared.wanted.Output.TheVariants.{Check, Global, Graph, Report}
 use Rattle.star_serve.specs.Stream.{Adds}
 
 -- the line of a load
@@ -33,3 +33,4 @@ abbrev pub is_said : Output → Bool → Bool
 is_said (Report wanted) all_ok = false
 is_said (Global name) all_ok = not all_ok
 is_said Graph all_ok = false
+is_said (Check only_roots) all_ok = false

@@ -1,4 +1,4 @@
--- Of which plans a run is.
+-- The plan that a run belongs to, so that its report is that plan's.
 use Rattle.std.specs.Prelude.{◌≡◌, ℕ, List, length}
 use Rattle.star_label.specs.Files.{File}
 use Rattle.star_plan.specs.Plan.{Plan}

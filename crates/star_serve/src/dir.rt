@@ -1,4 +1,4 @@
-//! From the files of a folder to the report's bytes.
+//! `serve_dir`: from the files of a folder to the report's bytes.
 
 ghost use Rattle.std.specs.Prelude.{false, ◌≡◌, ◌+◌, ◌≤◌, List, None, map, option_map, string_bytes, IfOk, IfErr, Ok};
 ghost use Rattle.star_label.specs.Files.{File};

@@ -1,4 +1,4 @@
-//! The input, up to its end.
+//! Reads a `Source` up to its end.
 
 ghost use Rattle.std.specs.Prelude.{◌≡◌, ℕ, ◌+◌, ◌<◌, ◌≤◌, ◌⊎◌, List, length, IfOk, IfErr};
 ghost use Rattle.star_serve.specs.Serve.{input_limit};

@@ -1,4 +1,4 @@
-//! From the files that roots reach in a folder to the report's bytes.
+//! `serve_repo`: from the files that roots reach in a folder to the report's bytes.
 
 ghost use Rattle.std.specs.Prelude.{false, ◌≡◌, ◌+◌, ◌≤◌, List, None, map, option_map, string_bytes, IfOk, IfErr, Ok};
 ghost use Rattle.star_label.specs.Files.{File};

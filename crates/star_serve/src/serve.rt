@@ -1,4 +1,4 @@
-//! From the bundle's bytes to the report's bytes.
+//! `serve`: from the bundle's bytes to the report's bytes. `Options` has what the command line asks for.
 
 ghost use Rattle.std.specs.Prelude.{true, false, ◌≡◌, ◌+◌, ◌<◌, ◌≤◌, ◌⊎◌, ℕ, List, All, None, map, length, option_map, string_bytes, IfOk, IfErr, IfSome, Ok};
 ghost use Rattle.star_bundle.specs.Bundle as bundle;
@@ -7,6 +7,7 @@ ghost use Rattle.star_bundle.specs.Refusal.{reads_failed, writes_failed};
 ghost use Rattle.star_outcome.specs.Refusals.{AreRefusalsOf};
 ghost use Rattle.star_reading.specs.Parsed.{AreParsesOf};
 ghost use Rattle.star_report.specs.Output.{InPlanOf, IsOutput, IsSaid};
+ghost use Rattle.star_report.specs.declared.wanted.Output.TheVariants as output;
 ghost use Rattle.star_serve.specs.Serve.{IsRefused, IsRefusedRun, ReadsAll, Reports, input_limit};
 ghost use Rattle.star_serve.specs.Stream.{GaveFirst, Gives};
 ghost use Rattle.star_serve.specs.Trace.{Traces, is_said};
@@ -14,15 +15,18 @@ ghost use Rattle.star_serve.specs.Trace.{Traces, is_said};
 use crate::read::read_all;
 use crate::stream::{Sink, Source};
 use crate::trace::{say, write_some};
-use crate::written::{Written, written_of};
+pub use crate::written::Written;
+use crate::written::written_of;
 use star_bundle::bundle::{AskedFor, asked_for};
 use star_bundle::error::ServeError;
+use star_check::check::{Checked, check};
+use star_check::verdict::Judged;
 pub use star_explain::explain::Form;
-use star_explain::explain::explain;
+use star_explain::explain::{explain, explain_check};
 use star_host::gate::Open;
-use star_host::{Parsed, Reads, Run, RunError, Trees, run_in};
+use star_host::{Parsed, Reads, Run, RunError, Trees, read_parsed, run_in};
 pub use star_report::wanted::{Output, Wanted};
-use std::alloc::Global;
+use std::alloc::{AllocError, Global};
 use std::mem;
 use std::sync::Wait;
 use std::thread::Threads;
@@ -38,7 +42,7 @@ pub struct Options {
     pub roots: Vec<String>,
     /// The label of the prelude: the file whose names every other file sees.
     pub prelude: Option<String>,
-    /// What is written: the report, the globals of the roots, or the graph of loads.
+    /// What is written: the report, the globals of the roots, the graph of loads, or the check, for which nothing runs.
     pub output: Output,
     /// Whether the refused loads are written after the report.
     pub trace: bool,
@@ -54,6 +58,41 @@ pub struct Options {
 struct Answer {
     run: Run,
     written: Written,
+}
+
+/// Reads the files that what is asked for reaches, runs none, and says what is told of them. The texts of the first files
+/// were parsed before.
+fn checked<'t, H: Threads + Wait + Sync>(
+    rt: &H,
+    alloc: Global,
+    asked: &AskedFor,
+    trees: &'t Trees,
+    parses: &[Parsed<'t>],
+    reads: &mut Reads<'t>,
+    only_roots: bool,
+    threads: usize,
+) -> Result<Checked, AllocError>
+    requires parses { AreParsesOf asked.now.files parses.now }
+    requires roots { All (λ n. n < length asked.now.files) asked.now.roots.items }
+    requires prelude { IfSome asked.now.prelude (λ n. n < length asked.now.files) }
+    ensures { IfOk result (λ c. (steps : ℕ) → InPlanOf asked.now.files asked.now.roots.items asked.now.prelude steps
+        (λ plan. IsOutput (output.Check only_roots) asked.now.files plan c.text.items c.all_ok)) }
+{
+    let files = &asked.files;
+    let roots = asked.roots.as_slice();
+    let read = read_parsed(
+        rt,
+        alloc,
+        files,
+        trees,
+        parses,
+        roots,
+        asked.prelude,
+        threads,
+    )?;
+    let it = check(alloc, files, &read, roots, only_roots)?;
+    *reads = read;
+    Ok(it)
 }
 
 /// Runs what is asked for. `Memory`, or `Unpublished` where a module was not published.
@@ -112,6 +151,71 @@ fn answered<'t, H: Threads + Wait + Sync>(
     Ok(Answer { run, written })
 }
 
+/// What there is to write of a check. `Memory` if an allocation failed.
+fn check_over<'t, H: Threads + Wait + Sync>(
+    rt: &H,
+    alloc: Global,
+    asked: &AskedFor,
+    trees: &'t Trees,
+    parses: &[Parsed<'t>],
+    options: &Options,
+    only_roots: bool,
+) -> Result<Written, ServeError>
+    requires parses { AreParsesOf asked.now.files parses.now }
+    requires roots { All (λ n. n < length asked.now.files) asked.now.roots.items }
+    requires prelude { IfSome asked.now.prelude (λ n. n < length asked.now.files) }
+    ensures kinds { IfErr result (λ e. (e ≡ ServeError.Memory) ⊎ (e ≡ ServeError.Unpublished)) }
+    ensures text { IfOk result (λ w. InPlanOf asked.now.files asked.now.roots.items asked.now.prelude options.now.steps
+        (λ plan. IsOutput (output.Check only_roots) asked.now.files plan w.text.items w.all_ok)) }
+{
+    let mut reads = Reads::new(alloc);
+    let loaders = options.loaders;
+    match checked(
+        rt, alloc, asked, trees, parses, &mut reads, only_roots, loaders,
+    ) {
+        Ok(it) => {
+            let Checked { text, all_ok, .. } = it;
+            let said = String::new(alloc);
+            Ok(Written { text, said, all_ok })
+        }
+        Err(_) => Err(ServeError::Memory),
+    }
+}
+
+/// Runs what is asked for, frees the run, and answers what there is to write of it; for a check nothing is run. The texts
+/// of the first files were parsed before. `Memory`, or `Unpublished` where a module was not published.
+pub fn written_over<'t, H: Threads + Wait + Sync>(
+    rt: &H,
+    alloc: Global,
+    asked: &AskedFor,
+    trees: &'t Trees,
+    parses: &[Parsed<'t>],
+    options: &Options,
+) -> Result<Written, ServeError>
+    requires parses { AreParsesOf asked.now.files parses.now }
+    requires roots { All (λ n. n < length asked.now.files) asked.now.roots.items }
+    requires prelude { IfSome asked.now.prelude (λ n. n < length asked.now.files) }
+    requires loaders { (1 ≤ options.now.loaders) × (options.now.loaders ≤ 64) }
+    requires steps { (1 ≤ options.now.steps) × (options.now.steps ≤ 100000000) }
+    ensures kinds { IfErr result (λ e. (e ≡ ServeError.Memory) ⊎ (e ≡ ServeError.Unpublished)) }
+    ensures text { IfOk result (λ w. InPlanOf asked.now.files asked.now.roots.items asked.now.prelude options.now.steps
+        (λ plan. IsOutput options.now.output asked.now.files plan w.text.items w.all_ok)) }
+{
+    if let Output::Check { only_roots } = options.output {
+        return check_over(rt, alloc, asked, trees, parses, options, only_roots);
+    }
+    let mut reads = Reads::new(alloc);
+    match answered(rt, alloc, asked, trees, parses, &mut reads, options) {
+        Ok(answer) => Ok(answer.written),
+        Err(error) => Err(error),
+    }
+}
+
+/// Frees trees, of which nothing is used any more.
+pub fn free_trees(trees: Trees) {
+    drop(trees);
+}
+
 /// Writes what a person is told of a run by one write, where that is wanted. Where it gets no memory, nothing is written.
 fn write_explained<E: Sink>(
     alloc: Global,
@@ -131,8 +235,84 @@ fn write_explained<E: Sink>(
     }
 }
 
+/// Writes what a person is told of files none of which was run, by one write, where that is wanted. Where it gets no
+/// memory, nothing is written.
+fn write_judged<E: Sink>(
+    alloc: Global,
+    errors: &mut E,
+    asked: &AskedFor,
+    reads: &Reads,
+    judged: &[Judged],
+    form: Option<Form>,
+)
+    ensures { form ≡ None → errors.new ≡ errors.old }
+{
+    let Some(form) = form else {
+        return;
+    };
+    let (files, roots) = (&asked.files, asked.roots.as_slice());
+    if let Ok(text) = explain_check(alloc, files, reads, judged, roots, asked.prelude, form) {
+        let _ = errors.write(text.as_bytes());
+    }
+}
+
+/// Writes what is told of the files that are reached, and to `errors` what a person is told, where that is wanted. None is
+/// run. It answers whether there is nothing against any. The texts of the first files were parsed before.
+fn checked_over<'t, H: Threads + Wait + Sync, W: Sink, E: Sink>(
+    rt: &H,
+    alloc: Global,
+    asked: &AskedFor,
+    trees: &'t Trees,
+    parses: &[Parsed<'t>],
+    writer: &mut W,
+    errors: &mut E,
+    options: &Options,
+    only_roots: bool,
+) -> Result<bool, ServeError>
+    requires parses { AreParsesOf asked.now.files parses.now }
+    requires roots { All (λ n. n < length asked.now.files) asked.now.roots.items }
+    requires prelude { IfSome asked.now.prelude (λ n. n < length asked.now.files) }
+    ensures ok { IfOk result (Reports (output.Check only_roots) (asked_view asked.now) options.now.steps
+        (W.taken writer.old) (W.taken writer.new)) }
+    ensures traced { IfOk result (λ all_ok. options.now.explain ≡ None
+        → Traces (output.Check only_roots) (asked_view asked.now) options.now.steps all_ok options.now.trace
+        (E.taken errors.old) (E.taken errors.new)) }
+    ensures untold { IfOk result (λ _. options.now.explain ≡ None → errors.new ≡ errors.old) }
+    ensures refused { IfErr result (IsRefusedRun (writer.new ≡ writer.old)) }
+    ensures unsaid { IfErr result (λ _. errors.new ≡ errors.old) }
+    ensures writes { W.failed writer.new ≡ W.failed writer.old + writes_failed result }
+{
+    let mut reads = Reads::new(alloc);
+    let loaders = options.loaders;
+    let Checked {
+        judged,
+        text,
+        all_ok,
+    } = match checked(
+        rt, alloc, asked, trees, parses, &mut reads, only_roots, loaders,
+    ) {
+        Ok(it) => it,
+        Err(_) => return Err(ServeError::Memory),
+    };
+    if write_some(writer, text.as_slice()).is_err() {
+        return Err(ServeError::Write);
+    }
+    write_judged(
+        alloc,
+        errors,
+        asked,
+        &reads,
+        judged.as_slice(),
+        options.explain,
+    );
+    // The process ends next, and the system takes back all of its memory at once.
+    mem::forget(reads);
+    Ok(all_ok)
+}
+
 /// Runs what is asked for and writes the report, and to `errors` the trace and what a person is told, where these are
-/// wanted. It answers whether every module of the report is ok. The texts of the first files were parsed before.
+/// wanted. It answers whether every module of the report is ok. The texts of the first files were parsed before. For a
+/// check nothing is run.
 pub(crate) fn reported_over<'t, H: Threads + Wait + Sync, W: Sink, E: Sink>(
     rt: &H,
     alloc: Global,
@@ -159,6 +339,11 @@ pub(crate) fn reported_over<'t, H: Threads + Wait + Sync, W: Sink, E: Sink>(
     ensures unsaid { IfErr result (λ _. errors.new ≡ errors.old) }
     ensures writes { W.failed writer.new ≡ W.failed writer.old + writes_failed result }
 {
+    if let Output::Check { only_roots } = options.output {
+        return checked_over(
+            rt, alloc, asked, trees, parses, writer, errors, options, only_roots,
+        );
+    }
     let mut reads = Reads::new(alloc);
     let Answer { run, written } = match answered(
         rt, alloc, asked, trees, parses, &mut reads, options,
@@ -290,5 +475,7 @@ pub fn serve<H: Threads + Wait + Sync, R: Source, W: Sink, E: Sink>(
         Ok(asked) => asked,
         Err(error) => return Err(error),
     };
+    // The texts have rows of their own: the bundle's bytes make room for the run.
+    drop(bytes);
     reported(rt, alloc, &asked, writer, errors, options)
 }

@@ -1,4 +1,4 @@
-//! Where the bundle comes from and the report goes.
+//! The traits `Source` and `Sink`, which say by ghost members which bytes they gave and took.
 
 ghost use Rattle.std.specs.Prelude.{◌≡◌, ℕ, ◌+◌, ◌<◌, ◌≤◌, ◌==◌, List, [], length, take, Option, IfOk, OnErr, OnOk, is_err, if◌then◌else◌};
 ghost use Rattle.std.specs.Io.KnownBytes.{IsAtEnd};

@@ -1,7 +1,8 @@
-//! What is written of a run: the report, the globals of the roots, or the graph of loads.
+//! Chooses and makes the text that is written of a run: the report, the globals of the roots, the graph of loads, or what
+//! could be told before it (`serve` asks for no run for that).
 
 ghost use Rattle.std.specs.Prelude.{◌≡◌, ◌<◌, [], ℕ, All, IfOk, List, false, length, string_bytes, true};
-ghost use Rattle.star_outcome.specs.Kept.{AllGood};
+ghost use Rattle.star_outcome.specs.Kept.{AllGood, RunView};
 ghost use Rattle.star_plan.specs.Plan.{Plan};
 ghost use Rattle.star_reading.specs.Readings.{Row};
 ghost use Rattle.star_report.specs.Drawn.{LeadWithin};
@@ -10,6 +11,7 @@ ghost use Rattle.star_report.specs.Output.{IsOutput, IsSaid};
 ghost use Rattle.star_report.specs.declared.wanted.Output.TheVariants as output;
 ghost use Rattle.star_serve.specs.Written.{IsRunOf};
 
+use star_check::check::{Checked, check};
 use star_host::{Reads, Run};
 use star_label::files::Files;
 use star_report::got::{Got, Lack, globals_of};
@@ -21,9 +23,12 @@ use std::thread::Threads;
 
 /// What there is to write of a run, a line to say beside it, and the answer.
 #[derive(Drop)]
-pub(crate) struct Written {
+pub struct Written {
+    /// What is written.
     pub text: Vec<u8>,
+    /// What is said beside it.
     pub said: String,
+    /// The answer: whether all modules are ok, or each root has the global that is wanted.
     pub all_ok: bool,
 }
 
@@ -125,6 +130,30 @@ fn globals_written(
     }
 }
 
+/// What could be told of the files before they ran; the answer is whether there is nothing against any.
+fn check_written(
+    alloc: Global,
+    files: &Files,
+    reads: &Reads,
+    roots: &[usize],
+    only_roots: bool,
+) -> Result<Written, AllocError>
+    requires reads { length reads.now.all.items ≡ length files.now }
+    requires loads { LeadWithin reads.now.all.items }
+    ensures text { IfOk result (λ w. (run : RunView) (plan : Plan)
+        → IsRunOf files.now roots.now reads.now.all.items run plan
+        → IsOutput (output.Check only_roots) files.now plan w.text.items w.all_ok) }
+    ensures said { IfOk result (λ w. (plan : Plan)
+        → IsSaid (output.Check only_roots) files.now plan w.all_ok (string_bytes w.said)) }
+{
+    // A call of the files lets the checker use that they are in order.
+    let _count = files.len();
+    let it = check(alloc, files, reads, roots, only_roots)?;
+    let Checked { text, all_ok, .. } = it;
+    let said = String::new(alloc);
+    Ok(Written { text, said, all_ok })
+}
+
 /// What is wanted of a run.
 pub(crate) fn written_of<R: Threads + Sync>(
     rt: &R,
@@ -152,5 +181,6 @@ pub(crate) fn written_of<R: Threads + Sync>(
         }
         Output::Global(name) => globals_written(alloc, files, run, roots, name),
         Output::Graph => graph_written(alloc, files, reads, run),
+        Output::Check { only_roots } => check_written(alloc, files, reads, roots, *only_roots),
     }
 }

@@ -1,4 +1,4 @@
--- Contents of keys: their levels, what is added to a list, and when two are the same.
+-- Contents of keys: their levels, additions to a list, and when two are the same.
 use Rattle.std.proofs.Common.{◌≡◌, ℕ, zero, suc, ◌+◌, ◌-◌, ◌<◌, Bool, true, false, ◌&&◌, nat_eq, List, [], ◌∷◌, ◌++◌, length, if◌then◌else◌, Option, Some, None, is_some, refl, ap, sym, ◌∙◌, arith}
 use Rattle.std.specs.List.{list_all}
 use Rattle.std.specs.Option.{option_map}
@@ -126,7 +126,7 @@ row_left a n e o p = ap (λ q. same_content q (join (Some (a ∷ [])) o)) (join_
 pub false_and : (b c : Bool) → b ≡ false → (b && c) ≡ false
 false_and b c h = ap (λ d. d && c) h
 
--- an atom that is no string and no row is not the content of a cell
+-- an atom that is neither a string nor a row is not the content of a cell
 apart_right : (a : Atom) → ((t : List ℕ) → same_atom a (atom.Text t) ≡ false) → ((n : ℕ) → same_atom a (atom.Row n) ≡ false) → (f : Value → Option (List Atom)) (c : Option Cell) (o p : Option (List Atom)) → same_content (join (Some (a ∷ [])) o) (join (content_cell f c) p) ≡ false
 apart_right a ht hr f c o p =
     shape (λ q. same_content (join (Some (a ∷ [])) o) (join q p) ≡ false)

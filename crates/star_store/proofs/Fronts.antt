@@ -100,7 +100,7 @@ module _ {X : Type 0} (eq : X → X → Bool) (p : X → Bool) (alike : (x y : X
       by true k rest = absurd (omega arith)
       by false k rest = let e : walked xs ≡ n + walked (drop n xs) = rest (omega arith) in omega arith
 
-  -- the place of what stands nowhere, of what has gone and of what stands later
+  -- the place of an absent content, of one that has gone and of a later one
   pub place_none : (n : ℕ) (xs : List X) → n ≤ length xs → position p xs ≡ None → position p (drop n xs) ≡ None
   unfolding walked
   place_none n xs h e = grind (arith, found_later n xs, length-drop n xs)

@@ -1,4 +1,4 @@
--- Names that ascend, and what a search finds among them.
+-- Names that ascend, and the result of a search among them.
 use Rattle.std.proofs.Common.{◌≡◌, ℕ, ◌<◌, ◌≤◌, zero, suc, Bool, true, false, List, [], ◌∷◌, length, get_or, map, inl, inr, Option, Some, None, Ok, Err, String, string_bytes, refl, ap, sym, ◌∙◌, arith, if◌then◌else◌}
 use Rattle.std.specs.List.{AllByRecursion}
 use Rattle.std.specs.declared.alloc.Global.{Global}
@@ -28,7 +28,7 @@ names gs = map (λ g. string_bytes g.0) gs
 abbrev pairs : List Global_ → List (List ℕ × Value)
 pairs gs = map (λ g. (string_bytes g.0, g.1)) gs
 
--- what the search asks of each global
+-- the question of the search to each global
 abbrev pub asked : List ℕ → Global_ → Ordering
 asked name g = order (string_bytes g.0) name
 

@@ -1,4 +1,4 @@
--- Indexes: the places that they tell, and how they follow what is written.
+-- Indexes: the places that they tell, and how they follow each write.
 use Rattle.std.proofs.Common.{◌≡◌, Bor, ℕ, zero, suc, ◌+◌, ◌<◌, ◌≤◌, Bool, true, false, not, cond, nat_eq, nat_lt, List, [], ◌∷◌, ◌++◌, length, map, get_or, take, drop, set, if◌then◌else◌, Option, Some, None, slice_get, slice_set, position, option_and_then, IfSome, Result, Ok, Err, refl, ap, sym, subst, ◌∙◌, ◌⊎◌, ⊎_elim, inl, inr, max, length-append, ◌-◌, arith}
 use Rattle.std.specs.List.{remove, prefix_len}
 use Rattle.std.specs.Option.{option_copied, option_flatten, option_map}
@@ -68,7 +68,7 @@ tests_at look n key atoms es index h k =
 found_at : (look : Value → Option Cell) (n : ℕ) (key : Value) (atoms : List Atom) (es : List (Value × Value)) (index : List (List Atom)) → content look n key ≡ Some atoms → map (λ e. content look n e.0) es ≡ map Some index → position (pointwise same_atom atoms) index ≡ position (λ e. same_key look n key e.0) es
 found_at look n key atoms es index h k = alike (pointwise same_atom atoms) (λ e. same_key look n key e.0) index es (tests_at look n key atoms es index h k)
 
--- a content stands in an index where its key stands among the entries
+-- a content is at the place in an index that its key has among the entries
 pub place_found : (look : Value → Option Cell) (key : Value) (atoms : List Atom) (c : Option Cell) (index : List (List Atom)) → content look key_levels key ≡ Some atoms → IsIndexed look c index → Places look key c (place_by atoms index)
 place_found look key atoms c index h k es e = found_at look key_levels key atoms es index h (subst (λ (d : Option Cell). IsIndexed look d index) e k)
 
@@ -82,7 +82,7 @@ none_tests look n key (e ∷ es) h =
     ap (λ (b : Bool). b ∷ map (λ d. same_key look n key d.0) es) (same_keys look n key e.0 ∙ ap (λ (o : Option (List Atom)). same_content o (content look n e.0)) h)
     ∙ ap (λ (bs : List Bool). false ∷ bs) (none_tests look n key es h)
 
--- what is no key stands nowhere
+-- a value that is not a key is nowhere
 pub none_found : (look : Value → Option Cell) (key : Value) (c : Option Cell) → content look key_levels key ≡ None → Places look key c None
 unfolding first_of
 none_found look key c h es k = sym (none_at key_levels h)
@@ -96,7 +96,7 @@ none_found look key c h es k = sym (none_at key_levels h)
         ∙ past (prefix_len not (map (λ d. same_key look n key d.0) es)) (length (map (λ d. same_key look n key d.0) es))
         (subst (λ (bs : List Bool). prefix_len not bs ≡ length bs) (sym (none_tests look n key es e)) (none_passes (map (λ d. same_key look n key d.0) es)))
 
--- the content of a key, if it has one, stands in an index where its key stands among the entries
+-- the content of a key, if it has one, is at the place in an index that its key has among the entries
 pub content_found : (look : Value → Option Cell) (key : Value) (c : Option Cell) (index : List (List Atom)) (o : Option (List Atom)) → content look key_levels key ≡ o → IsIndexed look c index → Places look key c (option_and_then (λ atoms. place_by atoms index) o)
 content_found look key c index (Some atoms) h k = place_found look key atoms c index h k
 content_found look key c index None h k = none_found look key c h
@@ -181,7 +181,7 @@ far_indexed s shelf v home at p index e far h k =
     (subst (λ (c : Option Cell). IsIndexed (look s shelf) c index) (sym (look_far s shelf home at p far h))
     (stays_indexed (alone (published home p)) (look s shelf) (cell_at p.cells at) index (record { texts = λ u t q. in_far s shelf home p far h u (cell.Text t) q; tuples = λ u xs q. in_far s shelf home p far h u (cell.Tuple xs) q }) k))
 
--- what is told of an index of a dictionary of the store's own
+-- facts of an index of a dictionary of the store's own
 pub told_own : (own : ℕ) (cells : List Counted) (s : Store) (shelf : Shelf) (rows : Indexes) (v : Value) (home at : ℕ) (r : Option (Bor (List (List Atom)))) → record { home = own; cells = cells } ≡ s → AreIndexed (record { home = own; cells = cells }) rows → v ≡ value.Ref home at → home ≡ own → option_copied r ≡ index_at rows at → IfSome r (λ b. IsIndexed (look s shelf) (look s shelf v) b.now)
 told_own own cells s shelf rows v home at None es h e q k = tt
 told_own own cells s shelf rows v home at (Some b) es h e q k =
@@ -235,7 +235,7 @@ within_rows [] at index h = cc
 within_rows (r ∷ rows) zero index h = omega arith
 within_rows (r ∷ rows) (suc at) index h = let k : at < length rows = within_rows rows at index h in omega arith
 
--- where strings and tuples stay, and the dictionaries that may have an index are as they were, indexes stay right
+-- if strings and tuples stay, and so do the dictionaries that may have an index, indexes stay right
 pub still_indexed : (s t : Store) (rows : Indexes) → AreIndexed s rows → Stays s t → ((at : ℕ) (es : List (Value × Value)) → at < length s.cells → cell_at t.cells at ≡ Some (cell.Dict es) → cell_at s.cells at ≡ Some (cell.Dict es)) → length s.cells ≤ length t.cells → AreIndexed t rows
 still_indexed s t rows h k d l = record { each = λ at index q. each at index q (cell_at t.cells at) refl; within = let w : length rows ≤ length s.cells = h.within in omega arith }
   where
@@ -267,7 +267,7 @@ cell_within (e ∷ cells) (suc at) c h = let k : at < length cells = cell_within
 store : ℕ → List Counted → Store
 store home cells = record { home = home; cells = cells }
 
--- a new cell stands at an address that has no index
+-- a new cell has an address without an index
 pub made_indexed : (home : ℕ) (cells : List Counted) (e : Counted) (rows : Indexes) → AreIndexed (record { home = home; cells = cells }) rows → AreIndexed (record { home = home; cells = cells ++ e ∷ [] }) rows
 unfolding store
 made_indexed home cells e rows h =
@@ -498,7 +498,7 @@ content_told : (s t : Store) (key : Option Value) (r : Option (List Atom)) → s
 content_told s t key None e h = tt
 content_told s t key (Some a) e h = ap (λ (u : Store). option_and_then (content (alone u) key_levels) key) e ∙ h
 
--- the same, where the store and its indexes are given by their parts
+-- the same, if the store and its indexes are given by their parts
 pub write_indexed : (own : ℕ) (cells mid later : List Counted) (rows middle new : Indexes) (s : Store) (at : ℕ) (c : Change) (place : Option ℕ) (r : Option (List Atom)) (x : Option Value) → record { home = own; cells = cells } ≡ s → AreIndexed (record { home = own; cells = cells }) rows → mid ≡ cells → middle ≡ rows → AreChanged at c place r middle new → IfSome r (λ a. option_and_then (content (alone s) key_levels) (key_of c) ≡ Some a) → in_cells mid at (change_cell c place (cell_at mid at)) ≡ Ok (x, later) → AreIndexed (record { home = own; cells = later }) new
 unfolding store
 write_indexed own cells mid later rows middle new s at c place r x es h em er k t w =
@@ -584,7 +584,7 @@ row_changed rows at c place atoms e r l h = record {
     by (Some b) None h index q o = cc
     by None e h index q o = cc
 
--- where there is no such row, nothing changes
+-- without such a row, nothing changes
 pub row_unchanged : (rows : Indexes) (at : ℕ) (c : Change) (place : Option ℕ) (atoms : Option (List Atom)) → length rows ≤ at → AreChanged at c place atoms rows rows
 row_unchanged rows at c place atoms l = record {
   others = λ i n. refl;
@@ -598,7 +598,7 @@ nothing : (seen : Value → Option Cell) (key : Value) (place : Option ℕ) → 
 nothing seen key (Some i) = refl
 nothing seen key None = refl
 
--- what equality makes of an entry's value and of what stands beside it
+-- equality of an entry's value and of the value beside it
 abbrev pub compared : (Value → Value → Spend Bool) → Option (Value × Option Value) → Spend Bool
 compared f (Some p) = same_found f p.0 p.1
 compared f None = answer true
@@ -620,7 +620,7 @@ content_at seen (Some (cell.Frame t)) index at e a h p q = cc
 content_at seen (Some (cell.Bound m v)) index at e a h p q = cc
 content_at seen None index at e a h p q = cc
 
--- a content of one dictionary's index stands in another's where its key stands among the entries
+-- a content of one dictionary's index is at the place in another's that its key has among the entries
 pub beside_found : (seen : Value → Option Cell) (c other : Option Cell) (left right : List (List Atom)) (at : ℕ) (a : List Atom) → IsIndexed seen c left → IsIndexed seen other right → slice_get left at ≡ Some a → PlacesAt seen c at other (place_by a right)
 beside_found seen c other left right at a h k q e p = place_found seen e.0 a other right (content_at seen c left at e a h p q) k
 
@@ -636,11 +636,11 @@ value_found seen key (Some (cell.Frame t)) place h = nothing seen key place
 value_found seen key (Some (cell.Bound m v)) place h = nothing seen key place
 value_found seen key None place h = nothing seen key place
 
--- a pair of a value and what another dictionary has for its key
+-- a pair of a value and the value that another dictionary has for its key
 pub beside_told : (seen : Value → Option Cell) (c other : Option Cell) (at : ℕ) (e : Value × Value) (place : Option ℕ) (v : Option Value) → Some e ≡ slice_get (entries_of c) at → PlacesAt seen c at other place → v ≡ value_at (entries_of other) place → Some (e.1, v) ≡ option_map (beside seen other) (slice_get (entries_of c) at)
 beside_told seen c other at e place v h k q = ap (λ (o : Option Value). Some (e.1, o)) (q ∙ value_found seen e.0 other place (k e (sym h))) ∙ ap (option_map (beside seen other)) h
 
--- what stands beside an entry is what equality compares
+-- equality compares the value beside an entry
 pub same_beside : (seen : Value → Option Cell) (f : Value → Value → Spend Bool) (xs : List (Value × Value)) (other : Option Cell) (i : ℕ) (r : Option (Value × Option Value)) → r ≡ option_map (beside seen other) (slice_get xs i) → same_entry seen f xs (entries_of other) i ≡ compared f r
 same_beside seen f xs other i r h = by (slice_get xs i) ∙ ap (compared f) (sym h)
   where

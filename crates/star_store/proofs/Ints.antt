@@ -47,13 +47,13 @@ below_out : (k : ℕ) → 2 ^ 63 < k → fits (neg_ℤ (pos k)) ≡ false
 below_out zero h = absurd (omega arith)
 below_out (suc k) h = le-ltb k (2 ^ 63) (omega arith)
 
--- what is not 0 is outside 64 bits when it is doubled 64 times
+-- a number other than 0 is outside 64 bits when it is doubled 64 times
 pub doubled_out : (x : ℤ) (n : ℕ) → x ≢ pos 0 → 63 < n → fits (x *ℤ pos (2 ^ n)) ≡ false
 doubled_out (pos zero) n k h = absurd (k refl)
 doubled_out (pos (suc a)) n k h = let p : 2 ^ 63 < 2 ^ n = pow-lt h in let q : 1 * 2 ^ n ≤ suc a * 2 ^ n = mul-le 1 (2 ^ n) (suc a) (2 ^ n) (omega arith) (omega arith) in above_out (suc a * 2 ^ n) (omega arith)
 doubled_out (negsuc a) n k h = let p : 2 ^ 63 < 2 ^ n = pow-lt h in let q : 1 * 2 ^ n ≤ suc a * 2 ^ n = mul-le 1 (2 ^ n) (suc a) (2 ^ n) (omega arith) (omega arith) in below_out (suc a * 2 ^ n) (omega arith)
 
--- what is neither 0 nor -1 is outside 64 bits when it is doubled 63 times
+-- a number other than 0 and -1 is outside 64 bits when it is doubled 63 times
 pub doubled_far : (x : ℤ) → x ≢ pos 0 → x ≢ negsuc 0 → fits (x *ℤ pos (2 ^ 63)) ≡ false
 doubled_far (pos zero) k j = absurd (k refl)
 doubled_far (pos (suc a)) k j = above_out (suc a * 2 ^ 63) (omega arith)

@@ -1,4 +1,4 @@
--- Rows of slots: what stands at a place of one, and what a row is after one place has changed.
+-- Rows of slots: the slot at a place, and the row after one place has changed.
 use Rattle.std.proofs.Common.{◌≡◌, ℕ, zero, suc, ◌+◌, ◌-◌, ◌<◌, ◌≤◌, ◌≢◌, List, [], ◌∷◌, ◌++◌, length, set, replicate, slice_get, Option, Some, None, refl, ap, sym, ◌∙◌, arith, nat_eq, if◌then◌else◌}
 use Rattle.std.specs.Option.{option_flatten, option_or}
 use Rattle.std.specs.BTreeMap.{BTreeMap}
@@ -54,7 +54,7 @@ row_near near far under n at v h e =
     ap option_flatten (row_at (slot_at near far under) n at h)
     ∙ ap (λ x. option_or x (option_or (far_at far at) (under_at under at))) e
 
--- ---- lists of which one place has changed
+-- ---- lists with one changed place
 
 set_at : {A : Type 0} (xs : List A) (at : ℕ) (x : A) → at < length xs → slice_get (set xs at x) at ≡ Some x
 set_at [] at x h = absurd (omega arith)
@@ -84,7 +84,7 @@ room (x ∷ xs) m (suc i) = room xs m i
 pub row_unbound : (m n : ℕ) → row (slot_at (replicate m None) None None) n ≡ replicate n None
 row_unbound m n = row_all _ None n (λ i. ap (λ o. option_or o None) (room_unbound m i))
 
--- where no slot was bound, and the slots stand on defaults
+-- if no slot was bound, and the slots are over defaults
 pub row_over : (near : List (Option Value)) (under : Box Under) (ranks : ArcSlice (Option ℕ) Global) (ds : List Value) (n : ℕ)
     → near ≡ [] → under.value ≡ record { ranks = ranks; defaults = ds } → row (slot_at near None (Some under)) n ≡ row (default_at (arc_slice_items ranks) ds) n
 row_over near under ranks ds n e h = row_same _ _ n (λ i. ap (λ xs. slot_at xs None (Some under) i) e ∙ ap (λ (u : Under). default_at (arc_slice_items u.ranks) u.defaults i) h)
@@ -95,7 +95,7 @@ unbound = None
 width : (near : List (Option Value)) (at : ℕ) → length near ≤ at → at < length (near ++ replicate (at + 1 - length near) None)
 width near at h = omega (arith, length-append near (replicate (at + 1 - length near) unbound), length-replicate (at + 1 - length near) unbound)
 
--- what a slot has that has no value in the row
+-- the value of a slot that has none in the row
 abbrev rest : Option (Box (BTreeMap ℕ Value)) → Option (Box Under) → ℕ → Option Value
 rest far under at = option_or (far_at far at) (under_at under at)
 

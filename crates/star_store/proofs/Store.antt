@@ -25,10 +25,10 @@ map_replicate : {A B : Type 0} (f : A → B) (n : ℕ) (x : A) → map f (replic
 map_replicate f zero x = refl
 map_replicate f (suc n) x = ap (λ ys. f x ∷ ys) (map_replicate f n x)
 
--- a reference at a place, and what is after it
+-- a reference at a place, and those after it
 pub copied_at : (stores : List (Option (Bor Frozen))) (at : ℕ) → slice_get (map option_copied stores) at ≡ option_map option_copied (slice_get stores at)
 copied_at stores at = slice_get-map option_copied stores at
 
--- a store that is added among references is added among what is after them
+-- a store that is added among references is added among those after them
 pub shelved : (stores : List (Option (Bor Frozen))) (n at : ℕ) (store : Bor Frozen) → map option_copied (slice_set (stores ++ replicate (n - length stores) None) at (Some store)) ≡ slice_set (map option_copied stores ++ replicate (n - length (map option_copied stores)) None) at (Some store.now)
 shelved stores n at store = simp (map-set, map-append, map_replicate, length-map)

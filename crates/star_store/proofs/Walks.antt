@@ -1,4 +1,4 @@
--- A walk for a key that is no tuple finds what the walk by keys finds.
+-- A walk for a key that is not a tuple has the result of the walk by keys.
 use Rattle.std.proofs.Common.{◌≡◌, ℕ, ◌-◌, ◌<◌, Bool, false, List, [], ◌∷◌, length, map, Option, Some, None, position, refl, ap, sym, ◌∙◌, arith}
 use Rattle.std.specs.Cmp.Lexicographic.{pointwise}
 use Rattle.star_store.specs.declared.values.Value.{Value}
@@ -15,7 +15,7 @@ use Rattle.star_store.specs.Scalars.{is_only, scalar_atom}
 use Rattle.star_store.proofs.Contents.{and_true, content_at, false_and, only_atom_is, same_keys}
 use Rattle.star_store.proofs.Indexes.{alike}
 
--- a scalar is no row
+-- a scalar is not a row
 no_row : (x : Scalar) (n : ℕ) → same_atom (scalar_atom x) (atom.Row n) ≡ false
 no_row scalar.Nothing n = refl
 no_row (scalar.Bool b) n = refl
@@ -58,6 +58,6 @@ tests look n x key (e ∷ es) p h =
     ap (λ (b : Bool). b ∷ map (λ d. is_only x (only_atom look d.0)) es) (sym (scalar_same look n x key e.0 p h))
     ∙ ap (λ (bs : List Bool). same_key look n key e.0 ∷ bs) (tests look n x key es p h)
 
--- a scalar stands where its key does
+-- a scalar has the place of its key
 pub scalar_found : (look : Value → Option Cell) (x : Scalar) (key : Value) (es : List (Value × Value)) → only_atom look key ≡ Some (scalar_atom x) → position (λ e. is_only x (only_atom look e.0)) es ≡ place_of look key es
 scalar_found look x key es h = alike (λ e. is_only x (only_atom look e.0)) (λ e. same_key look key_levels key e.0) es es (tests look key_levels x key es (omega arith) h)

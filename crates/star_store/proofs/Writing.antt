@@ -56,7 +56,7 @@ changed_within c place r cells at e e' m k h w =
     subst (λ (o : Option Cell). Writes (in_cells cells at (change_cell c place o)) r cells (set cells at e')) (sym (cell_at_in cells at e m k))
     (cells_written (change_cell c place (Some e.cell)) r cells at e e' m k h' w')
 
--- where there is no such cell, a change is refused
+-- without such a cell, a change is refused
 pub changed_without : (c : Change) (place : Option ℕ) (cells : List Counted) (at : ℕ) → length cells ≤ at → in_cells cells at (change_cell c place (cell_at cells at)) ≡ Err BadType
 changed_without c place cells at h = ap (λ (o : Option Counted). in_cells cells at (change_cell c place (option_map (λ e. e.cell) o))) (slice_get_past cells at h)
 
@@ -112,7 +112,7 @@ pub write_done : (s : Store) (shelf : Shelf) (v : Value) (c : Change) (home at :
 write_done s shelf v c home at r place cells e ha hp w =
     subst (λ (u : Value). allowed s shelf u c ≡ Ok tt → place ≡ place_in (look s shelf) (key_of c) (look s shelf u) → Writes (write s shelf u c) r s (record s { cells = cells })) (sym e) (λ ha' hp'. written_ref s shelf c home at r place cells ha' hp' w) ha hp
 
--- the same, where the store is given by its parts
+-- the same, if the store is given by its parts
 pub write_within : (s : Store) (shelf : Shelf) (v : Value) (c : Change) (home at own : ℕ) (r : Result (Option Value) StoreFault) (place : Option ℕ) (old mid cells : List Counted) → record { home = own; cells = old } ≡ s → v ≡ value.Ref home at → allowed s shelf v c ≡ Ok tt → place ≡ place_in (look s shelf) (key_of c) (look s shelf v) → mid ≡ old → Writes (in_cells mid at (change_cell c place (cell_at mid at))) r mid cells → Writes (write s shelf v c) r s (record { home = own; cells = cells })
 write_within s shelf v c home at own r place old mid cells es ev ha hp em w =
     let w' : Writes (in_cells old at (change_cell c place (cell_at old at))) r old cells = subst (λ (m : List Counted). Writes (in_cells m at (change_cell c place (cell_at m at))) r m cells) em w in

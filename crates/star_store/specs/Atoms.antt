@@ -1,4 +1,4 @@
--- The atoms of a content, in whichever form they stand.
+-- The atoms of a content, in either form that the code has.
 use Rattle.std.specs.Prelude.{List, [], ◌∷◌}
 use Rattle.star_store.specs.declared.content.Atom.{Atom}
 use Rattle.star_store.specs.declared.content.Atoms.{Atoms}

@@ -1,4 +1,4 @@
--- What a key holds, in which no cell is left: so it may be hashed.
+-- The content of a key, without any cell, so that it may be hashed.
 use Rattle.std.specs.Prelude.{◌≡◌, ℕ, zero, suc, Bool, false, List, [], ◌∷◌, ◌++◌, length, Option, Some, None, is_some}
 use Rattle.std.specs.Option.{option_map}
 use Rattle.std.specs.Cmp.Lexicographic.{pointwise}
@@ -11,7 +11,7 @@ use Rattle.star_store.specs.declared.content.Atom.TheVariants as atom
 use Rattle.star_store.specs.contracts.content.AtomPartialEq.TheImpl as atom_eq
 use Rattle.star_store.specs.Key.{is_key, same_key}
 
--- one content and then another, where both are there
+-- one content and then another, if both are there
 abbrev pub join : Option (List Atom) → Option (List Atom) → Option (List Atom)
 join (Some xs) (Some ys) = Some (xs ++ ys)
 join _ _ = None
@@ -44,7 +44,7 @@ abbrev pub atom_in : Option Cell → Option Atom
 atom_in (Some (cell.Text t)) = Some (atom.Text t)
 atom_in _ = None
 
--- the one atom of a key that is no tuple; a tuple has none, nor has what is no key
+-- the one atom of a key that is not a tuple; a tuple has none, and neither has a value that is not a key
 abbrev pub only_atom : (Value → Option Cell) → Value → Option Atom
 only_atom look value.NoneValue = Some atom.Nothing
 only_atom look (value.Bool b) = Some (atom.Bool b)
@@ -52,12 +52,12 @@ only_atom look (value.Int n) = Some (atom.Int n)
 only_atom look (value.Ref h a) = atom_in (look (value.Ref h a))
 only_atom look _ = None
 
--- the content of a key, of so many levels at most; what is no key has none
+-- the content of a key, of at most this many levels; a value that is not a key has none
 unfoldable pub content : (Value → Option Cell) → ℕ → Value → Option (List Atom)
 content look zero v = None
 content look (suc n) v = content_value look (content look n) v
 
--- what stands in a list once a content is added to it
+-- atoms, and after them those of a content, if it has any
 abbrev pub after : List Atom → Option (List Atom) → Option (List Atom)
 after xs o = option_map (λ ks. xs ++ ks) o
 
@@ -70,12 +70,12 @@ abbrev pub same_content : Option (List Atom) → Option (List Atom) → Bool
 same_content (Some xs) (Some ys) = pointwise same_atom xs ys
 same_content _ _ = false
 
--- The law: two values are the same key just where both have a content and it is the same one.
+-- The law: two values are the same key exactly if both have a content and it is the same one.
 abbrev pub SameKeysHaveOneContent : Type 0
 SameKeysHaveOneContent = (look : Value → Option Cell) (levels : ℕ) (x y : Value)
     → same_key look levels x y ≡ same_content (content look levels x) (content look levels y)
 
--- The law: a value is a key just where it has a content.
+-- The law: a value is a key exactly if it has a content.
 abbrev pub KeysHaveContents : Type 0
 KeysHaveContents =
     (look : Value → Option Cell) (levels : ℕ) (v : Value) → is_key look levels v ≡ is_some (content look levels v)
@@ -85,7 +85,7 @@ pub record KeepsKeys (look later : Value → Option Cell) : Type 0 where
   pub texts : (v : Value) (t : List ℕ) → look v ≡ Some (cell.Text t) → later v ≡ Some (cell.Text t)
   pub tuples : (v : Value) (xs : List Value) → look v ≡ Some (cell.Tuple xs) → later v ≡ Some (cell.Tuple xs)
 
--- The law: where strings and tuples stay, contents stay.
+-- The law: if strings and tuples stay, contents stay.
 abbrev pub ContentsStay : Type 0
 ContentsStay = (look later : Value → Option Cell) (levels : ℕ) (v : Value) (atoms : List Atom)
     → KeepsKeys look later → content look levels v ≡ Some atoms → content later levels v ≡ Some atoms

@@ -13,7 +13,7 @@ use Rattle.star_store.specs.Spend.{Spend, Lacks, answer, visited, all_places}
 use Rattle.star_store.specs.Key.{value_of}
 use Rattle.star_store.specs.Range.{same_range}
 
--- a pair of values, where both are there
+-- a pair of values, if both are there
 abbrev pub same_pair : (Value → Value → Spend Bool) → Option Value → Option Value → Spend Bool
 same_pair f (Some x) (Some y) = f x y
 same_pair f _ _ = answer true
@@ -49,7 +49,7 @@ abbrev pub same_entries : (Value → Option Cell) → (Value → Value → Spend
 same_entries look f xs ys =
     if nat_eq (length xs) (length ys) then all_places (same_entry look f xs ys) (length xs) 0 else answer false
 
--- two cells, which may be one; functions and bound methods are equal where they are one cell
+-- two cells, which may be one; functions and bound methods are equal if they are one cell
 abbrev pub same_cells : (Value → Option Cell) → (Value → Value → Spend Bool) → Bool → Option Cell → Option Cell
     → Spend Bool
 same_cells look f one (Some (cell.Text t)) (Some (cell.Text u)) = answer (pointwise nat_eq t u)
@@ -71,7 +71,7 @@ same_values look f (value.Ref h a) (value.Ref k b) =
     same_cells look f (nat_eq h k && nat_eq a b) (look (value.Ref h a)) (look (value.Ref k b))
 same_values look f _ _ = answer false
 
--- whether two values are equal, where so many levels may be opened: a pair opens one, and then pays its visit
+-- whether two values are equal, if this many levels may be opened: a pair opens one, and then pays its visit
 unfoldable pub same : (Value → Option Cell) → ℕ → Value → Value → Spend Bool
 same look zero x y = λ n. Lacks Deep n
 same look (suc levels) x y = visited (same_values look (same look levels) x y)

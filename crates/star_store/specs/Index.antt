@@ -1,4 +1,4 @@
--- Indexes of dictionaries: the contents of the keys, in order, by which the place of a key is found at once.
+-- Indexes of dictionaries: the contents of the keys, in order, which tell the place of a key at once.
 use Rattle.std.specs.Prelude.{◌≡◌, ℕ, ◌≤◌, List, [], ◌∷◌, ◌++◌, length, map, Option, Some, None, slice_get, position, option_and_then}
 use Rattle.std.specs.List.{remove}
 use Rattle.std.specs.Option.{option_map, option_flatten}
@@ -19,7 +19,7 @@ use Rattle.star_store.specs.Write.{cell_at}
 abbrev pub contents_of : (Value → Option Cell) → List (Value × Value) → List (Option (List Atom))
 contents_of look es = map (λ e. content look key_levels e.0) es
 
--- An index of a dictionary has the contents of its keys, in order. Of what is no dictionary nothing is asked.
+-- An index of a dictionary has the contents of its keys, in order. A cell that is not a dictionary needs none.
 abbrev pub IsIndexed : (Value → Option Cell) → Option Cell → List (List Atom) → Type 0
 IsIndexed look (Some (cell.Dict es)) index = contents_of look es ≡ map Some index
 IsIndexed look _ index = Unit {0}
@@ -40,7 +40,7 @@ Indexes = List (Option (Box (List (List Atom))))
 abbrev pub index_at : Indexes → ℕ → Option (List (List Atom))
 index_at rows at = option_map (λ b. b.value) (option_flatten (slice_get rows at))
 
--- what a value leads to in a store, where no published one is reached
+-- the cell that a value leads to in a store, if no published one is reached
 abbrev pub alone : Store → Value → Option Cell
 alone s = look s []
 
@@ -55,14 +55,14 @@ abbrev pub entries_of : Option Cell → List (Value × Value)
 entries_of (Some (cell.Dict es)) = es
 entries_of _ = []
 
--- what a change of a dictionary makes of its index, where it leaves one: a new key's content comes after all others
+-- the index of a dictionary after a change, if there is one: a new key's content comes after all others
 abbrev pub index_after : Change → Option ℕ → Option (List Atom) → List (List Atom) → Option (List (List Atom))
 index_after (change.Put k v) None (Some atoms) index = Some (index ++ atoms ∷ [])
 index_after (change.Put k v) (Some i) atoms index = Some index
 index_after (change.Delete k) (Some i) atoms index = Some (remove index i)
 index_after _ place atoms index = None
 
--- the other indexes stay, and the one at an address is what the change makes of it, or there is none any more
+-- the other indexes stay, and the one at an address is that after the change, or there is none any more
 pub record AreChanged (at : ℕ) (c : Change) (place : Option ℕ) (atoms : Option (List Atom)) (old new : Indexes) : Type
     0 where
   pub others : (i : ℕ) → (i ≡ at → ⊥) → index_at new i ≡ index_at old i
@@ -74,11 +74,11 @@ pub record AreChanged (at : ℕ) (c : Change) (place : Option ℕ) (atoms : Opti
 abbrev pub beside : (Value → Option Cell) → Option Cell → Value × Value → Value × Option Value
 beside look other e = (e.1, value_of look e.0 (entries_of other))
 
--- a place is the one at which another dictionary has the key of the entry at a place
+-- a place is that of another dictionary for the key of the entry at a place
 abbrev pub PlacesAt : (Value → Option Cell) → Option Cell → ℕ → Option Cell → Option ℕ → Type 0
 PlacesAt look c at other place =
     (e : Value × Value) → slice_get (entries_of c) at ≡ Some e → Places look e.0 other place
 
--- the value of the entry at a place, where there is one
+-- the value of the entry at a place, if there is one
 abbrev pub value_at : List (Value × Value) → Option ℕ → Option Value
 value_at es place = option_and_then (λ i. option_map (λ e. e.1) (slice_get es i)) place

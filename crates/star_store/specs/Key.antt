@@ -1,4 +1,4 @@
--- Keys: which values may be one, which two are the same one, and where an entry with it stands.
+-- Keys: which values are hashable, which two are the same key, and the place of an entry by its key.
 use Rattle.std.specs.Prelude.{ℕ, zero, suc, ◌+◌, nat_eq, Bool, true, false, List, [], ◌∷◌, length, Option, Some, slice_get, if◌then◌else◌, Result, Ok, Err}
 use Rattle.std.specs.List.{list_all, position}
 use Rattle.std.specs.Option.{option_and_then, option_map}
@@ -13,7 +13,7 @@ use Rattle.star_store.specs.declared.fault.StoreFault.{StoreFault}
 use Rattle.star_store.specs.declared.fault.StoreFault.TheVariants.{BadType, Deep}
 use Rattle.star_store.specs.Spend.{Spend, Lacks, answer, refuse, spend_then, visited}
 
--- a key's tuples nest at most 400 deep, and a value that is no tuple may stand inside
+-- a key's tuples nest at most 400 deep, and a value that is not a tuple may be inside
 abbrev pub key_levels : ℕ
 key_levels = 401
 
@@ -31,17 +31,17 @@ key_value look f (value.Int n) = true
 key_value look f (value.Ref h a) = key_cell f (look (value.Ref h a))
 key_value look f _ = false
 
--- whether a value is a key, of so many levels at most
+-- whether a value is a key, of at most this many levels
 unfoldable pub is_key : (Value → Option Cell) → ℕ → Value → Bool
 is_key look zero v = false
 is_key look (suc n) v = key_value look (is_key look n) v
 
--- whether a test passes at so many places, from the i-th on
+-- whether a test passes at a number of places, from the i-th on
 abbrev pub all_pass : (ℕ → Bool) → ℕ → ℕ → Bool
 all_pass f zero i = true
 all_pass f (suc n) i = if f i then all_pass f n (i + 1) else false
 
--- two items, where both are there
+-- two items, if both are there
 abbrev pub same_key_pair : (Value → Value → Bool) → Option Value → Option Value → Bool
 same_key_pair f (Some x) (Some y) = f x y
 same_key_pair f _ _ = true
@@ -69,7 +69,7 @@ same_key_value look f (value.Int m) (value.Int n) = int_eq m n
 same_key_value look f (value.Ref h a) (value.Ref k b) = same_key_cell f (look (value.Ref h a)) (look (value.Ref k b))
 same_key_value look f _ _ = false
 
--- whether two values are the same key, of so many levels at most
+-- whether two values are the same key, of at most this many levels
 unfoldable pub same_key : (Value → Option Cell) → ℕ → Value → Value → Bool
 same_key look zero x y = false
 same_key look (suc n) x y = same_key_value look (same_key look n) x y
@@ -101,7 +101,7 @@ check_value look f (value.Int n) = answer tt
 check_value look f (value.Ref h a) = check_cell f (look (value.Ref h a))
 check_value look f _ = refuse BadType
 
--- the check that a value is a key, where so many levels may be opened: a value opens one, and then pays its visit
+-- the check that a value is a key, if this many levels may be opened: a value opens one, and then pays its visit
 unfoldable pub check : (Value → Option Cell) → ℕ → Value → Spend (Unit {0})
 check look zero v = λ n. Lacks Deep n
 check look (suc levels) v = visited (check_value look (check look levels) v)

@@ -1,3 +1,4 @@
+-- Stores, writes, keys, equality, order, texts and arithmetic of values. Begin at Store and Write.
 pub mod Arithmetic
 pub mod Atoms
 pub mod Content

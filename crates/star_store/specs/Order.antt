@@ -18,12 +18,12 @@ bool_order false true = Less
 bool_order true false = Greater
 bool_order _ _ = Equal
 
--- so many pairs of items, from the i-th on: the first unequal one decides, else the end does
+-- a number of pairs of items, from the i-th on: the first unequal one decides, else the end does
 abbrev pub order_places : (ℕ → Spend Bool) → (ℕ → Spend Ordering) → Ordering → ℕ → ℕ → Spend Ordering
 order_places f g end zero i = answer end
 order_places f g end (suc n) i = λ left. spend_then (f i left) (λ b. if b then order_places f g end n (i + 1) else g i)
 
--- a pair of values, where both are there
+-- a pair of values, if both are there
 abbrev pub order_pair : (Value → Value → Spend Ordering) → Option Value → Option Value → Spend Ordering
 order_pair f (Some x) (Some y) = f x y
 order_pair f _ _ = answer Equal
@@ -55,7 +55,7 @@ order_values look f g (value.Int m) (value.Int n) = answer (int_cmp m n)
 order_values look f g (value.Ref h a) (value.Ref k b) = order_cells f g (look (value.Ref h a)) (look (value.Ref k b))
 order_values look f g _ _ = refuse BadType
 
--- how two values stand, where so many levels may be opened: a pair opens one, and then pays its visit
+-- the order of two values, if this many levels may be opened: a pair opens one, and then pays its visit
 unfoldable pub order : (Value → Option Cell) → ℕ → Value → Value → Spend Ordering
 order look zero x y = λ n. Lacks Deep n
 order look (suc levels) x y = visited (order_values look (same look levels) (order look levels) x y)

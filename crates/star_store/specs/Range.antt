@@ -17,7 +17,7 @@ length_by start stop (negsuc n) = steps_within (int_gap stop start) (suc n)
 abbrev pub range_length : Range → ℕ
 range_length r = length_by r.start r.stop r.step
 
--- ranges with the same ints: the same number, the same first one, and the same step where there is a second one
+-- ranges with the same ints: the same number, the same first one, and the same step if there is a second one
 abbrev pub same_range : Range → Range → Bool
 same_range r s =
     nat_eq (range_length r) (range_length s) && (nat_eq (range_length r) 0 ||

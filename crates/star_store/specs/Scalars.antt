@@ -1,5 +1,4 @@
--- Contents that are compared and hashed, and keys that are no tuples, by which entries are looked up with no content
--- made.
+-- Contents as they are compared and hashed, and keys that are not tuples: they look entries up without a content.
 use Rattle.std.specs.Prelude.{◌≡◌, [], ◌∷◌, ◌++◌, List, Bool, true, false, Option, Some, None}
 use Rattle.std.specs.Cmp.{IsEquivalence}
 use Rattle.std.specs.Cmp.Lexicographic.{pointwise, lists_equiv}
@@ -16,11 +15,11 @@ use Rattle.star_store.specs.contracts.content.AtomHash.TheImpl.Laws as atom_hash
 use Rattle.star_store.specs.contracts.content.ScalarHash.TheImpl as scalar_hash
 use Rattle.star_store.specs.Content.{same_atom}
 
--- The law: contents are equal where their atoms are, in order, and that is an equality.
+-- The law: contents are equal if their atoms are, in order, and that is an equality.
 pub contents_alike : IsEquivalence (pointwise same_atom)
 contents_alike = lists_equiv atom_equal.laws-law
 
--- what a content feeds a hasher: how many atoms it has, and each of them
+-- the input of a hasher for a content: the number of its atoms, and each of them
 abbrev pub content_hashed : List Atom → HashWrites
 content_hashed atoms = fed.slice (atom_hash.ghosts).hash_input atoms
 
@@ -44,7 +43,7 @@ abbrev pub is_only : Scalar → Option Atom → Bool
 is_only x (Some a) = same_atom (scalar_atom x) a
 is_only x None = false
 
--- what a scalar feeds a hasher: that it is one atom, and the atom
+-- the input of a hasher for a scalar: that it is one atom, and the atom
 abbrev pub hashed : Scalar → HashWrites
 hashed x = fed.usize 1 ++ (scalar_hash.ghosts).hash_input x
 
@@ -58,6 +57,6 @@ hashed_alone (scalar.Text t) = refl
 pub hashed_alike : (x : Scalar) (atoms : List Atom) → is_of x atoms ≡ true → hashed x ≡ content_hashed atoms
 hashed_alike x atoms h = hashed_alone x ∙ hashed_as_equal (scalar_atom x ∷ []) atoms h
 
--- The law: where a content is a scalar's, another one is so just where the two are equal.
+-- The law: if a content is a scalar's, another one is so exactly if the two are equal.
 pub of_alike : (x : Scalar) (xs ys : List Atom) → is_of x xs ≡ true → is_of x ys ≡ pointwise same_atom xs ys
 of_alike x xs ys = contents_alike.congr (scalar_atom x ∷ []) xs ys

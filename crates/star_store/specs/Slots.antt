@@ -1,4 +1,4 @@
--- The variables of a frame: what each slot has.
+-- The variables of a frame: the state of each slot.
 use Rattle.std.specs.Prelude.{ℕ, zero, suc, ◌-◌, List, [], ◌∷◌, ◌++◌, length, replicate, Option, Some, None, slice_get}
 use Rattle.std.specs.Option.{option_and_then, option_flatten, option_or}
 use Rattle.std.specs.Arc.{arc_slice_items}
@@ -8,30 +8,30 @@ use Rattle.std.specs.Global.{Box}
 use Rattle.star_store.specs.declared.values.Value.{Value}
 use Rattle.star_store.specs.declared.slots.Under.{Under}
 
--- the value that a map has for a slot, where there is a map
+-- the value that a map has for a slot, if there is a map
 abbrev pub far_at : Option (Box (BTreeMap ℕ Value)) → ℕ → Option Value
 far_at None at = None
 far_at (Some far) at = get_by (nat_cmp at) far.value
 
--- the default of a slot, where these are the numbers of the slots' defaults
+-- the default of a slot, by the numbers of the slots' defaults
 abbrev pub default_at : List (Option ℕ) → List Value → ℕ → Option Value
 default_at ranks defaults at = option_and_then (λ rank. slice_get defaults rank) (option_flatten (slice_get ranks at))
 
--- the default that is under a slot, where the slots stand on defaults
+-- the default that is under a slot, if the slots are over defaults
 abbrev pub under_at : Option (Box Under) → ℕ → Option Value
 under_at None at = None
 under_at (Some under) at = default_at (arc_slice_items under.value.ranks) under.value.defaults at
 
--- what a slot has: the value of the row, or else that of the map, or else the default under it
+-- the value of a slot: that of the row, or else that of the map, or else the default under it
 abbrev pub slot_at : List (Option Value) → Option (Box (BTreeMap ℕ Value)) → Option (Box Under) → ℕ → Option Value
 slot_at near far under at =
     option_or (option_flatten (slice_get near at)) (option_or (far_at far at) (under_at under at))
 
--- what a function gives at the first numbers
+-- the values of a function at the first numbers
 abbrev pub row : {A : Type 0} → (ℕ → A) → ℕ → List A
 row f zero = []
 row f (suc n) = f 0 ∷ row (λ i. f (suc i)) n
 
--- the slots with so many that have room, of which the new ones are unbound
+-- the slots with room for a number of them; the new ones are unbound
 abbrev pub widened : ℕ → List (Option Value) → List (Option Value)
 widened n near = near ++ replicate (n - length near) None

@@ -1,4 +1,4 @@
--- What costs steps: an answer or a refusal, with the steps that are left.
+-- Operations that cost steps: an answer or a refusal, with the steps that are left.
 use Rattle.std.specs.Prelude.{◌≡◌, ℕ, ◌+◌, ◌-◌, nat_lt, Bool, true, false, Result, Ok, Err, if◌then◌else◌, zero, suc}
 use Rattle.star_store.specs.declared.fault.StoreFault.{StoreFault}
 use Rattle.star_store.specs.declared.fault.StoreFault.TheVariants.{Steps, Memory}
@@ -29,12 +29,12 @@ spend_then (Lacks code n) f = Lacks code n
 abbrev pub visited : {A : Type 0} → Spend A → Spend A
 visited f = λ n. if nat_lt n 1 then Lacks Steps n else f (n - 1)
 
--- so many places, from the i-th on, up to the first at which the test fails
+-- a number of places, from the i-th on, up to the first that fails the test
 abbrev pub all_places : (ℕ → Spend Bool) → ℕ → ℕ → Spend Bool
 all_places f zero i = answer true
 all_places f (suc n) i = λ left. spend_then (f i left) (λ b. if b then all_places f n (i + 1) else answer false)
 
--- What a function answered, and the steps that it left, are what was to be spent.
+-- A function's answer, and the steps that it left, are those of the definition.
 abbrev pub Spends : {A : Type 0} → Spent A → Result A StoreFault → ℕ → Type 0
 Spends o (Ok x) left = o ≡ Enough x left
 Spends o (Err f) left = o ≡ Lacks f left

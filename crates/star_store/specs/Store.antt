@@ -1,4 +1,4 @@
--- The stores: the cells that a running module has made, those of the published modules, and what a value leads to.
+-- The stores: the cells of the running module, those of the published modules, and the cell that a value leads to.
 use Rattle.std.specs.Prelude.{ℕ, zero, suc, ◌+◌, ◌-◌, nat_eq, Bool, true, false, List, [], ◌∷◌, ◌++◌, Option, Some, None, length, replicate, slice_get, slice_set, if◌then◌else◌}
 use Rattle.std.specs.Option.{option_map, option_flatten}
 use Rattle.std.specs.Cmp.Lexicographic.{pointwise, slice_cmp}
@@ -15,7 +15,7 @@ pub record Store : Type 0 where
   pub home : ℕ
   pub cells : List Counted
 
--- a published module: its cells, and its globals by name, which nothing changes any more
+-- a published module: its cells, and its globals with their names, which nothing changes any more
 pub record Published : Type 0 where
   pub cells : List Counted
   pub globals : List (List ℕ × Value)
@@ -67,7 +67,7 @@ abbrev pub bound_cell : ℕ → Value → Cell → Cell
 bound_cell slot v (cell.Frame f) = cell.Frame (record f { slots = slice_set f.slots slot (Some v) })
 bound_cell slot v c = c
 
--- the value of a slot of a frame: none where it is unbound or there is no such slot, and in no other cell
+-- the value of a slot of a frame; none if it is unbound or there is no such slot, and in another cell
 abbrev pub slot_value : Option Cell → ℕ → Option Value
 slot_value (Some (cell.Frame f)) slot = option_flatten (slice_get f.slots slot)
 slot_value _ slot = None
@@ -82,7 +82,7 @@ is_container (cell.List xs) = true
 is_container (cell.Dict es) = true
 is_container _ = false
 
--- one iteration more is open, where the cell is a list or a dictionary
+-- one iteration more is open, if the cell is a list or a dictionary
 abbrev pub opened_in : Counted → Counted
 opened_in e = if is_container e.cell then record e { iterations = e.iterations + 1 } else e
 
@@ -108,7 +108,7 @@ abbrev pub iterations_of : Store → Value → ℕ
 iterations_of s (value.Ref home at) = if nat_eq home s.home then iterations_in (slice_get s.cells at) else 0
 iterations_of s _ = 0
 
--- the shelf with places up to so many, with nothing at those that it did not have
+-- the shelf with places up to a number; the new places are empty
 abbrev pub widened : ℕ → Shelf → Shelf
 widened n shelf = shelf ++ replicate (n - length shelf) None
 
@@ -116,7 +116,7 @@ abbrev pub is_taken : Option (Option Published) → Bool
 is_taken (Some (Some p)) = true
 is_taken _ = false
 
--- puts a published module on the shelf, at the place of its file; a module that stands there stays
+-- puts a published module on the shelf, at the place of its file; a module that is there already stays
 abbrev pub put_up : ℕ → Published → Shelf → Shelf
 put_up home p shelf =
     if is_taken (slice_get shelf home) then shelf else slice_set (widened (home + 1) shelf) home (Some p)

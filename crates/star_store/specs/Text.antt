@@ -16,7 +16,7 @@ use Rattle.star_store.specs.declared.fault.StoreFault.TheVariants.{Deep, Memory}
 use Rattle.star_store.specs.Names.{built_in_name, method_name, receiver_type}
 use Rattle.star_store.specs.Spend.{Spend, Spent, Enough, Lacks, answer, spend_then, visited}
 
--- a character that stands for itself, or, below 32 and at 127, by its two lower-case hexadecimal digits
+-- a character as itself, or, below 32 and at 127, by its two lower-case hexadecimal digits
 abbrev pub plain_char : ℕ → List ℕ
 plain_char c =
     if nat_lt c 32 || nat_eq c 127 then codes "\\x" ++ digit_char (c / 16) ∷ digit_char (c % 16) ∷ [] else encode_utf8 c
@@ -39,7 +39,7 @@ shown t = flat_map shown_char (chars t)
 abbrev pub quoted : List ℕ → List ℕ
 quoted t = codes "\"" ++ shown t ++ codes "\""
 
--- pieces put after what stands there already, in order
+-- pieces put after a text, in order
 abbrev pub after : List ℕ → List (List ℕ) → List ℕ
 after out [] = out
 after out (t ∷ ts) = after (out ++ t) ts
@@ -68,7 +68,7 @@ method_parts m = codes "<built-in method " ∷ method_name m ∷ codes " of " �
 abbrev pub bool_text : Bool → List ℕ
 bool_text b = if b then codes "True" else codes "False"
 
--- a text that is put after what stands there already
+-- a text put after another one
 abbrev pub Say : Type 0
 Say = List ℕ → Spend (List ℕ)
 
@@ -84,12 +84,12 @@ say_parts ts = λ out. answer (after out ts)
 abbrev pub then_say : Say → Say → Say
 then_say a b = λ out left. spend_then (a out left) b
 
--- the texts of so many places, from the i-th on
+-- the texts of a number of places, from the i-th on
 abbrev pub all_said : (ℕ → Say) → ℕ → ℕ → Say
 all_said f zero i = λ out. answer out
 all_said f (suc n) i = then_say (f i) (all_said f n (i + 1))
 
--- a comma and a space stand before each item but the first
+-- a comma and a space come before each item but the first
 abbrev pub separator : ℕ → List ℕ
 separator i = if nat_eq i 0 then [] else codes ", "
 
@@ -139,7 +139,7 @@ say_new_list f xs = then_say (say (codes "[")) (then_say (say_items f xs) (say (
 abbrev pub say_new_dict : (Value → Say) → List (Value × Value) → Say
 say_new_dict f es = then_say (say (codes "{")) (then_say (say_entries f es) (say (codes "}")))
 
--- a list that stands on its own path is not said again
+-- a list on its own path is not written again
 abbrev pub say_list : (List Value → Value → Say) → List Value → Value → List Value → Say
 say_list f path v xs =
     λ out left. if on_path v path then say (codes "[...]") out left else say_new_list (f (path ++ v ∷ [])) xs out left
@@ -149,7 +149,7 @@ abbrev pub say_dict : (List Value → Value → Say) → List Value → Value �
 say_dict f path v es =
     λ out left. if on_path v path then say (codes "{...}") out left else say_new_dict (f (path ++ v ∷ [])) es out left
 
--- what a value leads to; a frame is no value of the language and says nothing
+-- the cell that a value leads to; a frame is not a value of the language and has no text
 abbrev pub say_cell : (List Value → Value → Say) → List Value → Value → Option Cell → Say
 say_cell f path v (Some (cell.Text t)) = say (quoted t)
 say_cell f path v (Some (cell.Range r)) = λ out. answer (range_after out r)
@@ -168,12 +168,12 @@ say_value look f path (value.Int n) = say (signed_decimal n)
 say_value look f path (value.Builtin b) = say_parts (built_in_parts (built_in_name b))
 say_value look f path (value.Ref h a) = say_cell f path (value.Ref h a) (look (value.Ref h a))
 
--- the text of a value below a path, where so many levels may be opened: a value opens one, and then pays its visit
+-- the text of a value below a path, if this many levels may be opened: a value opens one, and then pays its visit
 unfoldable pub text : (Value → Option Cell) → ℕ → List Value → Value → Say
 text look zero path v = λ out n. Lacks Deep n
 text look (suc levels) path v = λ out. visited (say_value look (text look levels) path v out)
 
--- What a function answered, the text that it left and the steps that it left are what was to be said, unless memory ran
+-- A function's answer, the text that it left and the steps that it left are those of the definition, unless memory ran
 -- out.
 abbrev pub Says : Spent (List ℕ) → Result (Unit {0}) StoreFault → List ℕ → ℕ → Type 0
 Says o (Ok x) out left = o ≡ Enough out left

@@ -1,4 +1,4 @@
--- Truth: which values count as true.
+-- The truth of values.
 use Rattle.std.specs.Prelude.{nat_eq, Bool, true, false, not, length, Option, Some, pos}
 use Rattle.std.specs.Ordering.{int_eq}
 use Rattle.star_store.specs.declared.values.Value.{Value}
@@ -7,7 +7,7 @@ use Rattle.star_store.specs.declared.values.Cell.{Cell}
 use Rattle.star_store.specs.declared.values.Cell.TheVariants as cell
 use Rattle.star_store.specs.Range.{range_length}
 
--- empty strings, ranges, tuples, lists and dictionaries are false; what else a value leads to is true
+-- empty strings, ranges, tuples, lists and dictionaries are false; every other cell is true
 abbrev pub true_cell : Option Cell → Bool
 true_cell (Some (cell.Text t)) = not (nat_eq (length t) 0)
 true_cell (Some (cell.Range r)) = not (nat_eq (range_length r) 0)

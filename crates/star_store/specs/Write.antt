@@ -1,4 +1,4 @@
--- Writes: what may be written, and what each change makes of a list or a dictionary.
+-- Writes: which are allowed, and the list or dictionary after each change.
 use Rattle.std.specs.Prelude.{◌≡◌, ℕ, nat_eq, nat_lt, Bool, true, false, List, [], ◌∷◌, ◌++◌, length, Option, Some, None, slice_get, slice_set, Result, Ok, Err, if◌then◌else◌}
 use Rattle.std.specs.List.{insert, remove}
 use Rattle.std.specs.Option.{option_map}
@@ -59,17 +59,17 @@ abbrev pub is_good_key : (Value → Option Cell) → Option Value → Bool
 is_good_key look None = true
 is_good_key look (Some k) = is_key look key_levels k
 
--- the place at which a dictionary has a key
+-- the place of a key in a dictionary
 abbrev pub place_in : (Value → Option Cell) → Option Value → Option Cell → Option ℕ
 place_in look (Some k) (Some (cell.Dict es)) = place_of look k es
 place_in look _ _ = None
 
--- an answer is the value replaced or taken out, and what is left
+-- an answer is the value that was replaced or taken out, and the items or entries that are left
 abbrev pub taken : {A : Type 0} → StoreFault → Option Value → A → Result (Option Value × A) StoreFault
 taken f None a = Err f
 taken f (Some v) a = Ok (Some v, a)
 
--- what a change makes of the items of a list
+-- the items of a list after a change
 abbrev pub change_items : Change → List Value → Result (Option Value × List Value) StoreFault
 change_items (change.Append v) xs = Ok (None, xs ++ v ∷ [])
 change_items (change.Set i v) xs = taken Index (slice_get xs i) (slice_set xs i v)
@@ -84,7 +84,7 @@ abbrev pub put_at : ℕ → Value → Option (Value × Value) → List (Value ×
 put_at i v None es = Err Key
 put_at i v (Some e) es = Ok (Some e.1, slice_set es i (e.0, v))
 
--- puts an entry in: at the place where its key stands, else after all others
+-- puts an entry in: at the place of its key if it is there, else after all others
 abbrev pub put : Value → Value → Option ℕ → List (Value × Value)
     → Result (Option Value × List (Value × Value)) StoreFault
 put k v None es = Ok (None, es ++ (k, v) ∷ [])
@@ -95,7 +95,7 @@ abbrev pub delete : Option ℕ → List (Value × Value) → Result (Option Valu
 delete None es = Err Key
 delete (Some i) es = taken Key (option_map (λ e. e.1) (slice_get es i)) (remove es i)
 
--- what a change makes of the entries of a dictionary that has the change's key at a place
+-- the entries of a dictionary after a change, if it has the change's key at a place
 abbrev pub change_entries : Change → Option ℕ → List (Value × Value)
     → Result (Option Value × List (Value × Value)) StoreFault
 change_entries (change.Put k v) place es = put k v place es
@@ -109,7 +109,7 @@ abbrev pub in_cell : {A : Type 0} → (A → Cell) → Result (Option Value × A
 in_cell f (Ok r) = Ok (r.0, f r.1)
 in_cell f (Err e) = Err e
 
--- what a change makes of a cell
+-- a cell after a change
 abbrev pub change_cell : Change → Option ℕ → Option Cell → Result (Option Value × Cell) StoreFault
 change_cell c place (Some (cell.List xs)) = in_cell cell.List (change_items c xs)
 change_cell c place (Some (cell.Dict es)) = in_cell cell.Dict (change_entries c place es)
@@ -130,8 +130,8 @@ abbrev pub in_store : Value → Store → Result (Option Value × Cell) StoreFau
 in_store v s (Ok r) = Ok (r.0, changed (λ e. record e { cell = r.1 }) v s)
 in_store v s (Err f) = Err f
 
--- what may refuse a write before it is made, in order: the change is one for the target, the target may be written,
--- and the key is one
+-- the refusals of a write before it is made, in order: the change is one for the target, the target may be written, and
+-- the key is one
 abbrev pub allowed : Store → Shelf → Value → Change → Result (Unit {0}) StoreFault
 allowed s shelf v c =
     if suits c (look s shelf v) then
@@ -153,7 +153,7 @@ write s shelf v c =
     made_if (allowed s shelf v c) (in_store v s (change_cell c (place_in (look s shelf) (key_of c) (look s shelf v))
     (look s shelf v)))
 
--- What a writing call answered and left is what was to be written. After a refusal all is as it was.
+-- A writing call's answer, and the store that it left, are those of the definition. After a refusal all is as it was.
 abbrev pub Writes : {A : Type 0} → Result (Option Value × A) StoreFault → Result (Option Value) StoreFault → A → A
     → Type 0
 Writes o (Ok x) old new = o ≡ Ok (x, new)

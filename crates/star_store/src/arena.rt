@@ -1,4 +1,7 @@
-//! The store of a module while it runs, and the published stores that it reaches.
+//! `Arena`: the store of a module while it runs. `Homes`: the published stores that it reaches. `freeze` publishes.
+//!
+//! `Homes` borrows the published stores in a row by file number: a running module copies and counts nothing, and `read`
+//! takes constant time.
 
 ghost use Rattle.std.specs.Prelude.{◌≡◌, List, [], ◌++◌, ◌+◌, ◌<◌, ◌^◌, length, OnOk, OnErr, IfOk, IfErr, IfSome, Some, slice_get, map, replicate, string_bytes, ◌-◌};
 ghost use Rattle.std.specs.Option.{option_copied, option_flatten};
@@ -16,7 +19,7 @@ use crate::values::{Cell, Counted, Value};
 use std::alloc::{AllocError, Global};
 use std::marker::Model;
 
-/// The store of a module while it runs. Its cells can change. A dictionary may have an index, which stands at the
+/// The store of a module while it runs. Its cells can change. A dictionary may have an index, which is kept under the
 /// dictionary's address.
 #[derive(Drop)]
 pub struct Arena {
@@ -139,7 +142,7 @@ impl Arena {
         self.cells.len()
     }
 
-    /// A new cell, after all others. `Memory` where a growth is refused: then nothing has changed.
+    /// Adds a new cell, after all others. `Memory` if an allocation fails: then nothing has changed.
     pub fn make(&mut self, cell: Cell) -> Result<Value, StoreFault>
         requires { length self.old.cells + 1 < 2 ^ 32 }
         ensures made { IfOk result (λ v. (v ≡ next_value self.old) × (self.new ≡ made cell self.old)) }
@@ -170,7 +173,7 @@ impl Arena {
         }
     }
 
-    /// The cell that a value leads to: none for what is no `Ref` or leads nowhere.
+    /// The cell that a value leads to; `None` if the value is not a `Ref` or leads nowhere.
     pub fn read<'a>(&'a self, homes: &'a Homes, value: Value) -> Option<&'a Cell>
         ensures { option_copied result ≡ look self.now homes.now value }
     {
@@ -198,8 +201,8 @@ impl Arena {
         }
     }
 
-    /// Gives a slot of a frame of this arena a value. Where there is no such slot, nothing changes. `Memory` where a
-    /// growth is refused: then nothing has changed.
+    /// Sets a slot of a frame of this arena. If there is no such slot, nothing changes. `Memory` if an allocation
+    /// fails: then nothing has changed.
     pub fn bind(&mut self, frame: Value, slot: usize, value: Value) -> Result<(), StoreFault>
         ensures bound { OnOk result (self.new ≡ bound frame slot value self.old) }
         ensures refused { IfErr result (λ e. (e ≡ Memory) × (self.new ≡ self.old)) }
@@ -226,7 +229,7 @@ impl Arena {
         }
     }
 
-    /// Closes an iteration of a list or dictionary of this module. For another value, and where none is open, nothing
+    /// Closes an iteration of a list or dictionary of this module. For another value, and if none is open, nothing
     /// changes.
     pub fn close_iter(&mut self, value: Value)
         ensures { self.new ≡ closed value self.old }
@@ -268,7 +271,7 @@ fn is_taken<'a>(stores: &[Option<&'a Frozen>], at: usize) -> bool
     }
 }
 
-/// Adds places with nothing, up to so many.
+/// Adds empty places, up to `count`.
 fn widen<'a>(stores: &mut Vec<Option<&'a Frozen>>, count: usize) -> Result<(), AllocError>
     ensures widened { OnOk result (stores.new.items ≡ stores.old.items
         ++ replicate (count - length stores.old.items) None) }
@@ -280,16 +283,19 @@ fn widen<'a>(stores: &mut Vec<Option<&'a Frozen>>, count: usize) -> Result<(), A
     Ok(())
 }
 
-/// Publishes a module: its cells and its globals, by name, as they are.
+/// Publishes a module: its cells and its named globals, as they are.
 pub fn freeze(arena: Arena, globals: Vec<(String, Value)>) -> Frozen
     ensures { result ≡ record { cells = arena.cells; globals = map (λ g. (string_bytes g.0, g.1)) globals.items } }
 {
     let Arena {
         alloc: _,
         home,
-        cells,
-        rows,
+        mut cells,
+        mut rows,
     } = arena;
+    // Nothing is added any more.
+    cells.shrink_to_fit();
+    rows.shrink_to_fit();
     let is_ordered = ascend(&globals);
     Frozen {
         home,

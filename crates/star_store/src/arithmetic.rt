@@ -1,11 +1,11 @@
-//! The arithmetic of ints.
+//! The arithmetic of ints of 64 bits: exact, or `Overflow`.
 
 ghost use Rattle.std.specs.Prelude.{◌≡◌, ◌≢◌, ◌<◌, ◌^◌, ◌+ℤ◌, ◌-ℤ◌, ◌*ℤ◌, ◌≤ℤ◌, ◌<ℤ◌, neg_ℤ, pos, unsigned_abs};
 ghost use Rattle.star_store.specs.Arithmetic.{checked, floored, left_by, left_over};
 
 use crate::fault::StoreFault;
 
-/// The sum. `Overflow` where it is outside 64 bits.
+/// The sum. `Overflow` if it is outside 64 bits.
 #[inline(always)]
 pub fn add(x: i64, y: i64) -> Result<i64, StoreFault>
     ensures { result ≡ checked (x +ℤ y) }
@@ -13,7 +13,7 @@ pub fn add(x: i64, y: i64) -> Result<i64, StoreFault>
     x.checked_add(y).ok_or(StoreFault::Overflow)
 }
 
-/// The difference. `Overflow` where it is outside 64 bits.
+/// The difference. `Overflow` if it is outside 64 bits.
 #[inline(always)]
 pub fn sub(x: i64, y: i64) -> Result<i64, StoreFault>
     ensures { result ≡ checked (x -ℤ y) }
@@ -21,7 +21,7 @@ pub fn sub(x: i64, y: i64) -> Result<i64, StoreFault>
     x.checked_sub(y).ok_or(StoreFault::Overflow)
 }
 
-/// The product. `Overflow` where it is outside 64 bits.
+/// The product. `Overflow` if it is outside 64 bits.
 #[inline(always)]
 pub fn mul(x: i64, y: i64) -> Result<i64, StoreFault>
     ensures { result ≡ checked (x *ℤ y) }
@@ -75,7 +75,7 @@ fn narrow(x: i128) -> Result<i64, StoreFault>
     Ok(x as i64)
 }
 
-/// What the quotient, rounded down, leaves over: it has the sign of the divisor. `Overflow` where it is outside 64
+/// The remainder of the quotient that is rounded down: it has the sign of the divisor. `Overflow` if it is outside 64
 /// bits.
 #[inline(always)]
 #[tactic(auto, using(crate::proofs::Ints::left_up, crate::proofs::Ints::left_below))]
@@ -89,7 +89,7 @@ pub fn floor_mod(x: i64, y: i64) -> Result<i64, StoreFault>
     narrow(-(remainder_turned(x, y) as i128))
 }
 
-/// What the quotient by a divisor below 0 leaves over, with both signs turned.
+/// The remainder by a divisor below 0, with both signs turned.
 #[tactic(auto, using(crate::proofs::Ints::left_turned))]
 fn remainder_turned(x: i64, y: i64) -> u64
     requires { y <ℤ pos 0 }
@@ -99,7 +99,7 @@ fn remainder_turned(x: i64, y: i64) -> u64
     x.rem_euclid(y) as u64
 }
 
-/// The int, doubled so many times. `Overflow` where the result is outside 64 bits.
+/// The int, doubled `count` times. `Overflow` if the result is outside 64 bits.
 #[tactic(auto, using(crate::proofs::Ints::doubled_out))]
 pub fn shl(x: i64, count: i64) -> Result<i64, StoreFault>
     requires { pos 0 ≤ℤ count }

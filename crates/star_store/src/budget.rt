@@ -1,6 +1,6 @@
-//! What a call may still spend.
+//! The steps and levels that a visit of values may still use.
 
-/// What is left: the steps that may be paid, and the levels that may be opened.
+/// The steps that may still be paid, and the levels that may still be opened.
 #[derive(Clone, Copy, Debug, PartialEq, Eq)]
 pub struct Budget {
     pub steps: u64,

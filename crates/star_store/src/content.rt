@@ -1,4 +1,9 @@
-//! What keys hold: their contents, which may be hashed and compared with no store beside them.
+//! The contents of keys: hashed and compared without a store.
+//!
+//! The content of a key is a flat row of atoms, in which a tuple says how many items follow: one allocation, compared
+//! and hashed like any `Vec` of an enum. A key that is not a tuple needs no allocation: its content is its one atom
+//! (`KeyContent`), and a look-up asks the index by the key itself (`ScalarKey`), which hashes alike (`hashed_alike`). A
+//! copy of its string would cost two atomic additions.
 
 ghost use Rattle.std.specs.Prelude.{◌≡◌, ◌∷◌, [], Some, None, if◌then◌else◌, IfOk};
 ghost use Rattle.std.specs.Cmp.{partial_equiv_from_equiv};
@@ -39,7 +44,7 @@ pub struct KeyContent {
     atoms: Atoms,
 }
 
-/// The atoms of a content. The one atom of a key that is no tuple takes no memory of its own.
+/// The atoms of a content. The one atom of a key that is not a tuple takes no memory of its own.
 #[derive(Drop)]
 enum Atoms {
     One(Atom),
@@ -57,7 +62,7 @@ impl Model for KeyContent {
 }
 
 impl KeyContent {
-    /// What no key has as its content: a row whose items do not follow.
+    /// A content that no key has: a row whose items do not follow.
     pub(crate) fn of_no_key(count: usize) -> KeyContent
         ensures { result ≡ atom.Row count ∷ [] }
     {
@@ -101,7 +106,7 @@ impl Hash for KeyContent {
     }
 }
 
-/// A key that is no tuple, with its string where it stands.
+/// A key that is not a tuple, with its string borrowed.
 #[derive(Clone, Copy, PartialEq, Eq, Hash)]
 pub enum Scalar<'a> {
     Nothing,
@@ -124,7 +129,7 @@ impl<'a> Scalar<'a> {
     }
 }
 
-/// What a dictionary's index is asked for by a key that is no tuple, so that its content need not be made.
+/// The query for a key that is not a tuple, so that its content need not be made.
 #[derive(Clone, Copy, PartialEq, Eq)]
 pub struct ScalarKey<'a> {
     pub scalar: Scalar<'a>,
@@ -159,7 +164,7 @@ impl<'a> Equivalent<KeyContent> for ScalarKey<'a> {
     }
 }
 
-/// A key that is no tuple: none for a tuple, and for what is no key.
+/// A key that is not a tuple; `None` for a tuple, and for a value that is not a key.
 pub(crate) fn scalar_key<'a>(
     arena: &'a Arena,
     homes: &'a Homes<'a>,
@@ -202,7 +207,7 @@ pub(crate) fn is_scalar<'a>(
     }
 }
 
-/// The content of a key, and none where the value is no key.
+/// The content of a key; `None` if the value is not a key.
 #[tactic(auto, using(crate::proofs::Contents::only_atom_is))]
 pub fn content(
     alloc: Global,
@@ -249,7 +254,7 @@ fn put_content<'a>(
     }
 }
 
-/// Adds the one atom of the content of a key that is no tuple, and says whether there is one.
+/// Adds the one atom of the content of a key that is not a tuple, and returns whether there is one.
 fn put_atom(
     arena: &Arena,
     homes: &Homes,
@@ -290,19 +295,19 @@ fn put_row<'a>(
     Ok(true)
 }
 
-/// Two values are the same key just where both have a content and it is the same one. (`docs/LANGUAGE.md`,
-/// "Equality, order, keys and texts".)
+/// Two values are the same key just if both have a content and it is the same one. (`docs/LANGUAGE.md`, "Equality,
+/// order, keys and texts".)
 pub fn same_keys_have_one_content()
     ensures { SameKeysHaveOneContent }
 {}
 
-/// A value is a key just where it has a content.
+/// A value is a key just if it has a content.
 pub fn keys_have_contents()
     ensures { KeysHaveContents }
 {}
 
-/// Where strings and tuples stay what they are, contents stay: new cells change none, and no write of a list, a
-/// dictionary or a frame does.
+/// As long as strings and tuples stay, contents stay: new cells change none, and neither does a write of a list, a
+/// dictionary or a frame.
 pub fn contents_stay()
     ensures { ContentsStay }
 {}

@@ -61,7 +61,7 @@ impl Defaults {
         self.as_slice().get(at).copied()
     }
 
-    /// The same values, which are not copied.
+    /// The same values, shared and not copied.
     pub fn share(&self) -> Result<Defaults, AllocError>
         ensures { IfOk result (λ shared. shared ≡ self.now) }
     {

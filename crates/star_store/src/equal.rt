@@ -1,4 +1,6 @@
 //! Equality of values, which pays a step for each pair that it visits.
+//!
+//! Equality of dictionaries takes no memory: the left one's index has the contents already.
 
 ghost use Rattle.std.specs.Prelude.{◌≡◌, List, ◌≤◌, ◌&&◌, ◌-◌};
 ghost use Rattle.star_store.specs.Index.{entries_of};

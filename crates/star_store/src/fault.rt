@@ -1,4 +1,4 @@
-//! Why a call on a store refuses.
+//! `StoreFault`: why an operation on a store or a value is refused.
 
 ghost use Rattle.std.specs.Prelude.{◌≡◌};
 ghost use Rattle.star_store.specs.declared.fault.StoreFault.TheVariants.{Memory};
@@ -15,7 +15,7 @@ pub enum StoreFault {
     /// A loop iterates over the value now.
     #[error("the value is being iterated")]
     Iterating,
-    /// The value has another type than is needed, or is no key.
+    /// The value has another type than is needed, or is not a key.
     #[error("the value has a wrong type")]
     BadType,
     /// The list has no such place.
@@ -27,13 +27,13 @@ pub enum StoreFault {
     /// The int is outside 64 bits.
     #[error("the int is out of range")]
     Overflow,
-    /// A growth was refused.
+    /// An allocation failed.
     #[error("out of memory")]
     Memory,
     /// The next payment is larger than the steps that are left.
     #[error("no steps left")]
     Steps,
-    /// Another level would begin where none is left.
+    /// Another level would be opened, but none is left.
     #[error("too many levels")]
     Deep,
 }

@@ -1,4 +1,7 @@
-//! The globals of a published module, by their names.
+//! The globals of a published module, looked up by their names.
+//!
+//! A global is found by binary search if the names ascend, which `freeze` checks once, else by a walk. A module that
+//! has run hands them over in byte order.
 
 ghost use Rattle.std.specs.Prelude.{◌≡◌, ◌∷◌, map, string_bytes, true};
 ghost use Rattle.star_store.specs.Store.{ascend, global_of};
@@ -42,7 +45,7 @@ pub(crate) fn global_in(globals: &[(String, Value)], name: &str) -> Option<Value
     None
 }
 
-/// The value of the global with a name, where the names ascend.
+/// The value of the global with a name, if the names ascend.
 pub(crate) fn global_among(globals: &[(String, Value)], name: &str) -> Option<Value>
     requires { ascend (map (λ g. string_bytes g.0) globals.now) }
     ensures { result ≡ global_of name.now (map (λ g. (string_bytes g.0, g.1)) globals.now) }

@@ -1,4 +1,6 @@
-//! The contents of a dictionary's keys, by which the place of a key is found at once.
+//! The index of a dictionary: from the content of a key to the place of its entry, in constant time.
+//!
+//! If the key of an entry that has gone comes again, its old content is replaced by one that no key has.
 
 ghost use Rattle.std.specs.Prelude.{◌≡◌, ◌≤◌, ◌++◌, ◌∷◌, [], if◌then◌else◌, drop, length, slice_get, IfOk};
 ghost use Rattle.std.specs.Option.{option_copied};
@@ -11,8 +13,8 @@ use indexmap::IndexSet;
 use std::alloc::{AllocError, Global};
 use std::marker::Model;
 
-/// An index of a dictionary: the contents of its keys, in order. Before them stand so many that have gone, since the
-/// first is taken out at once where no place changes.
+/// An index of a dictionary: the contents of its keys, in order. The first `gone` of them are of entries that were
+/// taken out: to take out the first entry, `gone` grows and nothing moves.
 #[derive(Drop)]
 pub struct Index {
     contents: IndexSet<KeyContent>,
@@ -31,7 +33,7 @@ impl Model for Index {
 }
 
 impl Index {
-    /// An index of a dictionary with no entry, with room for so many contents.
+    /// An index of no entries, with room for `capacity` contents.
     pub fn with_capacity(alloc: Global, capacity: usize) -> Result<Index, AllocError>
         ensures { IfOk result (λ index. index ≡ []) }
     {
@@ -52,7 +54,7 @@ impl Index {
     pub fn place(&self, content: &KeyContent) -> Option<usize>
         ensures { result ≡ place_by content.now self.now }
     {
-        // The set says here that no content stands twice.
+        // The set says here that no content occurs twice.
         let _count = self.contents.len();
         let at = match self.contents.get_index_of(content) {
             Some(at) => at,
@@ -64,10 +66,11 @@ impl Index {
         Some(at - self.gone)
     }
 
-    /// The place of the content of a key that is no tuple.
+    /// The place of the content of a key that is not a tuple.
     pub fn place_of_scalar(&self, key: ScalarKey<'_>) -> Option<usize>
         ensures { result ≡ place_by (scalar_atom key.entry.scalar ∷ []) self.now }
     {
+        // As in `place`: the set says here that no content occurs twice.
         let _count = self.contents.len();
         let at = match self.contents.get_index_of(key) {
             Some(at) => at,
@@ -79,8 +82,8 @@ impl Index {
         Some(at - self.gone)
     }
 
-    /// Adds a content after all others, and says whether it was added: else it stood there already, or memory was
-    /// refused, and nothing has changed.
+    /// Adds a content after all others, and returns whether it was added. If it was there already, or an allocation
+    /// failed, nothing has changed.
     pub fn push(&mut self, content: KeyContent) -> bool
         ensures { self.new ≡ (if result then self.old ++ content ∷ [] else self.old) }
     {
@@ -112,8 +115,8 @@ impl Index {
     }
 }
 
-/// Makes sure that a content does not stand among the first ones, which have gone, where memory suffices: what is no
-/// key's content is put in its place.
+/// Makes sure, if memory suffices, that the first contents, which have gone, do not include this one: a content that no
+/// key has takes its place.
 fn bury(contents: &mut IndexSet<KeyContent>, gone: usize, content: &KeyContent)
     requires { gone ≤ length contents.old.keys }
     ensures same { drop gone contents.new.keys ≡ drop gone contents.old.keys }
@@ -130,7 +133,7 @@ fn bury(contents: &mut IndexSet<KeyContent>, gone: usize, content: &KeyContent)
     }
 }
 
-/// Takes the first contents out, which have gone, and says how many of them are left: all where memory is refused.
+/// Takes the first contents out, which have gone, and says how many of them are left: all if memory is refused.
 fn close_up(contents: &mut IndexSet<KeyContent>, gone: usize) -> usize
     requires { gone ≤ length contents.old.keys }
     ensures same { drop result contents.new.keys ≡ drop gone contents.old.keys }

@@ -1,4 +1,4 @@
-//! Keys: which values may be one, and which two are the same one.
+//! Keys: which values are hashable, and which two are the same key.
 
 ghost use Rattle.std.specs.Prelude.{◌≡◌, ◌≤◌, position};
 ghost use Rattle.std.specs.List.{list_all};
@@ -14,7 +14,7 @@ use crate::content::{Scalar, is_scalar, scalar_key};
 use crate::fault::StoreFault;
 use crate::values::{Cell, Entries, Value, Values};
 
-/// A key's tuples nest at most 400 deep, and a value that is no tuple may stand inside.
+/// A key's tuples nest at most 400 deep, and a value that is not a tuple may be inside.
 pub(crate) const KEY_LEVELS: u32 = 401;
 
 /// Whether a value is a key: None, a bool, an int, a string or a tuple of keys.

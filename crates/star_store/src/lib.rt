@@ -1,22 +1,27 @@
-//! Values and stores: the cells of a module while it runs, the stores of published modules, and what may be read,
-//! compared, written and printed of them.
+//! Values, the heap of a module while it runs, and the frozen heaps of published modules.
 //!
-//! - A `Value` is None, a bool, an int, a built-in function, or leads to a `Cell` by the number of the file that made
-//!   it and an address (`values`). Cells are strings, ranges, tuples, lists, dictionaries, functions, frames and
-//!   bound methods.
-//! - `Arena` is the store of the running module: cells are made, read and written, never freed before the run ends.
-//!   `freeze` turns it into a `Frozen`, which nothing changes any more; `Homes` has the frozen stores that a module
-//!   reaches.
-//! - A write is refused where another module made the value (`Frozen`) or an iteration is open on it (`Iterating`):
-//!   `arena/write`.
-//! - `equal`, `order`, `key`, `text` and `truth` go over values, pay a step for each visit from a `Budget`, and
-//!   recurse on the levels that are left, so values that hold themselves are no danger.
-//! - A dictionary is a list of entries in insertion order, and beside it an index of the contents of its keys
-//!   (`index`, `content`). A missing index makes a look-up a walk, and changes no answer.
-//! - `arithmetic` has the operations on ints of 64 bits, `slots` the variables of a frame, `roomy` lists with free
-//!   places at the front.
+//! - `Value` is None, a bool, an int, a built-in function, or a reference to a `Cell` (a heap object): a string, range,
+//!   tuple, list, dictionary, function, bound method, or a frame of variables. A reference has the number of the file
+//!   whose module made the cell, and the cell's index there.
+//! - `Arena` is the heap, or store, of the running module. Cells are made, read and written, and never freed before the
+//!   run ends. `freeze` turns it into a `Frozen`, which nothing changes any more. `Homes` has the frozen stores that a
+//!   module can reach, by file number.
+//! - A visit is a step of a walk over values. `equal`, `order`, `key`, `text` and `truth` are such walks: each visit
+//!   pays a step from a `Budget` and opens a level, so values that contain themselves are no danger.
+//! - A dictionary is a list of `Entries` in the order of insertion. If it is large, the arena has an `Index` for it:
+//!   from the content of a key (the hashable value, with no references left) to the place of its entry. Without an
+//!   index a look-up is a walk, with the same answer.
+//! - `arithmetic` has the operations on ints of 64 bits, `slots` the variables of a frame, `roomy` vectors with free
+//!   places at their front.
 //!
-//! The definitions are in `specs/`: `Store` says what stores are, `Write` what a write changes.
+//! Begin at `values.rt`, then `arena.rt` and `arena/write.rt`.
+//!
+//! Invariant of `Arena` and `Frozen`: an index has just the keys of its dictionary. Nothing else is needed, since every
+//! function has an answer for a reference that leads nowhere. The promises: a write is refused if another module made
+//! the value (`Frozen`) or an iteration is open on it (`Iterating`), in an order that `Arena::write` states; freezing
+//! changes no value; equality, order, keys and texts are exact in answer, steps and levels. The definitions are in
+//! `specs/`: `Store` and `Write`, then a file for each walk. See `docs/LANGUAGE.md`, "Values" and "Equality, order,
+//! keys and texts".
 #![tactic(auto)]
 
 pub mod arena;

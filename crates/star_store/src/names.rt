@@ -1,4 +1,7 @@
-//! The built-in functions and the methods, by their names.
+//! `BuiltIn` and `Method`: all built-in functions and all methods, with their names and the methods' receivers.
+//!
+//! They are enums with names of their own, so `repr` needs no table. A method also has the type of its receiver:
+//! `list.clear` and `dict.clear` are two.
 
 ghost use Rattle.std.specs.Prelude.{◌≡◌};
 ghost use Rattle.star_store.specs.Names.{built_in_name, built_in_number, method_name, receiver_type};
@@ -70,7 +73,7 @@ impl BuiltIn {
         self as u8
     }
 
-    /// The name under which the outermost block has it.
+    /// Its name in the outermost block.
     pub fn name(self) -> &'static str
         ensures { result.now ≡ built_in_name self }
     {

@@ -14,9 +14,9 @@ use crate::fault::StoreFault;
 use crate::values::{Cell, Value, Values};
 use std::cmp::Ordering;
 
-/// How two ints, bools, strings, lists or tuples stand to one another. It visits the pair, then, in lists and tuples,
-/// the pairs of items by equality, and the first unequal pair by order: a visit opens a level (else `Deep`) and then
-/// pays a step (else `Steps`). `BadType` for two types, and for what has no order.
+/// Compares two ints, bools, strings, lists or tuples. It visits the pair; then, in lists and tuples, the pairs of
+/// items by equality, and the first unequal pair by order. A visit opens a level (else `Deep`) and then pays a step
+/// (else `Steps`). `BadType` for two types, and for types without an order.
 pub fn order(
     arena: &Arena,
     homes: &Homes,

@@ -1,4 +1,4 @@
-//! Ranges of ints.
+//! Ranges of ints: their length, their items, and when two are equal.
 
 ghost use Rattle.std.specs.Prelude.{◌≡◌};
 ghost use Rattle.star_store.specs.Range.{range_length};

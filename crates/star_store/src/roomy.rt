@@ -1,5 +1,8 @@
-//! Rows of items that can have free places at the front, so that the first item is taken out, and another put before
-//! it, without a move of all others.
+//! `Roomy`: a vector that can have free places at its front, so that the first item is taken out, and another put
+//! before it, without a move of the others.
+//!
+//! So `pop(0)`, `insert(0, x)`, `popitem()` and `pop` of the first key move nothing. A ring (`VecDeque`) would not do,
+//! since a list is read as one slice.
 
 ghost use Rattle.std.specs.Prelude.{◌≡◌, ◌<◌, ◌≤◌, ◌++◌, ◌∷◌, [], List, length, drop, replicate, slice_get, slice_set, OnOk, OnErr, IfOk};
 ghost use Rattle.std.specs.List.{insert, remove};
@@ -10,7 +13,7 @@ use std::marker::Model;
 /// Among fewer items all are moved as fast.
 const FEW: usize = 16;
 
-/// Items, of which so many at the front have gone: their places are free.
+/// Items in a vector, of which the first few are gone: their places are free.
 #[derive(Drop)]
 pub struct Roomy<T> {
     items: Vec<T>,
@@ -119,7 +122,7 @@ impl<T: Copy> Roomy<T> {
     }
 }
 
-/// These items after so many places in which another stands.
+/// These items after `room` places that hold `item`.
 fn with_room<T: Copy>(items: &Vec<T>, room: usize, item: T) -> Result<Vec<T>, AllocError>
     ensures { IfOk result (λ v. v.items ≡ replicate room item ++ items.now.items) }
 {

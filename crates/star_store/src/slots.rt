@@ -1,4 +1,12 @@
-//! The variables of a frame.
+//! `Slots`: the variables of a frame, dense at first and sparse after, over shared defaults.
+//!
+//! A frame keeps only the slots that were bound, so a call of a function with many names, few of them bound, takes
+//! little memory: room for all names would take 16 bytes for each name of each call. A frame of a function with many
+//! defaults shares their row (`over`) and holds only the slots that differ: 2,000 defaults take as much memory and time
+//! as two.
+//!
+//! `near` is inlined for names of the innermost frame. It may answer nothing for any slot, and its contract speaks of
+//! the values that it answers; others take the general way (`read_far` of `star_world`).
 
 ghost use Rattle.std.specs.Prelude.{◌≡◌, ◌+◌, ◌^◌, ◌<◌, ◌≤◌, ℕ, None, Some, if◌then◌else◌, length, nat_eq, replicate, slice_get, slice_set, IfOk, IfSome, OnErr, OnOk};
 ghost use Rattle.std.specs.Option.{option_flatten};
@@ -12,12 +20,12 @@ use std::collections::BTreeMap;
 use std::marker::Model;
 use std::sync::ArcSlice;
 
-/// A slot makes room for all slots before it where it stands at most so far after those that have room.
+/// A slot that is at most this far beyond the dense part extends the dense part; others go to the map.
 const REACH: usize = 12;
 
-/// The variables of a frame by their slots, each with a value or unbound. First slots have room in a row, and the
-/// others stand in a map once they are bound: so the memory is in proportion to the number of slots that were bound.
-/// What is in neither is as it is under the slots, where they stand on defaults.
+/// The variables of a frame by their slots, each with a value or unbound. The first slots are in a vector, the others
+/// in a map once they are bound, so the memory is in proportion to the number of slots that were bound. A slot that is
+/// in neither has its default, if it has one.
 #[derive(Drop)]
 pub struct Slots {
     alloc: Global,
@@ -27,7 +35,7 @@ pub struct Slots {
     under: Option<Box<Under>>,
 }
 
-/// The defaults on which slots stand, and for each slot the number of its default, if it has one.
+/// The layer of defaults below the slots, and for each slot the number of its default, if it has one.
 #[derive(Drop)]
 struct Under {
     ranks: ArcSlice<Option<usize>>,
@@ -45,7 +53,7 @@ impl Model for Slots {
 }
 
 impl Slots {
-    /// So many slots, all of them unbound.
+    /// `count` slots, all of them unbound.
     #[tactic(auto, using(crate::proofs::Rows::row_unbound))]
     pub fn unbound(alloc: Global, count: usize) -> Result<Slots, AllocError>
         ensures { IfOk result (λ slots. slots ≡ replicate count None) }
@@ -62,8 +70,8 @@ impl Slots {
         })
     }
 
-    /// So many slots that stand on defaults: `ranks` has for each slot the number of its default, if it has one. All
-    /// other slots are unbound. No slot has room at first.
+    /// `count` slots over defaults: `ranks` has for each slot the number of its default, if it has one. All other slots
+    /// are unbound. At first no slot is in the vector.
     #[tactic(auto, using(crate::proofs::Rows::row_over))]
     pub fn over(
         alloc: Global,
@@ -83,7 +91,7 @@ impl Slots {
         })
     }
 
-    /// The value of a slot that has room in the row. None says nothing: the slot's value may stand elsewhere.
+    /// The value of a slot in the vector. `None` says nothing: the value may be elsewhere.
     #[inline(always)]
     #[tactic(auto, using(crate::proofs::Rows::row_near))]
     pub fn near(&self, at: usize) -> Option<Value>
@@ -95,7 +103,7 @@ impl Slots {
         None
     }
 
-    /// What a slot has: none where there is no such slot, and none inside where its variable is unbound.
+    /// The state of a slot: `None` if there is no such slot, and `None` inside if its variable is unbound.
     #[tactic(auto, using(crate::proofs::Rows::row_at, crate::proofs::Rows::row_past))]
     pub fn get(&self, at: usize) -> Option<Option<Value>>
         ensures { result ≡ slice_get self.now at }
@@ -106,7 +114,7 @@ impl Slots {
         None
     }
 
-    /// Gives a slot a value. Where there is no such slot, nothing changes.
+    /// Sets a slot. If there is no such slot, nothing changes.
     #[tactic(auto, using(crate::proofs::Rows::row_beyond, crate::proofs::Rows::row_put_here, crate::proofs::Rows::row_put_near, crate::proofs::Rows::row_put_far, crate::proofs::Rows::row_kept))]
     pub fn set(&mut self, at: usize, value: Value) -> Result<(), AllocError>
         ensures set { OnOk result (self.new ≡ slice_set self.old at (Some value)) }
@@ -138,7 +146,7 @@ fn near_at(near: &[Option<Value>], at: usize) -> Option<Value>
     }
 }
 
-/// What a slot has.
+/// The value of a slot, if it has one.
 fn slot_at(
     near: &[Option<Value>],
     far: &Option<Box<BTreeMap<usize, Value>>>,

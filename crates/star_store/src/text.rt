@@ -1,4 +1,6 @@
 //! The texts of values, which pay a step for each value that they show.
+//!
+//! The text of a frame, or of a dangling reference, is empty: neither is a value of the language.
 
 ghost use Rattle.std.specs.Prelude.{◌≡◌, ◌≤◌, ◌<◌, ◌++◌, ◌∷◌, ◌-◌, [], OnOk, codes, string_bytes, take, vec_len};
 ghost use Rattle.std.specs.Char.{digit_char};
@@ -16,7 +18,7 @@ use crate::values::{Cell, Entries, Value, Values};
 use star_text::Text;
 use std::alloc::{AllocError, Global};
 
-/// A text that grows, the steps that are left, and the lists and dictionaries in which it now stands.
+/// A text that grows, the steps that are left, and the lists and dictionaries that the text is now inside of.
 #[derive(Drop)]
 struct Page {
     alloc: Global,
@@ -25,8 +27,8 @@ struct Page {
     steps: u64,
 }
 
-/// The text of a value. It visits the value and what stands in it: a visit opens a level (else `Deep`) and then pays a
-/// step (else `Steps`). A list or dictionary inside itself is `[...]` or `{...}`. `Memory` where a growth is refused.
+/// The text of a value. It visits the value and all values inside: a visit opens a level (else `Deep`) and then pays a
+/// step (else `Steps`). A list or dictionary inside itself is `[...]` or `{...}`. `Memory` if an allocation fails.
 pub fn repr(
     alloc: Global,
     arena: &Arena,
@@ -505,14 +507,14 @@ impl Page {
         put_quoted(&mut self.out, text)
     }
 
-    /// Whether the text now stands in this list or dictionary.
+    /// Whether the text is now inside this list or dictionary.
     fn is_within(&self, value: Value) -> bool
         ensures { result ≡ on_path value self.now.path.items }
     {
         self.path.iter().any(|v| same_address(value, *v))
     }
 
-    /// The text now stands in this list or dictionary.
+    /// Enters a list or dictionary.
     fn enter(&mut self, value: Value) -> Result<(), AllocError>
         ensures path { OnOk result (self.new.path.items ≡ self.old.path.items ++ value ∷ []) }
         ensures said { (string_bytes self.new.out) ≡ (string_bytes self.old.out) }
@@ -522,7 +524,7 @@ impl Page {
         Ok(())
     }
 
-    /// The text stands in the last list or dictionary no longer.
+    /// Leaves the last list or dictionary.
     fn leave(&mut self)
         ensures path { self.new.path.items ≡ take (vec_len self.old.path - 1) self.old.path.items }
         ensures said { (string_bytes self.new.out) ≡ (string_bytes self.old.out) }

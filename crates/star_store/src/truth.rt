@@ -1,4 +1,4 @@
-//! Which values count as true.
+//! The truth of values, for `if`, `and`, `or` and `not`.
 
 ghost use Rattle.std.specs.Prelude.{◌≡◌};
 ghost use Rattle.star_store.specs.Store.{look};

@@ -1,4 +1,15 @@
-//! Values, and the cells that they lead to.
+//! `Value`, and the cells that values lead to: strings, ranges, tuples, lists, dictionaries, functions, frames,
+//! methods.
+//!
+//! A function's cell has its name, so its text needs no program. The parent of a frame is a value, which may lead into
+//! another module's store. Functions and frames are in boxes of their own, since most cells are smaller: a cell takes
+//! 48 bytes instead of 96, and a call one allocation more. Contracts see a box as its content.
+//!
+//! A string is a `Text`, which contracts see as its bytes, so it is UTF-8 by its type. Copies share the bytes: a
+//! literal is copied once, from its file, and a run copies none.
+//!
+//! Rows are made with room if the number of items is known: a row that grows takes up to twice the memory and moves its
+//! items. No contract speaks of room.
 
 ghost use Rattle.std.specs.Prelude.{◌≡◌, ◌<◌, ◌≤◌, List, Some, [], ◌∷◌, ◌++◌, length, slice_get, slice_set, IfOk, OnOk, OnErr};
 ghost use Rattle.std.specs.List.{insert, remove};
@@ -13,8 +24,8 @@ use star_text::Text;
 use std::alloc::{AllocError, Global};
 use std::marker::Model;
 
-/// A value. What is larger than an int stands in a cell, to which the value leads: the module that made the cell (by
-/// the number of its file), and the number of cells that it had made before.
+/// A value. Anything larger than an int is in a cell, which the value leads to: by the number of the file whose module
+/// made the cell, and the number of cells that it had made before.
 #[derive(Clone, Copy, Debug, PartialEq, Eq)]
 pub enum Value {
     NoneValue,
@@ -105,7 +116,7 @@ impl BoxedFrame {
         &self.frame
     }
 
-    /// Gives a slot of the frame a value. Where there is no such slot, nothing changes.
+    /// Sets a slot of the frame. If there is no such slot, nothing changes.
     pub fn set(&mut self, slot: usize, value: Value) -> Result<(), AllocError>
         ensures set { OnOk result (self.new ≡ record self.old { slots = slice_set self.old.slots slot (Some value) }) }
         ensures refused { OnErr result (self.new ≡ self.old) }
@@ -114,7 +125,7 @@ impl BoxedFrame {
     }
 }
 
-/// What a value leads to.
+/// The content of a cell.
 #[derive(Drop)]
 pub enum Cell {
     Text(Text),
@@ -216,7 +227,7 @@ impl Entries {
         }
     }
 
-    /// A dictionary with no entry, and room for so many.
+    /// No entries, with room for `capacity`.
     pub fn with_capacity(alloc: Global, capacity: usize) -> Result<Entries, AllocError>
         ensures { IfOk result (λ entries. entries ≡ []) }
     {

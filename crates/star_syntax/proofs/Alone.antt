@@ -1,4 +1,4 @@
--- An atom before a word with which no expression goes on is read as itself, at each level.
+-- An atom before a word that ends an expression is read as itself, at each level.
 use Rattle.std.proofs.Common.{◌≡◌, ℕ, zero, suc, ◌<◌, ◌≤◌, List, [], ◌∷◌, Option, Some, None, Result, Ok, Err, refl, ap, subst, ◌∙◌, arith, length}
 use Rattle.std.proofs.Math.ListN.{get_or}
 use Rattle.std.specs.Borrow.{Bor}
@@ -59,9 +59,9 @@ module _ (knot : Knot) where
   fold-rest f g h ts us x d n =
       ap (λ r. and_then r (λ x us. rounds f (step knot h) (length us) x us)) d ∙ rest f (step knot h) (length us) x us n
 
--- ---- an atom, and what ends it
+-- ---- an atom, and the word that ends it
 
--- a word that stands for itself as an operand
+-- a word that is an operand by itself
 pub record IsAtom (p : Position) (w : Word) (x : Expression) : Type 0 where
   pub atom' : atom_of p w ≡ Some x
   pub sign : unary_word w ≡ None

@@ -1,4 +1,4 @@
--- Each part of the grammar of expressions reads what is in order, where the parts that hold themselves do.
+-- Each part of the grammar of expressions reads values in order, if the parts that hold themselves do.
 use Rattle.std.proofs.Common.{◌≡◌, ℕ, zero, suc, Bool, true, false, List, [], ◌∷◌, Option, Some, None, refl, subst}
 use Rattle.std.specs.Prelude.{if◌then◌else◌}
 use Rattle.star_syntax.specs.declared.leaf.Word.{Word}
@@ -23,7 +23,7 @@ use Rattle.star_syntax.proofs.Kept.{OfExpression, OfArgument, OfParameter, OfTar
 use Rattle.star_syntax.proofs.Makes.{Makes, Each, Maybe, nothing-found, same_some, makes-any, makes-one, makes-seq, makes-alt, makes-act, makes-when, makes-fold, makes-after, makes-before, makes-opt, makes-list, makes-rep}
 use Rattle.star_syntax.proofs.TargetsInOrder.{target-kept}
 
--- ---- what productions make
+-- ---- the values of productions
 
 abbrev pub OfSuffix : Suffix → Type 0
 OfSuffix (suffixes.Attribute name) = Unit {0}
@@ -101,7 +101,7 @@ a-star : (o : Option Name) → OfParameter (star_of o)
 a-star None = of-BareStar
 a-star (Some name) = of-StarParameter name
 
--- what passes a test
+-- values that pass a test
 passed : {A : Type 0} (test : A → Bool) (x y : A) → keep test x ≡ Some y → (x ≡ y) × (test x ≡ true)
 passed {A = A} test x y e = go (test x) refl e
   where

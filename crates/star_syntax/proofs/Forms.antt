@@ -1,4 +1,4 @@
--- What each form of expression reads as, from what its parts read as.
+-- The reading of each form of expression, from the readings of its parts.
 use Rattle.std.proofs.Common.{◌≡◌, ℕ, List, [], ◌∷◌, Some, None, refl}
 use Rattle.star_lex.specs.declared.token.Sign.{Sign}
 use Rattle.star_lex.specs.declared.token.Sign.TheVariants as s

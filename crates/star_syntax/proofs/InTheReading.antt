@@ -1,4 +1,4 @@
--- What is read is in order, and can be written.
+-- Trees that are read are in order, and can be written.
 use Rattle.std.proofs.Common.{ℕ, zero, suc, ◌+◌, ◌*◌, [], Some, length, sym, arith}
 use Rattle.star_syntax.specs.declared.level.Level.{Level}
 use Rattle.star_syntax.specs.declared.level.Level.TheVariants as levels

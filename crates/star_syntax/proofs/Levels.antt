@@ -1,4 +1,4 @@
--- From each level of the grammar of expressions up to the loosest, where nothing more is read after.
+-- From each level of the grammar of expressions up to the loosest, if nothing more is read after.
 use Rattle.std.proofs.Common.{◌≡◌, ℕ, suc, List, ◌∷◌, Some, None, refl}
 use Rattle.star_lex.specs.declared.token.Sign.{Sign}
 use Rattle.star_lex.specs.declared.token.Sign.TheVariants as s
@@ -18,7 +18,7 @@ use Rattle.star_syntax.specs.Language.{rule}
 use Rattle.star_syntax.specs.Written.{IsBinary, times, divided, modulo, plus, minus, to-left, to-right, bits-and, bits-xor, bits-or}
 use Rattle.star_syntax.proofs.Quiet.{Quiet, unplaced}
 
--- no sign, `not` or `lambda` stands in front
+-- no sign, `not` or `lambda` is in front
 pub record Front (ts : List Leaf) : Type 0 where
   pub unsigned : Reads rule _ signed ts None
   pub undenied : Reads rule _ denied ts None
@@ -45,7 +45,7 @@ module _ {ts us : List Leaf} {x : Expression} where
   unfolding climb
   climb-of n d o = fold-some d (stop (seq-first o))
 
-  -- through the levels above one, where their signs do not stand after
+  -- through the levels above one, if their signs do not follow
   pub above-0 : ((i : ℕ) → Reads rule _ (binary_operator i) us None) → Reads rule _ (climb 0) ts (Some (x, us)) → Reads rule _ bit_or ts (Some (x, us))
   unfolding bit_or
   above-0 o d = climb-of 5 (climb-of 4 (climb-of 3 (climb-of 2 (climb-of 1 (climb-of 0 d (o 0)) (o 1)) (o 2)) (o 3)) (o 4)) (o 5)

@@ -1,4 +1,4 @@
--- What the lists of an expression read as, and the forms that hold them.
+-- The readings of the lists of an expression, and of the forms that hold them.
 use Rattle.std.proofs.Common.{◌≡◌, Bool, true, List, [], ◌∷◌, ◌++◌, Option, Some, None, refl, subst, sym, append-nil, append_assoc}
 use Rattle.star_lex.specs.declared.token.Sign.{Sign}
 use Rattle.star_lex.specs.declared.token.Sign.TheVariants as s
@@ -124,7 +124,7 @@ clauses-of {y = y} {target = target} {ys = ys} d f = act-some {x = ((target, y),
 
 -- ---- calls
 
--- no argument by name or with a star begins here
+-- no keyword argument, and none with a star, begins here
 pub record Unnamed (ts : List Leaf) : Type 0 where
   pub named' : Reads rule _ named ts None
   pub star' : Reads rule _ (after (sign_ s.Star) a_test) ts None

@@ -1,4 +1,4 @@
--- What holds of each value that a part of the grammar reads, from what holds of the values of its own parts.
+-- A fact of each value that a part of the grammar reads, from the same fact of the values of its own parts.
 use Rattle.std.proofs.Common.{◌≡◌, ℕ, zero, suc, List, [], ◌∷◌, ◌++◌, length, Option, Some, None, refl, ap, sym, ◌∙◌, subst}
 use Rattle.star_syntax.specs.declared.leaf.Leaf.{Leaf}
 use Rattle.star_tree.specs.declared.tree.Position.{Position}
@@ -16,7 +16,7 @@ abbrev pub Each : {A : Type 0} → (A → Type 0) → List A → Type 0
 Each P [] = Unit {0}
 Each P (x ∷ xs) = P x × Each P xs
 
--- the value, where there is one
+-- the value, if there is one
 abbrev pub Maybe : {A : Type 0} → (A → Type 0) → Option A → Type 0
 Maybe P None = Unit {0}
 Maybe P (Some x) = P x

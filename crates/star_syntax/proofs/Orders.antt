@@ -1,4 +1,4 @@
--- One level of what is in order.
+-- One level of being in order.
 use Rattle.std.proofs.Common.{◌≡◌, Bool, true, false, ◌&&◌, refl}
 use Rattle.star_tree.specs.declared.tree.Argument.{Argument, roll-Argument, para-roll-Argument}
 use Rattle.star_tree.specs.declared.tree.Clause.{Clause, roll-Clause, para-roll-Clause}

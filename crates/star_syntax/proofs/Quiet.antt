@@ -1,4 +1,4 @@
--- Where parts of the grammar read nothing, by the word that stands there.
+-- The words at which parts of the grammar read nothing.
 use Rattle.std.proofs.Common.{◌≡◌, ℕ, zero, suc, List, [], ◌∷◌, Option, None, refl}
 use Rattle.star_lex.specs.declared.token.Sign.TheVariants as s
 use Rattle.star_lex.specs.declared.token.Keyword.TheVariants as k
@@ -11,7 +11,7 @@ use Rattle.star_syntax.specs.Expressions.{same_sign, same_keyword, is_sign, is_k
 use Rattle.star_syntax.specs.Language.{rule}
 use Rattle.star_syntax.specs.Written.{EndsBefore, right-paren, right-bracket, right-brace, comma, colon, semicolon, assign, plus-assign, minus-assign, star-assign, slashes-assign, percent-assign, ampersand-assign, bar-assign, caret-assign, left-assign, right-assign, new-line, for', else', Stops, nothing-more, before}
 
--- ---- what stands after an operand, or between operands
+-- ---- words after an operand, or between operands
 
 -- no suffix begins with the word
 pub record NoSuffix (w : Word) : Type 0 where
@@ -64,7 +64,7 @@ if-over : Reads rule _ choice [] None
 unfolding choice
 if-over = act-none (seq-first over)
 
--- what no part of an expression goes on with
+-- words with which no part of an expression goes on
 pub record Quiet (ts : List Leaf) : Type 0 where
   pub suffix' : Reads rule _ suffix ts None
   pub binary' : (n : ℕ) → Reads rule _ (binary_operator n) ts None
@@ -111,7 +111,7 @@ quiet ts (before {w = w} ends) =
     let q = quiet-word w ends in
     record { suffix' = suffix-none q.suffix'; binary' = λ n. miss (q.binary' n); comparator' = comparator-none q.comparator'; and' = and-none q.and'; or' = or-none q.or'; if' = if-none q.if' }
 
--- ---- what stands where an expression might begin
+-- ---- words in the place of an expression
 
 -- no expression begins with the word
 pub record BeginsNone (w : Word) : Type 0 where

@@ -1,4 +1,4 @@
--- What is read is spelled so; reading is computed; there is one reading.
+-- A tree that is read spells its leaves; reading is computed; there is one reading.
 use Rattle.std.proofs.Common.{◌≡◌, ℕ, zero, suc, ◌+◌, ◌*◌, ◌<◌, ◌≤◌, Bool, true, false, ◌&&◌, List, [], ◌∷◌, ◌++◌, length, Option, Some, None, refl, ap, sym, ◌∙◌, subst, arith, append_assoc, length-append}
 use Rattle.std.specs.Prelude.{nat_le, nat_lt}
 use Rattle.std.proofs.Math.Nat.{mul-le-mul_right}
@@ -121,7 +121,7 @@ module _ (rule : (r : Rule) → G (sort r)) where
     bound lu lt zero m n h b = let e = mul-le-mul_right {m = lu} {n = lt} ranks (omega arith) in omega arith
     bound lu lt (suc c) m n h b = let e = mul-le-mul_right {m = suc lu} {n = lt} ranks (omega arith) in omega arith
 
-    -- ---- what is computed is a reading
+    -- ---- the computed tree is a reading
 
     reads-one : {a : Sort} (p : Leaf → Option (Val a)) (ts : List Leaf) → Reads rule a (one p) ts (first p ts)
     reads-one p [] = over

@@ -38,7 +38,7 @@ before-bracket p ts = quiet (mark p s.RightBracket ∷ ts) (before right-bracket
 front-of : {x : Expression} {ts us : List Leaf} → Enclosed x ts us → Front ts
 front-of (enclosed {p = p} {ts = ts} w) = in_front p ts
 
--- what stands after an element is quiet, where what stands after all of them is
+-- the word after an element is quiet, if the word after all of them is
 quiet-further : {xs : List Expression} {ts us : List Leaf} → Further xs ts us → Quiet us → Quiet ts
 quiet-further no-further q = q
 quiet-further (one-further {p = p} {ts = ts} e f) q = before-comma p ts
@@ -66,7 +66,7 @@ module _ {x : Expression} {ts us : List Leaf} (f : Front ts) (d : Reads rule _ o
         disjunction-at : Reads rule _ next_conjunction us None → Reads rule _ disjunction ts (Some (x, us))
         disjunction-at b = disjunction-of conjunction-at b
 
--- what the part before a clause or a bracket does not go on with
+-- words with which the part before a clause or a bracket does not go on
 record QuietPart (ts : List Leaf) : Type 0 where
   suffix' : Reads rule _ suffix ts None
   binary' : (n : ℕ) → Reads rule _ (binary_operator n) ts None

@@ -1,4 +1,4 @@
--- Each part of the grammar of statements reads what is in order, where the parts that hold themselves do.
+-- Each part of the grammar of statements reads values in order, if the parts that hold themselves do.
 use Rattle.std.proofs.Common.{◌≡◌, Bool, true, ◌&&◌, List, [], ◌∷◌, map, Option, Some, None, refl, ap, sym, ◌∙◌, subst}
 use Rattle.star_syntax.specs.declared.level.Level.{Level}
 use Rattle.star_syntax.specs.declared.level.Level.TheVariants as levels
@@ -100,7 +100,7 @@ a-statement : (at : Position) (x : Form) → OfForm x → OfStatement (roll-Stat
 unfolding form_in_order arm_in_order statement_in_order
 a-statement at x k = form_folds.fold-roll-Statement Bool Bool Bool form_step arm_step statement_step (record { position = at; form = x }) ∙ k
 
--- ---- what productions make
+-- ---- the values of productions
 
 assigned : (o : Option Target) (x : Expression) (y : Form) → ((t : Target) → o ≡ Some t → OfTarget t) → OfExpression x → assign_of o x ≡ Some y → OfForm y
 assigned None x y k l e = absurd (nothing-found y e)

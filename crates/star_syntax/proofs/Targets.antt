@@ -15,7 +15,7 @@ use Rattle.star_tree.specs.declared.tree.Target.{Target}
 use Rattle.star_tree.specs.declared.tree.Expression.{Expression, para-roll-Expression, roll-Expression, out-Expression, roll-out-Expression}
 use Rattle.star_tree.specs.declared.tree.Target.TheVariants as target
 
--- what a function gives for each of a list, where it gives something for each
+-- the values of a function for a list, if it has one for each
 abbrev pub all : {A B : Type 0} → (A → Option B) → List A → Option (List B)
 all f xs = all_of (map (λ x. (x, f x)) xs)
 
@@ -101,7 +101,7 @@ target-Tuple xs = ap target_of (sym (e.rolls-Tuple xs)) ∙ rolled (Expression-F
 pub target-List : (xs : List Expression) → target_of (e.List xs) ≡ list_target (targets_of xs)
 target-List xs = ap target_of (sym (e.rolls-List xs)) ∙ rolled (Expression-F.Expression::List xs)
 
--- what is left of a list is no deeper than the list
+-- the rest of a list is not deeper than the list
 pub no_deeper : {X : Type 0} (size : X → ℕ) (all front : List X) (x : X) (bound : ℕ) → all ≡ front ++ x ∷ [] → most size all ≤ bound → most size front ≤ bound
 no_deeper size all front x bound e h =
     let p = most-append size front (x ∷ []) in

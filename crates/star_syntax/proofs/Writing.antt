@@ -1,4 +1,4 @@
--- Each expression whose arguments and parameters stand in order can be written with a parenthesis round each part.
+-- Each expression whose arguments and parameters are in order can be written with a parenthesis round each part.
 use Rattle.std.proofs.Common.{◌≡◌, Bool, true, ◌&&◌, List, [], ◌∷◌, map, Option, Some, None, refl, ap, sym, ◌∙◌, subst}
 use Rattle.star_lex.specs.declared.token.Sign.TheVariants as s
 use Rattle.star_lex.specs.declared.token.Keyword.TheVariants as keyword

@@ -1,4 +1,4 @@
--- The grammar of expressions: a line for each production, which stands above it.
+-- The grammar of expressions: one line for each production, with the production above it.
 use Rattle.std.specs.Prelude.{ℕ, zero, suc, ◌==◌, Bool, if◌then◌else◌, List, [], ◌∷◌, ◌++◌, Option, Some, None}
 use denote.Enum.Bare.{sameb}
 use Rattle.star_lex.specs.contracts.token.Sign.{the_type as sign_type}
@@ -64,11 +64,11 @@ opt g = alt (act Some g) (act none_of empty)
 abbrev pub rep : {a : Sort} → G a → G (list a)
 rep g = fold snoc (act nil_of empty) g
 
--- the second of two, where the first says nothing more
+-- the second of two, if the first says nothing more
 abbrev pub after : {a b : Sort} → G a → G b → G b
 after g h = act right_of (seq g h)
 
--- the first of two, where the second says nothing more
+-- the first of two, if the second says nothing more
 abbrev pub before : {a b : Sort} → G a → G b → G a
 before g h = act left_of (seq g h)
 
@@ -188,7 +188,7 @@ unary_operator = one (λ t. unary_word t.word)
 abbrev pub binary_operator : ℕ → G sorts.binary
 binary_operator n = one (λ t. binary_word n t.word)
 
--- ---- what productions make
+-- ---- the values of productions
 
 abbrev pub unary_of : UnaryOperator × Expression → Expression
 unary_of p = e.Unary p.0 p.1
@@ -224,13 +224,13 @@ tuple_unless_one [] = e.Tuple []
 tuple_unless_one (x ∷ []) = x
 tuple_unless_one (x ∷ y ∷ more) = e.Tuple (x ∷ y ∷ more)
 
--- what stands in parentheses, and whether a comma ends it
+-- the tests in parentheses, and whether a comma ends them
 abbrev pub parentheses_of : Option (List Expression × Option (Unit {0})) → Expression
 parentheses_of None = e.Tuple []
 parentheses_of (Some (xs, None)) = tuple_unless_one xs
 parentheses_of (Some (xs, Some comma)) = e.Tuple xs
 
--- what stands after the first element or entry of a display: clauses, or further ones
+-- the rest of a display after its first element or entry: clauses, or further ones
 abbrev pub as_clauses : {A : Type 0} → Clauses → Option Clauses × List A
 as_clauses c = (Some c, [])
 
@@ -256,7 +256,7 @@ clause_of p = clauses.For p.0 p.1
 abbrev pub clauses_of : (Target × Expression) × List Clause → Clauses
 clauses_of p = roll-Clauses (record { target = p.0.0; iterable = p.0.1; more = p.1 })
 
--- where a slice stops, and its stride
+-- the stop of a slice, and its stride
 abbrev pub StopAndStride : Type 0
 StopAndStride = Option Expression × Option Expression
 
@@ -322,7 +322,7 @@ list_of_primaries = fold snoc (act single (the (level levels.Primary))) next_pri
 unfoldable pub primaries : G sorts.expression
 primaries = act tuple_unless_one list_of_primaries
 
--- Targets = Primary {',' Primary}, where they are a target
+-- Targets = Primary {',' Primary}, if they are a target
 unfoldable pub targets : G sorts.target
 targets = when target_of primaries
 
@@ -482,7 +482,7 @@ lambda_parameters = alt ordered_parameters (act nil_of empty)
 unfoldable pub lambda : G sorts.expression
 lambda = act lambda_of (seq (keyword_at k.Lambda) (seq lambda_parameters (after (sign_ s.Colon) a_test)))
 
--- ---- what stands after an operand
+-- ---- the suffixes of an operand
 
 -- '.' name
 unfoldable pub attribute : G sorts.suffix

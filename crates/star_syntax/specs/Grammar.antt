@@ -1,4 +1,5 @@
--- Grammars as data: what they spell, what they read, and how reading is computed.
+-- Grammars as data, with their spelling and reading. They are parsing expression grammars: of several alternatives the
+-- first that reads is taken, and a repetition takes as many rounds as it can.
 use Rattle.std.specs.Prelude.{◌≡◌, ℕ, zero, suc, List, [], ◌∷◌, ◌++◌, length, Option, Some, None}
 use Rattle.star_syntax.specs.declared.leaf.Leaf.{Leaf}
 use Rattle.star_tree.specs.declared.tree.Position.{Position}
@@ -25,7 +26,7 @@ pub data G : Sort → Type 0 where
   -- the first part, then rounds of the second as long as one reads, each joined from the left
   fold : {a b : Sort} → (Val a → Val b → Val a) → G a → G b → G a
   act : {a b : Sort} → (Val a → Val b) → G a → G b
-  -- only what the function has a value for
+  -- only values that the function maps to one
   when : {a b : Sort} → (Val a → Option (Val b)) → G a → G b
   -- a part that takes a leaf at least, with the position of its first leaf
   placed : {a : Sort} → G a → G (both sorts.position a)
@@ -34,7 +35,7 @@ pub data G : Sort → Type 0 where
 abbrev pub Answer : Type 0 → Type 0
 Answer A = Option (A × List Leaf)
 
--- ---- what a part spells
+-- ---- the spelling of a part
 
 pub data Spells (rule : (r : Rule) → G (sort r)) : (s : Sort) → G s → Val s → List Leaf → Type 0 where
   one' : {a : Sort} {p : Leaf → Option (Val a)} {x : Val a} {t : Leaf} → p t ≡ Some x → Spells rule _ (one p) x (t ∷ [])
@@ -55,7 +56,7 @@ pub data Spells (rule : (r : Rule) → G (sort r)) : (s : Sort) → G s → Val 
       → Spells rule _ (placed g) (t.position, x) (t ∷ xs)
   the' : {r : Rule} {x : Val (sort r)} {xs : List Leaf} → Spells rule _ (rule r) x xs → Spells rule _ (the r) x xs
 
--- ---- what a part reads at the front of the leaves, or that it reads nothing there
+-- ---- the reading of a part at the front of the leaves, or that it reads nothing there
 
 mutual
   pub data Reads (rule : (r : Rule) → G (sort r)) : (s : Sort) → G s → List Leaf → Answer (Val s) → Type 0 where

@@ -1,5 +1,5 @@
--- Expressions and statements whose arguments and parameters stand in order, at any depth; that whatever is read is so,
--- and that whatever is so can be written.
+-- Expressions and statements whose arguments and parameters are in order, at any depth; all that is read is so, and all
+-- that is so can be written.
 use Rattle.std.specs.Prelude.{◌≡◌, Bool, true, ◌&&◌, List, [], ◌∷◌, map, Option, Some, None}
 use Rattle.star_syntax.specs.declared.leaf.Leaf.{Leaf}
 use Rattle.star_tree.specs.declared.tree.Argument.{Argument}
@@ -22,7 +22,7 @@ use Rattle.star_syntax.specs.Keeps.{arguments_in_order, parameters_in_order}
 use Rattle.star_syntax.specs.Language.{rule, Reading}
 use Rattle.star_syntax.specs.Written.{Written, Stops}
 
--- the parts of a layer, each of which stands beside whether it is in order
+-- the parts of a layer, each beside whether it is in order
 abbrev pub each_in_order : {A : Type 0} → List (A × Bool) → Bool
 each_in_order [] = true
 each_in_order (x ∷ xs) = x.1 && each_in_order xs

@@ -1,4 +1,4 @@
--- What a tree has to keep beside the grammar: the order of parameters and of arguments, and what may be a target.
+-- Rules of a tree beside the grammar: the order of parameters and of arguments, and the forms of targets.
 use Rattle.std.specs.Prelude.{Bool, true, false, ◌&&◌, if◌then◌else◌, List, [], ◌∷◌, map, Option, Some, None}
 use Rattle.star_tree.specs.declared.tree.Argument.TheOpen.{Expression-F}
 use Rattle.star_tree.specs.declared.tree.Expression.{Expression, out-Expression, para-Expression}
@@ -9,7 +9,7 @@ use Rattle.star_tree.specs.declared.tree.Parameter.TheVariants as parameter
 use Rattle.star_tree.specs.declared.tree.Target.{Target}
 use Rattle.star_tree.specs.declared.tree.Target.TheVariants as target
 
--- what passes a test
+-- a value, if it passes a test
 abbrev pub keep : {A : Type 0} → (A → Bool) → A → Option A
 keep test x = if test x then Some x else None
 
@@ -73,7 +73,7 @@ parameters_in_order (parameter.StarStar name ∷ more) = is_last more
 
 -- ---- targets
 
--- the values, where all are there
+-- the values, if all are there
 abbrev pub all_of : {A B : Type 0} → List (A × Option B) → Option (List B)
 all_of [] = Some []
 all_of (x ∷ more) = elim x.1 [ None ↦ None | Some y ↦ elim (all_of more) [ None ↦ None | Some ys ↦ Some (y ∷ ys) ] ]
@@ -112,6 +112,6 @@ augmented_level _ = None
 abbrev pub augmented_of : Expression → Option Target
 augmented_of x = augmented_level (out-Expression x)
 
--- the targets that expressions are, where each is one
+-- the targets that expressions are, if each is one
 unfoldable pub targets_of : List Expression → Option (List Target)
 targets_of xs = all_of (map (λ x. (x, target_of x)) xs)

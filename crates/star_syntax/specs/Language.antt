@@ -1,4 +1,4 @@
--- The grammar of a file, its reading, and what the readers of its parts answer.
+-- The grammar of a file, its reading, and the answers of the readers of its parts.
 use Rattle.std.specs.Prelude.{◌≡◌, ℕ, List, [], Option, Some, None, Result, Ok, Err}
 use Rattle.std.specs.Borrow.{Bor}
 use Rattle.std.specs.declared.alloc.Global.{Global}
@@ -26,17 +26,16 @@ abbrev pub rule : (r : Rule) → G (sort r)
 rule (level l) = rule_of_level l
 rule statement = one_statement
 
--- the tree that spells all the leaves, where each repetition or option takes a further round wherever a round reads at
--- that place
+-- the tree that spells all the leaves, each repetition or option taking a further round wherever one reads there
 pub record Reading (tree : List Statement) (leaves : List Leaf) : Type 0 where
   pub spells : Spells rule (list sorts.statement) file tree leaves
   pub greedy : Reads rule (list sorts.statement) file leaves (Some (tree, []))
 
--- what a part reads, with parts that hold themselves nested no deeper than the number
+-- the reading of a part, with parts that hold themselves nested no deeper than the number
 abbrev pub reads : ℕ → {s : Sort} → G s → List Leaf → Answer (Val s)
 reads depth g ts = step (run rule depth) g ts
 
--- ---- what the code answers
+-- ---- the answers of the code
 
 abbrev pub Finds : {A : Type 0} → Answer A → Option (A × Bor (List Leaf)) → Type 0
 Finds r None = r ≡ None
@@ -64,7 +63,7 @@ pub record Blocks (depth : ℕ) (pre : Global → ℕ → Bor (List Leaf) → Ty
       (r : Result (Option (List Statement × Bor (List Leaf))) AllocError) → post alloc depth ts r
       → Gives (run rule depth statement ts.now) r
 
--- what reading a whole file answers: its reading, or nothing where there is none
+-- the reading of a whole file, or nothing if there is none
 abbrev pub Parsed : List Leaf → Result (Option (List Statement)) AllocError → Type 0
 Parsed leaves (Err e) = Unit {0}
 Parsed leaves (Ok (Some tree)) = Reading tree leaves

@@ -1,4 +1,4 @@
--- What is known of every reading.
+-- Laws of every reading.
 use Rattle.std.specs.Prelude.{◌≡◌, List}
 use Rattle.star_syntax.specs.declared.leaf.Leaf.{Leaf}
 use Rattle.star_tree.specs.declared.tree.Statement.{Statement}

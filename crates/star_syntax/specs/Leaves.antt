@@ -1,4 +1,4 @@
--- The leaves of a file: its tokens with their values and places.
+-- The leaves of a file: its tokens with their values and positions.
 use Rattle.std.specs.Prelude.{ℕ, ◌+◌, ◌==◌, Bool, true, not, ◌&&◌, ◌||◌, List, [], ◌∷◌, pos}
 use Rattle.star_lex.specs.declared.token.Kind.{Kind}
 use Rattle.star_lex.specs.declared.token.Kind.TheVariants as k
@@ -8,7 +8,7 @@ use Rattle.star_syntax.specs.declared.leaf.Leaf.{Leaf}
 use Rattle.star_syntax.specs.declared.leaf.Word.{Word}
 use Rattle.star_syntax.specs.declared.leaf.Word.TheVariants as w
 
--- what a token of a kind and a text says: a name itself, an int or a string its value
+-- the word of a token by its kind and text: a name itself, an int or a string its value
 abbrev pub word_of : Kind → Text → Word
 word_of k.Name z = w.Name z
 word_of k.Int z = w.Int (pos (int_value z))
@@ -25,7 +25,7 @@ abbrev pub leaf_of : Text → ℕ → Token → Leaf
 leaf_of source n t =
     record { word = word_of t.kind (text_at source t.span); position = record { line = t.line; token = n } }
 
--- the leaves of tokens, the first of which has the number
+-- the leaves of tokens; the first token has the number
 abbrev pub leaves_from : Text → ℕ → List Token → List Leaf
 leaves_from source n [] = []
 leaves_from source n (t ∷ ts) = leaf_of source n t ∷ leaves_from source (n + 1) ts

@@ -1,3 +1,4 @@
+-- The grammar as a table, and its reading. In reading order: Leaves, Sorts, Grammar, Expressions, Statements, Language.
 pub mod Sorts
 pub mod Grammar
 pub mod Keeps

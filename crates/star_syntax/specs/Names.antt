@@ -1,4 +1,4 @@
--- The form of a name.
+-- The form of a name, as a loaded name's string must have it.
 use Rattle.std.specs.Prelude.{Bool, true, false, not, ◌&&◌, ◌||◌, ◌==◌, [], ◌∷◌, Option, Some, None}
 use Rattle.std.specs.Char.{is_ascii_digit, is_ascii_alphanumeric}
 use Rattle.star_lex.specs.declared.token.Keyword.{Keyword}
@@ -14,7 +14,7 @@ abbrev pub is_free : Option Keyword → Bool
 is_free None = true
 is_free (Some word) = false
 
--- a name that is no keyword: letters, digits and `_`, of which the first is no digit
+-- a name and not a keyword: letters, digits and `_`, a digit not first
 unfoldable pub is_name : Text → Bool
 is_name [] = false
 is_name (b ∷ z) = not (is_ascii_digit b) && (is_word (b ∷ z) && is_free (keyword (b ∷ z)))

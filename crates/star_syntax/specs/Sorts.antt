@@ -1,4 +1,4 @@
--- What the parts of the grammar stand for.
+-- The sorts of the parts of the grammar, and the type of the values of each.
 use Rattle.std.specs.Prelude.{List, Option}
 use Rattle.star_tree.specs.declared.tree.Position.{Position}
 use Rattle.star_tree.specs.declared.tree.Name.{Name}

@@ -1,4 +1,4 @@
--- The grammar of statements: a line for each production, which stands above it.
+-- The grammar of statements: one line for each production, with the production above it.
 use Rattle.std.specs.Prelude.{if◌then◌else◌, List, [], ◌++◌, Option, Some, None}
 use Rattle.star_lex.specs.declared.token.Sign.{Sign}
 use Rattle.star_lex.specs.declared.token.Sign.TheVariants as s
@@ -83,7 +83,7 @@ augmenting_word _ = None
 abbrev pub augmenting : G sorts.binary
 augmenting = one (λ t. augmenting_word t.word)
 
--- ---- what productions make
+-- ---- the values of productions
 
 abbrev pub append : {A : Type 0} → List A → List A → List A
 append xs ys = xs ++ ys
@@ -100,12 +100,12 @@ continue_of u = f.Continue
 abbrev pub pass_of : Unit {0} → Form
 pass_of u = f.Pass
 
--- the name that a loaded one is bound to: its own, where no other is written
+-- the name that a loaded one is bound to: its own, if no other is written
 abbrev pub local_of : Option Name → Literal → Name
 local_of None loaded = record { text = loaded.text; position = loaded.position }
 local_of (Some local) loaded = local
 
--- a loaded name's string has the form of a name that is no keyword
+-- the loaded name, whose string must have the form of a name and must not be a keyword
 abbrev pub loaded_of : Option Name × Literal → Option LoadedName
 loaded_of p = if is_name p.1.text then Some (record { local = local_of p.0 p.1; loaded = p.1 }) else None
 
@@ -120,7 +120,7 @@ abbrev pub augment_of : Option Target → BinaryOperator → Expression → Opti
 augment_of None operator value = None
 augment_of (Some target) operator value = Some (f.Augment target operator value)
 
--- an expression, or an assignment: what stands before `=` is a target, before another sign a name or an index
+-- an expression, or an assignment: before `=` is a target, before another sign a name or an index
 abbrev pub told_with : Expression → Option BinaryOperator → Expression → Option Form
 told_with left None value = assign_of (target_of left) value
 told_with left (Some operator) value = augment_of (augmented_of left) operator value

@@ -71,7 +71,7 @@ pub data IsComparator : Word → Comparator → Type 0 where
   at-least : IsComparator (word.Sign s.GreaterEqual) comparators.GreaterEqual
   contained : IsComparator (word.Keyword k.In) comparators.In
 
--- the words that may stand after a whole expression
+-- the words that may come after a whole expression
 pub data EndsBefore : Word → Type 0 where
   right-paren : EndsBefore (word.Sign s.RightParen)
   right-bracket : EndsBefore (word.Sign s.RightBracket)
@@ -94,13 +94,13 @@ pub data EndsBefore : Word → Type 0 where
   for' : EndsBefore (word.Keyword k.For)
   else' : EndsBefore (word.Keyword k.Else)
 
--- what may stand after a whole expression
+-- the leaves that may come after a whole expression
 pub data Stops : List Leaf → Type 0 where
   nothing-more : Stops []
   before : {p : Position} {w : Word} {ts : List Leaf} → EndsBefore w → Stops (record { word = w; position = p } ∷ ts)
 
 mutual
-  -- `Written x ts us`: x, with a parenthesis round each part, stands in ts before us
+  -- `Written x ts us`: ts is x, written with a parenthesis round each part, followed by us
   pub data Written : Expression → List Leaf → List Leaf → Type 0 where
     a-name : {x : Name} {us : List Leaf} → Written (e.Name x) (called x ∷ us) us
     an-int : {p : Position} {value : ℤ} {us : List Leaf}
@@ -170,7 +170,7 @@ mutual
     a-dict-comprehension : {p q : Position} {y : Entry} {c : Clauses} {ts vs us : List Leaf} → OneEntry y ts vs
         → AllClauses c vs (mark q s.RightBrace ∷ us)
         → Written (e.DictComprehension p y c) (mark p s.LeftBrace ∷ ts) us
-    -- (x)(..), where the arguments stand in order
+    -- (x)(..), if the arguments are in order
     a-call : {p q : Position} {x : Expression} {given : List Argument} {ts vs us : List Leaf}
         → Enclosed x ts (mark p s.LeftParen ∷ vs) → Arguments given vs (mark q s.RightParen ∷ us)
         → arguments_in_order given ≡ true
@@ -180,7 +180,7 @@ mutual
         → Enclosed x ts (mark p s.LeftBracket ∷ vs)
         → Optional a vs (mark q s.Colon ∷ ws) → Optional b ws (mark r s.Colon ∷ zs)
         → Optional c zs (mark t s.RightBracket ∷ us) → Written (e.Slice x a b c) ts us
-    -- lambda ..: (x), where the parameters stand in order
+    -- lambda ..: (x), if the parameters are in order
     a-lambda : {p q : Position} {taken : List Parameter} {x : Expression} {ts vs us : List Leaf}
         → Parameters taken ts (mark q s.Colon ∷ vs) → parameters_in_order taken ≡ true → Enclosed x vs us
         → Written (e.Lambda p taken x) (spelt p k.Lambda ∷ ts) us
@@ -257,7 +257,7 @@ mutual
     some-taken : {y : Parameter} {ys : List Parameter} {ts vs us : List Leaf} → OneParameter y ts vs
         → FurtherParameters ys vs us → Parameters (y ∷ ys) ts us
 
-  -- for (z) in (y), where z is a target
+  -- for (z) in (y); z is a target
   pub data ForPart : Target → Expression → List Leaf → List Leaf → Type 0 where
     for-each : {p q : Position} {target : Target} {y z : Expression} {ts vs us : List Leaf} → target_of z ≡ Some target
         → Enclosed z ts (spelt q k.In ∷ vs) → Enclosed y vs us → ForPart target y (spelt p k.For ∷ ts) us
@@ -280,7 +280,7 @@ mutual
         → FurtherClauses ys vs us
         → AllClauses (roll-Clauses (record { target = target; iterable = y; more = ys })) ts us
 
--- The law: what is written so reads back as itself.
+-- The law: an expression that is written so reads back as itself.
 abbrev pub ReadsBack : Type 0
 ReadsBack =
     (x : Expression) (ts us : List Leaf) → Written x ts us → Stops us

@@ -1,4 +1,4 @@
-//! The readers of arguments and parameters.
+//! The readers of calls: arguments and parameters, and the order in which they may come.
 
 ghost use Rattle.std.specs.Prelude.{◌≡◌};
 ghost use Rattle.star_syntax.specs.Expressions as spec;
@@ -7,13 +7,13 @@ ghost use Rattle.star_syntax.specs.Language.{Gives, Nests, reads};
 
 use crate::leaf::Leaf;
 use crate::level::{Level, Suffix};
-use crate::reader::{Grammar, Read, keyword_at, name, sign};
+use crate::reader::{Grammar, Read, exact, keyword_at, name, sign};
 use sqlite_items::{Boxed, Items};
 use star_lex::token::{Keyword, Sign};
 use star_tree::tree::{Argument, Expression, Parameter};
 use std::alloc::Global;
 
-/// Whether what stands after the positional arguments is in order.
+/// Whether the arguments after the positional ones are in order.
 fn named_in_order(mut star_may_come: bool, arguments: &[Argument]) -> bool
     ensures { result ≡ keeps.named_in_order star_may_come arguments.now }
 {
@@ -58,7 +58,7 @@ fn name_follows(parameters: &[Parameter]) -> bool
     }
 }
 
-/// Whether what stands after a star is in order.
+/// Whether the parameters after a star are in order.
 fn starred_in_order(parameters: &[Parameter]) -> bool
     ensures { result ≡ keeps.starred_in_order parameters.now }
 {
@@ -75,7 +75,7 @@ fn starred_in_order(parameters: &[Parameter]) -> bool
     true
 }
 
-/// Whether what stands after a name with a default is in order.
+/// Whether the parameters after one with a default are in order.
 fn defaults_in_order(parameters: &[Parameter]) -> bool
     ensures { result ≡ keeps.defaults_in_order parameters.now }
 {
@@ -110,6 +110,7 @@ fn parameters_in_order(parameters: &[Parameter]) -> bool
 }
 
 impl<F: Fn(Global, u128, Level, &[Leaf]) -> Read<'_, Boxed<Expression>>> Grammar<F> {
+    /// `name '=' Test`
     #[tactic(auto, unfolding(crate::specs::Expressions::named))]
     fn named<'a>(&self, leaves: &'a [Leaf]) -> Read<'a, Argument>
         requires { Nests self.now.depth (F.pre self.now.expression) (F.post self.now.expression) }
@@ -143,6 +144,7 @@ impl<F: Fn(Global, u128, Level, &[Leaf]) -> Read<'_, Boxed<Expression>>> Grammar
         self.nested(Level::Test, rest)
     }
 
+    /// `Arg = name '=' Test | '*' Test | '**' Test | Test`. A name directly before `=` begins a keyword argument.
     #[tactic(auto, unfolding(crate::specs::Expressions::argument))]
     fn argument<'a>(&self, leaves: &'a [Leaf]) -> Read<'a, Argument>
         requires { Nests self.now.depth (F.pre self.now.expression) (F.post self.now.expression) }
@@ -163,6 +165,7 @@ impl<F: Fn(Global, u128, Level, &[Leaf]) -> Read<'_, Boxed<Expression>>> Grammar
         }
     }
 
+    /// `',' Arg`
     #[tactic(auto, unfolding(crate::specs::Expressions::next_argument))]
     fn next_argument<'a>(&self, leaves: &'a [Leaf]) -> Read<'a, Argument>
         requires { Nests self.now.depth (F.pre self.now.expression) (F.post self.now.expression) }
@@ -174,6 +177,7 @@ impl<F: Fn(Global, u128, Level, &[Leaf]) -> Read<'_, Boxed<Expression>>> Grammar
         self.argument(rest)
     }
 
+    /// `Arg {',' Arg}`
     #[tactic(auto, unfolding(crate::specs::Expressions::list_of_arguments))]
     fn list_of_arguments<'a>(&self, leaves: &'a [Leaf]) -> Read<'a, Items<Argument>>
         requires { Nests self.now.depth (F.pre self.now.expression) (F.post self.now.expression) }
@@ -194,6 +198,7 @@ impl<F: Fn(Global, u128, Level, &[Leaf]) -> Read<'_, Boxed<Expression>>> Grammar
         Ok(Some((found, rest)))
     }
 
+    /// `Args = Arg {',' Arg}`, if they are in the order of the rules (`arguments_in_order`).
     #[tactic(auto, unfolding(crate::specs::Expressions::ordered_arguments))]
     fn ordered_arguments<'a>(&self, leaves: &'a [Leaf]) -> Read<'a, Items<Argument>>
         requires { Nests self.now.depth (F.pre self.now.expression) (F.post self.now.expression) }
@@ -203,12 +208,13 @@ impl<F: Fn(Global, u128, Level, &[Leaf]) -> Read<'_, Boxed<Expression>>> Grammar
             return Ok(None);
         };
         if arguments_in_order(found.as_slice()) {
-            Ok(Some((found, rest)))
+            Ok(Some((exact(self.alloc, found)?, rest)))
         } else {
             Ok(None)
         }
     }
 
+    /// `[Args [',']]`
     #[tactic(auto, unfolding(crate::specs::Expressions::given))]
     fn given<'a>(&self, leaves: &'a [Leaf]) -> Read<'a, Items<Argument>>
         requires { Nests self.now.depth (F.pre self.now.expression) (F.post self.now.expression) }
@@ -223,6 +229,7 @@ impl<F: Fn(Global, u128, Level, &[Leaf]) -> Read<'_, Boxed<Expression>>> Grammar
         }
     }
 
+    /// `'(' [Args [',']] ')'`
     #[tactic(auto, unfolding(crate::specs::Expressions::call))]
     pub fn call<'a>(&self, leaves: &'a [Leaf]) -> Read<'a, Suffix>
         requires { Nests self.now.depth (F.pre self.now.expression) (F.post self.now.expression) }
@@ -240,6 +247,7 @@ impl<F: Fn(Global, u128, Level, &[Leaf]) -> Read<'_, Boxed<Expression>>> Grammar
         Ok(Some((Suffix::Call(found), rest)))
     }
 
+    /// `'=' Test`
     #[tactic(auto, unfolding(crate::specs::Expressions::default))]
     fn default<'a>(&self, leaves: &'a [Leaf]) -> Read<'a, Boxed<Expression>>
         requires { Nests self.now.depth (F.pre self.now.expression) (F.post self.now.expression) }
@@ -248,7 +256,7 @@ impl<F: Fn(Global, u128, Level, &[Leaf]) -> Read<'_, Boxed<Expression>>> Grammar
         self.after_sign(Sign::Assign, leaves)
     }
 
-    /// A name, with or without a default.
+    /// `name ['=' Test]`
     #[tactic(auto, unfolding(crate::specs::Expressions::named_parameter))]
     fn named_parameter<'a>(&self, leaves: &'a [Leaf]) -> Read<'a, Parameter>
         requires { Nests self.now.depth (F.pre self.now.expression) (F.post self.now.expression) }
@@ -266,7 +274,7 @@ impl<F: Fn(Global, u128, Level, &[Leaf]) -> Read<'_, Boxed<Expression>>> Grammar
         }
     }
 
-    /// `*`, with a name or alone.
+    /// `'*' [name]`
     #[tactic(auto, unfolding(crate::specs::Expressions::star))]
     fn star<'a>(&self, leaves: &'a [Leaf]) -> Read<'a, Parameter>
         ensures { Gives (reads self.now.depth spec.star leaves.now) result }
@@ -280,7 +288,7 @@ impl<F: Fn(Global, u128, Level, &[Leaf]) -> Read<'_, Boxed<Expression>>> Grammar
         }
     }
 
-    /// `**name`.
+    /// `'**' name`
     #[tactic(auto, unfolding(crate::specs::Expressions::star_star))]
     fn star_star<'a>(&self, leaves: &'a [Leaf]) -> Read<'a, Parameter>
         ensures { Gives (reads self.now.depth spec.star_star leaves.now) result }
@@ -294,6 +302,7 @@ impl<F: Fn(Global, u128, Level, &[Leaf]) -> Read<'_, Boxed<Expression>>> Grammar
         }
     }
 
+    /// `Param = name ['=' Test] | '*' [name] | '**' name`
     #[tactic(auto, unfolding(crate::specs::Expressions::parameter))]
     fn parameter<'a>(&self, leaves: &'a [Leaf]) -> Read<'a, Parameter>
         requires { Nests self.now.depth (F.pre self.now.expression) (F.post self.now.expression) }
@@ -308,6 +317,7 @@ impl<F: Fn(Global, u128, Level, &[Leaf]) -> Read<'_, Boxed<Expression>>> Grammar
         self.star_star(leaves)
     }
 
+    /// `',' Param`
     #[tactic(auto, unfolding(crate::specs::Expressions::next_parameter))]
     fn next_parameter<'a>(&self, leaves: &'a [Leaf]) -> Read<'a, Parameter>
         requires { Nests self.now.depth (F.pre self.now.expression) (F.post self.now.expression) }
@@ -319,6 +329,7 @@ impl<F: Fn(Global, u128, Level, &[Leaf]) -> Read<'_, Boxed<Expression>>> Grammar
         self.parameter(rest)
     }
 
+    /// `Param {',' Param}`
     #[tactic(auto, unfolding(crate::specs::Expressions::list_of_parameters))]
     fn list_of_parameters<'a>(&self, leaves: &'a [Leaf]) -> Read<'a, Items<Parameter>>
         requires { Nests self.now.depth (F.pre self.now.expression) (F.post self.now.expression) }
@@ -339,6 +350,7 @@ impl<F: Fn(Global, u128, Level, &[Leaf]) -> Read<'_, Boxed<Expression>>> Grammar
         Ok(Some((found, rest)))
     }
 
+    /// `Params = Param {',' Param}`, if they are in the order of the rules (`parameters_in_order`).
     #[tactic(auto, unfolding(crate::specs::Expressions::ordered_parameters))]
     fn ordered_parameters<'a>(&self, leaves: &'a [Leaf]) -> Read<'a, Items<Parameter>>
         requires { Nests self.now.depth (F.pre self.now.expression) (F.post self.now.expression) }
@@ -348,12 +360,13 @@ impl<F: Fn(Global, u128, Level, &[Leaf]) -> Read<'_, Boxed<Expression>>> Grammar
             return Ok(None);
         };
         if parameters_in_order(found.as_slice()) {
-            Ok(Some((found, rest)))
+            Ok(Some((exact(self.alloc, found)?, rest)))
         } else {
             Ok(None)
         }
     }
 
+    /// `[Params [',']]`
     #[tactic(auto, unfolding(crate::specs::Expressions::taken))]
     fn taken<'a>(&self, leaves: &'a [Leaf]) -> Read<'a, Items<Parameter>>
         requires { Nests self.now.depth (F.pre self.now.expression) (F.post self.now.expression) }
@@ -368,6 +381,7 @@ impl<F: Fn(Global, u128, Level, &[Leaf]) -> Read<'_, Boxed<Expression>>> Grammar
         }
     }
 
+    /// `'(' [Params [',']] ')'`
     #[tactic(auto, unfolding(crate::specs::Expressions::parameters_in_parentheses))]
     pub fn parameters_in_parentheses<'a>(&self, leaves: &'a [Leaf]) -> Read<'a, Items<Parameter>>
         requires { Nests self.now.depth (F.pre self.now.expression) (F.post self.now.expression) }
@@ -385,6 +399,7 @@ impl<F: Fn(Global, u128, Level, &[Leaf]) -> Read<'_, Boxed<Expression>>> Grammar
         Ok(Some((found, rest)))
     }
 
+    /// `[Params]`
     #[tactic(auto, unfolding(crate::specs::Expressions::lambda_parameters))]
     fn lambda_parameters<'a>(&self, leaves: &'a [Leaf]) -> Read<'a, Items<Parameter>>
         requires { Nests self.now.depth (F.pre self.now.expression) (F.post self.now.expression) }
@@ -396,6 +411,7 @@ impl<F: Fn(Global, u128, Level, &[Leaf]) -> Read<'_, Boxed<Expression>>> Grammar
         }
     }
 
+    /// `'lambda' [Params] ':' Test`
     #[tactic(auto, unfolding(crate::specs::Expressions::lambda))]
     pub fn lambda<'a>(&self, leaves: &'a [Leaf]) -> Read<'a, Boxed<Expression>>
         requires { Nests self.now.depth (F.pre self.now.expression) (F.post self.now.expression) }
@@ -413,6 +429,7 @@ impl<F: Fn(Global, u128, Level, &[Leaf]) -> Read<'_, Boxed<Expression>>> Grammar
         let Some((body, rest)) = self.nested(Level::Test, rest)? else {
             return Ok(None);
         };
+        let parameters = Boxed::new(self.alloc, parameters)?;
         let made = Expression::Lambda {
             position,
             parameters,

@@ -7,16 +7,16 @@ ghost use Rattle.star_syntax.specs.Language.{Gives, Nests, reads};
 use crate::leaf::Leaf;
 use crate::level::Level;
 use crate::make::target_of;
-use crate::reader::{Grammar, Read, keyword, onto, sign, sign_at, tuple_unless_one};
+use crate::reader::{Grammar, Read, exact, keyword, onto, sign, sign_at, tuple_unless_one};
 use sqlite_items::{Boxed, Items};
 use star_lex::token::{Keyword, Sign};
 use star_tree::tree::{Clause, Clauses, Entry, Expression, Position, Target};
 use std::alloc::{AllocError, Global};
 
-/// What stands after the first element or entry of a display: clauses, or further ones.
+/// The rest of a display after its first element or entry: the clauses of a comprehension, or further ones.
 type After<T> = (Option<Boxed<Clauses>>, Items<T>);
 
-/// What stands between parentheses, and whether a comma ends it.
+/// The tests between parentheses, and whether a comma ends them.
 type Inside = Option<(Items<Expression>, Option<()>)>;
 
 /// The expression that parentheses hold.
@@ -48,7 +48,6 @@ fn list_of(
                     Expression::List(onto(alloc, first.into_inner(), more)?),
                 ),
                 Some(clauses) => {
-                    let clauses = clauses.into_inner();
                     let made = Expression::ListComprehension {
                         position,
                         element: first,
@@ -77,7 +76,6 @@ fn dict_of(
                 None => Boxed::new(alloc, Expression::Dict(onto(alloc, first, more)?)),
                 Some(clauses) => {
                     let entry = Boxed::new(alloc, first)?;
-                    let clauses = clauses.into_inner();
                     let made = Expression::DictComprehension {
                         position,
                         entry,
@@ -94,10 +92,13 @@ fn dict_of(
 fn entry_of(key: Boxed<Expression>, value: Boxed<Expression>) -> Entry
     ensures { result ≡ spec.entry_of (key, value) }
 {
-    Entry { key, value }
+    Entry {
+        key: key.into_inner(),
+        value: value.into_inner(),
+    }
 }
 
-/// Clauses: the first, and what follows it.
+/// Clauses: the first, and those after it.
 fn clauses_of(target: Boxed<Target>, iterable: Boxed<Expression>, more: Items<Clause>) -> Clauses
     ensures { result ≡ spec.clauses_of ((target, iterable), more) }
 {
@@ -109,6 +110,7 @@ fn clauses_of(target: Boxed<Target>, iterable: Boxed<Expression>, more: Items<Cl
 }
 
 impl<F: Fn(Global, u128, Level, &[Leaf]) -> Read<'_, Boxed<Expression>>> Grammar<F> {
+    /// `',' Primary`
     #[tactic(auto, unfolding(crate::specs::Expressions::next_primary))]
     fn next_primary<'a>(&self, leaves: &'a [Leaf]) -> Read<'a, Boxed<Expression>>
         requires { Nests self.now.depth (F.pre self.now.expression) (F.post self.now.expression) }
@@ -120,6 +122,7 @@ impl<F: Fn(Global, u128, Level, &[Leaf]) -> Read<'_, Boxed<Expression>>> Grammar
         self.nested(Level::Primary, rest)
     }
 
+    /// `Primary {',' Primary}`
     #[tactic(auto, unfolding(crate::specs::Expressions::list_of_primaries))]
     fn list_of_primaries<'a>(&self, leaves: &'a [Leaf]) -> Read<'a, Items<Expression>>
         requires { Nests self.now.depth (F.pre self.now.expression) (F.post self.now.expression) }
@@ -140,6 +143,7 @@ impl<F: Fn(Global, u128, Level, &[Leaf]) -> Read<'_, Boxed<Expression>>> Grammar
         Ok(Some((found, rest)))
     }
 
+    /// `Primary {',' Primary}`; several are a tuple.
     #[tactic(auto, unfolding(crate::specs::Expressions::primaries))]
     fn primaries<'a>(&self, leaves: &'a [Leaf]) -> Read<'a, Boxed<Expression>>
         requires { Nests self.now.depth (F.pre self.now.expression) (F.post self.now.expression) }
@@ -151,6 +155,7 @@ impl<F: Fn(Global, u128, Level, &[Leaf]) -> Read<'_, Boxed<Expression>>> Grammar
         Ok(Some((Boxed::new(self.alloc, tuple_unless_one(found))?, rest)))
     }
 
+    /// `Targets = Primary {',' Primary}`, if these are a target (`target_of`).
     #[tactic(auto, unfolding(crate::specs::Expressions::targets))]
     pub fn targets<'a>(&self, leaves: &'a [Leaf]) -> Read<'a, Boxed<Target>>
         requires { Nests self.now.depth (F.pre self.now.expression) (F.post self.now.expression) }
@@ -165,6 +170,7 @@ impl<F: Fn(Global, u128, Level, &[Leaf]) -> Read<'_, Boxed<Expression>>> Grammar
         }
     }
 
+    /// `ForClause = 'for' Targets 'in' Or`
     #[tactic(auto, unfolding(crate::specs::Expressions::for_clause))]
     fn for_clause<'a>(&self, leaves: &'a [Leaf]) -> Read<'a, (Boxed<Target>, Boxed<Expression>)>
         requires { Nests self.now.depth (F.pre self.now.expression) (F.post self.now.expression) }
@@ -185,6 +191,7 @@ impl<F: Fn(Global, u128, Level, &[Leaf]) -> Read<'_, Boxed<Expression>>> Grammar
         Ok(Some(((target, iterable), rest)))
     }
 
+    /// `'if' Or`
     #[tactic(auto, unfolding(crate::specs::Expressions::if_clause))]
     fn if_clause<'a>(&self, leaves: &'a [Leaf]) -> Read<'a, Clause>
         requires { Nests self.now.depth (F.pre self.now.expression) (F.post self.now.expression) }
@@ -199,6 +206,7 @@ impl<F: Fn(Global, u128, Level, &[Leaf]) -> Read<'_, Boxed<Expression>>> Grammar
         Ok(Some((Clause::If(condition.into_inner()), rest)))
     }
 
+    /// `ForClause | 'if' Or`
     #[tactic(auto, unfolding(crate::specs::Expressions::next_clause))]
     fn next_clause<'a>(&self, leaves: &'a [Leaf]) -> Read<'a, Clause>
         requires { Nests self.now.depth (F.pre self.now.expression) (F.post self.now.expression) }
@@ -212,6 +220,7 @@ impl<F: Fn(Global, u128, Level, &[Leaf]) -> Read<'_, Boxed<Expression>>> Grammar
         self.if_clause(leaves)
     }
 
+    /// `{ForClause | 'if' Or}`
     #[tactic(auto, unfolding(crate::specs::Expressions::further_clauses))]
     fn further_clauses<'a>(&self, leaves: &'a [Leaf]) -> Read<'a, Items<Clause>>
         requires { Nests self.now.depth (F.pre self.now.expression) (F.post self.now.expression) }
@@ -229,6 +238,7 @@ impl<F: Fn(Global, u128, Level, &[Leaf]) -> Read<'_, Boxed<Expression>>> Grammar
         Ok(Some((found, rest)))
     }
 
+    /// `Clauses = ForClause {ForClause | 'if' Or}`
     #[tactic(auto, unfolding(crate::specs::Expressions::all_clauses))]
     fn all_clauses<'a>(&self, leaves: &'a [Leaf]) -> Read<'a, Boxed<Clauses>>
         requires { Nests self.now.depth (F.pre self.now.expression) (F.post self.now.expression) }
@@ -244,6 +254,7 @@ impl<F: Fn(Global, u128, Level, &[Leaf]) -> Read<'_, Boxed<Expression>>> Grammar
         Ok(Some((Boxed::new(self.alloc, clauses)?, rest)))
     }
 
+    /// `[Tests [',']]`
     #[tactic(auto, unfolding(crate::specs::Expressions::inside))]
     fn inside<'a>(&self, leaves: &'a [Leaf]) -> Read<'a, Inside>
         requires { Nests self.now.depth (F.pre self.now.expression) (F.post self.now.expression) }
@@ -253,11 +264,12 @@ impl<F: Fn(Global, u128, Level, &[Leaf]) -> Read<'_, Boxed<Expression>>> Grammar
             return Ok(Some((None, leaves)));
         };
         match sign(Sign::Comma, rest) {
-            Some((_, rest)) => Ok(Some((Some((found, Some(()))), rest))),
-            None => Ok(Some((Some((found, None)), rest))),
+            Some((_, rest)) => Ok(Some((Some((exact(self.alloc, found)?, Some(()))), rest))),
+            None => Ok(Some((Some((exact(self.alloc, found)?, None)), rest))),
         }
     }
 
+    /// `'(' [Tests [',']] ')'`
     #[tactic(auto, unfolding(crate::specs::Expressions::parentheses))]
     pub fn parentheses<'a>(&self, leaves: &'a [Leaf]) -> Read<'a, Boxed<Expression>>
         requires { Nests self.now.depth (F.pre self.now.expression) (F.post self.now.expression) }
@@ -278,6 +290,7 @@ impl<F: Fn(Global, u128, Level, &[Leaf]) -> Read<'_, Boxed<Expression>>> Grammar
         )))
     }
 
+    /// `Clauses | {',' Test} [',']`
     #[tactic(auto, unfolding(crate::specs::Expressions::after_element))]
     fn after_element<'a>(&self, leaves: &'a [Leaf]) -> Read<'a, After<Expression>>
         requires { Nests self.now.depth (F.pre self.now.expression) (F.post self.now.expression) }
@@ -295,6 +308,7 @@ impl<F: Fn(Global, u128, Level, &[Leaf]) -> Read<'_, Boxed<Expression>>> Grammar
         }
     }
 
+    /// `[Test (Clauses | {',' Test} [','])]`
     #[tactic(auto, unfolding(crate::specs::Expressions::elements))]
     fn elements<'a>(
         &self,
@@ -312,6 +326,7 @@ impl<F: Fn(Global, u128, Level, &[Leaf]) -> Read<'_, Boxed<Expression>>> Grammar
         }
     }
 
+    /// `'[' [Tests [',']] ']' | '[' Test Clauses ']'`
     #[tactic(auto, unfolding(crate::specs::Expressions::list_display))]
     pub fn list_display<'a>(&self, leaves: &'a [Leaf]) -> Read<'a, Boxed<Expression>>
         requires { Nests self.now.depth (F.pre self.now.expression) (F.post self.now.expression) }
@@ -330,6 +345,7 @@ impl<F: Fn(Global, u128, Level, &[Leaf]) -> Read<'_, Boxed<Expression>>> Grammar
         Ok(Some((made, rest)))
     }
 
+    /// `Entry = Test ':' Test`
     #[tactic(auto, unfolding(crate::specs::Expressions::entry))]
     fn entry<'a>(&self, leaves: &'a [Leaf]) -> Read<'a, Entry>
         requires { Nests self.now.depth (F.pre self.now.expression) (F.post self.now.expression) }
@@ -347,6 +363,7 @@ impl<F: Fn(Global, u128, Level, &[Leaf]) -> Read<'_, Boxed<Expression>>> Grammar
         Ok(Some((entry_of(key, value), rest)))
     }
 
+    /// `',' Entry`
     #[tactic(auto, unfolding(crate::specs::Expressions::next_entry))]
     fn next_entry<'a>(&self, leaves: &'a [Leaf]) -> Read<'a, Entry>
         requires { Nests self.now.depth (F.pre self.now.expression) (F.post self.now.expression) }
@@ -358,6 +375,7 @@ impl<F: Fn(Global, u128, Level, &[Leaf]) -> Read<'_, Boxed<Expression>>> Grammar
         self.entry(rest)
     }
 
+    /// `{',' Entry}`
     #[tactic(auto, unfolding(crate::specs::Expressions::further_entries))]
     fn further_entries<'a>(&self, leaves: &'a [Leaf]) -> Read<'a, Items<Entry>>
         requires { Nests self.now.depth (F.pre self.now.expression) (F.post self.now.expression) }
@@ -375,6 +393,7 @@ impl<F: Fn(Global, u128, Level, &[Leaf]) -> Read<'_, Boxed<Expression>>> Grammar
         Ok(Some((found, rest)))
     }
 
+    /// `Clauses | {',' Entry} [',']`
     #[tactic(auto, unfolding(crate::specs::Expressions::after_entry))]
     fn after_entry<'a>(&self, leaves: &'a [Leaf]) -> Read<'a, After<Entry>>
         requires { Nests self.now.depth (F.pre self.now.expression) (F.post self.now.expression) }
@@ -392,6 +411,7 @@ impl<F: Fn(Global, u128, Level, &[Leaf]) -> Read<'_, Boxed<Expression>>> Grammar
         }
     }
 
+    /// `[Entry (Clauses | {',' Entry} [','])]`
     #[tactic(auto, unfolding(crate::specs::Expressions::entries))]
     fn entries<'a>(&self, leaves: &'a [Leaf]) -> Read<'a, Option<(Entry, After<Entry>)>>
         requires { Nests self.now.depth (F.pre self.now.expression) (F.post self.now.expression) }
@@ -406,6 +426,7 @@ impl<F: Fn(Global, u128, Level, &[Leaf]) -> Read<'_, Boxed<Expression>>> Grammar
         }
     }
 
+    /// `'{' [Entry {',' Entry} [',']] '}' | '{' Entry Clauses '}'`
     #[tactic(auto, unfolding(crate::specs::Expressions::dict_display))]
     pub fn dict_display<'a>(&self, leaves: &'a [Leaf]) -> Read<'a, Boxed<Expression>>
         requires { Nests self.now.depth (F.pre self.now.expression) (F.post self.now.expression) }

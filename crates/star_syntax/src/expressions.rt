@@ -1,4 +1,4 @@
-//! The readers of expressions to a depth.
+//! The readers of expressions to a depth: the recursion that ties the readers of all levels together.
 
 ghost use Rattle.star_syntax.specs.Grammar.{level as at_level, run};
 ghost use Rattle.star_syntax.specs.Expressions as spec;

@@ -1,4 +1,7 @@
-//! Leaves: the tokens of a file with their values and places, as the grammar reads them.
+//! Leaves: tokens with their values. The readers of the grammar go over leaves.
+//!
+//! Equal names and strings of a file share one text, by a small table of the latest ones (`Recent`). A string in which
+//! each byte means itself is cut from the source.
 
 ghost use Rattle.std.specs.Prelude.{◌≡◌, ◌≤◌, length, IfOk, IfSome};
 ghost use Rattle.star_lex.specs.Values as values;
@@ -11,7 +14,7 @@ use star_text::Text;
 use star_tree::tree::Position;
 use std::alloc::{AllocError, Global};
 
-/// What a leaf says.
+/// A token with its value: a name's text, the value of an int or a string, a sign, a keyword, or a mark of the layout.
 #[derive(Drop)]
 pub enum Word {
     Name(Text),
@@ -66,7 +69,7 @@ fn quotes_size(quoting: Quoting) -> usize
     if quoting.triple { 3 } else { 1 }
 }
 
-/// The inside of a string, where that is its value.
+/// The inside of a string, if that is its value.
 #[tactic(auto, using(crate::proofs::Strings::decoded_itself))]
 fn bare(text: &[u8]) -> Option<&[u8]>
     ensures { IfSome result (λ inside. inside.now ≡ values.string_value text.now) }
@@ -117,7 +120,7 @@ fn new_text(alloc: Global, bytes: &[u8]) -> Result<Text, AllocError>
 }
 
 impl Recent {
-    /// With as many places as suit a file of so many tokens.
+    /// With places enough for a file of `tokens` tokens.
     fn new(alloc: Global, tokens: usize) -> Result<Recent, AllocError> {
         let places = if tokens < 1024 { 128 } else { 1024 };
         let mut texts = Vec::with_capacity(alloc, places)?;
@@ -127,7 +130,7 @@ impl Recent {
         Ok(Recent { texts })
     }
 
-    /// The text with these bytes, shared where it was made lately.
+    /// The text with these bytes, shared if it was made lately.
     fn text(&mut self, alloc: Global, bytes: &[u8]) -> Result<Text, AllocError>
         ensures { IfOk result (λ text. text ≡ bytes.now) }
     {

@@ -1,4 +1,4 @@
-//! The parts of the grammar of expressions that hold themselves, and what stands after an operand.
+//! The productions of the grammar that can contain themselves, by level, and the suffixes of an operand.
 
 use sqlite_items::{Boxed, Items};
 use star_tree::tree::{Argument, Expression, Name};
@@ -13,7 +13,7 @@ pub enum Level {
     Primary,
 }
 
-/// What stands after an operand: `.name`, `(arguments)`, `[index]` or `[start:stop:stride]`.
+/// A suffix of an operand: `.name`, `(arguments)`, `[index]` or `[start:stop:stride]`.
 #[derive(Drop)]
 pub enum Suffix {
     Attribute(Name),

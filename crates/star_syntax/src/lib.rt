@@ -1,17 +1,23 @@
-//! The grammar of a Starlark file, and the readers of expressions.
+//! The grammar of a Starlark file, and the readers of expressions: half of a recursive-descent parser, whose other half
+//! is `star_parser`.
 //!
-//! `specs/` has the grammar as a table: one line for each production, with the parts that it is spelt of and the tree
-//! that it makes. What a table spells and what it reads is defined once for all tables; a text has at most one
-//! reading (law `one_reading`).
+//! The grammar is a table in `specs/` (`Expressions`, `Statements`), with one line for each production. It is read as a
+//! parsing expression grammar: of several alternatives the first that reads is taken, and a repetition takes as many
+//! rounds as it can. The table is left-factored, so reading takes time in proportion to the leaves. `specs/Grammar`
+//! defines once how a table spells and reads tokens, so each function here has one short contract: it answers the
+//! reading of its line of the table.
 //!
-//! - `leaf` turns tokens into leaves: tokens with their values, as the grammar reads them.
-//! - `reader` and `level` say what every reader has in common: a reader takes the leaves that are left and answers a
-//!   tree and the rest, nothing where its production does not stand there, or want of memory.
-//! - `operators`, `primary`, `display`, `call` and `expressions` are the readers, one function for each production.
-//!   They recurse on the nesting depth that is left, so a text cannot exhaust the stack.
-//! - `make` turns an expression into a target, where an `=` or `in` shows that it is one.
+//! - `leaf` turns tokens into leaves. A `Leaf` is a token with its value and its position; the readers go over leaves.
+//! - `reader` has `Read`, the answer of every reader (a tree and the leaves after it; nothing, if its production is not
+//!   there; or want of memory), and `Grammar`, the readers' state: how deep expressions may still nest.
+//! - `operators`, `primary`, `display` and `call` are the readers, a function for each production, which is written
+//!   above it. `expressions` ties them together. They recurse on the depth that is left, so no text makes them recurse
+//!   deeper than the nesting limit.
+//! - `make` turns an expression into a target, once an `=`, a sign or an `in` shows that it is one.
 //!
-//! `star_parser` has the readers of statements and the parser itself.
+//! Begin at `operators.rt`, from its end: `conditional` down to `climb`. The laws in `law` say what the grammar is
+//! worth: a text has at most one reading (`one_reading`), and an expression that is written with all parentheses reads
+//! back as itself (`reads_back`). See `docs/LANGUAGE.md`, "Grammar".
 #![tactic(auto)]
 
 mod call;

@@ -1,4 +1,4 @@
-//! Expressions as targets.
+//! Expressions turned into targets, once an `=`, a sign or an `in` shows that they are.
 
 ghost use Rattle.std.specs.Prelude.{◌≡◌, IfOk, reverse};
 ghost use Rattle.star_syntax.specs.Keeps as keeps;
@@ -11,7 +11,7 @@ use std::alloc::{AllocError, Global};
 fn reversed(alloc: Global, mut targets: Items<Target>) -> Result<Items<Target>, AllocError>
     ensures { IfOk result (λ found. found ≡ reverse targets) }
 {
-    let mut found = Items::new(alloc);
+    let mut found = Items::from_vec(Vec::with_capacity(alloc, targets.len())?);
     while let Some(last) = targets.pop() {
         found.push(last)?;
     }
@@ -42,7 +42,7 @@ pub fn target_of(alloc: Global, expression: Expression) -> Result<Option<Target>
     }
 }
 
-/// The targets that expressions are, where each is one.
+/// The targets that expressions are, if each is one.
 #[cycle(target)]
 #[tactic(auto, using(crate::proofs::Targets::none_found_of, crate::proofs::Targets::none_left, crate::proofs::Targets::last_some_of, crate::proofs::Targets::last_none_of))]
 fn targets_of(

@@ -1,4 +1,4 @@
-//! The form of a name.
+//! The form of a name, as a loaded name's string must have it.
 
 ghost use Rattle.std.specs.Prelude.{◌≡◌};
 ghost use Rattle.star_syntax.specs.Names as spec;
@@ -18,7 +18,7 @@ fn is_word(text: &[u8]) -> bool
     true
 }
 
-/// Whether a text has the form of a name that is no keyword.
+/// Whether a text has the form of a name and is not a keyword.
 #[tactic(auto, unfolding(crate::specs::Names::is_name))]
 pub fn is_name(text: &[u8]) -> bool
     ensures { result ≡ spec.is_name text.now }

@@ -1,4 +1,4 @@
-//! Readers of operators: from signs before an operand up to tests.
+//! Readers of operators, from the tightest (`Unary`, `climb`) to the loosest (`conditional`).
 
 ghost use Rattle.std.specs.Prelude.{◌≡◌, IfOk};
 ghost use Rattle.star_syntax.specs.Grammar.{first};
@@ -203,6 +203,7 @@ fn conditional_of(
 }
 
 impl<F: Fn(Global, u128, Level, &[Leaf]) -> Read<'_, Boxed<Expression>>> Grammar<F> {
+    /// `CmpOp = '==' | '!=' | '<' | '>' | '<=' | '>=' | 'in' | 'not' 'in'`
     #[tactic(auto, unfolding(crate::specs::Expressions::comparator))]
     fn comparator<'a>(&self, leaves: &'a [Leaf]) -> Option<(Comparator, &'a [Leaf])>
         ensures { Finds (reads self.now.depth spec.comparator leaves.now) result }
@@ -219,6 +220,7 @@ impl<F: Fn(Global, u128, Level, &[Leaf]) -> Read<'_, Boxed<Expression>>> Grammar
         Some((Comparator::NotIn, rest))
     }
 
+    /// `('+' | '-' | '~') Unary`
     #[tactic(auto, unfolding(crate::specs::Expressions::signed))]
     fn signed<'a>(&self, leaves: &'a [Leaf]) -> Read<'a, Boxed<Expression>>
         requires { Nests self.now.depth (F.pre self.now.expression) (F.post self.now.expression) }
@@ -233,6 +235,7 @@ impl<F: Fn(Global, u128, Level, &[Leaf]) -> Read<'_, Boxed<Expression>>> Grammar
         Ok(Some((unary_of(self.alloc, operator, operand)?, rest)))
     }
 
+    /// `Unary = ('+' | '-' | '~') Unary | Primary`
     #[tactic(auto, unfolding(crate::specs::Expressions::unary))]
     pub fn unary<'a>(&self, leaves: &'a [Leaf]) -> Read<'a, Boxed<Expression>>
         requires { Nests self.now.depth (F.pre self.now.expression) (F.post self.now.expression) }
@@ -244,6 +247,15 @@ impl<F: Fn(Global, u128, Level, &[Leaf]) -> Read<'_, Boxed<Expression>>> Grammar
         self.primary(leaves)
     }
 
+    /// The binary operators of a level and of all tighter ones; they group to the left. Level 0 is `Unary`, 1 `Term`,
+    /// and so on to 6, `BitOr`:
+    ///
+    ///     Term   = Unary {('*' | '//' | '%') Unary}
+    ///     Sum    = Term {('+' | '-') Term}
+    ///     Shift  = Sum {('<<' | '>>') Sum}
+    ///     BitAnd = Shift {'&' Shift}
+    ///     BitXor = BitAnd {'^' BitAnd}
+    ///     BitOr  = BitXor {'|' BitXor}
     #[tactic(auto, unfolding(crate::specs::Expressions::climb))]
     fn climb<'a>(&self, level: usize, leaves: &'a [Leaf]) -> Read<'a, Boxed<Expression>>
         requires { Nests self.now.depth (F.pre self.now.expression) (F.post self.now.expression) }
@@ -268,6 +280,7 @@ impl<F: Fn(Global, u128, Level, &[Leaf]) -> Read<'_, Boxed<Expression>>> Grammar
         Ok(Some((left, rest)))
     }
 
+    /// `BitOr`: the loosest of the binary operators.
     #[tactic(auto, unfolding(crate::specs::Expressions::bit_or))]
     fn bit_or<'a>(&self, leaves: &'a [Leaf]) -> Read<'a, Boxed<Expression>>
         requires { Nests self.now.depth (F.pre self.now.expression) (F.post self.now.expression) }
@@ -276,6 +289,7 @@ impl<F: Fn(Global, u128, Level, &[Leaf]) -> Read<'_, Boxed<Expression>>> Grammar
         self.climb(6, leaves)
     }
 
+    /// `CmpOp BitOr`
     #[tactic(auto, unfolding(crate::specs::Expressions::compared))]
     fn compared<'a>(&self, leaves: &'a [Leaf]) -> Read<'a, (Comparator, Boxed<Expression>)>
         requires { Nests self.now.depth (F.pre self.now.expression) (F.post self.now.expression) }
@@ -290,6 +304,7 @@ impl<F: Fn(Global, u128, Level, &[Leaf]) -> Read<'_, Boxed<Expression>>> Grammar
         Ok(Some(((comparator, right), rest)))
     }
 
+    /// `Cmp = BitOr [CmpOp BitOr]`
     #[tactic(auto, unfolding(crate::specs::Expressions::comparison))]
     fn comparison<'a>(&self, leaves: &'a [Leaf]) -> Read<'a, Boxed<Expression>>
         requires { Nests self.now.depth (F.pre self.now.expression) (F.post self.now.expression) }
@@ -309,6 +324,7 @@ impl<F: Fn(Global, u128, Level, &[Leaf]) -> Read<'_, Boxed<Expression>>> Grammar
         Ok(Some((Boxed::new(self.alloc, made)?, after)))
     }
 
+    /// `'not' Not`
     #[tactic(auto, unfolding(crate::specs::Expressions::denied))]
     fn denied<'a>(&self, leaves: &'a [Leaf]) -> Read<'a, Boxed<Expression>>
         requires { Nests self.now.depth (F.pre self.now.expression) (F.post self.now.expression) }
@@ -323,6 +339,7 @@ impl<F: Fn(Global, u128, Level, &[Leaf]) -> Read<'_, Boxed<Expression>>> Grammar
         Ok(Some((unary_of(self.alloc, UnaryOperator::Not, operand)?, rest)))
     }
 
+    /// `Not = 'not' Not | Cmp`
     #[tactic(auto, unfolding(crate::specs::Expressions::negation))]
     pub fn negation<'a>(&self, leaves: &'a [Leaf]) -> Read<'a, Boxed<Expression>>
         requires { Nests self.now.depth (F.pre self.now.expression) (F.post self.now.expression) }
@@ -334,6 +351,7 @@ impl<F: Fn(Global, u128, Level, &[Leaf]) -> Read<'_, Boxed<Expression>>> Grammar
         self.comparison(leaves)
     }
 
+    /// `'and' Not`
     #[tactic(auto, unfolding(crate::specs::Expressions::next_negation))]
     fn next_negation<'a>(&self, leaves: &'a [Leaf]) -> Read<'a, Boxed<Expression>>
         requires { Nests self.now.depth (F.pre self.now.expression) (F.post self.now.expression) }
@@ -345,6 +363,7 @@ impl<F: Fn(Global, u128, Level, &[Leaf]) -> Read<'_, Boxed<Expression>>> Grammar
         self.negation(rest)
     }
 
+    /// `And = Not {'and' Not}`
     #[tactic(auto, unfolding(crate::specs::Expressions::conjunction))]
     fn conjunction<'a>(&self, leaves: &'a [Leaf]) -> Read<'a, Boxed<Expression>>
         requires { Nests self.now.depth (F.pre self.now.expression) (F.post self.now.expression) }
@@ -363,6 +382,7 @@ impl<F: Fn(Global, u128, Level, &[Leaf]) -> Read<'_, Boxed<Expression>>> Grammar
         Ok(Some((left, rest)))
     }
 
+    /// `'or' And`
     #[tactic(auto, unfolding(crate::specs::Expressions::next_conjunction))]
     fn next_conjunction<'a>(&self, leaves: &'a [Leaf]) -> Read<'a, Boxed<Expression>>
         requires { Nests self.now.depth (F.pre self.now.expression) (F.post self.now.expression) }
@@ -374,6 +394,7 @@ impl<F: Fn(Global, u128, Level, &[Leaf]) -> Read<'_, Boxed<Expression>>> Grammar
         self.conjunction(rest)
     }
 
+    /// `Or = And {'or' And}`
     #[tactic(auto, unfolding(crate::specs::Expressions::disjunction))]
     pub fn disjunction<'a>(&self, leaves: &'a [Leaf]) -> Read<'a, Boxed<Expression>>
         requires { Nests self.now.depth (F.pre self.now.expression) (F.post self.now.expression) }
@@ -392,6 +413,7 @@ impl<F: Fn(Global, u128, Level, &[Leaf]) -> Read<'_, Boxed<Expression>>> Grammar
         Ok(Some((left, rest)))
     }
 
+    /// `'if' Or 'else' Test`
     #[tactic(auto, unfolding(crate::specs::Expressions::choice))]
     fn choice<'a>(&self, leaves: &'a [Leaf]) -> Read<'a, (Boxed<Expression>, Boxed<Expression>)>
         requires { Nests self.now.depth (F.pre self.now.expression) (F.post self.now.expression) }
@@ -412,6 +434,7 @@ impl<F: Fn(Global, u128, Level, &[Leaf]) -> Read<'_, Boxed<Expression>>> Grammar
         Ok(Some(((condition, otherwise), rest)))
     }
 
+    /// `Or ['if' Or 'else' Test]`
     #[tactic(auto, unfolding(crate::specs::Expressions::conditional))]
     pub fn conditional<'a>(&self, leaves: &'a [Leaf]) -> Read<'a, Boxed<Expression>>
         requires { Nests self.now.depth (F.pre self.now.expression) (F.post self.now.expression) }
@@ -427,6 +450,7 @@ impl<F: Fn(Global, u128, Level, &[Leaf]) -> Read<'_, Boxed<Expression>>> Grammar
         Ok(Some((made, after)))
     }
 
+    /// `Test = Or ['if' Or 'else' Test] | 'lambda' [Params] ':' Test`
     #[tactic(auto, unfolding(crate::specs::Expressions::any_test))]
     pub fn any_test<'a>(&self, leaves: &'a [Leaf]) -> Read<'a, Boxed<Expression>>
         requires { Nests self.now.depth (F.pre self.now.expression) (F.post self.now.expression) }

@@ -1,4 +1,4 @@
-//! Readers of operands and of what stands after them.
+//! Readers of operands and of their suffixes: attributes, calls, indices and slices.
 
 ghost use Rattle.std.specs.Prelude.{◌≡◌};
 ghost use Rattle.star_syntax.specs.Expressions as spec;
@@ -39,6 +39,7 @@ fn with_suffix(value: Boxed<Expression>, suffix: Suffix) -> Expression
 }
 
 impl<F: Fn(Global, u128, Level, &[Leaf]) -> Read<'_, Boxed<Expression>>> Grammar<F> {
+    /// `name | int | string`
     #[tactic(auto, unfolding(crate::specs::Expressions::atom))]
     fn atom<'a>(&self, leaves: &'a [Leaf]) -> Read<'a, Boxed<Expression>>
         ensures { Gives (reads self.now.depth spec.atom leaves.now) result }
@@ -46,6 +47,7 @@ impl<F: Fn(Global, u128, Level, &[Leaf]) -> Read<'_, Boxed<Expression>>> Grammar
         atom(self.alloc, leaves)
     }
 
+    /// `Operand = name | int | string | '(' .. ')' | '[' .. ']' | '{' .. '}'`
     #[tactic(auto, unfolding(crate::specs::Expressions::operand))]
     fn operand<'a>(&self, leaves: &'a [Leaf]) -> Read<'a, Boxed<Expression>>
         requires { Nests self.now.depth (F.pre self.now.expression) (F.post self.now.expression) }
@@ -63,6 +65,7 @@ impl<F: Fn(Global, u128, Level, &[Leaf]) -> Read<'_, Boxed<Expression>>> Grammar
         self.dict_display(leaves)
     }
 
+    /// `'.' name`
     #[tactic(auto, unfolding(crate::specs::Expressions::attribute))]
     fn attribute<'a>(&self, leaves: &'a [Leaf]) -> Read<'a, Suffix>
         ensures { Gives (reads self.now.depth spec.attribute leaves.now) result }
@@ -76,7 +79,7 @@ impl<F: Fn(Global, u128, Level, &[Leaf]) -> Read<'_, Boxed<Expression>>> Grammar
         Ok(Some((Suffix::Attribute(found), rest)))
     }
 
-    /// A test, where one stands there.
+    /// `[Test]`
     fn maybe_bound<'a>(&self, leaves: &'a [Leaf]) -> Read<'a, Option<Boxed<Expression>>>
         requires { Nests self.now.depth (F.pre self.now.expression) (F.post self.now.expression) }
         ensures { Gives (reads self.now.depth (spec.opt spec.a_test) leaves.now) result }
@@ -87,6 +90,7 @@ impl<F: Fn(Global, u128, Level, &[Leaf]) -> Read<'_, Boxed<Expression>>> Grammar
         }
     }
 
+    /// `[':' [Test]]`
     #[tactic(auto, unfolding(crate::specs::Expressions::stride))]
     fn stride<'a>(&self, leaves: &'a [Leaf]) -> Read<'a, Option<Boxed<Expression>>>
         requires { Nests self.now.depth (F.pre self.now.expression) (F.post self.now.expression) }
@@ -98,6 +102,7 @@ impl<F: Fn(Global, u128, Level, &[Leaf]) -> Read<'_, Boxed<Expression>>> Grammar
         }
     }
 
+    /// `':' [Test] [':' [Test]]`
     #[tactic(auto, unfolding(crate::specs::Expressions::stop_and_stride))]
     fn stop_and_stride<'a>(&self, leaves: &'a [Leaf]) -> Read<'a, StopAndStride>
         requires { Nests self.now.depth (F.pre self.now.expression) (F.post self.now.expression) }
@@ -115,6 +120,7 @@ impl<F: Fn(Global, u128, Level, &[Leaf]) -> Read<'_, Boxed<Expression>>> Grammar
         Ok(Some(((stop, stride), rest)))
     }
 
+    /// `':' [Test] [':' [Test]] | {',' Test}`
     #[tactic(auto, unfolding(crate::specs::Expressions::after_start))]
     fn after_start<'a>(
         &self,
@@ -132,7 +138,7 @@ impl<F: Fn(Global, u128, Level, &[Leaf]) -> Read<'_, Boxed<Expression>>> Grammar
         Ok(Some(((None, more), rest)))
     }
 
-    /// What stands between the brackets, where it begins with a test.
+    /// `Test (':' [Test] [':' [Test]] | {',' Test})`
     #[tactic(auto, unfolding(crate::specs::Expressions::from_test))]
     fn from_test<'a>(&self, leaves: &'a [Leaf]) -> Read<'a, Suffix>
         requires { Nests self.now.depth (F.pre self.now.expression) (F.post self.now.expression) }
@@ -164,7 +170,7 @@ impl<F: Fn(Global, u128, Level, &[Leaf]) -> Read<'_, Boxed<Expression>>> Grammar
         }
     }
 
-    /// What stands between the brackets.
+    /// `Tests | [Test] ':' [Test] [':' [Test]]`
     #[tactic(auto, unfolding(crate::specs::Expressions::in_brackets))]
     fn in_brackets<'a>(&self, leaves: &'a [Leaf]) -> Read<'a, Suffix>
         requires { Nests self.now.depth (F.pre self.now.expression) (F.post self.now.expression) }
@@ -187,6 +193,7 @@ impl<F: Fn(Global, u128, Level, &[Leaf]) -> Read<'_, Boxed<Expression>>> Grammar
         )))
     }
 
+    /// `'[' Tests ']' | '[' [Test] ':' [Test] [':' [Test]] ']'`
     #[tactic(auto, unfolding(crate::specs::Expressions::subscript))]
     fn subscript<'a>(&self, leaves: &'a [Leaf]) -> Read<'a, Suffix>
         requires { Nests self.now.depth (F.pre self.now.expression) (F.post self.now.expression) }
@@ -204,6 +211,7 @@ impl<F: Fn(Global, u128, Level, &[Leaf]) -> Read<'_, Boxed<Expression>>> Grammar
         Ok(Some((found, rest)))
     }
 
+    /// `'.' name | '(' .. ')' | '[' .. ']'`
     #[tactic(auto, unfolding(crate::specs::Expressions::suffix))]
     fn suffix<'a>(&self, leaves: &'a [Leaf]) -> Read<'a, Suffix>
         requires { Nests self.now.depth (F.pre self.now.expression) (F.post self.now.expression) }
@@ -218,6 +226,7 @@ impl<F: Fn(Global, u128, Level, &[Leaf]) -> Read<'_, Boxed<Expression>>> Grammar
         self.subscript(leaves)
     }
 
+    /// `Primary = Operand {suffix}`
     #[tactic(auto, unfolding(crate::specs::Expressions::primary))]
     pub fn primary<'a>(&self, leaves: &'a [Leaf]) -> Read<'a, Boxed<Expression>>
         requires { Nests self.now.depth (F.pre self.now.expression) (F.post self.now.expression) }

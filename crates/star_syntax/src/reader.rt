@@ -1,5 +1,12 @@
-//! What every reader uses: the answers, the leaves that stand for themselves, and the grammar of expressions to a
-//! depth.
+//! The common part of all readers: the type of their answers, the readers of single tokens, and `Grammar`, the readers
+//! of expressions to a depth.
+//!
+//! Readers of expressions, targets and clauses return boxes, so no tree is moved from level to level, and an early end
+//! frees a box and not a tree of twenty forms: that halved the time of the proof. For the same reason an unused tree is
+//! given to `drop` by name.
+//!
+//! A name, an int or a string before a word that ends an expression is read at once (`alone`); each level of the
+//! grammar would read the same (`specs/Alone`).
 
 ghost use Rattle.std.specs.Prelude.{◌≡◌, ◌∷◌, true, IfOk};
 ghost use Rattle.star_syntax.specs.Alone.{ReadAlone};
@@ -16,11 +23,14 @@ use star_text::Text;
 use star_tree::tree::{Expression, Name, Position};
 use std::alloc::{AllocError, Global};
 
-/// What a reader answers: the value at the front of the leaves and the leaves after it, or nothing where it reads
-/// none.
+/// The answer of a reader: the value at the front of the leaves and the leaves after it; or `None` if it reads nothing
+/// there.
 pub type Read<'a, T> = Result<Option<(T, &'a [Leaf])>, AllocError>;
 
 /// The grammar of expressions, with others nested in them no deeper than a depth.
+///
+/// Its readers are its methods. A repetition takes at most as many rounds as there are leaves, since each round takes
+/// one at least: it is written as a `for` over that number, so that the checker sees its end.
 #[derive(Clone, Copy)]
 pub struct Grammar<F> {
     pub alloc: Global,
@@ -30,6 +40,7 @@ pub struct Grammar<F> {
     pub expression: F,
 }
 
+/// Whether two signs are the same.
 #[tactic(auto, unfolding(crate::specs::Expressions::same_sign))]
 fn same_sign(one: Sign, other: Sign) -> bool
     ensures { result ≡ spec.same_sign one other }
@@ -62,7 +73,7 @@ fn is_keyword(expected: Keyword, word: &Word) -> bool
     }
 }
 
-/// The sign, where it stands at the front of the leaves.
+/// The sign, if it is at the front of the leaves.
 pub fn sign(expected: Sign, leaves: &[Leaf]) -> Option<((), &[Leaf])>
     ensures { Finds (first (λ t. spec.is_sign expected t.word) leaves.now) result }
 {
@@ -72,7 +83,7 @@ pub fn sign(expected: Sign, leaves: &[Leaf]) -> Option<((), &[Leaf])>
     }
 }
 
-/// The keyword, where it stands at the front of the leaves.
+/// The keyword, if it is at the front of the leaves.
 pub fn keyword(expected: Keyword, leaves: &[Leaf]) -> Option<((), &[Leaf])>
     ensures { Finds (first (λ t. spec.is_keyword expected t.word) leaves.now) result }
 {
@@ -82,7 +93,7 @@ pub fn keyword(expected: Keyword, leaves: &[Leaf]) -> Option<((), &[Leaf])>
     }
 }
 
-/// The position of the sign, where it stands at the front of the leaves.
+/// The position of the sign, if it is at the front of the leaves.
 pub fn sign_at(expected: Sign, leaves: &[Leaf]) -> Option<(Position, &[Leaf])>
     ensures { Finds (first (λ t. spec.placed_at t.position (spec.is_sign expected t.word)) leaves.now) result }
 {
@@ -92,7 +103,7 @@ pub fn sign_at(expected: Sign, leaves: &[Leaf]) -> Option<(Position, &[Leaf])>
     }
 }
 
-/// The position of the keyword, where it stands at the front of the leaves.
+/// The position of the keyword, if it is at the front of the leaves.
 pub fn keyword_at(expected: Keyword, leaves: &[Leaf]) -> Option<(Position, &[Leaf])>
     ensures { Finds (first (λ t. spec.placed_at t.position (spec.is_keyword expected t.word)) leaves.now) result }
 {
@@ -168,7 +179,7 @@ fn ends(word: &Word) -> bool
     }
 }
 
-/// The name, int or string at the front of the leaves, where the leaf after it ends the expression.
+/// The name, int or string at the front of the leaves, if the leaf after it ends the expression.
 fn alone(alloc: Global, leaves: &[Leaf]) -> Read<'_, Boxed<Expression>>
     ensures { ReadAlone leaves.now result }
 {
@@ -182,13 +193,22 @@ fn alone(alloc: Global, leaves: &[Leaf]) -> Read<'_, Boxed<Expression>>
 pub fn onto<T: Drop>(alloc: Global, first: T, more: Items<T>) -> Result<Items<T>, AllocError>
     ensures { IfOk result (λ all. all ≡ first ∷ more) }
 {
-    let mut all = Items::new(alloc);
+    let mut all = Items::from_vec(Vec::with_capacity(alloc, more.len() + 1)?);
     all.push(first)?;
     all.append(more)?;
     Ok(all)
 }
 
-/// One test stands for itself, none or several for a tuple of them.
+/// The same items, with no more room than they need.
+pub fn exact<T: Drop>(alloc: Global, items: Items<T>) -> Result<Items<T>, AllocError>
+    ensures { IfOk result (λ all. all ≡ items) }
+{
+    let mut all = Items::from_vec(Vec::with_capacity(alloc, items.len())?);
+    all.append(items)?;
+    Ok(all)
+}
+
+/// One test is itself; none or several are a tuple.
 pub fn tuple_unless_one(mut found: Items<Expression>) -> Expression
     ensures { result ≡ spec.tuple_unless_one found }
 {
@@ -213,6 +233,7 @@ impl<F: Fn(Global, u128, Level, &[Leaf]) -> Read<'_, Boxed<Expression>>> Grammar
         (self.expression)(self.alloc, self.depth, level, leaves)
     }
 
+    /// `',' Test`
     #[tactic(auto, unfolding(crate::specs::Expressions::next_test))]
     pub fn next_test<'a>(&self, leaves: &'a [Leaf]) -> Read<'a, Boxed<Expression>>
         requires { Nests self.now.depth (F.pre self.now.expression) (F.post self.now.expression) }
@@ -224,6 +245,7 @@ impl<F: Fn(Global, u128, Level, &[Leaf]) -> Read<'_, Boxed<Expression>>> Grammar
         self.nested(Level::Test, rest)
     }
 
+    /// `Test {',' Test}`
     #[tactic(auto, unfolding(crate::specs::Expressions::list_of_tests))]
     pub fn list_of_tests<'a>(&self, leaves: &'a [Leaf]) -> Read<'a, Items<Expression>>
         requires { Nests self.now.depth (F.pre self.now.expression) (F.post self.now.expression) }
@@ -244,6 +266,7 @@ impl<F: Fn(Global, u128, Level, &[Leaf]) -> Read<'_, Boxed<Expression>>> Grammar
         Ok(Some((found, rest)))
     }
 
+    /// `{',' Test}`
     #[tactic(auto, unfolding(crate::specs::Expressions::further_tests))]
     pub fn further_tests<'a>(&self, leaves: &'a [Leaf]) -> Read<'a, Items<Expression>>
         requires { Nests self.now.depth (F.pre self.now.expression) (F.post self.now.expression) }
@@ -261,6 +284,7 @@ impl<F: Fn(Global, u128, Level, &[Leaf]) -> Read<'_, Boxed<Expression>>> Grammar
         Ok(Some((found, rest)))
     }
 
+    /// `Tests = Test {',' Test}`; several are a tuple.
     #[tactic(auto, unfolding(crate::specs::Expressions::tests))]
     pub fn tests<'a>(&self, leaves: &'a [Leaf]) -> Read<'a, Boxed<Expression>>
         requires { Nests self.now.depth (F.pre self.now.expression) (F.post self.now.expression) }
@@ -268,6 +292,10 @@ impl<F: Fn(Global, u128, Level, &[Leaf]) -> Read<'_, Boxed<Expression>>> Grammar
     {
         let Some((found, rest)) = self.list_of_tests(leaves)? else {
             return Ok(None);
+        };
+        let found = match found.len() {
+            1 => found,
+            _ => exact(self.alloc, found)?,
         };
         Ok(Some((Boxed::new(self.alloc, tuple_unless_one(found))?, rest)))
     }

@@ -1,8 +1,10 @@
-//! The text of a name or of a string.
+//! The text of a name or of a string, shared by all that hold it.
 //!
-//! `Text` is a string that is UTF-8 by its type and that contracts see as its bytes. Its copies share the bytes
-//! (`Text::share` takes no memory), so a name of a tree, the string of a cell and the key of a dictionary may be one
-//! text. Trees (`star_tree`) and cells (`star_store`) are made of it.
+//! - `Text` is a string that is UTF-8 by its type. A copy (`Text::share`) counts one more holder and copies no bytes,
+//!   so a name of a tree, a string on the heap and the key of a dictionary may be one text.
+//!
+//! A copy equals its original; `==` and hashing go by the bytes. Trees (`star_tree`) and heap objects (`star_store`)
+//! are made of it.
 #![tactic(auto)]
 
 ghost use Rattle.std.specs.Prelude.{◌≡◌, IfOk, nat_eq, string_bytes};
@@ -17,8 +19,7 @@ use std::hash::{Hash, Hasher};
 use std::marker::Model;
 use std::sync::ArcStr;
 
-/// A text that its copies share. Contracts see its bytes, so that a copy equals what it copies. It is UTF-8 by its
-/// type.
+/// A string whose copies share its bytes. It is UTF-8 by its type. Contracts see it as its list of bytes.
 #[derive(Debug, Drop)]
 pub struct Text {
     inner: ArcStr,
@@ -34,7 +35,7 @@ impl Model for Text {
 }
 
 impl Text {
-    /// A text with these bytes.
+    /// A text with a copy of these bytes. The error: an allocation failed.
     pub fn new(alloc: Global, text: &str) -> Result<Text, AllocError>
         ensures { IfOk result (λ made. made ≡ text.now) }
     {
@@ -43,7 +44,7 @@ impl Text {
         })
     }
 
-    /// A text with the bytes of a `String`, which are not copied.
+    /// A text with the bytes of a `String`, which are not copied. The error: an allocation failed.
     pub fn of(text: String) -> Result<Text, AllocError>
         ensures { IfOk result (λ made. made ≡ string_bytes text) }
     {
@@ -61,6 +62,7 @@ impl Text {
         })
     }
 
+    /// The bytes of the text, borrowed.
     pub fn as_str(&self) -> &str
         ensures { result.now ≡ self.now }
     {

@@ -12,14 +12,14 @@ pub struct Position {
     pub token: usize,
 }
 
-/// A name where it is read or bound.
+/// A name that is read or bound.
 #[derive(Drop)]
 pub struct Name {
     pub text: Text,
     pub position: Position,
 }
 
-/// A string where its place matters: in a load statement.
+/// A string whose position matters: in a load statement.
 #[derive(Drop)]
 pub struct Literal {
     pub text: Text,
@@ -35,7 +35,7 @@ pub enum UnaryOperator {
     Not,
 }
 
-/// A sign between two operands, which groups to the left. It stands before `=` in an augmented assignment too.
+/// A binary operator; it groups to the left. In an augmented assignment it comes before the `=`.
 #[derive(Clone, Copy, Debug, PartialEq, Eq)]
 pub enum BinaryOperator {
     Add,
@@ -50,7 +50,7 @@ pub enum BinaryOperator {
     BitOr,
 }
 
-/// A sign of a comparison. There is no chain of them.
+/// A sign of a comparison. Comparisons do not chain.
 #[derive(Clone, Copy, Debug, PartialEq, Eq)]
 pub enum Comparator {
     Equal,
@@ -63,7 +63,8 @@ pub enum Comparator {
     NotIn,
 }
 
-/// A value that a statement computes. Parentheses leave no mark.
+/// A value that a statement computes. Parentheses leave no mark. Forty bytes: the large parts of rare forms are in
+/// boxes.
 #[cycle(tree)]
 #[derive(Drop)]
 pub enum Expression {
@@ -78,13 +79,13 @@ pub enum Expression {
     ListComprehension {
         position: Position,
         element: Boxed<Expression>,
-        clauses: Clauses,
+        clauses: Boxed<Clauses>,
     },
     /// `{key: value for ..}`; the position is that of the brace.
     DictComprehension {
         position: Position,
         entry: Boxed<Entry>,
-        clauses: Clauses,
+        clauses: Boxed<Clauses>,
     },
     Unary {
         operator: UnaryOperator,
@@ -117,7 +118,7 @@ pub enum Expression {
     /// The position is that of `lambda`.
     Lambda {
         position: Position,
-        parameters: Items<Parameter>,
+        parameters: Boxed<Items<Parameter>>,
         body: Boxed<Expression>,
     },
     Call {
@@ -144,11 +145,11 @@ pub enum Expression {
 #[cycle(tree)]
 #[derive(Drop)]
 pub struct Entry {
-    pub key: Boxed<Expression>,
-    pub value: Boxed<Expression>,
+    pub key: Expression,
+    pub value: Expression,
 }
 
-/// What stands between the parentheses of a call.
+/// An argument of a call.
 #[cycle(tree)]
 #[derive(Drop)]
 pub enum Argument {
@@ -160,7 +161,7 @@ pub enum Argument {
     StarStar(Expression),
 }
 
-/// What stands between the parentheses of a definition, or after `lambda`.
+/// A parameter of a `def` or a `lambda`.
 #[cycle(tree)]
 #[derive(Drop)]
 pub enum Parameter {
@@ -169,13 +170,13 @@ pub enum Parameter {
     Default { name: Name, default: Expression },
     /// `*name`.
     Star(Name),
-    /// `*` alone: what follows is given by name.
+    /// `*` alone: the parameters after it are given by keyword only.
     BareStar,
     /// `**name`.
     StarStar(Name),
 }
 
-/// What a value is bound or written to.
+/// A target: a value is bound or written to it.
 #[cycle(tree)]
 #[derive(Drop)]
 pub enum Target {
@@ -190,7 +191,7 @@ pub enum Target {
     List(Items<Target>),
 }
 
-/// The clauses of a comprehension: a `for`, and what follows it.
+/// The clauses of a comprehension: a `for`, and the clauses after it.
 #[cycle(tree)]
 #[derive(Drop)]
 pub struct Clauses {
@@ -218,7 +219,7 @@ pub struct Statement {
     pub form: Form,
 }
 
-/// What a statement does.
+/// The form of a statement.
 #[cycle(statement)]
 #[derive(Drop)]
 pub enum Form {

@@ -1,4 +1,4 @@
--- What a pattern matches, by its first byte.
+-- The matches of a pattern, by its first byte.
 use Rattle.std.proofs.Common.{◌≡◌, ◌≢◌, ◌⊎◌, inl, inr, ℕ, List, [], ◌∷◌, ◌++◌, length, refl, ap, sym, ◌∙◌, subst, arith}
 use Rattle.star_words.specs.Glob.{Matches, MatchesFrom}
 

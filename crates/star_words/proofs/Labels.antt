@@ -14,7 +14,7 @@ use Rattle.star_words.proofs.Members.{in_back, in_either, in_front}
 abbrev given : Option (List ℕ) → Result (Option (List ℕ)) ServeError
 given o = Ok o
 
--- what `label_in` answers of a text
+-- the answer of `label_in` for a text
 pub is_none : (t : List ℕ) (o : Option Label) → option_map text_of o ≡ if_label t → o ≡ None → is_label t ≡ false
 is_none t o h e = is_no_label t t o (ap given (sym h)) e refl
 
@@ -31,7 +31,7 @@ all_more ts t all is u h = elim (in_either u ts (t ∷ []) h) [
   ]
 ]
 
--- the same of what stands among labels
+-- the same of a label among labels
 pub are_more : (ls ms ts : List (List ℕ)) (t : List ℕ) → ((m : List ℕ) → IsIn m ls ↔ IsIn m ts) → ((m : List ℕ) → IsIn m ms ↔ (IsIn m ls ⊎ (m ≡ t))) → (m : List ℕ) → IsIn m ms ↔ IsIn m (ts ++ t ∷ [])
 are_more ls ms ts t same more m = (
   (λ i. elim ((more m).0 i) [
@@ -44,7 +44,7 @@ are_more ls ms ts t same more m = (
   ])),
 )
 
--- what is asked for without a prelude, and with one
+-- the labels that are asked for without a prelude, and with one
 pub without_prelude : (ts ls : List (List ℕ)) → AllLabels ts → ((m : List ℕ) → IsIn m ls ↔ IsIn m ts) → AreAsked ts None ls
 without_prelude ts ls all same = record {
   are = (all, λ p e. absurd (let no : ⊥ = cc in no));

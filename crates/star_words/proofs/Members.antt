@@ -1,4 +1,4 @@
--- What stands in lists, and among labels in their order.
+-- The members of lists, and of labels in their order.
 use Rattle.std.proofs.Common.{◌≡◌, ◌<◌, ◌⊎◌, inl, inr, ℕ, zero, suc, List, [], ◌∷◌, ◌++◌, arith, get_or, length, map, refl, ap, sym, ◌∙◌}
 use Rattle.std.specs.BTreeSet.{insert_key}
 use Rattle.std.specs.Cmp.Lexicographic.{slice_cmp}

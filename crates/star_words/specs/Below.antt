@@ -1,4 +1,4 @@
--- Files below a folder.
+-- The files below a folder.
 use Rattle.std.specs.Prelude.{◌≡◌, ◌⊎◌, ℕ, List}
 use Rattle.star_label.specs.Label.{label_text, with_folder}
 use Rattle.star_words.specs.Glob.{Matches}

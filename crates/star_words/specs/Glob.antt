@@ -1,8 +1,8 @@
--- Which names a pattern matches.
+-- Patterns with `*` and `?`, and the names that they match.
 use Rattle.std.specs.Prelude.{◌≡◌, ◌≢◌, ◌⊎◌, ℕ, List, [], ◌∷◌, ◌++◌}
 
--- the first byte of a pattern matches the front of the name, and what comes after it the rest: `*`, 42, stands for any
--- bytes, `?`, 63, for one byte, and any other for itself
+-- the first byte of a pattern matches the front of the name, and the rest of the pattern the rest of it: `*`, 42,
+-- matches any bytes, `?`, 63, one byte, and any other itself
 abbrev pub MatchesFrom : ℕ → (List ℕ → Type 0) → List ℕ → Type 0
 MatchesFrom first more name =
     ((first ≡ 42) × (front : List ℕ) × (rest : List ℕ) × (name ≡ front ++ rest) × more rest)

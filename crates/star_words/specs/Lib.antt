@@ -1,3 +1,4 @@
+-- The labels that the words of a command line name.
 pub mod Rows
 pub mod Words
 pub mod Named

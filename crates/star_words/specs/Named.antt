@@ -1,4 +1,4 @@
--- What a run is asked for, by the texts of labels.
+-- The labels that a run is asked for, by the texts of labels.
 use Rattle.std.specs.Prelude.{◌≡◌, ◌↔◌, ◌⊎◌, ⊤, ℕ, List, [], ◌∷◌, true, false, Option, Some, String, map, string_bytes}
 use Rattle.std.specs.declared.alloc.Global.{Global}
 use Rattle.star_bundle.specs.Bundle.{is_label}
@@ -33,7 +33,7 @@ pub record AreAsked (roots : List (List ℕ)) (prelude : Option (List ℕ)) (lab
   pub are : AreLabels roots prelude
   pub labels_are : (l : List ℕ) → IsIn l labels ↔ (IsIn l roots ⊎ (prelude ≡ Some l))
 
--- why there are none: a root, or else the prelude, is no label in normal form
+-- why there are none: a root, or else the prelude, is not a label in normal form
 abbrev pub IsMisnamed : List (List ℕ) → Option (List ℕ) → ServeError → Type 0
 IsMisnamed roots prelude BadRoot = OneIsNone roots
 IsMisnamed roots prelude BadPrelude =
@@ -41,8 +41,8 @@ IsMisnamed roots prelude BadPrelude =
 IsMisnamed roots prelude Memory = ⊤
 IsMisnamed roots prelude e = ⊥
 
--- what a word names in the package `here`: a label, where the word reads as one; else the label of the file to which
--- it leads as a path, if any
+-- the label that a word names in the package `here`: itself, if the word reads as a label; else the label of the file
+-- to which it leads as a path, if any
 abbrev pub Names : List ℕ → List ℕ → Option (List ℕ) → Type 0
 Names here word found =
     ((p n : List ℕ) → Reads here word p n → found ≡ Some (label_text p n))

@@ -1,4 +1,4 @@
--- Which label a path names.
+-- The label that a path names.
 use denote.Ref.{Bor}
 use Rattle.std.specs.Prelude.{◌≡◌, ℕ, ◌-◌, List, [], ◌∷◌, ◌++◌, ◌==◌, length, map, take, Bool, true, false, ◌&&◌, ◌||◌, Option, Some, None, if◌then◌else◌, slice_index_or}
 use Rattle.std.specs.List.{list_all}
@@ -18,7 +18,7 @@ abbrev pub above : List (List ℕ) → Option (List (List ℕ))
 above [] = None
 above (f ∷ fs) = Some (take (length (f ∷ fs) - 1) (f ∷ fs))
 
--- where a part of a path leads from the folder that these folders lead to, from the top down
+-- the folder to which a part of a path leads from the one that these folders lead to, from the top down
 abbrev pub led : List (List ℕ) → List ℕ → Option (List (List ℕ))
 led fs p = if stays p then Some fs else (if goes_up p then above fs else Some (fs ++ p ∷ []))
 

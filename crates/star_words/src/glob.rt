@@ -1,4 +1,4 @@
-//! Which names a pattern matches.
+//! `*` and `?` in the name of a pattern.
 
 ghost use Rattle.std.specs.Prelude.{◌≡◌, false, length, true};
 ghost use Rattle.star_words.specs.Glob.{Matches};
@@ -14,8 +14,7 @@ fn is_end(name: &[u8]) -> bool
     false
 }
 
-/// Whether a pattern matches a name: `*` stands for any bytes, none among them, `?` for one byte, and any other byte for
-/// itself.
+/// Whether a pattern matches a name: `*` matches any bytes or none, `?` one byte, and any other byte itself.
 pub fn matches(pattern: &[u8], name: &[u8]) -> bool
     ensures yes { result ≡ true → Matches pattern.now name.now }
     ensures no { result ≡ false → Matches pattern.now name.now → ⊥ }

@@ -1,4 +1,4 @@
-//! The labels that a run is asked for.
+//! The labels of the roots and of the prelude, from the words of the command line.
 
 ghost use Rattle.std.specs.Prelude.{◌≡◌, ◌↔◌, ◌⊎◌, ℕ, List, IfOk, IfErr, MatchOption, option_map, string_bytes, true};
 ghost use Rattle.star_bundle.specs.Bundle.{is_label};
@@ -14,7 +14,7 @@ use star_label::label::Label;
 use std::alloc::{AllocError, Global};
 use std::collections::BTreeSet;
 
-/// The label that a text is the normal form of: none for another text.
+/// The label whose normal form a text is; `None` for another text.
 fn label_in(alloc: Global, text: &str) -> Result<Option<Label>, AllocError>
     ensures { IfOk result (λ label. option_map text_of label ≡ if_label text.now) }
 {
@@ -31,7 +31,7 @@ fn label_in(alloc: Global, text: &str) -> Result<Option<Label>, AllocError>
     }
 }
 
-/// Puts a label among others. False where the text is no label in normal form.
+/// Puts a label among others. False if the text is not a label in normal form.
 fn add_label(alloc: Global, labels: &mut BTreeSet<Label>, text: &str) -> Result<bool, AllocError>
     ensures is { IfOk result (λ is. is_label text.now ≡ is) }
     ensures added { IfOk result (λ is. is ≡ true → (m : List ℕ) → IsIn m (labels_of labels.new.keys)
@@ -44,7 +44,7 @@ fn add_label(alloc: Global, labels: &mut BTreeSet<Label>, text: &str) -> Result<
     Ok(true)
 }
 
-/// The labels of roots: none where one is no label in normal form.
+/// The labels of roots; `None` if one is not a label in normal form.
 fn root_labels(alloc: Global, roots: &[String]) -> Result<Option<BTreeSet<Label>>, AllocError>
     ensures { IfOk result (λ labels. MatchOption labels
         (OneIsNone (texts_of roots.now))
@@ -60,8 +60,8 @@ fn root_labels(alloc: Global, roots: &[String]) -> Result<Option<BTreeSet<Label>
     Ok(Some(labels))
 }
 
-/// The labels that a run is asked for: those of its roots, and that of its prelude. `BadRoot` where a root is no label
-/// in normal form, else `BadPrelude` where the prelude is none.
+/// The labels that a run is asked for: those of its roots, and that of its prelude. `BadRoot` if a root is not a label
+/// in normal form, else `BadPrelude` if the prelude is not one.
 pub fn asked_labels(
     alloc: Global,
     roots: &[String],

@@ -1,4 +1,4 @@
-//! Words that ask for all files below a folder.
+//! Words such as `//app/...`: the labels of all files below a folder.
 
 ghost use Rattle.std.specs.Prelude.{◌≡◌, ◌+◌, ◌≤◌, ◌∷◌, ◌++◌, [], ℕ, List, IfOk, IfSome, MatchOption, OnOk, length, string_bytes, vec_len};
 ghost use Rattle.star_label.specs.Label.{label_text, with_folder};
@@ -27,7 +27,8 @@ pub trait Listing {
     fn entries(&mut self, alloc: Global, path: &str) -> Result<BTreeMap<String, Kind>, FolderError>;
 }
 
-/// What stands before `...` in a word that asks for all files below a folder: `...`, `a/...`, `//...` or `//a/...`.
+/// The folder of a word that asks for all files below it: the text before `...` in `...`, `a/...`, `//...` or
+/// `//a/...`.
 pub fn front_of(word: &str) -> Option<&str> {
     let front = word.strip_suffix("...")?;
     if front == "" || front.ends_with('/') {
@@ -37,7 +38,7 @@ pub fn front_of(word: &str) -> Option<&str> {
     }
 }
 
-/// A label in the folder that such a word asks for, in the package `here`: its package is that folder. None where no
+/// A label in the folder that such a word asks for, in the package `here`: its package is that folder. `None` if no
 /// label names a file there.
 pub fn label_below(alloc: Global, here: &str, front: &str) -> Result<Option<Label>, LabelError> {
     let (from, path) = match front.strip_prefix("//") {
@@ -52,7 +53,7 @@ pub fn label_below(alloc: Global, here: &str, front: &str) -> Result<Option<Labe
     label_of(alloc, from, file.as_str())
 }
 
-/// The label of a file in the folder at a path: none where its name is no segment.
+/// The label of a file in the folder at a path; `None` if its name is not a segment.
 fn file_label(alloc: Global, path: &str, name: &str) -> Result<Option<Label>, AllocError>
     ensures { IfOk result (λ found. IfSome found (λ label. text_of label ≡ label_text path.now name.now)) }
 {
@@ -80,7 +81,7 @@ fn inside(alloc: Global, path: &str, name: &str) -> Result<String, AllocError>
     Ok(text)
 }
 
-/// Goes where an entry of the folder at a path leads.
+/// Follows an entry of the folder at a path.
 fn enter(
     alloc: Global,
     walk: &mut Walk,
@@ -112,7 +113,7 @@ fn enter(
     Ok(())
 }
 
-/// Goes where the entries of the folder at a path lead.
+/// Follows the entries of the folder at a path.
 fn enter_all(
     alloc: Global,
     walk: &mut Walk,
@@ -131,7 +132,7 @@ fn enter_all(
     Ok(())
 }
 
-/// Lists a folder. `BadDir` where it cannot be listed, `TooMany` where more than 1,000,000 entries would be listed then.
+/// Lists a folder. `BadDir` if it cannot be listed, `TooMany` if more than 1,000,000 entries would be listed then.
 fn listed<F: Listing>(
     alloc: Global,
     folder: &mut F,
@@ -168,9 +169,9 @@ fn next_place(walk: &mut Walk) -> Option<String>
     walk.places.pop()
 }
 
-/// The labels of all files below the folder at `top` whose names a pattern matches. Names that are no segment are left
-/// out, a folder with all that it has, and so is what is neither a file nor a folder, such as a link. `BadDir` where a
-/// folder cannot be listed, `TooMany` where more than 1,000,000 entries are listed.
+/// The labels of all files below the folder at `top` whose names a pattern matches. Names that are not segments are
+/// left out, a folder with all that it has, and so are entries that are neither a file nor a folder, such as a link.
+/// `BadDir` if a folder cannot be listed, `TooMany` if more than 1,000,000 entries are listed.
 pub fn files_below<F: Listing>(
     alloc: Global,
     folder: &mut F,

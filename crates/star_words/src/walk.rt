@@ -1,4 +1,4 @@
-//! A walk through the folders below one.
+//! A walk through the folders below one, which lists them and reads no file.
 
 ghost use Rattle.std.specs.Prelude.{◌≤◌};
 

@@ -1,4 +1,4 @@
-//! The label that a path names.
+//! The label that a path or a label on the command line names.
 
 ghost use Rattle.std.specs.Prelude.{◌≡◌, ℕ, List, None, IfOk, IfErr, MatchOption, option_map, true};
 ghost use Rattle.star_label.specs.Label.{is_package, parts};
@@ -11,8 +11,7 @@ use star_label::error::LabelError;
 use star_label::label::Label;
 use std::alloc::{AllocError, Global};
 
-/// Goes where a part of a path leads: an empty part and `.` stay in the folder, `..` goes up. False where it leads out
-/// of the top.
+/// Follows a part of a path: an empty part and `.` stay in the folder, `..` goes up. False if it leads out of the top.
 fn enter<'a>(folders: &mut Vec<&'a str>, part: &'a str) -> Result<bool, AllocError>
     ensures { IfOk result (λ there.
         Leads (led (folders_of folders.old.items) part.now) there (folders_of folders.new.items)) }
@@ -27,7 +26,7 @@ fn enter<'a>(folders: &mut Vec<&'a str>, part: &'a str) -> Result<bool, AllocErr
     Ok(true)
 }
 
-/// Goes where a path leads.
+/// Follows a path.
 fn enter_all<'a>(folders: &mut Vec<&'a str>, path: &'a str) -> Result<bool, AllocError>
     ensures { IfOk result (λ there.
         Leads (led_by (folders_of folders.old.items) (parts path.now)) there (folders_of folders.new.items)) }
@@ -42,8 +41,8 @@ fn enter_all<'a>(folders: &mut Vec<&'a str>, path: &'a str) -> Result<bool, Allo
     enter(folders, rest)
 }
 
-/// The label of the file that a path leads to from the folder of the package `here`, where it lies below the top and
-/// its folders and its name are segments.
+/// The label of the file that a path leads to from the folder of the package `here`, if it lies below the top and its
+/// folders and its name are segments.
 pub fn label_of(alloc: Global, here: &str, path: &str) -> Result<Option<Label>, LabelError>
     ensures label { IfOk result (λ o. option_map text_of o ≡ label_of_path here.now path.now) }
     ensures only { IfErr result (λ e. e ≡ LabelError.Memory) }
@@ -90,7 +89,7 @@ fn label_below(alloc: Global, here: &str, path: &str) -> Result<Option<Label>, L
     label_of(alloc, here, path)
 }
 
-/// The texts of the labels that words name in the package `here`: none where one names no label.
+/// The texts of the labels that words name in the package `here`; `None` if one names no label.
 pub fn labels_of_words(
     alloc: Global,
     here: &str,

@@ -1,4 +1,4 @@
--- Parameters that stand in order, one after another; and the layouts of a program's definitions.
+-- Parameters in order, one after another; and the layouts of a program's definitions.
 use Rattle.std.proofs.Common.{◌≡◌, ◌<◌, ◌≤◌, ℕ, ◌+◌, List, ◌∷◌, drop, get_or, length, Option, Some, None, Result, Ok, Err, ap, sym, subst, ◌∙◌, ⊎_elim, arith}
 use Rattle.std.specs.Prelude.{IfOk, IfSome}
 use Rattle.std.specs.BTreeMap.{BTreeMap, IsEmpty, Updates, get}

@@ -1,4 +1,4 @@
--- The programs of files: what is known of each, and the outlines of all.
+-- The programs of files: the facts of each, and the outlines of all.
 use Rattle.std.proofs.Common.{◌≡◌, ℕ, ◌+◌, Bool, true, false, not, ◌&&◌, ◌||◌, List, [], ◌∷◌, length, slice_get, Option, Some, None, refl, ap, sym, subst, ◌∙◌}
 use Rattle.std.specs.Prelude.{IfSome}
 use Rattle.std.specs.Option.{is_some, option_and_then, option_flatten, option_map}
@@ -16,7 +16,7 @@ use Rattle.star_meaning.specs.Programs.{Files, IsOfFile, PlacedFile, file_in, ou
 use Rattle.star_world.specs.declared.orders.Order.{Order}
 use Rattle.star_world.specs.Orders.{AreLaidOut, HasLayout, Layout}
 
--- what is known of the program of some file
+-- the facts of the program of some file
 pub definitions_are : (p : Program) → IsOfFile p → p.definitions ≡ (outline p.statements.now).definitions
 definitions_are p h = h.4.definitions ∙ ap (λ ss. (outline ss).definitions) (sym h.4.statements)
 
@@ -29,7 +29,7 @@ pub order_known : (p : Program) (number : ℕ) (l : Layout) (names : Names) → 
 order_known p number l names h k e d there =
     subst (λ (ns : Names). AreLaidOut (spot_at p.spots) ns l d.parameters) (sym e) (k d (ap (λ ds. definition_in ds number) (definitions_are p h) ∙ there))
 
--- a name stands among names where it stands among these, each once
+-- a name has the same place among names as among these, each once
 here_or_later : (b c : Bool) → (b || (not b && c)) ≡ (b || c)
 here_or_later true c = refl
 here_or_later false c = refl

@@ -1,4 +1,4 @@
--- Files more, and what a setting knows of the files whose outlines it has.
+-- More files, and the facts of a setting about the files whose outlines it has.
 use Rattle.std.proofs.Common.{◌≡◌, ℕ, List, [], ◌∷◌, ◌++◌, map, Option, Some, None, Result, Ok, Err, refl, ap, sym, ◌∙◌, slice_get}
 use Rattle.std.specs.Prelude.{IfOk, IfSome}
 use Rattle.std.specs.Option.{option_and_then, option_flatten, option_map}
@@ -39,7 +39,7 @@ trees_pushed xs files x p h k =
     ∙ ap (λ y. trees_of files ++ y ∷ []) (k ∙ of_placed p)
     ∙ sym (map-append (option_map (λ f. f.statements)) files (option_map (λ p. placed_file p.now) p ∷ []))
 
--- what is resolved is of a file
+-- a resolved program is of a file
 pub of_file : (labels : List File) (n : ℕ) (prelude : Option Prelude) (ss : List Statement) (o : Result Program ScopeFault) → Resolves labels n prelude ss o → IfOk o (λ p. IsOfFile p)
 of_file labels n prelude ss (Ok p) h = (n, prelude, ss, h.0, h.3)
 of_file labels n prelude ss (Err e) h = tt

@@ -1,4 +1,4 @@
--- How the parameters of a definition stand in the first slots of its frames, in order.
+-- The layout of a definition's parameters: how they take the first slots of its frames, in order.
 use Rattle.std.specs.Prelude.{◌≡◌, ◌<◌, ◌≤◌, ◌+◌, ◌&&◌, ℕ, suc, nat_eq, nat_lt, not, Bool, true, false, List, [], ◌∷◌, length, Option, Some, None, slice_get}
 use Rattle.std.specs.BTreeMap.{BTreeMap, get}
 use Rattle.std.specs.Ordering.{nat_cmp}
@@ -17,9 +17,9 @@ use Rattle.star_world.specs.declared.layouts.Cursor.{Cursor}
 use Rattle.star_world.specs.declared.layouts.Stage.{Stage}
 use Rattle.star_world.specs.declared.layouts.Stage.TheVariants as stage
 
--- a layout of parameters: how many slots they have, how many of the first slots take values by place, and how many
--- defaults there are; for each slot the number of its default, if it has one; the slots that need a value; and the
--- slots of `*name` and `**name`
+-- a layout of parameters: how many slots they have, how many of the first slots take positional values, and how many
+-- defaults there are; the number of each slot's default, if it has one; the slots that need a value; and the slots of
+-- `*name` and `**name`
 pub record Layout : Type 0 where
   pub count : ℕ
   pub by_place : ℕ
@@ -34,7 +34,7 @@ abbrev pub is_at : Option ℕ → ℕ → Bool
 is_at None i = false
 is_at (Some j) i = nat_eq j i
 
--- whether the value of a slot can be given by name
+-- whether a slot takes a keyword argument
 abbrev pub is_own : Layout → ℕ → Bool
 is_own l i = nat_lt i l.count && (not (is_at l.rest i) && not (is_at l.names i))
 
@@ -42,13 +42,13 @@ is_own l i = nat_lt i l.count && (not (is_at l.rest i) && not (is_at l.names i))
 abbrev pub IsSlot : Spots → Names → ℕ → Name → Type 0
 IsSlot spots names i n = (own_spot (spots n.position.token) ≡ Some i) × (slot_of n.text names ≡ Some i)
 
--- a parameter that gets one value may stand here: before the end of those that take values by place, or after it
+-- a parameter that gets one value may come here: before the end of those that take positional arguments, or after it
 abbrev pub MayStand : Layout → Stage → ℕ → Type 0
 MayStand l stage.ByPlace i = i < l.by_place
 MayStand l stage.ByName i = l.by_place ≤ i
 MayStand l stage.Ended i = ⊥
 
--- those that take values by place end here; the values by place that are left go to this slot, if there is one
+-- those that take positional values end here; the positional values that are left go to this slot, if there is one
 abbrev pub PlacesEnd : Layout → Stage → ℕ → Option ℕ → Type 0
 PlacesEnd l stage.ByPlace i rest = (i ≡ l.by_place) × (l.rest ≡ rest)
 PlacesEnd l stage.ByName i rest = ⊥
@@ -93,13 +93,13 @@ MayEnd l stage.ByPlace i = (i ≡ l.by_place) × (l.rest ≡ None) × (l.names �
 MayEnd l stage.ByName i = l.names ≡ None
 MayEnd l stage.Ended i = Unit {0}
 
--- parameters stand in order from the cursor on
+-- parameters are in order from the cursor on
 abbrev pub InOrder : Spots → Names → Layout → Cursor → List Parameter → Type 0
 InOrder spots names l c [] = (c.slot ≡ l.count) × MayEnd l c.stage c.slot
 InOrder spots names l c (p ∷ ps) =
     StandsAt spots names l c (parameter p) × InOrder spots names l (after c (parameter p)) ps
 
--- a slot, if there is one, is one of the first so many
+-- a slot, if there is one, is one of the first `n`
 abbrev pub IsBelow : Option ℕ → ℕ → Type 0
 IsBelow None n = Unit {0}
 IsBelow (Some i) n = i < n
@@ -111,7 +111,7 @@ pub record IsBounded (l : Layout) : Type 0 where
   pub rest : IsBelow l.rest l.count
   pub names : IsBelow l.names l.count
 
--- all parameters stand in the first slots as a layout says
+-- all parameters are in the first slots as a layout says
 abbrev pub AreLaidOut : Spots → Names → Layout → List Parameter → Type 0
 AreLaidOut spots names l ps = InOrder spots names l start ps × IsBounded l
 
@@ -121,6 +121,6 @@ HasLayout p number l =
     (d : Definition) → definition_in p.definitions number ≡ Some d
     → AreLaidOut (spot_at p.spots) (names_in p.blocks (1 + number)) l d.parameters
 
--- what a map has for numbers holds of the definitions with them
+-- the items of a map hold of the definitions with their numbers
 abbrev pub HaveLayouts : Program → BTreeMap ℕ Layout → Type 0
 HaveLayouts p layouts = (number : ℕ) (l : Layout) → get nat_cmp layouts number ≡ Some l → HasLayout p number l

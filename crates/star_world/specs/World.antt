@@ -1,4 +1,4 @@
--- What a run is given: its setting, and the programs of all files.
+-- The environment of a run: its setting, and the programs of all files.
 use Rattle.std.specs.Prelude.{◌≡◌, ℕ}
 use Rattle.star_meaning.specs.Local.{outlines}
 use Rattle.star_meaning.specs.Meaning.{Meaning}
@@ -19,6 +19,6 @@ AreOutlined w files = w.outlines ≡ outlines (trees_of files)
 abbrev pub variables : World → Variables
 variables w = by_places (tables_of w.files) w.setting
 
--- what each part of a program means where so many levels may be opened
+-- the meaning of each part of a program, if this many levels may be opened
 abbrev pub meant : World → ℕ → Meaning
 meant w levels = meaning (variables w) w.setting levels

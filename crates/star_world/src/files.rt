@@ -1,4 +1,6 @@
-//! The files of a run.
+//! `Files`: the programs and the outlines of all files of a run.
+//!
+//! Programs and, beside them, their statements are kept, so that a setting can borrow the statements as one row.
 
 ghost use Rattle.std.specs.Prelude.{◌≡◌, ◌<◌, ◌∷◌, ◌++◌, [], ⊤, length, map, IfOk, MatchOption, OnErr, OnOk};
 ghost use Rattle.std.specs.Option.{option_copied, option_map};
@@ -48,7 +50,7 @@ impl<'a, 't> Files<'a, 't> {
         }
     }
 
-    /// The next file: its program, or none where its text does not parse or has a static fault.
+    /// Adds the next file: its program, or `None` if its text does not parse or has a static fault.
     #[tactic(auto, using(crate::proofs::Rows::trees_pushed))]
     pub fn push(&mut self, program: Option<&'a Program<'t>>) -> Result<(), AllocError>
         requires { MatchOption program ⊤ (λ p. IsOfFile p.now) }
@@ -73,7 +75,7 @@ impl<'a, 't> Files<'a, 't> {
         &self.programs
     }
 
-    /// The statements of each file: none for a file that has no program.
+    /// The statements of each file; `None` for a file that has no program.
     pub fn statements(&self) -> &[Option<&'a [Statement]>]
         ensures { map (option_map (λ ss. ss.now)) result.now ≡ trees_of self.now }
     {

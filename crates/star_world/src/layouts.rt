@@ -1,4 +1,7 @@
-//! How the parameters of a definition take the slots of its frames.
+//! `Layout`: how the parameters of a definition take the first slots of its frame.
+//!
+//! Slots are numbered in the order of the parameters by the resolver; no contract says so, and without a layout binding
+//! is only slower.
 
 ghost use Rattle.std.specs.Prelude.{◌≡◌, slice_get, IfOk, IfSome, IsTrue};
 ghost use Rattle.std.specs.Arc.{arc_slice_items};
@@ -13,15 +16,15 @@ use std::sync::ArcSlice;
 /// Where the parameters before a place end.
 #[derive(Clone, Copy)]
 pub enum Stage {
-    /// Before the end of those that take values by place.
+    /// Before the end of those that take positional arguments.
     ByPlace,
-    /// Among those that take values by name alone.
+    /// Among those that take keyword arguments alone.
     ByName,
     /// After `**name`.
     Ended,
 }
 
-/// A place between parameters: how many slots, defaults and slots that need a value stand before it.
+/// A place between parameters: the numbers of slots, of defaults, and of slots without a default, before it.
 #[derive(Clone, Copy)]
 pub struct Cursor {
     pub stage: Stage,
@@ -43,7 +46,7 @@ impl Cursor {
         }
     }
 
-    /// The cursor after a parameter: none where a number would overflow.
+    /// The cursor after a parameter; `None` if a number would overflow.
     pub(crate) fn after(self, parameter: &Parameter) -> Option<Cursor>
         ensures { IfSome result (λ c. c ≡ after self (form.parameter parameter.now)) }
     {
@@ -62,9 +65,9 @@ impl Cursor {
     }
 }
 
-/// How many slots the parameters of a definition have, how many of the first take values by place, and how many
-/// defaults there are; for each slot the number of its default, if it has one; the slots that need a value; and the
-/// slots of `*name` and `**name`.
+/// The layout of a definition's parameters in the first slots of a frame: how many slots they have, how many of the
+/// first take positional arguments, and how many defaults there are. For each slot it has the number of its default, if
+/// there is one; and it has the slots that need a value, and the slots of `*name` and `**name`.
 #[derive(Drop)]
 pub struct Layout {
     count: usize,
@@ -103,7 +106,7 @@ impl Layout {
         self.count
     }
 
-    /// How many of the first slots take values by place.
+    /// How many of the first slots take positional arguments.
     pub fn by_place(&self) -> usize
         ensures { result ≡ self.now.by_place }
     {
@@ -124,7 +127,7 @@ impl Layout {
         self.ranks.clone()
     }
 
-    /// The number of a slot's default, none inside where it has none.
+    /// The number of a slot's default, none inside if it has none.
     pub(crate) fn rank(&self, slot: usize) -> Option<Option<usize>>
         ensures { result ≡ slice_get self.now.ranks slot }
     {
@@ -152,7 +155,7 @@ impl Layout {
         self.names
     }
 
-    /// Whether the value of a slot can be given by name.
+    /// Whether the value of a slot can be given by keyword.
     pub fn is_own(&self, slot: usize) -> bool
         ensures { result ≡ is_own self.now slot }
     {
@@ -180,7 +183,7 @@ pub(crate) fn is_at(place: Option<usize>, slot: usize) -> bool
     }
 }
 
-/// Whether a slot, if there is one, is one of the first so many.
+/// Whether a slot, if there is one, is one of the first `count`.
 fn is_below(place: Option<usize>, count: usize) -> bool
     ensures { IsTrue result → IsBelow place count }
 {
@@ -246,7 +249,7 @@ impl Sketch {
         Ok(())
     }
 
-    /// Values by place end before the next slot, where they have not ended before.
+    /// Positional parameters end before the next slot, if they have not ended before.
     fn end_places(&mut self) {
         if self.by_place.is_none() {
             self.by_place = Some(self.ranks.len());

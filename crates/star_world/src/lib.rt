@@ -1,14 +1,21 @@
-//! What a run is given, and its variables by their places.
+//! The environment of a run: all programs, the published stores, variables, and load statements.
 //!
-//! - `Programs` and `Files` have the resolved program of each file, by its number. `World` adds the `Setting` of the
-//!   running file, and keeps that file's program at hand.
-//! - `variables` reads and binds a name by its `Spot` and makes frames: a name is never looked up by its text. That
-//!   this is the same as looking names up is a law (`spots_mean_names` of `star_meaning`).
-//! - `layouts` and `orders` say, once for each definition with more than 16 parameters, how its parameters take the
-//!   first slots of a frame, so that a call follows what is given and not what could be.
-//! - `loads` binds the names of a load statement; `parts` makes functions, strings, lists and dictionaries.
+//! - `World` is the environment: the `Setting` of the running file (`star_machine`), and the programs of all files. It
+//!   keeps the running file's program at hand.
+//! - `Files` and `Programs` have the resolved program of each file (`star_scope`), by its number.
+//! - `Layout` is how the parameters of a definition take the first slots of its frame. It is made once for each
+//!   definition with more than 16 parameters (`layouts`, `orders`), so that a call of it follows its arguments and not
+//!   all parameters.
 //!
-//! Invariant of `World`: the outlines of its setting are those of its programs.
+//! Begin at `variables.rt`: `read` and `bind` a name by its spot, a number of frames up and a slot there, and
+//! `paid_frame` makes a frame (the variables of one call). `loads` binds the names of a load statement; `parts` makes
+//! functions, strings, lists and dictionaries.
+//!
+//! Invariant of `World`: the definitions and blocks that its setting names are those of its programs.
+//!
+//! The promise of each function is `Gives` of `star_machine`, by the definitions of variables by spots
+//! (`star_meaning/specs/Places`). That this is the same as looking names up by their text is the law
+//! `spots_mean_names`. See `docs/LANGUAGE.md`, "Blocks and variables".
 #![tactic(auto)]
 
 pub mod files;

@@ -1,4 +1,4 @@
-//! What a load statement binds.
+//! Binding the names of a load statement.
 
 ghost use Rattle.std.specs.Prelude.{◌≡◌};
 ghost use Rattle.std.specs.Option.{option_and_then, option_copied};
@@ -38,7 +38,7 @@ fn global(published: Option<&Frozen>, name: &LoadedName) -> Option<Value>
     }
 }
 
-/// Binds a loaded name to the global of the loaded module. `NoName` where that is missing or unbound.
+/// Binds a loaded name to the global of the loaded module. `NoName` if that is missing or unbound.
 fn load_name(
     machine: &mut Machine,
     world: &World,
@@ -72,7 +72,7 @@ fn load_each(
     Ok(())
 }
 
-/// Binds the names of a load statement to the globals of the module that it loads. `NoName` where one is missing or
+/// Binds the names of a load statement to the globals of the module that it loads. `NoName` if one is missing or
 /// unbound.
 pub fn load_names(
     machine: &mut Machine,

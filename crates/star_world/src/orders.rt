@@ -1,4 +1,4 @@
-//! Definitions whose parameters stand in the first slots of their frames, in order.
+//! Definitions whose parameters are the first slots of their frames, in order: a call of them is bound by layout.
 
 ghost use Rattle.std.specs.Prelude.{◌≡◌, ◌↔◌, ◌+◌, IfOk, IfSome, IsTrue, Some, slice_get};
 ghost use Rattle.std.specs.BTreeMap.{btree_map_len, get};
@@ -17,10 +17,10 @@ use star_tree::tree::{Name, Parameter};
 use std::alloc::{AllocError, Global};
 use std::collections::BTreeMap;
 
-/// A definition with so many parameters gets its arguments one by one, with no regard to their order.
+/// A definition with at most this many parameters gets its arguments one by one, without a layout.
 const FEW: usize = 16;
 
-/// How the parameters of a definition stand in order, and the names of the slots.
+/// The layout of a definition's parameters, and the names of the slots.
 #[derive(Clone, Copy)]
 pub struct Order<'a, 't> {
     pub layout: &'a Layout,
@@ -35,7 +35,7 @@ fn is_slot(program: &Program<'_>, names: &BlockNames<'_>, slot: usize, name: &Na
         && names.slot(name.text.as_str()) == Some(slot)
 }
 
-/// Whether a parameter that gets one value may stand at a cursor.
+/// Whether a parameter that gets one value may come at a cursor.
 fn may_stand(layout: &Layout, cursor: Cursor) -> bool
     ensures { IsTrue result → MayStand layout.now cursor.stage cursor.slot }
 {
@@ -46,7 +46,7 @@ fn may_stand(layout: &Layout, cursor: Cursor) -> bool
     }
 }
 
-/// Whether those that take values by place end at a cursor, and the values that are left go to this slot.
+/// Whether the positional parameters end at a cursor, and the positional arguments that are left go to this slot.
 fn places_end(layout: &Layout, cursor: Cursor, rest: Option<usize>) -> bool
     ensures { IsTrue result → PlacesEnd layout.now cursor.stage cursor.slot rest }
 {
@@ -140,7 +140,7 @@ fn stands_at(
     }
 }
 
-/// Whether all parameters stand in order.
+/// Whether all parameters are in order.
 #[tactic(auto, using(crate::proofs::InOrder::in_order_next, crate::proofs::InOrder::in_order_end))]
 fn are_in_order(
     program: &Program<'_>,
@@ -173,7 +173,7 @@ pub(crate) fn slot_names<'a, 't>(
     program.blocks().names(number.checked_add(1)?)
 }
 
-/// How the parameters of the definition with a number stand, where all stand in order.
+/// The layout of the definition with a number, if its parameters are in order.
 fn layout_of(
     alloc: Global,
     program: &Program<'_>,
@@ -195,7 +195,7 @@ fn layout_of(
     }
 }
 
-/// The same of the definition of a program with a number, where it has many parameters.
+/// The layout of the definition of a program with a number, if it has many parameters that are in order.
 #[tactic(auto, using(crate::proofs::InOrder::layout_there))]
 fn layout_at(
     alloc: Global,
@@ -215,7 +215,7 @@ fn layout_at(
     }
 }
 
-/// The definitions of a program with many parameters that stand in order, by their numbers: how they stand.
+/// The layouts of a program's definitions with many parameters that are in order, by their numbers.
 #[derive(Drop)]
 pub struct Orders {
     layouts: BTreeMap<usize, Layout>,
@@ -236,7 +236,7 @@ impl Orders {
         Ok(Orders { layouts })
     }
 
-    /// How the parameters of the definition with a number stand, where all stand in order.
+    /// The layout of the definition with a number, if its parameters are in order.
     pub(crate) fn layout(&self, number: usize) -> Option<&Layout>
         ensures { option_copied result ≡ get nat_cmp self.now.layouts number }
     {

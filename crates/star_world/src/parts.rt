@@ -1,4 +1,4 @@
-//! Parts of expressions and statements that evaluate nothing themselves.
+//! Makes new values and enters comprehensions; the parts of expressions and statements that evaluate nothing.
 
 ghost use Rattle.std.specs.Prelude.{◌≡◌, ◌+◌, ◌∷◌, [], MatchOption};
 ghost use Rattle.star_machine.specs.Gives.{Gives};
@@ -21,7 +21,7 @@ use star_store::values::{Cell, Entries, Function, Value, Values};
 use star_text::Text;
 use star_tree::tree::Statement;
 
-/// Where a statement runs: one of the running module's own file gives a fault its line.
+/// The place of a statement. A fault gets the line of the innermost statement of the running module's own file.
 pub fn place_of(world: &World, place: &Place, statement: &Statement) -> Place
     ensures { result ≡ at_line world.now.setting place.now statement.now }
 {
@@ -45,7 +45,7 @@ pub fn split_first(values: &[Value]) -> Option<(Value, &[Value])>
     }
 }
 
-/// What a function answers whose statements end so: None without a `return`.
+/// The value that a function returns whose statements end so: None without a `return`.
 pub fn answer_of(flow: Flow) -> Value
     ensures { result ≡ answer_of flow }
 {
@@ -111,7 +111,7 @@ pub fn new_table(machine: &mut Machine, line: usize) -> Result<Value, Stop>
     machine.build(line, 1, Cell::Dict(entries))
 }
 
-/// The place inside of a comprehension: its frame, around which the running one stands. 1 is paid.
+/// The place inside of a comprehension: its frame, whose parent is the running one. 1 is paid.
 pub fn enter(
     machine: &mut Machine,
     world: &World,

@@ -1,4 +1,4 @@
-//! The program of a file, with the orders of its definitions.
+//! A program with the layouts of its definitions that have many parameters.
 
 ghost use Rattle.std.specs.Prelude.{◌≡◌, ◌+◌, IfOk, IfSome, MatchOption, Some, ⊤};
 ghost use Rattle.std.specs.Option.{option_map};
@@ -59,7 +59,7 @@ impl<'a, 't> Placed<'a, 't> {
         !self.orders.is_empty()
     }
 
-    /// How the many parameters of the definition with a number stand, where they stand in order.
+    /// The layout of the definition with a number, if it has many parameters and they are in order.
     pub(crate) fn order(&self, number: u32) -> Option<Order<'_, 't>>
         ensures in_order { IfSome result
             (λ o. (d : Definition) → definition_in (outline self.now.statements).definitions number ≡ Some d

@@ -1,4 +1,7 @@
-//! The programs of files.
+//! `Programs`: the programs of files, by number.
+//!
+//! They are a row of references, like the stores in `Homes`: a host keeps programs where it likes, and takes no lock.
+//! Contracts see each as its statements and the spots of its names (`PlacedFile`).
 
 ghost use Rattle.std.specs.Prelude.{◌≡◌, ◌+◌, ◌∷◌, ◌++◌, [], ⊤, length, IfSome, MatchOption, OnErr, OnOk, Some};
 ghost use Rattle.std.specs.Option.{option_and_then, option_copied, option_map, unwrap_or};
@@ -53,7 +56,7 @@ impl<'a, 't> Programs<'a, 't> {
         }
     }
 
-    /// The next file: its program, or none where its text does not parse or has a static fault.
+    /// Adds the next file: its program, or `None` if its text does not parse or has a static fault.
     pub fn push(&mut self, program: Option<&'a Program<'t>>) -> Result<(), AllocError>
         requires { MatchOption program ⊤ (λ p. IsOfFile p.now) }
         ensures pushed { OnOk result (self.new ≡ self.old ++ option_map (λ p. placed_file p.now) program.entry ∷ []) }
@@ -110,8 +113,8 @@ impl<'a, 't> Programs<'a, 't> {
         }
     }
 
-    /// How the many parameters of the definition with a number in a file stand, where they stand in order, in
-    /// logarithmic time; in constant time where no definition of the files has such.
+    /// The layout of a file's definition with a number, if it has many parameters and they are in order. Takes
+    /// logarithmic time; constant time if the files have no such definition.
     #[tactic(auto, using(crate::proofs::ProgramRows::slots_there))]
     pub fn order(&self, file: usize, number: u32) -> Option<Order<'_, 't>>
         ensures in_order { IfSome result
@@ -140,7 +143,7 @@ impl<'a, 't> Programs<'a, 't> {
         }
     }
 
-    /// The names of a block of a file, by their slots: none where there is no such block.
+    /// The names of a block of a file, by their slots; `None` if there is no such block.
     #[tactic(auto, using(crate::proofs::ProgramRows::blocks_are))]
     pub fn names(&self, file: usize, block: usize) -> Option<&'a BlockNames<'t>>
         ensures { unwrap_or (option_copied result) [] ≡ names_in (blocks_in (outline_at self.now file)) block }
@@ -152,7 +155,7 @@ impl<'a, 't> Programs<'a, 't> {
     }
 }
 
-/// What stands at the place of a file.
+/// The program of a file, if it has one.
 fn placed_at<'p, 'a, 't>(
     programs: &'p [Option<Placed<'a, 't>>],
     file: usize,

@@ -1,4 +1,4 @@
-//! Variables by their places.
+//! Reading and binding variables by their spots, and making frames. No name is looked up by its text.
 
 ghost use Rattle.std.specs.Prelude.{◌≡◌, ◌<◌, ◌+◌, ◌^◌, None, Some, length, map, slice_get, IfOk};
 ghost use Rattle.std.specs.Option.{option_and_then, option_copied};
@@ -25,7 +25,7 @@ use star_store::values::{BoxedFrame, Cell, Frame, Value};
 use star_tree::tree::Name;
 use std::alloc::{AllocError, Global};
 
-/// The frame to which a value leads: none for another value.
+/// The frame to which a value leads; `None` for another value.
 fn frame_at<'a>(machine: &'a Machine, setting: &'a Setting<'a>, value: Value) -> Option<&'a Frame>
     ensures { option_copied result ≡ frame_of (seen setting.now machine.now value) }
 {
@@ -51,7 +51,7 @@ fn parent_of(machine: &Machine, setting: &Setting, frame: Option<Value>) -> Opti
     }
 }
 
-/// The frame that is so many frames above a frame.
+/// The frame that is `up` frames above a frame.
 #[tactic(auto, using(crate::proofs::Frames::above_next))]
 fn frame_above(machine: &Machine, setting: &Setting, up: usize, frame: Value) -> Option<Value>
     ensures { result ≡ frame_above setting.now machine.now up (Some frame) }
@@ -63,7 +63,7 @@ fn frame_above(machine: &Machine, setting: &Setting, up: usize, frame: Value) ->
     found
 }
 
-/// The value of a slot: none where its variable is unbound, or there is no such slot.
+/// The value of a slot; `None` if its variable is unbound, or there is no such slot.
 fn value_of(slots: &Slots, slot: usize) -> Option<Value>
     ensures { result ≡ joined (slice_get slots.now slot) }
 {
@@ -169,7 +169,7 @@ fn outermost_value(name: &str) -> Option<Value>
     built_in(name)
 }
 
-/// The value at a spot: none where it is unbound.
+/// The value at a spot; `None` if it is unbound.
 fn at_spot(
     machine: &Machine,
     setting: &Setting,
@@ -190,7 +190,7 @@ fn at_spot(
     }
 }
 
-/// The value of a name. `Unbound` where it has none.
+/// The value of a name. `Unbound` if it has none.
 #[inline(always)]
 #[tactic(auto, unfolding(star_meaning::specs::Places::read_spot), using(crate::proofs::Near::near_spot))]
 pub fn read(machine: &Machine, world: &World, place: &Place, name: &Name) -> Result<Value, Stop>
@@ -206,7 +206,7 @@ pub fn read(machine: &Machine, world: &World, place: &Place, name: &Name) -> Res
     read_far(machine, world, place, name, spot)
 }
 
-/// The value of a name at its spot. `Unbound` where it has none.
+/// The value of a name at its spot. `Unbound` if it has none.
 #[inline(never)]
 fn read_far(
     machine: &Machine,
@@ -224,7 +224,7 @@ fn read_far(
     }
 }
 
-/// The slot of a name in the innermost frame: none for a name that stands elsewhere.
+/// The slot of a name in the innermost frame; `None` for a name that is not in it.
 #[inline(always)]
 pub(crate) fn own_spot(spot: Option<Spot>) -> Option<usize>
     ensures { result ≡ own_spot spot }
@@ -289,7 +289,7 @@ pub fn new_frame(
     machine.make(cell)
 }
 
-/// A new frame of a block with these slots, for which 1 is paid.
+/// A new frame of a block with these slots. It costs 1.
 pub fn frame_with(
     machine: &mut Machine,
     line: usize,
@@ -308,8 +308,7 @@ pub fn frame_with(
     machine.build(line, 1, cell)
 }
 
-/// A new frame of a block, for which 1 is paid, as that of a call or of a comprehension. All names of the block are
-/// unbound in it.
+/// A new frame of a block, as of a call or a comprehension, with all names of the block unbound. It costs 1.
 #[tactic(auto, unfolding(star_meaning::specs::Places::new_slots, star_meaning::specs::Run::build))]
 pub fn paid_frame(
     machine: &mut Machine,

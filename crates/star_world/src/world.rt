@@ -1,4 +1,4 @@
-//! What a run is given.
+//! The environment of a run: its setting, and the programs of all files.
 
 ghost use Rattle.std.specs.Prelude.{◌≡◌, ◌+◌, [], length, IfSome, Some};
 ghost use Rattle.std.specs.Option.{option_copied, option_map, unwrap_or};
@@ -21,8 +21,8 @@ use star_scope::spot::Spot;
 use star_store::arena::Homes;
 use std::marker::Model;
 
-/// What a run is given: its setting, and the programs of all files. The program of the running file is at hand, since
-/// most names that are read stand in it.
+/// The environment of a run: its setting, and the programs of all files. The program of the running file is at hand,
+/// since most names that are read are in it.
 #[derive(Drop)]
 pub struct World<'a, 't> {
     setting: Setting<'a>,
@@ -54,7 +54,7 @@ impl<'a, 't> Model for World<'a, 't> {
 }
 
 impl<'a, 't> World<'a, 't> {
-    /// What the run of a file is given: the stores that it reaches, the programs of all files, its own loads, and the
+    /// The environment of a file's run: the stores that it reaches, the programs of all files, its own loads, and the
     /// prelude's file.
     pub fn new(
         home: u32,
@@ -95,6 +95,7 @@ impl<'a, 't> World<'a, 't> {
     pub fn are_outlined(&self)
         ensures { self.now.setting.outlines ≡ outlines (trees_of self.now.files) }
     {
+        // Reading a field lets the checker use the invariant of `World`.
         let _ = &self.setting;
     }
 
@@ -136,8 +137,8 @@ impl<'a, 't> World<'a, 't> {
             .definition(file as usize, number as usize)
     }
 
-    /// How the many parameters of the definition with a number in a file stand, where they stand in order, in
-    /// logarithmic time; in constant time where no definition of the files has such.
+    /// The layout of a file's definition with a number, if it has many parameters and they are in order. Takes
+    /// logarithmic time; constant time if the files have no such definition.
     pub fn order(&self, file: u32, number: u32) -> Option<Order<'a, 't>>
         ensures in_order { IfSome result (λ o. (d : OneDefinition) → program.definition_of self.now.setting file number
             ≡ Some d → AreLaidOut ((tables_of self.now.files).spots file) o.names.now o.layout.now d.parameters) }
@@ -154,7 +155,7 @@ impl<'a, 't> World<'a, 't> {
         self.files.programs().is_loaded(file as usize, name)
     }
 
-    /// The names of a block of a file, by their slots: none where there is no such block.
+    /// The names of a block of a file, by their slots; `None` if there is no such block.
     #[tactic(auto, using(crate::proofs::Rows::names_there))]
     pub fn names(&self, file: u32, block: usize) -> Option<&'a BlockNames<'t>>
         ensures { unwrap_or (option_copied result) [] ≡ program.names_of self.now.setting file block }

@@ -1,1 +1,2 @@
+-- The options of a command line.
 pub mod Options

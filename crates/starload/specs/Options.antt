@@ -1,13 +1,14 @@
--- What stands in a command line.
-use Rattle.std.specs.Prelude.{◌≡◌, ℕ, ◌≤◌, nat_eq, Bool, true, false, List, [], ◌∷◌, Option, Some, None, codes, string_bytes, if◌then◌else◌}
+-- The options that the arguments of a command line give.
+use Rattle.std.specs.Prelude.{◌≡◌, ℕ, ◌≤◌, nat_eq, Bool, true, false, not, ◌||◌, ◌&&◌, List, [], ◌∷◌, Option, Some, None, codes, string_bytes, if◌then◌else◌}
 use Rattle.std.specs.Cmp.Lexicographic.{pointwise}
 use Rattle.std.specs.Option.{option_map_or}
 use Rattle.std.specs.Str.Parse.{IsNumeral, digits_value, without_leading_plus}
 use Rattle.clap.specs.Matches.{found_of, matched_of, one_text, raw_values}
 use Rattle.star_report.specs.declared.wanted.Output.{Output}
-use Rattle.star_report.specs.declared.wanted.Output.TheVariants.{Global, Graph, Report}
+use Rattle.star_report.specs.declared.wanted.Output.TheVariants.{Check, Global, Graph, Report}
 use Rattle.star_report.specs.declared.wanted.Wanted.{Wanted}
 use Rattle.clap.specs.declared.parser.matches.ArgMatches.{ArgMatches}
+use Rattle.starload.specs.declared.command.Errors.{Errors}
 
 -- the values of an argument, in their order
 abbrev pub values_of : ArgMatches → List ℕ → List (List ℕ)
@@ -40,8 +41,21 @@ pub record IsWanted (matches : ArgMatches) (wanted : Wanted) : Type 0 where
   pub only_roots : one_text (found_of matches) (codes "only-roots") ≡ Some (codes "true") → wanted.only_roots ≡ true
   pub all : one_text (found_of matches) (codes "only-roots") ≡ Some (codes "false") → wanted.only_roots ≡ false
 
+-- the check, which of what there is nothing against shows the roots alone by their flag
+abbrev pub IsCheckFor : ArgMatches → Output → Type 0
+IsCheckFor matches output =
+    (one_text (found_of matches) (codes "only-roots") ≡ Some (codes "true") → output ≡ Check true)
+    × (one_text (found_of matches) (codes "only-roots") ≡ Some (codes "false") → output ≡ Check false)
+
 -- the globals of a name, where there is one, and else the report
 abbrev pub IsReportOrGlobal : ArgMatches → Option (List ℕ) → Output → Type 0
 IsReportOrGlobal matches (Some name) (Global s) = string_bytes s ≡ name
 IsReportOrGlobal matches None (Report wanted) = IsWanted matches wanted
 IsReportOrGlobal matches name output = ⊥
+
+-- whether there are colours: where they are asked for, or by themselves on a terminal where the environment has nothing
+-- against it
+abbrev pub is_colored : ArgMatches → Errors → Bool
+is_colored matches errors =
+    is_named matches (codes "color") (codes "always")
+    || (is_named matches (codes "color") (codes "auto") && (errors.is_terminal && not errors.is_plain))

@@ -1,4 +1,4 @@
-//! The pages of the codes of faults, as `--explain-code` prints them.
+//! `--explain-code`: prints the page of a code of a fault.
 
 use star_explain::pages::{PAGES, Page};
 use std::io;

@@ -1,6 +1,6 @@
-//! The command line.
+//! The command line: its arguments as `clap` reads them, and the options that they give.
 
-ghost use Rattle.std.specs.Prelude.{◌≡◌, ◌≤◌, true, false, None, Some, IfOk, codes, map, option_map, string_bytes};
+ghost use Rattle.std.specs.Prelude.{◌≡◌, ◌≤◌, true, false, None, Some, IfOk, IfSome, codes, map, option_map, string_bytes};
 ghost use Rattle.clap.specs.Matches.{first_value, found_of, one_text};
 ghost use Rattle.star_report.specs.declared.wanted.Output.TheVariants as Output;
 ghost use Rattle.starload.specs.Options as spec;
@@ -11,7 +11,7 @@ use star_serve::serve::{Form, Options, Output, Wanted};
 use std::alloc::{AllocError, Global};
 
 /// What `--version` says after the program's name: its version, and the kit that proved it.
-const VERSION: &str = "1.1.0 (rattle-kit-13b logic dac8208d650f15bf)";
+const VERSION: &str = "1.3.0 (rattle-kit-13f logic dac8208d650f15bf)";
 
 /// What stands after the options in the help.
 const EXAMPLE: &str =
@@ -109,6 +109,20 @@ fn explain_arg<'a>(alloc: Global) -> Arg<'a> {
         .default_missing_value("always")
 }
 
+/// When there are colours.
+const COLORS: &[&str] = &["auto", "always", "never"];
+
+fn color_arg<'a>(alloc: Global) -> Arg<'a> {
+    Arg::new(alloc, "color")
+        .long("color")
+        .value_name("WHEN")
+        .help(
+            "Colours what --explain says: auto (where standard error is a terminal and NO_COLOR is not set), always or never",
+        )
+        .value_parser(COLORS)
+        .default_value("auto")
+}
+
 fn with_arg<'a>(alloc: Global) -> Arg<'a> {
     Arg::new(alloc, "with")
         .long("with")
@@ -145,11 +159,56 @@ fn graph_arg<'a>(alloc: Global) -> Result<Arg<'a>, AllocError> {
         .conflicts_with("only-roots")
 }
 
+fn check_arg<'a>(alloc: Global) -> Result<Arg<'a>, AllocError> {
+    Arg::new(alloc, "check")
+        .long("check")
+        .help(
+            "Reads the files and runs none: in place of the report writes which have static faults, and which fail by their loads",
+        )
+        .action(ArgAction::SetTrue)
+        .conflicts_with("with")?
+        .conflicts_with("get")?
+        .conflicts_with("graph")?
+        .conflicts_with("trace")
+}
+
+fn requests_arg<'a>(alloc: Global) -> Result<Arg<'a>, AllocError> {
+    Arg::new(alloc, "requests")
+        .long("requests")
+        .help(
+            "Answers requests on standard input, one JSON object a line, until it ends (docs/REQUESTS.md)",
+        )
+        .action(ArgAction::SetTrue)
+        .conflicts_with("ROOT")?
+        .conflicts_with("dir")?
+        .conflicts_with("repo")?
+        .conflicts_with("match")?
+        .conflicts_with("get")?
+        .conflicts_with("graph")?
+        .conflicts_with("check")?
+        .conflicts_with("trace")?
+        .conflicts_with("explain")
+}
+
+// (`requires_arg` would be met by the default of a flag.)
+fn keep_arg<'a>(alloc: Global) -> Result<Arg<'a>, AllocError> {
+    Arg::new(alloc, "keep")
+        .long("keep")
+        .value_name("BYTES")
+        .help(
+            "Once texts of more bytes were parsed, what is kept of them from request to request goes",
+        )
+        .value_parser(value_parser!(u32))
+        .default_value("268435456")
+        .conflicts_with("ROOT")
+}
+
 fn roots_arg<'a>(alloc: Global) -> Result<Arg<'a>, AllocError> {
     Arg::new(alloc, "ROOT")
         .help("The labels of the files to load, such as //app:main.star")
         .action(ArgAction::Append)
-        .required_unless_present("explain-code")
+        .required_unless_present("explain-code")?
+        .required_unless_present("requests")
 }
 
 /// The command line.
@@ -172,8 +231,12 @@ pub fn command<'a>(alloc: Global) -> Result<Command<'a>, clap::Error> {
             .arg(only_roots_arg(alloc))?
             .arg(get_arg(alloc)?)?
             .arg(graph_arg(alloc)?)?
+            .arg(check_arg(alloc)?)?
             .arg(explain_arg(alloc))?
+            .arg(color_arg(alloc))?
             .arg(code_arg(alloc))?
+            .arg(requests_arg(alloc)?)?
+            .arg(keep_arg(alloc)?)?
             .arg(roots_arg(alloc)?)?,
     )
 }
@@ -249,15 +312,23 @@ fn wanted(matches: &ArgMatches<'_>) -> Wanted
     }
 }
 
-/// What the words of the command line want to be written: the graph, or the globals of a name, or else the report.
+/// What the words of the command line want to be written: the graph, the check, or the globals of a name, or else the
+/// report.
 fn output(alloc: Global, matches: &ArgMatches<'_>) -> Result<Output, AllocError>
     ensures graph { IfOk result (λ o. (one_text (found_of matches.now) (codes "graph") ≡ Some (codes "true"))
         → (o ≡ Output.Graph)) }
+    ensures check { IfOk result (λ o. (one_text (found_of matches.now) (codes "graph") ≡ Some (codes "false"))
+        → (one_text (found_of matches.now) (codes "check") ≡ Some (codes "true")) → spec.IsCheckFor matches.now o) }
     ensures other { IfOk result (λ o. (one_text (found_of matches.now) (codes "graph") ≡ Some (codes "false"))
+        → (one_text (found_of matches.now) (codes "check") ≡ Some (codes "false"))
         → spec.IsReportOrGlobal matches.now (first_value (found_of matches.now) (codes "get")) o) }
 {
     if matches.get_flag("graph") {
         return Ok(Output::Graph);
+    }
+    if matches.get_flag("check") {
+        let only_roots = matches.get_flag("only-roots");
+        return Ok(Output::Check { only_roots });
     }
     match value_of(alloc, matches, "get")? {
         Some(name) => Ok(Output::Global(name)),
@@ -265,16 +336,34 @@ fn output(alloc: Global, matches: &ArgMatches<'_>) -> Result<Output, AllocError>
     }
 }
 
+/// What is known of standard error.
+#[derive(Clone, Copy, Debug, PartialEq, Eq)]
+pub struct Errors {
+    /// It is a terminal.
+    pub is_terminal: bool,
+    /// No colours are wanted there, as the environment says.
+    pub is_plain: bool,
+}
+
+/// Whether there are colours, by `--color`, and of itself on a terminal where the environment has nothing against it.
+fn is_colored(matches: &ArgMatches<'_>, errors: Errors) -> bool
+    ensures { result ≡ spec.is_colored matches.now errors }
+{
+    is_named(matches, "color", "always")
+        || (is_named(matches, "color", "auto") && errors.is_terminal && !errors.is_plain)
+}
+
 /// How a person is told of what is at fault, by `--explain` and by whether standard error is a terminal. Files are named
 /// by their paths in the folder that has them.
-fn form_of(matches: &ArgMatches<'_>, is_terminal: bool) -> Option<Form>
-    ensures { spec.is_named matches.now (codes "explain") (codes "always") ≡ false
+fn form_of(matches: &ArgMatches<'_>, errors: Errors) -> Option<Form>
+    ensures colored { IfSome result (λ f. f.is_colored ≡ spec.is_colored matches.now errors) }
+    ensures none { spec.is_named matches.now (codes "explain") (codes "always") ≡ false
         → spec.is_named matches.now (codes "explain") (codes "all") ≡ false
-        → is_terminal ≡ false → result ≡ None }
+        → errors.is_terminal ≡ false → result ≡ None }
 {
     let is_whole = is_named(matches, "explain", "all");
     let is_asked = is_whole || is_named(matches, "explain", "always");
-    let is_meant = is_terminal && is_named(matches, "explain", "auto");
+    let is_meant = errors.is_terminal && is_named(matches, "explain", "auto");
     if !is_asked && !is_meant {
         return None;
     }
@@ -284,14 +373,18 @@ fn form_of(matches: &ArgMatches<'_>, is_terminal: bool) -> Option<Form>
     } else {
         Naming::Labels
     };
-    Some(Form { naming, is_whole })
+    Some(Form {
+        naming,
+        is_whole,
+        is_colored: is_colored(matches, errors),
+    })
 }
 
 /// The options that the words of the command line give: the roots in their order. `Memory` where a growth was refused.
 pub fn options(
     alloc: Global,
     matches: &ArgMatches<'_>,
-    is_terminal: bool,
+    errors: Errors,
 ) -> Result<Options, AllocError>
     ensures loaders { IfOk result (λ o. (1 ≤ o.loaders) × (o.loaders ≤ 64)) }
     ensures steps { IfOk result (λ o. (1 ≤ o.steps) × (o.steps ≤ 100000000)) }
@@ -305,7 +398,11 @@ pub fn options(
     ensures dir { IfOk result (λ o. option_map string_bytes o.dir ≡ first_value (found_of matches.now) (codes "dir")) }
     ensures graph { IfOk result (λ o. (one_text (found_of matches.now) (codes "graph") ≡ Some (codes "true"))
         → (o.output ≡ Output.Graph)) }
+    ensures check { IfOk result (λ o. (one_text (found_of matches.now) (codes "graph") ≡ Some (codes "false"))
+        → (one_text (found_of matches.now) (codes "check") ≡ Some (codes "true"))
+        → spec.IsCheckFor matches.now o.output) }
     ensures other { IfOk result (λ o. (one_text (found_of matches.now) (codes "graph") ≡ Some (codes "false"))
+        → (one_text (found_of matches.now) (codes "check") ≡ Some (codes "false"))
         → spec.IsReportOrGlobal matches.now (first_value (found_of matches.now) (codes "get")) o.output) }
     ensures trace { IfOk result (λ o. (one_text (found_of matches.now) (codes "trace") ≡ Some (codes "true"))
         → (o.trace ≡ true)) }
@@ -313,7 +410,8 @@ pub fn options(
         → (o.trace ≡ false)) }
     ensures unexplained { IfOk result (λ o. spec.is_named matches.now (codes "explain") (codes "always") ≡ false
         → spec.is_named matches.now (codes "explain") (codes "all") ≡ false
-        → is_terminal ≡ false → o.explain ≡ None) }
+        → errors.is_terminal ≡ false → o.explain ≡ None) }
+    ensures colored { IfOk result (λ o. IfSome o.explain (λ f. f.is_colored ≡ spec.is_colored matches.now errors)) }
 {
     let loaders = usize::from(matches.get_one::<u8>("loaders").unwrap_or(4));
     let steps = matches.get_one::<u32>("steps").unwrap_or(1_000_000);
@@ -325,6 +423,6 @@ pub fn options(
         output: output(alloc, matches)?,
         trace: matches.get_flag("trace"),
         dir: value_of(alloc, matches, "dir")?,
-        explain: form_of(matches, is_terminal),
+        explain: form_of(matches, errors),
     })
 }

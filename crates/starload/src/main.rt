@@ -1,9 +1,13 @@
-//! Loads the Starlark files of a bundle or of a folder and writes the report.
+//! The program `starload`: it loads the Starlark files of a bundle or of a folder, and writes the report.
 //!
-//! The bundle is read on standard input, by `serve`, or the files of a folder are, by `serve_dir`; the report is
-//! written on standard output. `docs/REPORT.md` has the rules. What is at fault, and where, is said to a person on
-//! standard error after it (`docs/EXPLAIN.md`). The statuses are those of `status`; what goes wrong before is said on
-//! standard error, with status 2.
+//! The bundle is read on standard input (`star_serve::serve`), or the files are those of a folder (`serve_dir`), or
+//! those that the roots reach in one (`repo`). The report goes to standard output. After it, standard error tells a
+//! person what is at fault and where, if that is wanted (`docs/EXPLAIN.md`).
+//!
+//! `command` has the command line; `codes` prints the page of a fault's code. Begin at `main`, the last function. The
+//! exit status is that of `star_bundle::error::status`. An error before the run goes to standard error, with status 2.
+//! The rules are in `docs/REPORT.md` and `docs/FOLDERS.md`; `command::options` has the contract that says which options
+//! the arguments give.
 #![tactic(auto)]
 
 ghost use Rattle.std.specs.Prelude.{◌≤◌};
@@ -11,16 +15,20 @@ ghost use Rattle.std.specs.Prelude.{◌≤◌};
 mod codes;
 mod command;
 mod repo;
+mod requests;
 
 use clap::error::ErrorKind;
-use command::{command, options};
+use command::{Errors, command, options};
 use repo::{RepoAsked, report_repo};
+use requests::answer_requests;
 use star_bundle::error::{ServeError, status};
 use star_folder::disk::DiskFolder;
+use star_hint::bundle::about_bundle;
+use star_hint::folder::about_folder;
 use star_serve::dir::serve_dir;
-use star_serve::ends::{CountedReader, CountedWriter};
+use star_serve::ends::{CountedReader, CountedWriter, KeptReader};
 use star_serve::serve::{Options, serve};
-use std::alloc::Global;
+use std::alloc::{AllocError, Global};
 use std::io::IsTerminal;
 use std::process::ExitCode;
 use std::sync::Wait;
@@ -85,8 +93,16 @@ fn say_what_is_read(rt: &HostRuntime) {
     }
 }
 
-/// Writes the report of what the options ask for. The loaders are threads of `threads`.
-fn report<H: Threads + Wait + Sync>(
+/// Says why there is no report; and after that, where a person is told, what the refusal is about.
+fn say_refusal(rt: &HostRuntime, error: ServeError, about: Result<String, AllocError>) {
+    let _ = eprintln!(rt; "starload: {}", error.text());
+    if let Ok(about) = about {
+        let _ = eprint!(rt; "{about}");
+    }
+}
+
+/// Writes the report of a bundle on standard input, or says why there is none. The loaders are threads of `threads`.
+fn report_bundle<H: Threads + Wait + Sync>(
     rt: &HostRuntime,
     threads: &H,
     alloc: Global,
@@ -95,32 +111,73 @@ fn report<H: Threads + Wait + Sync>(
     requires loaders { (1 ≤ options.now.loaders) × (options.now.loaders ≤ 64) }
     requires steps { (1 ≤ options.now.steps) × (options.now.steps ≤ 100000000) }
 {
+    say_what_is_read(rt);
+    let kept = options.explain.map(|_| Vec::new(alloc));
+    let mut reader = KeptReader::new(CountedReader::new(rt.stdin()), kept);
     let mut writer = CountedWriter::new(rt.stdout());
     let mut errors = CountedWriter::new(rt.stderr());
-    match &options.dir {
-        Some(dir) => {
-            let mut folder = DiskFolder::new(rt, dir.as_str());
-            serve_dir(
-                threads,
-                alloc,
-                &mut folder,
-                &mut writer,
-                &mut errors,
-                options,
-            )
-        }
-        None => {
-            say_what_is_read(rt);
-            let mut reader = CountedReader::new(rt.stdin());
-            serve(
-                threads,
-                alloc,
-                &mut reader,
-                &mut writer,
-                &mut errors,
-                options,
-            )
-        }
+    let outcome = serve(
+        threads,
+        alloc,
+        &mut reader,
+        &mut writer,
+        &mut errors,
+        options,
+    );
+    if let Err(error) = &outcome {
+        let (roots, prelude) = (options.roots.as_slice(), options.prelude.as_ref());
+        let about = match reader.kept() {
+            Some(bytes) => about_bundle(alloc, bytes, roots, prelude, *error),
+            None => Ok(String::new(alloc)),
+        };
+        say_refusal(rt, *error, about);
+    }
+    outcome
+}
+
+/// Writes the report of the files of a folder, or says why there is none. The loaders are threads of `threads`.
+fn report_folder<H: Threads + Wait + Sync>(
+    rt: &HostRuntime,
+    threads: &H,
+    alloc: Global,
+    dir: &str,
+    options: &Options,
+) -> Result<bool, ServeError>
+    requires loaders { (1 ≤ options.now.loaders) × (options.now.loaders ≤ 64) }
+    requires steps { (1 ≤ options.now.steps) × (options.now.steps ≤ 100000000) }
+{
+    let mut folder = DiskFolder::new(rt, dir);
+    let mut writer = CountedWriter::new(rt.stdout());
+    let mut errors = CountedWriter::new(rt.stderr());
+    let outcome = serve_dir(
+        threads,
+        alloc,
+        &mut folder,
+        &mut writer,
+        &mut errors,
+        options,
+    );
+    if let Err(error) = &outcome {
+        let (roots, prelude) = (options.roots.as_slice(), options.prelude.as_ref());
+        let about = if options.explain.is_some() {
+            about_folder(alloc, &mut folder, roots, prelude)
+        } else {
+            Ok(String::new(alloc))
+        };
+        say_refusal(rt, *error, about);
+    }
+    outcome
+}
+
+/// What is known of standard error: https://no-color.org says what `NO_COLOR` means.
+fn errors_of(rt: &HostRuntime) -> Errors {
+    let is_plain = match env::var(rt, "NO_COLOR") {
+        Ok(value) => !value.is_empty(),
+        Err(_) => false,
+    };
+    Errors {
+        is_terminal: rt.stderr().is_terminal(),
+        is_plain,
     }
 }
 
@@ -141,18 +198,22 @@ fn main(rt: HostRuntime) -> ExitCode {
     if let Some(code) = matches.get_str("explain-code") {
         return explain_code(&rt, code);
     }
-    let options = match options(alloc, &matches, rt.stderr().is_terminal()) {
+    let options = match options(alloc, &matches, errors_of(&rt)) {
         Ok(options) => options,
         Err(_) => return refuse(&rt, ServeError::Memory.text()),
     };
+    if matches.get_flag("requests") {
+        let keep = matches.get_one::<u32>("keep").unwrap_or(268_435_456);
+        return answer_requests(&rt, &rt, alloc, options, keep);
+    }
     match RepoAsked::of(alloc, &matches) {
         Ok(None) => {}
         Ok(Some(asked)) => return report_repo(&rt, &rt, alloc, &asked, options),
         Err(_) => return refuse(&rt, ServeError::Memory.text()),
     }
-    let outcome = report(&rt, &rt, alloc, &options);
-    if let Err(error) = &outcome {
-        let _ = eprintln!(rt; "starload: {}", error.text());
-    }
+    let outcome = match &options.dir {
+        Some(dir) => report_folder(&rt, &rt, alloc, dir.as_str(), &options),
+        None => report_bundle(&rt, &rt, alloc, &options),
+    };
     ExitCode::from(status(&outcome))
 }

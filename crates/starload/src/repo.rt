@@ -1,10 +1,12 @@
-//! The report of files that roots reach in a folder, and what the words of the command line name there.
+//! `--repo`: the report of the files that roots reach in a folder, and the labels that the words of the command line
+//! name there.
 
 ghost use Rattle.std.specs.Prelude.{◌≡◌, ◌≤◌, IfOk, IfSome, true};
 ghost use Rattle.star_label.specs.Label.{is_package};
 
 use clap::ArgMatches;
 use star_bundle::error::{ServeError, status};
+use star_hint::missing::{about_file, about_labels};
 use star_label::error::LabelError;
 use star_label::label::Label;
 use star_repo::disk::DiskRepo;
@@ -23,7 +25,7 @@ use std::mem::ManuallyDrop;
 use std::process::ExitCode;
 use std::sync::Wait;
 use std::thread::Threads;
-use std::{env, fs, io};
+use std::{env, fs, io, slice};
 use thiserror::Error;
 
 /// What `--repo` and `--match` ask for.
@@ -111,11 +113,19 @@ fn word_in(alloc: Global, place: &Place, word: &str) -> Result<String, LabelErro
 /// Why there is no report.
 #[derive(Debug, Drop, Error)]
 enum Refusal {
-    /// What the run says; and the load statement that asks for the file which it names, where a person is told.
+    /// What the run says; and where a person is told, the load statement that asks for the file which it names, and lines
+    /// about that file.
     #[error("{error}")]
     Run {
         error: RepoError,
         load: Option<LoadAt>,
+        about: Option<String>,
+    },
+    /// A word that names no label.
+    #[error("{error}")]
+    Word {
+        error: ServeError,
+        word: String,
     },
     /// A word that asks for files below a folder, where there is none.
     #[error("no file matches: {word}")]
@@ -129,6 +139,7 @@ impl From<ServeError> for Refusal {
         Refusal::Run {
             error: RepoError::Run { error },
             load: None,
+            about: None,
         }
     }
 }
@@ -201,7 +212,10 @@ fn label_named(
     };
     match label_of_word(alloc, here, text.as_str())? {
         Some(label) => Ok(String::from_str(alloc, label.text())?),
-        None => Err(Refusal::from(bad)),
+        None => Err(Refusal::Word {
+            error: bad,
+            word: text,
+        }),
     }
 }
 
@@ -273,15 +287,52 @@ fn load_for<H: Wait>(
     }
 }
 
-/// Says why there is no report, and which load statement asks for the file that cannot be had.
-fn say_refusal(rt: &HostRuntime, refusal: &Refusal) {
-    let _ = eprintln!(rt; "starload: {refusal}");
-    if let Refusal::Run {
-        load: Some(LoadAt { file, line }),
-        ..
-    } = refusal
-    {
+/// Lines about the file that a refusal is about: none where no person is told, or the refusal is about no file.
+fn about_for(
+    rt: &HostRuntime,
+    alloc: Global,
+    asked: &RepoAsked,
+    options: &Options,
+    error: &RepoError,
+) -> Option<String> {
+    options.explain?;
+    let mut folder = DiskRepo::new(rt, asked.dir.as_str());
+    match error {
+        RepoError::File { label, error } if *error == ServeError::BadFile => {
+            about_file(alloc, &mut folder, label).ok()?
+        }
+        RepoError::Run { error } if *error == ServeError::NoRoot => {
+            about_labels(alloc, &mut folder, options.roots.as_slice()).ok()
+        }
+        RepoError::Run { error } if *error == ServeError::NoPrelude => {
+            let prelude = options.prelude.as_ref()?;
+            about_labels(alloc, &mut folder, slice::from_ref(prelude)).ok()
+        }
+        _ => None,
+    }
+}
+
+/// Says which load statement asks for the file that cannot be had, and more about it.
+fn say_more(rt: &HostRuntime, load: Option<&LoadAt>, about: Option<&String>) {
+    if let Some(LoadAt { file, line }) = load {
         let _ = eprintln!(rt; "  loaded by {file}, line {line}");
+    }
+    if let Some(about) = about {
+        let _ = eprint!(rt; "{about}");
+    }
+}
+
+/// Says why there is no report, and where a person is told, what the refusal is about.
+fn say_refusal(rt: &HostRuntime, refusal: &Refusal, is_told: bool) {
+    let _ = eprintln!(rt; "starload: {refusal}");
+    match refusal {
+        Refusal::Run { load, about, .. } => say_more(rt, load.as_ref(), about.as_ref()),
+        Refusal::Word { word, .. } if is_told => {
+            let _ = eprintln!(rt;
+                "  `{word}` names no file below the folder: write a path, or a label //FOLDER:NAME"
+            );
+        }
+        _ => {}
     }
 }
 
@@ -314,7 +365,8 @@ fn reported<H: Threads + Wait + Sync>(
         Ok(all_ok) => Ok(all_ok),
         Err(error) => {
             let load = load_for(rt, threads, alloc, asked, &options, &error);
-            Err(Refusal::Run { error, load })
+            let about = about_for(rt, alloc, asked, &options, &error);
+            Err(Refusal::Run { error, load, about })
         }
     }
 }
@@ -330,10 +382,11 @@ pub(crate) fn report_repo<H: Threads + Wait + Sync>(
     requires loaders { (1 ≤ options.loaders) × (options.loaders ≤ 64) }
     requires steps { (1 ≤ options.steps) × (options.steps ≤ 100000000) }
 {
+    let is_told = options.explain.is_some();
     match reported(rt, threads, alloc, asked, options) {
         Ok(all_ok) => ExitCode::from(status(&Ok(all_ok))),
         Err(refusal) => {
-            say_refusal(rt, &refusal);
+            say_refusal(rt, &refusal, is_told);
             ExitCode::from(2)
         }
     }

@@ -1,4 +1,4 @@
-// What a call gives and binds, on an example.
+//! Tests of the arguments of a call and of their binding, on an example.
 
 use crate::samples::{list, shows, text};
 use star_call::binding::bound_to;

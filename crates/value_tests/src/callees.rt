@@ -1,4 +1,4 @@
-// What may be called, on examples.
+//! Tests of callees: which values may be called.
 
 use sqlite_items::{Boxed, Items};
 use star_call::callee::{Called, Callee, definition_number};
@@ -42,12 +42,12 @@ fn sort(callee: Result<Callee<'_>, Stop>) -> Result<&'static str, Stop> {
     }
 }
 
-/// Asserts of which sort a callee is.
+/// Asserts the kind of a callee.
 fn is_sort(rt: &impl Abort, callee: Result<Callee<'_>, Stop>, want: Result<&'static str, Stop>) {
     assert!(rt; sort(callee) == want);
 }
 
-/// What the first parameter gets, where nothing is given.
+/// The value of the first parameter, if no argument is given.
 fn bound(
     alloc: Global,
     machine: &mut Machine,

@@ -1,4 +1,4 @@
-// Each built-in function and each method once, by the calls that lead to them all.
+//! Tests of each built-in function and each method, by the calls that lead to them all.
 
 use crate::samples::{is, list, plain, shows, text};
 use star_attribute::methods::{attribute, call_method};

@@ -1,4 +1,4 @@
-// Dictionaries with so many entries that they have an index.
+//! Tests of dictionaries that are large enough to have an index.
 
 use star_store::arena::write::Change;
 use star_store::arena::{Arena, Homes, freeze};

@@ -1,5 +1,8 @@
-//! Tests of values and of what is done with them: stores, operators, built-in functions, methods, arguments. What the
-//! text of a file can say of them stands in `tests/cases`.
+//! Tests of values and their operations: stores, operators, built-in functions, methods, arguments.
+//!
+//! Each public function that allocates is called once here on its happy path, since a body that always gives up for
+//! want of memory would meet its contract. Whatever a file's text can show is in `tests/cases` instead. Begin at
+//! `calls.rt`; `samples.rt` makes values.
 #![tactic(auto)]
 
 #[cfg(test)]

@@ -1,4 +1,4 @@
-// What the calls of this crate answer, on examples.
+//! Tests of operators, comparisons, subscripts and slices, on examples.
 
 use crate::samples::{is, list, shows, text};
 use sqlite_items::Items;

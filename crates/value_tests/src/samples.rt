@@ -1,4 +1,4 @@
-// How a test makes values and says what is wanted of them.
+//! Helpers: values for tests, and assertions about them.
 
 use sqlite_items::Items;
 use star_machine::fault::Stop;
@@ -20,7 +20,7 @@ pub(crate) fn list(alloc: Global, machine: &mut Machine, items: &[Value]) -> Res
     Ok(machine.new_list(1, items)?)
 }
 
-/// Values by place alone.
+/// Positional arguments alone.
 pub(crate) fn plain(alloc: Global, values: &[Value]) -> Result<Given, AllocError> {
     Ok(Given {
         plain: Values::new(Vec::from_slice(alloc, values)?),

@@ -1,4 +1,4 @@
-// What the calls of this crate answer, on examples.
+//! Tests of stores, on examples.
 
 use sqlite_items::Boxed;
 use star_machine::gathered::Gathered;
@@ -82,7 +82,7 @@ fn shows(
     Ok(())
 }
 
-/// Asserts how a text is refused with so many steps and levels, and how many steps it leaves.
+/// Asserts how a text is refused with these steps and levels, and how many steps it leaves.
 fn tells(
     alloc: Global,
     rt: &impl Abort,
@@ -99,7 +99,7 @@ fn tells(
     assert!(rt; budget.steps == left);
 }
 
-/// Asserts what a write answers.
+/// Asserts the answer of a write.
 fn writes(
     rt: &impl Abort,
     arena: &mut Arena,
@@ -112,7 +112,7 @@ fn writes(
     assert!(rt; answer == want);
 }
 
-/// Asserts what a look-up answers.
+/// Asserts the answer of a look-up.
 fn finds(
     rt: &impl Abort,
     arena: &Arena,
@@ -137,13 +137,13 @@ fn may_write(
     assert!(rt; answer == want);
 }
 
-/// Opens an iteration where none is open.
+/// Opens an iteration if none is open.
 fn iterate(rt: &impl Abort, arena: &mut Arena, value: Value) {
     assert!(rt; arena.open_iterations(value) == 0);
     arena.open_iter(value);
 }
 
-/// Asserts what equality answers with so many steps and levels, and how many steps it leaves.
+/// Asserts the answer of equality with these steps and levels, and how many steps it leaves.
 fn equals(
     rt: &impl Abort,
     arena: &Arena,
@@ -160,7 +160,7 @@ fn equals(
     assert!(rt; budget.levels == levels);
 }
 
-/// Asserts what order answers with 20 steps, and how many steps it leaves.
+/// Asserts the answer of order with 20 steps, and how many steps it leaves.
 fn ordered(
     rt: &impl Abort,
     arena: &Arena,
@@ -178,7 +178,7 @@ fn ordered(
     assert!(rt; budget.steps == left);
 }
 
-/// Asserts what a key check answers with so many steps and levels, and how many steps it leaves.
+/// Asserts the answer of a key check with these steps and levels, and how many steps it leaves.
 fn checks(
     rt: &impl Abort,
     arena: &Arena,

@@ -1,4 +1,4 @@
-// The book alone, without a lock.
+//! Tests of the book alone, without a lock.
 
 use super::kept::{Kept, ended};
 use star_cache::{Book, BookError, ByDepth, Entry, Reply, no_cycle_is_good};
@@ -138,7 +138,7 @@ fn one_loader_runs_and_the_others_share(rt: HostRuntime) -> Result<(), Fail> {
     Ok(())
 }
 
-// A notion of good files by which none in the ring of tests is good.
+// A definition of good files by which none of the ring of tests is good.
 #[derive(Drop)]
 struct Strict;
 

@@ -1,4 +1,5 @@
-// A product for tests: 64 files, each of which loads the next and the first; those from the eighth on are good.
+//! A product for tests: 64 files, each of which loads the next and the first; those from the eighth on are good.
+
 ghost use Rattle.std.specs.Prelude.{◌≡◌, ◌<◌, ◌≤◌, ◌↔◌, true, Contains};
 ghost use Rattle.star_cache.specs.Ring.{ring};
 
@@ -65,7 +66,7 @@ impl<L: Ledger> Product for Kept<L> {
     }
 }
 
-// What has come of a file.
+// The product of a file.
 pub fn ended<L: Ledger>(number: usize) -> Kept<L>
     ensures { (result.number ≡ number) × ((result.good ≡ true) ↔ (8 ≤ number)) }
 {
@@ -76,7 +77,7 @@ pub fn ended<L: Ledger>(number: usize) -> Kept<L>
     }
 }
 
-// The next file in the ring of the first so many, which the file loads.
+// The next file in the ring of the first `size` files, which the file loads.
 pub fn next(number: usize, size: usize) -> usize
     requires { (number < size) × (size ≤ 64) }
     ensures below { result < size }

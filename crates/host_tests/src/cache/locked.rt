@@ -1,4 +1,5 @@
-// The cache under its lock, with threads.
+//! Tests of the cache under its lock, with threads.
+
 ghost use Rattle.std.specs.Prelude.{◌≡◌, ◌<◌, ◌≤◌, MatchOption};
 ghost use Rattle.star_cache.specs.Ring.{ring};
 ghost use Rattle.star_cache.specs.State.{Loads};
@@ -44,7 +45,7 @@ fn load<L: Ledger, R: Wait>(
     }
 }
 
-// What a loader does with its seat.
+// The work of a loader with its seat.
 fn work<L: Ledger, R: Wait>(
     rt: &R,
     cache: &LoadCache<Kept<L>>,
@@ -103,7 +104,7 @@ fn ring_ends<L: Ledger + Send + Sync, R: Threads + Wait + Sync>(
     }
 }
 
-// Makes the ledger of a cache with so many loaders.
+// Makes the ledger of a cache with `loaders` loaders.
 fn ring<R: Threads + Wait + Sync>(
     rt: &R,
     alloc: Global,
@@ -253,7 +254,7 @@ fn be_told<L: Ledger, R: Wait>(
     }
 }
 
-// What each of two loaders does.
+// The work of each of two loaders.
 fn give_up_or_wait<L: Ledger, R: Wait>(
     rt: &R,
     cache: &LoadCache<Kept<L>>,

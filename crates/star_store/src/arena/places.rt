@@ -1,4 +1,8 @@
-//! The places at which dictionaries have their keys: by an index where there is one, else by a walk.
+//! Look-ups in dictionaries: the place of a key's entry, by the dictionary's index if it has one, else by a walk.
+//!
+//! A walk compares a key that is not a tuple with each key in place (`place_of_scalar`), a tuple by the definition's
+//! recursion. A look-up in a published dictionary uses its index only under the file number of its store, which
+//! `Frozen` keeps; else it walks.
 
 ghost use Rattle.std.specs.Prelude.{◌≡◌, IfSome, Some, length, option_and_then, slice_get};
 ghost use Rattle.std.specs.Option.{option_copied, option_map};
@@ -16,7 +20,7 @@ use crate::key::{place_of, value_of};
 use crate::values::{Cell, Entries, Value};
 
 impl Arena {
-    /// The place of the entry of a dictionary with this key: none where the value is no dictionary.
+    /// The place of a dictionary's entry with this key; `None` if the value is not a dictionary.
     pub fn key_place(&self, homes: &Homes, dict: Value, key: Value) -> Option<usize>
         ensures { result ≡ place_of (look self.now homes.now) key (entries_of (look self.now homes.now dict)) }
     {
@@ -26,7 +30,7 @@ impl Arena {
         }
     }
 
-    /// The value that a dictionary has for this key: none where the value is no dictionary.
+    /// The value that a dictionary has for this key; `None` if the value is not a dictionary.
     #[inline(always)]
     pub fn key_value(&self, homes: &Homes, dict: Value, key: Value) -> Option<Value>
         ensures { result ≡ value_of (look self.now homes.now) key (entries_of (look self.now homes.now dict)) }
@@ -39,8 +43,8 @@ impl Arena {
         Some(value)
     }
 
-    /// The place of the entry with this key among the entries of a dictionary: by its index where that can tell it,
-    /// else by a walk.
+    /// The place of the entry with this key among the entries of a dictionary: by its index if that can tell it, else
+    /// by a walk.
     fn place_among(
         &self,
         homes: &Homes,
@@ -57,7 +61,7 @@ impl Arena {
         }
     }
 
-    /// The place of the entry of a dictionary with this key, where the dictionary's index can tell it.
+    /// The place of the entry of a dictionary with this key, if the dictionary's index can tell it.
     fn indexed_place(&self, homes: &Homes, dict: Value, key: Value) -> Option<Option<usize>>
         ensures { IfSome result (Places (look self.now homes.now) key (look self.now homes.now dict)) }
     {
@@ -68,7 +72,7 @@ impl Arena {
         }
     }
 
-    /// How many entries a dictionary has: none where the value is no dictionary.
+    /// The number of a dictionary's entries; 0 if the value is not a dictionary.
     pub(crate) fn dict_len(&self, homes: &Homes, dict: Value) -> usize
         ensures { result ≡ length (entries_of (look self.now homes.now dict)) }
     {
@@ -106,7 +110,7 @@ impl Arena {
         Some((value, self.walked_value(homes, other, key)))
     }
 
-    /// The value of the entry of a dictionary at a place, where there is one.
+    /// The value of the entry of a dictionary at a place, if there is one.
     fn entry_value(&self, homes: &Homes, dict: Value, place: Option<usize>) -> Option<Value>
         ensures { result ≡ value_at (entries_of (look self.now homes.now dict)) place }
     {
@@ -129,8 +133,8 @@ impl Arena {
         }
     }
 
-    /// The place at which one dictionary has the key of another's entry, where both have an index: by the content that
-    /// stands there, so that no memory is taken.
+    /// One dictionary's place for the key of another's entry, if both have an index: by the content in the other's
+    /// index, so that no memory is taken.
     fn indexed_beside(
         &self,
         homes: &Homes,
@@ -161,7 +165,7 @@ impl Arena {
     }
 }
 
-/// The place of the content of a key in an index, where memory suffices: none inside for what is no key.
+/// The place of a key's content in an index, if memory suffices; the inner one is `None` if the value is not a key.
 fn place_of_content(
     arena: &Arena,
     homes: &Homes,
@@ -179,7 +183,7 @@ fn place_of_content(
 }
 
 impl Frozen {
-    /// The index of the dictionary at an address, where values of this number lead to this module's cells.
+    /// The index of the dictionary at an address, if values of this number lead to this module's cells.
     fn index(&self, home: u32, at: u32) -> Option<&Index>
         ensures { IfSome result (λ index. IsIndexed (alone (record { home = home; cells = self.now.cells }))
             (cell_at self.now.cells at) index.now) }

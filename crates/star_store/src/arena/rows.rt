@@ -1,4 +1,7 @@
-//! The indexes of an arena's dictionaries, and how they follow what is written.
+//! The indexes of an arena's dictionaries, and how they follow each write.
+//!
+//! An index is tried when a cell is made, and when the number of entries is a power of two, so failed attempts cost at
+//! most twice the entries.
 
 ghost use Rattle.std.specs.Prelude.{◌≡◌, ◌≤◌, ◌+◌, ℕ, List, Some, None, map, max, length, IfSome, OnOk, ◌⊎◌, option_and_then};
 ghost use Rattle.std.specs.Bool.{OnTrue};
@@ -15,14 +18,14 @@ use crate::index::Index;
 use crate::values::{Cell, Entries};
 use std::alloc::AllocError;
 
-/// A dictionary that grows to so many entries gets an index: among fewer a walk is as fast.
+/// A dictionary that grows to this many entries gets an index: among fewer a walk is as fast.
 const FEW: usize = 8;
 
-/// A new dictionary gets one where it has so many entries: it may be read a few times only.
+/// A new dictionary gets one if it has this many entries: it may be read a few times only.
 const MANY: usize = 16;
 
 impl Arena {
-    /// How many entries the dictionary at an address has: none where no dictionary stands there.
+    /// The number of entries of the dictionary at an address; 0 if there is no dictionary there.
     fn entry_count(&self, at: u32) -> usize {
         match self.cells.get(at as usize) {
             Some(counted) => match &counted.cell {
@@ -37,8 +40,8 @@ impl Arena {
         matches!(self.rows.get(at as usize), Some(Some(_)))
     }
 
-    /// Makes an index of the dictionary at an address where it lacks one and is due: so that a dictionary in which some
-    /// key has none is gone through no more often than it doubles.
+    /// Makes an index of the dictionary at an address if it lacks one and is due. A dictionary some of whose keys have
+    /// none is gone through no more often than it doubles.
     pub(crate) fn index_if_due(&mut self, at: u32)
         ensures { self.new ≡ self.old }
     {
@@ -48,7 +51,7 @@ impl Arena {
         }
     }
 
-    /// Makes an index of a new cell of so many entries, where these are many.
+    /// Makes an index of a new cell of `count` entries, if these are many.
     #[inline(always)]
     pub(crate) fn index_new(&mut self, at: u32, count: usize)
         ensures { self.new ≡ self.old }
@@ -58,13 +61,14 @@ impl Arena {
         }
     }
 
-    /// Makes an index of the dictionary at an address, where all keys have their content in this store, and memory
+    /// Makes an index of the dictionary at an address, if all keys have their content in this store, and memory
     /// suffices. No value changes.
     #[inline(never)]
     pub(crate) fn add_index(&mut self, at: u32)
         ensures { self.new ≡ self.old }
     {
         if let Some(index) = self.made_index(at) {
+            // Without memory for it the dictionary has no index, and look-ups walk.
             let _put = put_row(&mut self.rows, at, index);
         }
     }
@@ -100,7 +104,7 @@ impl Arena {
     }
 }
 
-/// The index of entries, where each key has its content in this store, and none stands twice.
+/// The index of entries, if each key has its content in this store, and no content occurs twice.
 fn index_of(arena: &Arena, entries: &Entries) -> Option<Index>
     ensures { IfSome result (λ index. contents_of (alone arena.now) entries.now ≡ map Some index) }
 {

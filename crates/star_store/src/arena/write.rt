@@ -55,7 +55,11 @@ impl Change {
 }
 
 impl Arena {
-    /// The value that a dictionary has for a key. `BadType` where the value is no dictionary or the key is none.
+    /// The value that a dictionary has for a key. `BadType` if the value is not a dictionary, or the key is not
+    /// hashable.
+    ///
+    /// A run looks up by `key_value` (`places.rt`), which checks no key. This function is for programs that use the
+    /// store alone.
     pub fn find(&self, homes: &Homes, dict: Value, key: Value) -> Result<Option<Value>, StoreFault>
         ensures { result ≡ find_in (look self.now homes.now) (look self.now homes.now dict) key }
     {
@@ -68,8 +72,8 @@ impl Arena {
         Ok(self.key_value(homes, dict, key))
     }
 
-    /// Whether a list or dictionary may be written. `BadType` for another value, `Frozen` where another module made
-    /// it, `Iterating` where an iteration is open on it.
+    /// Whether a list or dictionary may be written. `BadType` for another value, `Frozen` if another module made it,
+    /// `Iterating` if an iteration is open on it.
     pub fn may_write(&self, homes: &Homes, target: Value) -> Result<(), StoreFault>
         ensures { result ≡ may_write self.now homes.now target }
     {
@@ -100,7 +104,7 @@ impl Arena {
         }
     }
 
-    /// How many iterations are open on a list or dictionary of this module: none on another value.
+    /// How many iterations are open on a list or dictionary of this module; none on another value.
     pub fn open_iterations(&self, value: Value) -> u32
         ensures { result ≡ iterations_of self.now value }
     {
@@ -149,10 +153,12 @@ impl Arena {
         Ok(())
     }
 
-    /// Changes a list or dictionary, and answers the value that was replaced or taken out. Refused, in this order:
-    /// `BadType` where the target is no list or dictionary or the change is one for the other, `Frozen` where another
-    /// module made it, `Iterating` where an iteration is open on it, `BadType` where the key is none, `Index` where a
-    /// list has no such place, `Key` where the key of a `Delete` is absent, `Memory`. After a refusal all is as it was.
+    /// Changes a list or dictionary, and returns the value that was replaced or taken out.
+    ///
+    /// Refused, in this order: `BadType` if the target is not a list or dictionary, or the change is one for the other;
+    /// `Frozen` if another module made it; `Iterating` if an iteration is open on it; `BadType` if the key is not a
+    /// key; `Index` if a list has no such index; `Key` if the key of a `Delete` is absent; `Memory`. After a refusal
+    /// all is as it was.
     pub fn write(
         &mut self,
         homes: &Homes,

@@ -1,20 +1,18 @@
-use Rattle.std.proofs.Common.{arith, rules, ◌≡◌, ◌<◌, ◌-◌, ◌∙◌, ◌∷◌, ◌++◌, [], ℕ, List, Bor, Some, None, ap, sym, subst, length, map, suc, take, drop, get_or, refl}
+use Rattle.std.proofs.Common.{arith, rules, ◌≡◌, ◌<◌, ◌-◌, ◌∙◌, ◌∷◌, [], ℕ, List, Bor, Some, None, ap, sym, subst, length, map, suc, take, drop, get_or, refl}
 use Rattle.std.specs.Option.{option_copied, option_map}
 use Rattle.std.proofs.lemmas.List.{drop_all, take_all, take_more}
+use Rattle.std.specs.Result.{IfOk}
 use Rattle.std.proofs.lemmas.Result.{IfOk-weaker}
-use Rattle.std.specs.Fmt.{signed_decimal}
-use Rattle.json.specs.Token.{Token}
-use Rattle.json.specs.Token as token
 use Rattle.serde_json.specs.Data.{array, object}
 use Rattle.star_store.specs.declared.values.Value.{Value}
 use Rattle.star_store.specs.declared.values.Value.TheVariants.{NoneValue}
 use Rattle.star_store.specs.declared.values.Cell.TheVariants as cell
 use Rattle.star_store.specs.Store.{look}
-use Rattle.star_data.specs.Data.{cell_data, cell_of, data_of, entries_data, text_in, value_data}
+use Rattle.star_data.specs.Data.{cell_data, cell_of, data_of, entries_data, int_data, text_in, value_data}
 use Rattle.star_data.specs.Paths.{AllStandInEach, StandsInEach}
 use Rattle.star_data.specs.Texts.{Sends, row_data}
 use Rattle.star_data.proofs.Builds.{at_place, by_ref, data_at, data_at_none, entry_no_key, in_a_dict, in_a_list, in_a_tuple, is_none, item_none, mapped_at, no_cell_data, one_back, rest_none}
-use Rattle.star_data.proofs.Sent.{HidesData, LeftMembers, SentItems, entry_hides_none, entry_more, found_stands, int_text, items_begin, items_end, items_more, members_begin, members_end, members_more, members_none, none_sent, says_none, says_some, sends_none, sends_some, sent_as, some_sent, stand_insert}
+use Rattle.star_data.proofs.Sent.{HidesData, LeftMembers, SentItems, entry_hides_none, entry_more, found_stands, items_begin, items_end, items_more, members_begin, members_end, members_more, members_none, none_sent, says_none, says_some, sends_none, sends_some, sent_as, some_sent, stand_insert}
 use Rattle.star_data.proofs.data.+write.Goals as goal
 
 pub is_data-write_value-requires : goal.is_data-write_value-requires
@@ -262,11 +260,12 @@ write_value-returns-in_ok-boolean-in-Bool-clause-data t c =
     let see = look c.args.arena.now c.args.homes.now in
     sends_some _ _ _ _ (data_at see c.args.levels c.args.value (omega arith) ∙ ap (value_data see (data_of see (c.args.levels - 1))) c.in-Bool.is) (search rules)
 
-pub write_value-returns-in_ok-i64-in-Int-clause-data : goal.write_value-returns-in_ok-i64-in-Int-clause-data
-write_value-returns-in_ok-i64-in-Int-clause-data t c =
+pub write_value-returns-in-Int-clause-data : goal.write_value-returns-in-Int-clause-data
+write_value-returns-in-Int-clause-data t c =
     let see = look c.args.arena.now c.args.homes.now in
-    let sent : c.i64.new.self.tokens ≡ c.args.out.now.tokens ++ token.number (signed_decimal c.in-Int.number) ∷ [] = search rules in
-    sends_some _ _ _ _ (data_at see c.args.levels c.args.value (omega arith) ∙ ap (value_data see (data_of see (c.args.levels - 1))) c.in-Int.is) (sent ∙ ap (λ s. c.args.out.now.tokens ++ token.number s ∷ []) (sym (int_text c.in-Int.number)))
+    let is = sym (data_at see c.args.levels c.args.value (omega arith) ∙ ap (value_data see (data_of see (c.args.levels - 1))) c.in-Int.is) in
+    let sent : IfOk c.write_int.result (λ b. Sends (int_data c.in-Int.number) b c.args.out.now.tokens c.write_int.new.out.tokens) = search rules in
+    IfOk-weaker c.write_int.result _ _ (λ b h. sent_as _ _ b c.args.out.now.tokens c.write_int.new.out.tokens is h) sent
 
 pub write_value-returns-in-Builtin-clause-data : goal.write_value-returns-in-Builtin-clause-data
 write_value-returns-in-Builtin-clause-data t c =

@@ -1,4 +1,4 @@
-use Rattle.std.proofs.Common.{◌≡◌, ◌∙◌, sym}
+use Rattle.std.proofs.Common.{◌∙◌, sym}
 use Rattle.std.proofs.lemmas.Result.{IfOk-weaker}
 use Rattle.star_report.proofs.Drawings.{back_says, good_says}
 use Rattle.star_report.proofs.graph.is_on_cycle.Goals as goal

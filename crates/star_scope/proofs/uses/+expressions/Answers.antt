@@ -126,8 +126,7 @@ place_entry-returns t c =
     let b = c.place_expression.new.placed in
     let z = c.place_expression-2.new.placed in
     place_as scope _ _ a z (of_entry c.args.entry.now chain)
-    (place_both scope _ _ a b z (place_part (λ y. in_expression y chain) scope _ _ a b c.get.ensures c.in_ok-place_expression.ensures)
-    (place_part (λ y. in_expression y chain) scope _ _ b z c.get-2.ensures c.in_ok-place_expression-2.ensures))
+    (place_both scope _ _ a b z c.in_ok-place_expression.ensures c.in_ok-place_expression-2.ensures)
 
 pub place_target-returns-in_ok-place_expression-in-Index-2 : goal.place_target-returns-in_ok-place_expression-in-Index-2
 place_target-returns-in_ok-place_expression-in-Index-2 t c =
@@ -165,9 +164,10 @@ place_expression-returns-in_ok-place_entry-in-DictComprehension t c =
     let z = c.place_entry.new.placed in
     place_as scope _ _ a z (of x (tree.DictComprehension at c.in-DictComprehension.entry cs) chain (c.in-DictComprehension.is ∙ sym (e.rolls-DictComprehension at c.in-DictComprehension.entry cs)))
     (place_third scope _ _ _ a b z
-    (place_part (λ k. (in_clauses cs).first chain ++ (in_clauses cs).rest k) scope inner _ a b c.in_ok-inner-in-DictComprehension.ensures c.in_ok-place_clauses-in-DictComprehension.ensures)
+    (place_part (λ k. (in_clauses cs).first chain ++ (in_clauses cs).rest k) scope inner _ a b c.in_ok-inner-in-DictComprehension.ensures
+    (place_part (λ ds. (in_clauses ds).first chain ++ (in_clauses ds).rest inner) scope _ _ a b c.get-in-DictComprehension.ensures c.in_ok-place_clauses-in-DictComprehension.ensures))
     (place_part (λ k. in_entry c.in-DictComprehension.entry k) scope inner _ b z c.in_ok-inner-in-DictComprehension.ensures
-    (place_part (λ y. in_entry y inner) scope _ _ b z c.get-in-DictComprehension.ensures c.in_ok-place_entry-in-DictComprehension.ensures)))
+    (place_part (λ y. in_entry y inner) scope _ _ b z c.get-in-DictComprehension-2.ensures c.in_ok-place_entry-in-DictComprehension.ensures)))
 
 pub place_expression-returns-in_ok-place_expression-in-Binary-2 : goal.place_expression-returns-in_ok-place_expression-in-Binary-2
 place_expression-returns-in_ok-place_expression-in-Binary-2 t c =
@@ -211,10 +211,10 @@ place_expression-returns-in_ok-place_expression-in-Lambda t c =
     let z = c.place_expression-in-Lambda.new.placed in
     place_as scope _ _ a z (of_lambda x at ps body c.in-Lambda.is chain)
     (place_defined scope at.token chain _ a z
-    (place_both scope _ _ a b z (place_part (λ y. all_uses default_uses y chain) scope _ _ a b c.as_slice-in-Lambda.ensures c.in_ok-place_defaults-in-Lambda.ensures)
+    (place_both scope _ _ a b z (place_part (λ y. all_uses default_uses y chain) scope _ _ a b (c.as_slice-parameters.ensures ∙ c.get-in-Lambda.ensures) c.in_ok-place_defaults-in-Lambda.ensures)
     (place_part (λ k. all_uses parameter_name_uses ps k ++ in_expression body k) scope inner _ b z c.in_ok-inner-in-Lambda.ensures
-    (place_both scope _ _ b d z (place_part (λ y. all_uses parameter_name_uses y inner) scope _ _ b d c.as_slice-in-Lambda-2.ensures c.in_ok-place_parameter_names-in-Lambda.ensures)
-    (place_part (λ y. in_expression y inner) scope _ _ d z c.get-in-Lambda.ensures c.in_ok-place_expression-in-Lambda.ensures)))))
+    (place_both scope _ _ b d z (place_part (λ y. all_uses parameter_name_uses y inner) scope _ _ b d (c.as_slice-parameters.ensures ∙ c.get-in-Lambda.ensures) c.in_ok-place_parameter_names-in-Lambda.ensures)
+    (place_part (λ y. in_expression y inner) scope _ _ d z c.get-in-Lambda-2.ensures c.in_ok-place_expression-in-Lambda.ensures)))))
 
 pub place_expression-returns-in_ok-place_expression-in-ListComprehension : goal.place_expression-returns-in_ok-place_expression-in-ListComprehension
 place_expression-returns-in_ok-place_expression-in-ListComprehension t c =
@@ -229,9 +229,10 @@ place_expression-returns-in_ok-place_expression-in-ListComprehension t c =
     let z = c.place_expression.new.placed in
     place_as scope _ _ a z (of x (tree.ListComprehension at c.in-ListComprehension.element cs) chain (c.in-ListComprehension.is ∙ sym (e.rolls-ListComprehension at c.in-ListComprehension.element cs)))
     (place_third scope _ _ _ a b z
-    (place_part (λ k. (in_clauses cs).first chain ++ (in_clauses cs).rest k) scope inner _ a b c.in_ok-inner-in-ListComprehension.ensures c.in_ok-place_clauses-in-ListComprehension.ensures)
+    (place_part (λ k. (in_clauses cs).first chain ++ (in_clauses cs).rest k) scope inner _ a b c.in_ok-inner-in-ListComprehension.ensures
+    (place_part (λ ds. (in_clauses ds).first chain ++ (in_clauses ds).rest inner) scope _ _ a b c.get.ensures c.in_ok-place_clauses-in-ListComprehension.ensures))
     (place_part (λ k. in_expression c.in-ListComprehension.element k) scope inner _ b z c.in_ok-inner-in-ListComprehension.ensures
-    (place_part (λ y. in_expression y inner) scope _ _ b z c.get.ensures c.in_ok-place_expression-in-ListComprehension.ensures)))
+    (place_part (λ y. in_expression y inner) scope _ _ b z c.get-in-ListComprehension.ensures c.in_ok-place_expression-in-ListComprehension.ensures)))
 
 pub place_expression-returns-in_ok-place_maybe-in-Slice-3 : goal.place_expression-returns-in_ok-place_maybe-in-Slice-3
 place_expression-returns-in_ok-place_maybe-in-Slice-3 t c =

@@ -8,7 +8,7 @@ use Rattle.star_bundle.specs.View.{asked_view}
 use Rattle.star_serve.specs.Trace.{Traces, trace_text}
 use Rattle.star_serve.proofs.Streams.{went_well}
 use Rattle.star_serve.proofs.Refusals.{started_refused, started_writes}
-use Rattle.star_serve.proofs.WrittenTexts.{not_said}
+use Rattle.star_serve.proofs.WrittenTexts.{if_ok-map, not_said}
 use Rattle.star_serve.proofs.serve.reported_over.Goals as goal
 
 pub returns-in-Err-clause-refused : goal.returns-in-Err-clause-refused
@@ -48,3 +48,12 @@ returns-clause-untraced g c = λ quiet off none.
     let options = c.args.options.now in
     let empty = not_said options.output asked.files asked.roots.items asked.prelude options.steps c.in-Ok.answer.written.all_ok (string_bytes c.in-Ok.answer.written.said) c.in-Ok.ensures.said none in
     c.write_explained.ensures quiet ∙ c.say.ensures.none (c.as_str.ensures.value ∙ empty) off
+
+pub returns-in-Check-clause-ok : goal.returns-in-Check-clause-ok
+returns-in-Check-clause-ok g c = rw c.in-Check.is c.checked_over.ensures.ok
+
+pub returns-in-Check-clause-traced : goal.returns-in-Check-clause-traced
+returns-in-Check-clause-traced g c = if_ok-map c.checked_over.result (λ ok h none same. rw c.in-Check.is (h none)) c.checked_over.ensures.traced
+
+pub returns-in-Check-clause-untraced : goal.returns-in-Check-clause-untraced
+returns-in-Check-clause-untraced g c = if_ok-map c.checked_over.result (λ ok h none off said. h none) c.checked_over.ensures.untold

@@ -20,3 +20,11 @@ returns-in-Graph-clause-text g c =
 pub returns-in-Graph-clause-said : goal.returns-in-Graph-clause-said
 returns-in-Graph-clause-said g c =
     if_ok-map c.graph_written.result (λ w h plan of. rw c.in-Graph.is (h plan)) c.graph_written.ensures.said
+
+pub returns-in-Check-clause-text : goal.returns-in-Check-clause-text
+returns-in-Check-clause-text g c =
+    if_ok-map c.check_written.result (λ w h plan of. rw c.in-Check.is (h c.args.run.now plan of)) c.check_written.ensures.text
+
+pub returns-in-Check-clause-said : goal.returns-in-Check-clause-said
+returns-in-Check-clause-said g c =
+    if_ok-map c.check_written.result (λ w h plan of. rw c.in-Check.is (h plan)) c.check_written.ensures.said

@@ -1,4 +1,4 @@
-use Rattle.std.proofs.Common.{◌≡◌, ◌<◌, false, get_or, length, rules, arith, sym, ◌∙◌}
+use Rattle.std.proofs.Common.{◌≡◌, ◌<◌, false, get_or, length, rules, arith}
 use Rattle.std.proofs.lemmas.List.{get_or_default}
 use Rattle.star_reading.proofs.Finds.{grew_one}
 use Rattle.star_report.proofs.leads.Found.mark.Goals as goal

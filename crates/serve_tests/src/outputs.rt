@@ -1,0 +1,72 @@
+//! What is written in place of the report: a global of each root, or the graph of loads.
+
+use crate::tests::{NEVER, options_of, scripted, writer_of};
+use star_serve::serve::{Output, serve};
+use std::alloc::Global;
+use std::sync::Wait;
+use std::test::Fail;
+use std::thread::Threads;
+
+/// `a.star` loads `b.star`; `c.star` and `d.star` load each other.
+const BUNDLE: &str =
+    "{\"//:a.star\":\"load(':b.star', 'b')\\nx = (b, {'k': None})\\n_p = 1\\nf = len\",\"//:b.star\":\"b = [True]\",\"//:c.star\":\"load(':d.star', 'd')\\nload(':b.star', 'b')\",\"//:d.star\":\"load(':c.star', 'c')\"}";
+
+/// Whether all is ok, with what was written to standard output and to standard error; or a refusal.
+fn written<H: Threads + Wait + Sync>(
+    rt: &H,
+    alloc: Global,
+    root: &str,
+    output: Output,
+) -> Result<(bool, Vec<u8>, Vec<u8>), Fail> {
+    let mut reader = scripted(BUNDLE.as_bytes(), 100, NEVER);
+    let mut writer = writer_of(alloc, NEVER);
+    let mut errors = writer_of(alloc, NEVER);
+    let mut options = options_of(alloc, 2)?;
+    options.roots = vec![in alloc; String::from_str(alloc, root)?]?;
+    options.output = output;
+    options.trace = false;
+    match serve(rt, alloc, &mut reader, &mut writer, &mut errors, &options) {
+        Ok(all_ok) => Ok((all_ok, writer.bytes, errors.bytes)),
+        Err(_) => Err(Fail::from("a bundle that is refused")),
+    }
+}
+
+#[test]
+fn a_global_is_written_as_json(rt: HostRuntime) -> Result<(), Fail> {
+    let alloc = rt.alloc();
+    for (name, want, said) in [
+        ("x", "[[true],{\"k\":null}]\n", ""),
+        ("_p", "", "starload: //:a.star: no such global\n"),
+        ("f", "", "starload: //:a.star: no data\n"),
+    ] {
+        let output = Output::Global(String::from_str(alloc, name)?);
+        let (all_ok, text, line) = written(&rt, alloc, "//:a.star", output)?;
+        assert_eq!(rt; all_ok, said.is_empty());
+        assert_eq!(rt; text.as_slice(), want.as_bytes());
+        assert_eq!(rt; line.as_slice(), said.as_bytes());
+    }
+    Ok(())
+}
+
+#[test]
+fn the_graph_is_written(rt: HostRuntime) -> Result<(), Fail> {
+    let alloc = rt.alloc();
+    for (root, all_ok, want) in [
+        (
+            "//:a.star",
+            true,
+            "digraph loads {\n  \"//:a.star\";\n  \"//:b.star\";\n  \"//:a.star\" -> \"//:b.star\";\n}\n",
+        ),
+        (
+            "//:c.star",
+            false,
+            "digraph loads {\n  \"//:b.star\";\n  \"//:c.star\" [style=filled];\n  \"//:d.star\" [style=filled];\n  \"//:c.star\" -> \"//:d.star\" [color=red];\n  \"//:c.star\" -> \"//:b.star\";\n  \"//:d.star\" -> \"//:c.star\" [color=red];\n}\n",
+        ),
+    ] {
+        let (ok, text, line) = written(&rt, alloc, root, Output::Graph)?;
+        assert_eq!(rt; ok, all_ok);
+        assert_eq!(rt; text.as_slice(), want.as_bytes());
+        assert!(rt; line.is_empty());
+    }
+    Ok(())
+}

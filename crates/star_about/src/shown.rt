@@ -1,0 +1,108 @@
+//! The texts of values that a person is shown.
+
+use crate::look::Look;
+use star_found::about::{Shown, Type};
+use star_machine::content::{Content, Kind};
+use star_machine::fault::Stop;
+use star_store::values::{Cell, Value};
+use star_text::Text;
+use std::alloc::{AllocError, Global};
+
+/// The number of characters of a text that are kept.
+const WIDTH: usize = 60;
+
+/// A value with more items than this gets the empty text.
+const MOST_ITEMS: usize = 1_000;
+
+/// A value nested deeper than this gets the empty text.
+const LEVELS: u32 = 60;
+
+/// The first characters of a text.
+fn cut(alloc: Global, text: &str) -> Result<Text, AllocError> {
+    match text.char_indices().nth(WIDTH) {
+        Some((end, _)) => {
+            let front = text.get(..end).unwrap_or("");
+            Text::of(format!(in alloc; "{front}..")?)
+        }
+        None => Text::new(alloc, text),
+    }
+}
+
+/// The type of a value of a kind.
+fn type_of(kind: Kind) -> Type {
+    match kind {
+        Kind::Nothing => Type::Nothing,
+        Kind::Truth(_) => Type::Bool,
+        Kind::Number(_) => Type::Int,
+        Kind::BuiltInFunction(_) | Kind::Method(..) => Type::BuiltIn,
+        Kind::Text => Type::Text,
+        Kind::Range(_) => Type::Range,
+        Kind::Tuple => Type::Tuple,
+        Kind::List => Type::List,
+        Kind::Dict => Type::Dict,
+        Kind::Function => Type::Function,
+        Kind::Frame | Kind::Nowhere => Type::Other,
+    }
+}
+
+impl<'w, 'a, 't> Look<'w, 'a, 't> {
+    /// The kind of a value.
+    pub(crate) fn kind(&self, value: Value) -> Kind {
+        self.machine.kind(self.world.setting(), value)
+    }
+
+    /// The number of items of a value, or of bytes of a string.
+    pub(crate) fn size(&self, value: Value) -> usize {
+        match self.kind(value) {
+            Kind::Text => self.machine.text_size(self.world.setting(), value),
+            _ => self.machine.size(self.world.setting(), value),
+        }
+    }
+
+    /// The name of a function that a program has defined; empty for another value.
+    pub(crate) fn function_name(&self, value: Value) -> Result<Text, AllocError> {
+        match self.machine.content(self.world.setting(), value) {
+            Content::Held(Cell::Func(function)) => cut(self.alloc, function.get().name.as_str()),
+            _ => Text::new(self.alloc, ""),
+        }
+    }
+
+    /// The start of the `repr` of a value; empty if the value is too large or too deep.
+    fn text(&mut self, value: Value) -> Result<Text, AllocError> {
+        let setting = self.world.setting();
+        if self.machine.size(setting, value) > MOST_ITEMS {
+            return Text::new(self.alloc, "");
+        }
+        match self.machine.repr(setting, LEVELS, self.fault.line, value) {
+            Ok(text) => cut(self.alloc, text.as_str()),
+            Err(Stop::Memory) => Err(AllocError),
+            Err(_) => Text::new(self.alloc, ""),
+        }
+    }
+
+    /// A value as it is shown: a function by its name.
+    pub(crate) fn shown(&mut self, value: Value) -> Result<Shown, AllocError> {
+        let kind = self.kind(value);
+        let text = match kind {
+            Kind::Function => self.function_name(value)?,
+            Kind::BuiltInFunction(function) => Text::new(self.alloc, function.name())?,
+            Kind::Method(method, _) => Text::new(self.alloc, method.name())?,
+            _ => self.text(value)?,
+        };
+        Ok(Shown {
+            of: type_of(kind),
+            text,
+        })
+    }
+
+    /// A value as it is shown, if there is one.
+    pub(crate) fn maybe_shown(
+        &mut self,
+        value: Option<Value>,
+    ) -> Result<Option<Shown>, AllocError> {
+        match value {
+            Some(value) => Ok(Some(self.shown(value)?)),
+            None => Ok(None),
+        }
+    }
+}

@@ -1,0 +1,3 @@
+pub mod Judgements
+pub mod Rows
+pub mod Shown

@@ -1,0 +1,144 @@
+-- The text of a check, and its answer.
+use Rattle.std.proofs.Common.{arith, ◌≡◌, ◌<◌, ◌+◌, ℕ, List, [], ◌∷◌, ◌++◌, Bool, true, false, length, map, take, get_or, refl, ap, sym, subst, ◌∙◌}
+use Rattle.std.specs.Prelude.{All, Contains, codes, cond, filter}
+use Rattle.std.proofs.lemmas.List.{get_or-map, length-map, map_push, take_more}
+use Rattle.std.proofs.lemmas.List.Elements.{All-contains, All-map, Contains-get_or, filter-append}
+use Rattle.serde_json.specs.Data.{Data, array, member, no_members, number, object, string, unsigned}
+use Rattle.serde_json.specs.View.{items_of}
+use Rattle.serde_json.specs.Written.{compact_text, has_float, items_have_float}
+use Rattle.star_label.specs.Files.{File, label_at}
+use Rattle.star_plan.specs.Causes.{Cause, Culprit, Cycle}
+use Rattle.star_plan.specs.Plan.{Plan}
+use Rattle.star_plan.specs.Text.{load_data}
+use Rattle.star_check.specs.Check.{AtFault, Fails, IsCheck, IsSound, IsVerdict, Module, Unrun, Verdict}
+use Rattle.star_check.specs.Judged.{judged_view, verdict_view}
+use Rattle.star_check.specs.Text.{IsCheckAnswer, check_text, is_shown, is_unrun, module_data, verdict_data}
+use Rattle.star_check.specs.declared.verdict.Judged.{Judged}
+use Rattle.star_check.proofs.Judgements.{fault_unsound, lack_unsound}
+
+-- ---- the modules that are shown
+
+abbrev pub shown_of : List File → Bool → List ℕ → List Judged → List Data
+shown_of files only roots js = map (module_data files) (filter (is_shown only roots) (map judged_view js))
+
+shown_push : (files : List File) (only : Bool) (roots : List ℕ) (js : List Judged) (j : Judged) → shown_of files only roots (js ++ j ∷ []) ≡ shown_of files only roots js ++ map (module_data files) (cond (is_shown only roots (judged_view j)) (judged_view j ∷ []) [])
+shown_push files only roots js j =
+    let p = is_shown only roots in
+    ap (λ ms. map (module_data files) (filter p ms)) (map_push judged_view js j)
+    ∙ (ap (map (module_data files)) (filter-append p (map judged_view js) (judged_view j ∷ []))
+    ∙ map-append (filter p (map judged_view js)) (filter p (judged_view j ∷ [])))
+  where
+    map-append : (xs ys : List Module) → map (module_data files) (xs ++ ys) ≡ map (module_data files) xs ++ map (module_data files) ys
+    map-append [] ys = refl
+    map-append (x ∷ xs) ys = ap (λ t. module_data files x ∷ t) (map-append xs ys)
+
+taken : (js : List Judged) (i : ℕ) (j : Judged) → i < length js → get_or js i j ≡ j → take (i + 1) js ≡ take i js ++ j ∷ []
+taken js i j less at = take_more js i j less ∙ ap (λ x. take i js ++ x ∷ []) at
+
+pub shown_yes : (files : List File) (only : Bool) (roots : List ℕ) (js : List Judged) (i : ℕ) (j : Judged) (ds later : List Data) (d : Data) → i < length js → get_or js i j ≡ j → ds ≡ shown_of files only roots (take i js) → is_shown only roots (judged_view j) ≡ true
+    → d ≡ module_data files (judged_view j) → later ≡ ds ++ d ∷ [] → later ≡ shown_of files only roots (take (i + 1) js)
+shown_yes files only roots js i j ds later d less at were shows is more =
+    let push : shown_of files only roots (take i js ++ j ∷ []) ≡ shown_of files only roots (take i js) ++ module_data files (judged_view j) ∷ [] =
+    shown_push files only roots (take i js) j ∙ ap (λ b. shown_of files only roots (take i js) ++ map (module_data files) (cond b (judged_view j ∷ []) [])) shows in
+    more ∙ (ap (λ ds. ds ++ d ∷ []) were ∙ (ap (λ x. shown_of files only roots (take i js) ++ x ∷ []) is ∙ (sym push ∙ sym (ap (shown_of files only roots) (taken js i j less at)))))
+
+pub shown_no : (files : List File) (only : Bool) (roots : List ℕ) (js : List Judged) (i : ℕ) (j : Judged) (ds : List Data) → i < length js → get_or js i j ≡ j → ds ≡ shown_of files only roots (take i js) → is_shown only roots (judged_view j) ≡ false
+    → ds ≡ shown_of files only roots (take (i + 1) js)
+shown_no files only roots js i j ds less at were hides =
+    let push : shown_of files only roots (take i js ++ j ∷ []) ≡ shown_of files only roots (take i js) ++ [] =
+    shown_push files only roots (take i js) j ∙ ap (λ b. shown_of files only roots (take i js) ++ map (module_data files) (cond b (judged_view j ∷ []) [])) hides in
+    were ∙ (sym (append-nil (shown_of files only roots (take i js))) ∙ (sym push ∙ sym (ap (shown_of files only roots) (taken js i j less at))))
+  where
+    append-nil : (xs : List Data) → xs ++ [] ≡ xs
+    append-nil [] = refl
+    append-nil (x ∷ xs) = ap (λ t. x ∷ t) (append-nil xs)
+
+-- ---- no float stands in it
+
+texts_plain : (ts : List (List ℕ)) → items_have_float (items_of (map string ts)) ≡ false
+texts_plain [] = refl
+texts_plain (t ∷ ts) = texts_plain ts
+
+load_plain : (files : List File) (label : List ℕ) (cause : Cause) (line : ℕ) → has_float (load_data files label cause line) ≡ false
+load_plain files label (Culprit n) line = refl
+load_plain files label (Cycle ns) line = rw (texts_plain (map (label_at files) ns)) refl
+
+verdict_plain : (files : List File) (label : List ℕ) (v : Verdict) → has_float (verdict_data files label v) ≡ false
+verdict_plain files label (AtFault f) = refl
+verdict_plain files label (Fails cause line) = load_plain files label cause line
+verdict_plain files label Unrun = refl
+
+pub modules_plain : (files : List File) (ms : List Module) → items_have_float (items_of (map (module_data files) ms)) ≡ false
+modules_plain files [] = refl
+modules_plain files (m ∷ ms) = rw (verdict_plain files (label_at files m.file) m.verdict) (modules_plain files ms)
+
+-- ---- the answer
+
+against : (plan : Plan) (n : ℕ) (v : Verdict) → IsVerdict plan n v → is_unrun v ≡ false → IsSound plan n → ⊥
+against plan n (AtFault f) is not_unrun sane = fault_unsound plan n f is sane
+against plan n (Fails cause line) (why, (i, l, lack, at, same)) not_unrun sane = lack_unsound plan n i lack sane
+against plan n Unrun is not_unrun sane = let no : ⊥ = cc in no
+
+unrun_sound : (plan : Plan) (n : ℕ) (v : Verdict) → IsVerdict plan n v → is_unrun v ≡ true → IsSound plan n
+unrun_sound plan n (AtFault f) is e = absurd (let no : ⊥ = cc in no)
+unrun_sound plan n (Fails cause line) is e = absurd (let no : ⊥ = cc in no)
+unrun_sound plan n Unrun is e = is
+
+file_of : (ms : List Module) (n : ℕ) → Contains (map (λ (m : Module). m.file) ms) n → (m : Module) × Contains ms m × (m.file ≡ n)
+file_of [] n (k, less, e) = absurd (let no : ⊥ = omega (arith, less) in no)
+file_of (x ∷ xs) n (k, less, e) =
+    let d : Module = x in
+    let inside : k < length (x ∷ xs) = (let l = length-map (x ∷ xs) (λ (m : Module). m.file) in omega (arith, less, l)) in
+    let at : get_or (map (λ (m : Module). m.file) (x ∷ xs)) k n ≡ (get_or (x ∷ xs) k d).file = get_or-map (λ (m : Module). m.file) (x ∷ xs) k d n inside in
+    (get_or (x ∷ xs) k d, held (x ∷ xs) k d inside, sym at ∙ e)
+  where
+    held : (ys : List Module) (i : ℕ) (z : Module) → i < length ys → Contains ys (get_or ys i z)
+    held ys i z less = Contains-get_or ys i z less
+
+file_in : (ms : List Module) (m : Module) → Contains ms m → Contains (map (λ (x : Module). x.file) ms) m.file
+file_in ms m (k, less, e) = (k, (let l = length-map ms (λ (x : Module). x.file) in omega (arith, less, l)), get_or-map (λ (x : Module). x.file) ms k m m.file less ∙ ap (λ (x : Module). x.file) e)
+
+view_in : (js : List Judged) (j : Judged) → Contains js j → Contains (map judged_view js) (judged_view j)
+view_in js j (k, less, e) = (k, (let l = length-map js judged_view in omega (arith, less, l)), get_or-map judged_view js k j (judged_view j) less ∙ ap judged_view e)
+
+pub answer_is : (plan : Plan) (js : List Judged) (ok : Bool) → IsCheck plan (map judged_view js) → (ok ≡ true → All (λ j. is_unrun (verdict_view j.verdict) ≡ true) js)
+    → (ok ≡ false → (j : Judged) × Contains js j × (is_unrun (verdict_view j.verdict) ≡ false)) → IsCheckAnswer plan ok
+answer_is plan js true is all_unrun some_not = (
+  λ e n reached.
+      let found = file_of (map judged_view js) n ((is.all n).0 reached) in
+      let verdict = All-contains (λ (m : Module). IsVerdict plan m.file m.verdict) (map judged_view js) found.0 is.each found.1 in
+      let unrun = All-contains (λ (m : Module). is_unrun m.verdict ≡ true) (map judged_view js) found.0 (All-map (λ (m : Module). is_unrun m.verdict ≡ true) judged_view js (all_unrun refl)) found.1 in
+      subst (IsSound plan) found.2 (unrun_sound plan found.0.file found.0.verdict verdict unrun),
+  λ all. refl,
+)
+answer_is plan js false is all_unrun some_not = (
+  λ e. absurd (let f : ⊥ = cc in f),
+  λ all.
+      let bad = some_not refl in
+      let here = view_in js bad.0 bad.1 in
+      let m : Module = judged_view bad.0 in
+      let reached = (is.all m.file).1 (file_in (map judged_view js) m here) in
+      let verdict = All-contains (λ (x : Module). IsVerdict plan x.file x.verdict) (map judged_view js) m is.each here in
+      absurd (against plan m.file m.verdict verdict bad.2 (all m.file reached)),
+)
+
+-- ---- the text
+
+-- all were looked at
+pub all_taken : (P : Judged → Type 0) (js : List Judged) (i : ℕ) → i ≡ length js → All P (take i js) → All P js
+all_taken P js i end all = subst (All P) (ap (λ k. take k js) end ∙ take_length js) all
+  where
+    take_length : (xs : List Judged) → take (length xs) xs ≡ xs
+    take_length [] = refl
+    take_length (x ∷ xs) = ap (λ t. x ∷ t) (take_length xs)
+
+abbrev pub data_of : List Data → Data
+data_of modules = object (member (codes "begun") (number (unsigned 0)) (member (codes "modules") (array (items_of modules)) no_members))
+
+pub text_is : (files : List File) (only : Bool) (roots : List ℕ) (js : List Judged) (value : Data) (modules : List Data) (bytes text : List ℕ) → value ≡ data_of modules → modules ≡ shown_of files only roots js
+    → (has_float value ≡ false → bytes ≡ compact_text value) → text ≡ bytes ++ 10 ∷ [] → text ≡ check_text only files roots (map judged_view js)
+unfolding check_text
+text_is files only roots js value modules bytes text is were exact more =
+    let same : value ≡ data_of (shown_of files only roots js) = is ∙ ap data_of were in
+    let plain : has_float (data_of (shown_of files only roots js)) ≡ false = rw (modules_plain files (filter (is_shown only roots) (map judged_view js))) refl in
+    more ∙ ap (λ b. b ++ 10 ∷ []) (exact (ap has_float same ∙ plain) ∙ ap compact_text same)

@@ -1,0 +1,49 @@
+//! Laws of what stands only once in all that a run leaves: keys of dictionaries, and globals.
+
+ghost use Rattle.star_once.specs.Names.{GlobalsStandOnce};
+ghost use Rattle.star_once.specs.Results.{EqualResultsAreSame, ResultsKeepKeys};
+ghost use Rattle.star_once.specs.Laws.{DifferentKeysStandOnce, FilesKeepKeys, FrozenKeysStandOnce, LoadsKeepKeys, RunsKeepKeys};
+
+/// Where keys differ before an expression or a statement that ends well, they differ after it: whatever it puts into
+/// dictionaries, no key is there twice. (`docs/LANGUAGE.md`, "Dictionaries".)
+pub fn runs_keep_keys()
+    ensures { RunsKeepKeys }
+{}
+
+/// So it is with the run of a file.
+pub fn files_keep_keys()
+    ensures { FilesKeepKeys }
+{}
+
+/// Where keys differ, no dictionary has a string twice as a key.
+pub fn different_keys_stand_once()
+    ensures { DifferentKeysStandOnce }
+{}
+
+/// Keys that differ in all that the loaded modules saw differ in all that a module sees before its run.
+pub fn loads_keep_keys()
+    ensures { LoadsKeepKeys }
+{}
+
+/// On the shelf of a module that ended well no dictionary has a string twice as a key.
+pub fn frozen_keys_stand_once()
+    ensures { FrozenKeysStandOnce }
+{}
+
+/// In all that a file of a plan reaches that ended well, itself among it, no dictionary has a string twice as a key.
+pub fn results_keep_keys()
+    ensures { ResultsKeepKeys }
+{}
+
+/// So two values there that are equal, and have JSON, have the same. (`docs/REPORT.md`, "Values".)
+pub fn equal_results_are_same()
+    ensures { EqualResultsAreSame }
+{
+    star_data::equal_are_same();
+}
+
+/// No two globals of a file have the same name, and there are as many texts, of the same names. (`docs/LANGUAGE.md`,
+/// "The end of a file".)
+pub fn globals_stand_once()
+    ensures { GlobalsStandOnce }
+{}

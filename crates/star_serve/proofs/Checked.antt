@@ -1,0 +1,36 @@
+-- What is written where nothing is run.
+use Rattle.std.proofs.Common.{arith, ◌≡◌, ◌<◌, ◌++◌, ℕ, Bool, false, List, [], ◌∷◌, Option, refl, sym, subst}
+use Rattle.star_label.specs.Files.{File}
+use Rattle.star_bundle.specs.Bundle.{Asked}
+use Rattle.star_check.specs.Text.{IsCheckAnswer, IsCheckText}
+use Rattle.star_outcome.specs.Refusals.{AreRefusalsOf}
+use Rattle.star_plan.specs.Plan.{Plan}
+use Rattle.star_plan.specs.Reading.{IsPlanOf}
+use Rattle.star_reading.specs.Found.{IsReadOf}
+use Rattle.star_reading.specs.Readings.{Row, readings}
+use Rattle.star_reading.proofs.Plans.{planned_so}
+use Rattle.star_report.specs.Output.{InPlanOf, IsOutput, IsSaid}
+use Rattle.star_report.specs.declared.wanted.Output.TheVariants.{Check}
+use Rattle.star_serve.specs.Stream.{Adds}
+use Rattle.star_serve.specs.Trace.{Traces}
+use Rattle.star_serve.proofs.Traced.{Adds-nothing}
+
+-- what holds of each plan that has what was read holds of one that files have
+pub checked_in : (files : List File) (roots : List ℕ) (prelude : Option ℕ) (row : Row) (only : Bool) (text : List ℕ) (ok : Bool) → IsReadOf files roots prelude row
+    → ((plan : Plan) → IsPlanOf files plan → readings row ≡ plan.reads → plan.roots ≡ roots → IsCheckText only files plan text × IsCheckAnswer plan ok) → (steps : ℕ) → InPlanOf files roots prelude steps (λ plan. IsOutput (Check only) files plan text ok)
+checked_in files roots prelude row only text ok (block, prelude_is, rows) each steps =
+    let plan : Plan = record { roots = roots; prelude = prelude; steps = steps; reads = readings row } in
+    let planned : IsPlanOf files plan = planned_so files block row plan refl prelude_is rows in
+    (plan, planned, refl, refl, refl, each plan planned refl refl)
+
+-- nothing is said beside it, and no load was refused
+pub checked_said : (asked : Asked) (steps : ℕ) (only ok trace : Bool) (text : List ℕ) (old new : Option (List ℕ)) → new ≡ old → InPlanOf asked.files asked.roots asked.prelude steps (λ plan. IsOutput (Check only) asked.files plan text ok)
+    → Traces (Check only) asked steps ok trace old new
+checked_said asked steps only ok trace text old new same (plan, planned, of_roots, of_prelude, of_steps, out) = (
+  [],
+  (plan, planned, of_roots, of_prelude, of_steps, refl),
+  [],
+  (plan, planned, of_roots, of_prelude, of_steps, λ k d lt. absurd (let no : ⊥ = omega (arith, lt) in no)),
+  λ off. refl,
+  subst (λ t. Adds old t []) (sym same) (Adds-nothing old),
+)

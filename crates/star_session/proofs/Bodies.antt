@@ -1,0 +1,48 @@
+-- The text of a report without its line end.
+use Rattle.std.proofs.Common.{◌≡◌, ◌-◌, ◌+◌, ℕ, List, [], ◌∷◌, ◌++◌, Bool, Option, length, take, refl, ap, sym, ◌∙◌, subst, length-append, arith}
+use Rattle.std.proofs.Math.Seq.{take-append_seam}
+use Rattle.std.specs.List.{filter}
+use Rattle.std.specs.Prelude.{map}
+use Rattle.std.specs.Prelude.{codes}
+use Rattle.serde_json.specs.Data.{Data, array, member, no_members, number, object, unsigned}
+use Rattle.serde_json.specs.View.{items_of}
+use Rattle.serde_json.specs.Written.{compact_text}
+use Rattle.star_report.specs.Wanted.{Full, full_data, is_shown}
+use Rattle.star_label.specs.Files.{File}
+use Rattle.star_plan.specs.Plan.{Plan}
+use Rattle.star_report.specs.Output.{InPlanOf, IsOutput}
+use Rattle.star_report.specs.Wanted.{IsFullText, full_text}
+use Rattle.star_report.specs.declared.wanted.Output.TheVariants.{Report}
+use Rattle.star_report.specs.declared.wanted.Wanted.{Wanted}
+
+without_end : (text body : List ℕ) → text ≡ body ++ 10 ∷ [] → take (length text - 1) text ++ 10 ∷ [] ≡ text
+without_end text body is =
+    let size : length text ≡ length body + 1 = ap length is ∙ length-append body (10 ∷ []) in
+    let one : length text - 1 ≡ length body = omega (arith, size) in
+    let front : take (length text - 1) text ≡ body = ap (λ n. take n text) one ∙ ap (take (length body)) is ∙ take-append_seam body (10 ∷ []) in
+    ap (λ t. t ++ 10 ∷ []) front ∙ sym is
+
+-- a text that ends with a line end
+record Ends (text : List ℕ) : Type 0 where
+  body : List ℕ
+  is : text ≡ body ++ 10 ∷ []
+
+full_text-ends : (wanted : Wanted) (files : List File) (plan : Plan) (begun : ℕ) (fulls : List Full) → Ends (full_text wanted files plan begun fulls)
+unfolding full_text
+full_text-ends wanted files plan begun fulls = record {
+  body = compact_text (object (member (codes "begun") (number (unsigned begun)) (member (codes "modules") (array (items_of (map (full_data files) (filter (is_shown wanted plan) fulls)))) no_members)));
+  is = refl;
+}
+
+ends : (wanted : Wanted) (files : List File) (plan : Plan) (text : List ℕ) → IsFullText wanted files plan text → take (length text - 1) text ++ 10 ∷ [] ≡ text
+unfolding full_text
+ends wanted files plan text full = by (full_text wanted files plan full.begun full.fulls) (full_text-ends wanted files plan full.begun full.fulls) full.text_is
+  where
+    by : (t : List ℕ) → Ends t → text ≡ t → take (length text - 1) text ++ 10 ∷ [] ≡ text
+    by t h e = without_end text h.body (e ∙ h.is)
+
+pub body_of : (wanted : Wanted) (files : List File) (roots : List ℕ) (prelude : Option ℕ) (steps : ℕ) (text body : List ℕ) (n : ℕ) (ok : Bool) → n ≡ length text → body ≡ take (n - 1) text
+    → InPlanOf files roots prelude steps (λ plan. IsOutput (Report wanted) files plan text ok) → InPlanOf files roots prelude steps (λ plan. IsOutput (Report wanted) files plan (body ++ 10 ∷ []) ok)
+body_of wanted files roots prelude steps text body n ok size is (plan, planned, of_roots, of_prelude, of_steps, both) =
+    let same : body ++ 10 ∷ [] ≡ text = ap (λ b. b ++ 10 ∷ []) (is ∙ ap (λ m. take (m - 1) text) size) ∙ ends wanted files plan text both.0 in
+    (plan, planned, of_roots, of_prelude, of_steps, (subst (IsFullText wanted files plan) (sym same) both.0, both.1))

@@ -1,0 +1,9 @@
+pub mod Changes
+pub mod Ahead
+pub mod Takings
+pub mod Asked
+pub mod OfLines
+pub mod Bodies
+pub mod Limits
+pub mod Answered
+pub mod Parts

@@ -1,0 +1,135 @@
+-- What is asked for of files after changes, and its refusals.
+use Rattle.std.proofs.Common.{◌≡◌, ℕ, List, [], ◌∷◌, ◌++◌, Bool, subst, Option, None, Some, Result, Ok, Err, String, Bor, Global, string_bytes, inl, inr, refl, ap, sym, ◌∙◌}
+use Rattle.std.specs.Prelude.{◌⊎◌}
+use Rattle.std.specs.Option.{option_copied, option_map}
+use Rattle.star_label.specs.Files.{File, limit_passed}
+use Rattle.star_label.specs.declared.error.LabelError.{LabelError}
+use Rattle.star_bundle.specs.Bundle.{Asked, asked_among, prelude_of, roots_of, within_limits, ◌>>=◌}
+use Rattle.star_bundle.specs.Refusal.{Fails}
+use Rattle.star_bundle.specs.declared.error.ServeError.{ServeError}
+use Rattle.star_bundle.specs.declared.error.ServeError.TheVariants.{BadBundle, BadDir, BadFile, BadKey, BadPrelude, BadRoot, Memory, NoPrelude, NoRoot, NotText, Read, TooBig, TooLong, TooMany, Unpublished, Write}
+use Rattle.star_report.specs.Output.{InPlanOf, IsOutput}
+use Rattle.star_report.specs.declared.wanted.Output.TheVariants.{Report}
+use Rattle.star_session.specs.Answers.{IsRefusalOf, IsReportOf, asked_after, asks_among}
+use Rattle.star_session.specs.Changes.{files_after}
+use Rattle.star_session.specs.Requests.{Asking, asked_by, question_of}
+use Rattle.star_session.specs.declared.question.Question.{Question}
+use Rattle.star_session.specs.declared.request.Request.{Request}
+use Rattle.star_session.specs.declared.standing.Last.{Last}
+
+-- a word that is borrowed
+same_words : (o : Option (Bor (String Global))) → option_map string_bytes (option_copied o) ≡ option_map (λ p. string_bytes p.now) o
+same_words None = refl
+same_words (Some p) = refl
+
+pub words_of : (o : Option (Bor (String Global))) (p : Option (String Global)) → option_copied o ≡ p → option_map (λ x. string_bytes x.now) o ≡ option_map string_bytes p
+words_of o p e = sym (same_words o) ∙ ap (option_map string_bytes) e
+
+fails_or_memory : {Y : Type 0} (e : ServeError) (given : Result Y ServeError) → Fails e given → (given ≡ Err e) ⊎ (e ≡ Memory)
+fails_or_memory Read given h = inl h
+fails_or_memory TooBig given h = inl h
+fails_or_memory BadDir given h = inl h
+fails_or_memory BadFile given h = inl h
+fails_or_memory NotText given h = inl h
+fails_or_memory BadBundle given h = inl h
+fails_or_memory BadKey given h = inl h
+fails_or_memory TooMany given h = inl h
+fails_or_memory TooLong given h = inl h
+fails_or_memory BadRoot given h = inl h
+fails_or_memory NoRoot given h = inl h
+fails_or_memory BadPrelude given h = inl h
+fails_or_memory NoPrelude given h = inl h
+fails_or_memory Memory given h = inr refl
+fails_or_memory Write given h = inl h
+fails_or_memory Unpublished given h = inl h
+
+-- the limits of the files
+abbrev limited : List File → Asking → Result (List File) ServeError
+limited before a = within_limits (files_after before a.changes) (limit_passed (files_after before a.changes))
+
+pub memory_refused : (before : List File) (a : Asking) (e : ServeError) → e ≡ Memory → IsRefusalOf before a e
+memory_refused before a e h = inr (inl h)
+
+-- files that pass a limit
+pub limit_refused : (before : List File) (a : Asking) (e : ServeError) → Fails e (limited before a) → IsRefusalOf before a e
+limit_refused before a e h = by (fails_or_memory e (limited before a) h)
+  where
+    by : (limited before a ≡ Err e) ⊎ (e ≡ Memory) → IsRefusalOf before a e
+    by (inl is) = inl (ap (λ r. r >>= λ files. asked_among a.roots a.prelude files) is)
+    by (inr is) = inr (inl is)
+
+-- words that are no labels of them
+pub words_refused : (before files : List File) (a : Asking) (roots : List (List ℕ)) (prelude : Option (List ℕ)) (e : ServeError) → limited before a ≡ Ok files → roots ≡ a.roots → prelude ≡ a.prelude → Fails e (asked_among roots prelude files) → IsRefusalOf before a e
+words_refused before files a roots prelude e ok rs p h = by (fails_or_memory e (asked_among roots prelude files) h)
+  where
+    same : asked_among roots prelude files ≡ asked_among a.roots a.prelude files
+    same = ap (λ r. asked_among r prelude files) rs ∙ ap (λ q. asked_among a.roots q files) p
+
+    by : (asked_among roots prelude files ≡ Err e) ⊎ (e ≡ Memory) → IsRefusalOf before a e
+    by (inl is) = inl (ap (λ r. r >>= λ fs. asked_among a.roots a.prelude fs) ok ∙ sym same ∙ is)
+    by (inr is) = inr (inl is)
+
+pub asks : (before files : List File) (a : Asking) (roots : List (List ℕ)) (prelude : Option (List ℕ)) (asked : Asked) → limited before a ≡ Ok files → roots ≡ a.roots → prelude ≡ a.prelude → asked_among roots prelude files ≡ Ok asked → asked_after before a ≡ Ok asked
+asks before files a roots prelude asked ok rs p h =
+    ap (λ r. r >>= λ fs. asked_among a.roots a.prelude fs) ok
+    ∙ sym (ap (λ r. asked_among r prelude files) rs ∙ ap (λ q. asked_among a.roots q files) p) ∙ h
+
+with_files : (files : List File) (r : Result (List ℕ) ServeError) (p : Result (Option ℕ) ServeError) (a : Asked) → (r >>= λ ns. p >>= λ q. Ok (record { files = files; roots = ns; prelude = q })) ≡ Ok a → a.files ≡ files
+with_files files (Ok ns) (Ok q) a e = let same : record { files = files; roots = ns; prelude = q } ≡ a = cc in sym (ap (λ (x : Asked). x.files) same)
+with_files files (Ok ns) (Err x) a e = absurd (let no : ⊥ = cc in no)
+with_files files (Err x) p a e = absurd (let no : ⊥ = cc in no)
+
+-- what is asked for is asked for of these files
+pub asked_files : (roots : List (List ℕ)) (p : Option (List ℕ)) (files : List File) (a : Asked) → asked_among roots p files ≡ Ok a → a.files ≡ files
+unfolding asked_among
+asked_files roots p files a e = with_files files (roots_of files roots) (prelude_of files p) a e
+
+-- files that pass no limit
+pub limits_kept : (made entries files : List File) → entries ≡ files → limit_passed entries ≡ None → made ≡ entries → within_limits files (limit_passed files) ≡ Ok made
+limits_kept made entries files e none is =
+    let free : limit_passed files ≡ None = ap limit_passed (sym e) ∙ none in
+    ap (within_limits files) free ∙ ap Ok (sym (is ∙ e))
+
+-- files that pass one
+pub limits_passed : (entries files : List File) (l : LabelError) → entries ≡ files → limit_passed entries ≡ Some l → within_limits files (limit_passed files) ≡ within_limits files (Some l)
+limits_passed entries files l e some = ap (within_limits files) (ap limit_passed (sym e) ∙ some)
+
+-- a report for what is asked among files that pass no limit
+pub report_of_asked : (before files : List File) (a : Asking) (roots : List (List ℕ)) (prelude : Option (List ℕ)) (asked : Asked) (report : List ℕ) (ok : Bool)
+    → limited before a ≡ Ok files → files ≡ files_after before a.changes → roots ≡ a.roots → prelude ≡ a.prelude → asked_among roots prelude files ≡ Ok asked
+    → InPlanOf asked.files asked.roots asked.prelude a.steps (λ plan. IsOutput (Report a.wanted) asked.files plan (report ++ 10 ∷ []) ok)
+    → IsReportOf asked.files a report
+report_of_asked before files a roots prelude asked report ok limits same rs p h is =
+    let these : asked.files ≡ files_after before a.changes = asked_files roots prelude files asked h ∙ same in
+    record {
+      asked = asked;
+      asks = ap (λ fs. asks_among fs a) these ∙ asks before files a roots prelude asked limits rs p h;
+      ok = ok;
+      reports = is;
+    }
+
+-- a report is that of a question, whatever changes a request makes before
+pub of_request : (r : Request) (files : List File) (report : List ℕ) → IsReportOf files (question_of r.question) report → IsReportOf files (asked_by r) report
+of_request r files report h = record {
+  asked = h.asked;
+  asks = h.asks;
+  ok = h.ok;
+  reports = h.reports;
+}
+
+pub of_asked : (r : Request) (files : List File) (report : List ℕ) → IsReportOf files (asked_by r) report → IsReportOf files (question_of r.question) report
+of_asked r files report h = record {
+  asked = h.asked;
+  asks = h.asks;
+  ok = h.ok;
+  reports = h.reports;
+}
+
+-- what was asked for is asked again
+pub asked_again : (r : Request) (l : Last) (files : List File) (report : List ℕ) → question_of l.question ≡ question_of r.question → IsReportOf files (question_of l.question) l.report.items → report ≡ l.report.items
+    → IsReportOf files (asked_by r) report
+asked_again r l files report same h is = of_request r files report (subst (λ b. IsReportOf files b report) same (subst (IsReportOf files (question_of l.question)) (sym is) h))
+
+-- the report is the last one from now on
+pub of_last : (r : Request) (q : Question) (files : List File) (report : List ℕ) → q ≡ r.question → IsReportOf files (question_of q) report → IsReportOf files (asked_by r) report
+of_last r q files report same h = of_request r files report (subst (λ p. IsReportOf files (question_of p) report) same h)

@@ -1,0 +1,83 @@
+-- The answer to a line.
+use Rattle.std.specs.Prelude.{◌≡◌, ◌⊎◌, ◌++◌, ◌∷◌, [], ℕ, List, Bool, Result, Ok, Err, None, Some, codes}
+use Rattle.serde_json.specs.Data.{Data, null, string}
+use Rattle.serde_json.specs.Written.{compact_text}
+use Rattle.star_bundle.specs.Bundle.{Asked, asked_among, within_limits, ◌>>=◌}
+use Rattle.star_bundle.specs.Refusal.{text_of}
+use Rattle.star_bundle.specs.declared.error.ServeError.{ServeError}
+use Rattle.star_bundle.specs.declared.error.ServeError.TheVariants.{Memory, Unpublished}
+use Rattle.star_label.specs.Files.{File, limit_passed}
+use Rattle.star_report.specs.Output.{InPlanOf, IsOutput}
+use Rattle.star_report.specs.declared.wanted.Output.TheVariants.{Report}
+use Rattle.star_session.specs.Changes.{files_after}
+use Rattle.star_session.specs.Requests.{Asking, IsIdText, asking_of, id_of}
+use Rattle.star_session.specs.declared.request.Defaults.{Defaults}
+
+-- the line of an answer: the id of its request, and a member with this JSON
+abbrev pub answer_line : List ℕ → List ℕ → List ℕ → List ℕ
+answer_line id name json = codes "{\"id\":" ++ (id ++ (codes ",\"" ++ (name ++ (codes "\":" ++ (json ++ codes "}\n")))))
+
+-- the answer where there is no memory for another one
+abbrev pub no_memory_line : List ℕ
+no_memory_line = codes "{\"id\":null,\"refused\":\"out of memory\"}\n"
+
+-- what is asked for of these files, or the refusal of it: of the limits of files, of the roots, of the prelude
+abbrev pub asks_among : List File → Asking → Result Asked ServeError
+asks_among files a = within_limits files (limit_passed files) >>= λ fs. asked_among a.roots a.prelude fs
+
+-- .. of the files after the changes
+abbrev pub asked_after : List File → Asking → Result Asked ServeError
+asked_after before a = asks_among (files_after before a.changes) a
+
+-- This is exactly a report of these files for the roots, the prelude, the steps and what is wanted: its text but for its
+-- line end.
+pub record IsReportOf (files : List File) (a : Asking) (report : List ℕ) : Type 0 where
+  pub asked : Asked
+  pub asks : asks_among files a ≡ Ok asked
+  pub ok : Bool
+  pub reports : InPlanOf files asked.roots asked.prelude a.steps
+      (λ plan. IsOutput (Report a.wanted) files plan (report ++ 10 ∷ []) ok)
+
+-- The answer is the line with the request's id and a report of the files after its changes.
+pub record IsReported (before : List File) (id : Data) (a : Asking) (after : List File) (answer : List ℕ) : Type 0
+  where
+    pub after_is : after ≡ files_after before a.changes
+    pub id_text : List ℕ
+    pub id_is : IsIdText id id_text
+    pub report : List ℕ
+    pub reports : IsReportOf after a report
+    pub answer_is : answer ≡ answer_line id_text (codes "report") report
+
+-- the answer is a refusal with this text
+abbrev pub IsRefusal : Data → List ℕ → List ℕ → Type 0
+IsRefusal id text answer =
+    (id_text : List ℕ) × IsIdText id id_text
+    × (answer ≡ answer_line id_text (codes "refused") (compact_text (string text)))
+
+-- a request is refused so: by what is asked for, or since a module was not published, or for want of memory
+abbrev pub IsRefusalOf : List File → Asking → ServeError → Type 0
+IsRefusalOf before a e = (asked_after before a ≡ Err e) ⊎ ((e ≡ Memory) ⊎ (e ≡ Unpublished))
+
+-- The answer refuses a line: for want of memory, which may come at any time; since the line is no request; or by what
+-- its request asks for.
+abbrev pub IsRefused : Defaults → List File → List ℕ → List ℕ → Type 0
+IsRefused defaults before line answer =
+    (answer ≡ no_memory_line)
+    ⊎ (((asking_of defaults line ≡ None)
+    × (id : Data) × ((id ≡ id_of line) ⊎ (id ≡ null)) × (text : List ℕ) × IsRefusal id text answer)
+    ⊎ ((a : Asking) × (asking_of defaults line ≡ Some a)
+    × (e : ServeError) × IsRefusalOf before a e × IsRefusal (id_of line) (text_of e) answer))
+
+-- A line is answered: by a report of the files as its changes leave them, or by a refusal, and then the files stay.
+abbrev pub IsAnswered : Defaults → List File → List ℕ → List File → List ℕ → Type 0
+IsAnswered defaults before line after answer =
+    ((a : Asking) × (asking_of defaults line ≡ Some a) × IsReported before (id_of line) a after answer)
+    ⊎ ((after ≡ before) × IsRefused defaults before line answer)
+
+-- Lines are answered one after another, each by one line; the files after one are those before the next.
+abbrev pub AreAnswered : Defaults → List File → List (List ℕ) → List File → List (List ℕ) → Type 0
+AreAnswered defaults before [] after [] = after ≡ before
+AreAnswered defaults before [] after (x ∷ xs) = ⊥
+AreAnswered defaults before (l ∷ ls) after [] = ⊥
+AreAnswered defaults before (l ∷ ls) after (x ∷ xs) =
+    (between : List File) × IsAnswered defaults before l between x × AreAnswered defaults between ls after xs

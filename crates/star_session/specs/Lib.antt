@@ -1,0 +1,6 @@
+pub mod Changes
+pub mod Lines
+pub mod Requests
+pub mod Answers
+pub mod Kept
+pub mod Session

@@ -1,0 +1,64 @@
+//! What is asked of files.
+
+ghost use Rattle.std.specs.Prelude.{◌≡◌, true, map, option_map, string_bytes};
+ghost use Rattle.star_session.specs.Requests.{question_of};
+
+use star_report::wanted::Wanted;
+
+/// What is asked of files: a report.
+#[derive(Drop)]
+pub struct Question {
+    /// The labels that are asked for, each as it stands.
+    pub roots: Vec<String>,
+    /// The label of the prelude.
+    pub prelude: Option<String>,
+    /// How many steps a file may take, from 1 to 100,000,000.
+    pub steps: u32,
+    /// What is wanted of each module beside what the report always has.
+    pub wanted: Wanted,
+}
+
+/// Whether this is the same text.
+fn is_equal(text: &String, other: &String) -> bool
+    ensures { result ≡ true → string_bytes text.now ≡ string_bytes other.now }
+{
+    text.as_str() == other.as_str()
+}
+
+/// Whether these are the same texts in the same order.
+fn are_same(texts: &[String], others: &[String]) -> bool
+    ensures { result ≡ true → map string_bytes texts.now ≡ map string_bytes others.now }
+{
+    if texts.len() != others.len() {
+        return false;
+    }
+    for n in 0..texts.len() {
+        if !is_equal(&texts[n], &others[n]) {
+            return false;
+        }
+    }
+    true
+}
+
+/// Whether this is the same text, or there is none on both sides.
+fn is_same_text(text: &Option<String>, other: &Option<String>) -> bool
+    ensures { result ≡ true → option_map string_bytes text.now ≡ option_map string_bytes other.now }
+{
+    match (text, other) {
+        (Some(text), Some(other)) => text.as_str() == other.as_str(),
+        (None, None) => true,
+        _ => false,
+    }
+}
+
+impl Question {
+    /// Whether the other one asks for the same.
+    pub fn is_same(&self, other: &Question) -> bool
+        ensures { result ≡ true → question_of self.now ≡ question_of other.now }
+    {
+        self.steps == other.steps
+            && self.wanted == other.wanted
+            && is_same_text(&self.prelude, &other.prelude)
+            && are_same(self.roots.as_slice(), other.roots.as_slice())
+    }
+}

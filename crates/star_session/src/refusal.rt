@@ -1,0 +1,49 @@
+//! The lines of answers.
+
+ghost use Rattle.std.specs.Prelude.{◌≡◌, ◌∷◌, [], IfOk, codes, string_bytes};
+ghost use Rattle.serde_json.specs.Data.{string};
+ghost use Rattle.serde_json.specs.Written.{compact_text};
+ghost use Rattle.star_session.specs.Answers as spec;
+
+use serde_json::Value;
+use std::alloc::{AllocError, Global};
+
+/// What is answered where there is no memory for more.
+pub(crate) const NO_MEMORY: &str = "{\"id\":null,\"refused\":\"out of memory\"}\n";
+
+/// The line of an answer: the id of its request, which is this JSON, and a member with this JSON.
+pub(crate) fn line_of(
+    alloc: Global,
+    id: &str,
+    name: &str,
+    json: &[u8],
+) -> Result<Vec<u8>, AllocError>
+    ensures { IfOk result (λ line. line.items ≡ spec.answer_line id.now name.now json.now) }
+{
+    let mut line = Vec::new(alloc);
+    line.extend_from_slice(b"{\"id\":")?;
+    line.extend_from_slice(id.as_bytes())?;
+    line.extend_from_slice(b",\"")?;
+    line.extend_from_slice(name.as_bytes())?;
+    line.extend_from_slice(b"\":")?;
+    line.extend_from_slice(json)?;
+    line.extend_from_slice(b"}\n")?;
+    Ok(line)
+}
+
+/// A text as JSON.
+fn quoted(alloc: Global, text: &str) -> Result<String, AllocError>
+    ensures { IfOk result (λ s. string_bytes s ≡ compact_text (string text.now)) }
+{
+    let text = Value::String(String::from_str(alloc, text)?);
+    text.to_string(alloc)
+}
+
+/// The line of a refusal.
+pub(crate) fn refusal(alloc: Global, id: &str, text: &str) -> Result<Vec<u8>, AllocError>
+    ensures { IfOk result (λ line. line.items
+        ≡ spec.answer_line id.now (codes "refused") (compact_text (string text.now))) }
+{
+    let text = quoted(alloc, text)?;
+    line_of(alloc, id, "refused", text.as_bytes())
+}

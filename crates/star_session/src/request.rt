@@ -1,0 +1,431 @@
+//! A request: changes of files, and what is asked for of the files.
+
+ghost use Rattle.std.specs.Prelude.{◌≡◌, ◌≢◌, ◌≤◌, ◌⊎◌, codes, false, IfErr, IfOk, None, OnOk, Some, map, option_map, string_bytes};
+ghost use Rattle.serde_json.specs.Find.{as_array, as_object, as_str, get};
+ghost use Rattle.serde_json.specs.View.{items_view, members_view, view};
+ghost use Rattle.std.specs.Option.{option_and_then};
+ghost use Rattle.star_bundle.specs.Bundle.{json_of};
+ghost use Rattle.star_bundle.specs.View.{if_label};
+ghost use Rattle.star_label.specs.View.{text_of};
+ghost use Rattle.star_session.specs.Changes.{change_of};
+ghost use Rattle.star_session.specs.Requests.{IsIdText};
+ghost use Rattle.star_session.specs.Requests as spec;
+ghost use Rattle.star_session.specs.Requests.{asked_by};
+ghost use Rattle.star_session.specs.declared.request.RequestError.TheVariants.{Memory};
+
+use crate::question::Question;
+use serde_json::{Map, Value};
+use star_label::error::LabelError;
+use star_label::label::Label;
+use star_report::wanted::Wanted;
+use std::alloc::{AllocError, AllocFailed, Global};
+use thiserror::Error;
+
+/// What a request asks for where it does not say.
+#[derive(Debug, Drop)]
+pub struct Defaults {
+    /// The label of the prelude.
+    pub prelude: Option<String>,
+    /// How many steps a file may take, from 1 to 100,000,000.
+    pub steps: u32,
+    /// What is wanted of each module beside what the report always has.
+    pub wanted: Wanted,
+}
+
+/// A request.
+#[derive(Drop)]
+pub struct Request {
+    /// The labels of the files that change, in their order: each with its new text, or with none where the file goes.
+    pub changes: Vec<(Label, Option<String>)>,
+    /// What is asked of the files after these changes.
+    pub question: Question,
+}
+
+/// Why a line is no request.
+#[derive(Debug, Drop, Error)]
+pub enum RequestError {
+    /// The line is no JSON, or none that is an object.
+    #[error("not a JSON object")]
+    NotObject,
+    /// A request has no such member.
+    #[error("no such member: {name}")]
+    NoMember {
+        name: String,
+    },
+    /// A member is not as it must be.
+    #[error("`{name}` must be {wants}")]
+    BadMember {
+        name: &'static str,
+        wants: &'static str,
+    },
+    /// A name in `files` is no label in normal form.
+    #[error("bad label in `files`: {label}")]
+    BadLabel {
+        label: String,
+    },
+    /// There is no member `roots`.
+    #[error("`roots` is missing")]
+    NoRoots,
+    /// A growth was refused.
+    #[error("out of memory")]
+    Memory,
+}
+
+impl RequestError {
+    /// Whether a growth was refused.
+    pub fn is_memory(&self) -> bool
+        ensures { result ≡ false → self.now ≢ RequestError.Memory }
+    {
+        match self {
+            RequestError::Memory => true,
+            RequestError::NotObject => false,
+            RequestError::NoMember { .. } => false,
+            RequestError::BadMember { .. } => false,
+            RequestError::BadLabel { .. } => false,
+            RequestError::NoRoots => false,
+        }
+    }
+}
+
+impl From<AllocError> for RequestError {
+    ghost from_gives = { λ _ e. e ≡ Memory };
+
+    fn from(_error: AllocError) -> RequestError {
+        RequestError::Memory
+    }
+}
+
+impl<T: Drop> From<AllocFailed<T>> for RequestError {
+    ghost from_gives = { λ _ e. e ≡ Memory };
+
+    fn from(_error: AllocFailed<T>) -> RequestError {
+        RequestError::Memory
+    }
+}
+
+/// The value that a line is: `NotObject` where it is no JSON.
+pub fn value_in(alloc: Global, line: &[u8]) -> Result<Value, RequestError>
+    ensures ok { IfOk result (λ v. json_of line.now ≡ Some (view v)) }
+    ensures refused { IfErr result (λ e. (e ≡ RequestError.Memory) ⊎ (json_of line.now ≡ None)) }
+{
+    match Value::from_slice(alloc, line) {
+        Ok(value) => Ok(value),
+        Err(error) => {
+            if error.is_memory() {
+                Err(RequestError::Memory)
+            } else {
+                Err(RequestError::NotObject)
+            }
+        }
+    }
+}
+
+/// The label that a name in `files` is the normal form of.
+fn label_in(alloc: Global, name: &str) -> Result<Option<Label>, AllocError>
+    ensures { IfOk result (λ o. option_map text_of o ≡ if_label name.now) }
+{
+    match Label::read(alloc, name, "") {
+        Ok(label) => {
+            if label.text() == name {
+                Ok(Some(label))
+            } else {
+                Ok(None)
+            }
+        }
+        Err(LabelError::BadLabel) => Ok(None),
+        Err(LabelError::Memory) => Err(AllocError),
+        Err(_) => unreachable!(),
+    }
+}
+
+/// A text, or none for null.
+fn text_or_null(value: Value) -> Option<Option<String>>
+    ensures { option_map (option_map string_bytes) result ≡ spec.text_or_null (view value) }
+{
+    match value {
+        Value::String(text) => Some(Some(text)),
+        Value::Null => Some(None),
+        _ => None,
+    }
+}
+
+fn into_members(value: Value) -> Option<Map<String, Value>>
+    ensures { option_map (λ m. members_view m.entries) result ≡ as_object (view value) }
+{
+    match value {
+        Value::Object(members) => Some(members),
+        _ => None,
+    }
+}
+
+/// The changes that `files` names.
+fn changes_of(
+    alloc: Global,
+    mut members: Map<String, Value>,
+) -> Result<Vec<(Label, Option<String>)>, RequestError>
+    ensures ok { IfOk result (λ cs. spec.changes_of (members_view members.entries) ≡ Some (map change_of cs.items)) }
+    ensures refused { IfErr result (λ e. (e ≡ RequestError.Memory)
+        ⊎ (spec.changes_of (members_view members.entries) ≡ None)) }
+{
+    let mut changes = Vec::new(alloc);
+    while let Some((name, value)) = members.pop_first() {
+        let Some(text) = text_or_null(value) else {
+            return Err(files_are_bad());
+        };
+        let Some(label) = label_in(alloc, name.as_str())? else {
+            return Err(RequestError::BadLabel { label: name });
+        };
+        changes.push((label, text))?;
+    }
+    Ok(changes)
+}
+
+/// The texts of an array: none where an item is no text.
+fn texts_of(alloc: Global, items: &[Value]) -> Result<Option<Vec<String>>, AllocError>
+    ensures { IfOk result (λ o. option_map (λ ts. map string_bytes ts.items) o ≡ spec.texts_in (items_view items.now)) }
+{
+    let mut texts = Vec::new(alloc);
+    for item in items {
+        let Some(text) = item.as_str() else {
+            return Ok(None);
+        };
+        texts.push(String::from_str(alloc, text)?)?;
+    }
+    Ok(Some(texts))
+}
+
+/// The roots that a request names.
+fn roots_in(alloc: Global, value: &Value) -> Result<Vec<String>, RequestError>
+    ensures ok { IfOk result (λ ts.
+        option_and_then spec.texts_in (option_and_then as_array (get (codes "roots") (view value.now)))
+        ≡ Some (map string_bytes ts.items)) }
+    ensures refused { IfErr result (λ e. (e ≡ RequestError.Memory)
+        ⊎ (option_and_then spec.texts_in (option_and_then as_array (get (codes "roots") (view value.now))) ≡ None)) }
+{
+    let Some(roots) = value.get("roots") else {
+        return Err(RequestError::NoRoots);
+    };
+    let texts = match roots.as_array() {
+        Some(items) => texts_of(alloc, items.as_slice())?,
+        None => None,
+    };
+    match texts {
+        Some(roots) => Ok(roots),
+        None => Err(RequestError::BadMember {
+            name: "roots",
+            wants: "an array of labels",
+        }),
+    }
+}
+
+/// A number of steps.
+fn steps_of(value: &Value) -> Option<u32>
+    ensures { result ≡ spec.steps_of (view value.now) }
+{
+    match value.as_u64() {
+        Some(steps) if 1 <= steps && steps <= 100_000_000 => Some(steps as u32),
+        _ => None,
+    }
+}
+
+/// With what a word of `with` wants more.
+#[tactic(auto, unfolding(crate::specs::Requests::with_word))]
+fn with_word(wanted: Wanted, word: &str) -> Option<Wanted>
+    ensures { result ≡ spec.with_word wanted word.now }
+{
+    let mut wanted = wanted;
+    match word {
+        "values" => wanted.values = true,
+        "loads" => wanted.loads = true,
+        "steps" => wanted.steps = true,
+        "only-roots" => wanted.only_roots = true,
+        _ => return None,
+    }
+    Some(wanted)
+}
+
+/// What the words of `with` want.
+fn with_words(items: &[Value]) -> Option<Wanted>
+    ensures { result ≡ spec.with_words spec.nothing_more (items_view items.now) }
+{
+    let mut wanted = Wanted::NOTHING;
+    for item in items {
+        let Some(word) = item.as_str() else {
+            return None;
+        };
+        let Some(more) = with_word(wanted, word) else {
+            return None;
+        };
+        wanted = more;
+    }
+    Some(wanted)
+}
+
+/// `files` is not as it must be.
+fn files_are_bad() -> RequestError {
+    RequestError::BadMember {
+        name: "files",
+        wants: "an object from labels to texts or nulls",
+    }
+}
+
+/// The changes of a request.
+fn files_in(alloc: Global, value: Value) -> Result<Vec<(Label, Option<String>)>, RequestError>
+    ensures ok { IfOk result (λ cs. option_and_then spec.changes_of (as_object (view value))
+        ≡ Some (map change_of cs.items)) }
+    ensures refused { IfErr result (λ e. (e ≡ RequestError.Memory)
+        ⊎ (option_and_then spec.changes_of (as_object (view value)) ≡ None)) }
+{
+    match into_members(value) {
+        Some(members) => changes_of(alloc, members),
+        None => Err(files_are_bad()),
+    }
+}
+
+/// The prelude of a request.
+fn prelude_in(value: Value) -> Result<Option<String>, RequestError>
+    ensures ok { IfOk result (λ p. spec.text_or_null (view value) ≡ Some (option_map string_bytes p)) }
+    ensures refused { IfErr result (λ e. spec.text_or_null (view value) ≡ None) }
+{
+    match text_or_null(value) {
+        Some(prelude) => Ok(prelude),
+        None => Err(RequestError::BadMember {
+            name: "prelude",
+            wants: "a label or null",
+        }),
+    }
+}
+
+/// The steps of a request.
+fn steps_in(value: &Value) -> Result<u32, RequestError>
+    ensures ok { IfOk result (λ n. spec.steps_of (view value.now) ≡ Some n) }
+    ensures range { IfOk result (λ n. (1 ≤ n) × (n ≤ 100000000)) }
+    ensures refused { IfErr result (λ e. spec.steps_of (view value.now) ≡ None) }
+{
+    match steps_of(value) {
+        Some(steps) => Ok(steps),
+        None => Err(RequestError::BadMember {
+            name: "steps",
+            wants: "a number from 1 to 100000000",
+        }),
+    }
+}
+
+/// What a request wants more of each module.
+fn wanted_in(value: &Value) -> Result<Wanted, RequestError>
+    ensures ok { IfOk result (λ w.
+        option_and_then (spec.with_words spec.nothing_more) (as_array (view value.now)) ≡ Some w) }
+    ensures refused { IfErr result (λ e.
+        option_and_then (spec.with_words spec.nothing_more) (as_array (view value.now)) ≡ None) }
+{
+    let wanted = match value.as_array() {
+        Some(items) => with_words(items.as_slice()),
+        None => None,
+    };
+    match wanted {
+        Some(wanted) => Ok(wanted),
+        None => Err(RequestError::BadMember {
+            name: "with",
+            wants: "an array of some of values, loads, steps, only-roots",
+        }),
+    }
+}
+
+/// Takes a member into a request. Its `id` and its roots are looked up beside.
+#[tactic(auto, unfolding(crate::specs::Requests::with_member))]
+fn take_member(
+    alloc: Global,
+    request: &mut Request,
+    name: String,
+    value: Value,
+) -> Result<(), RequestError>
+    ensures ok { OnOk result (spec.with_member (asked_by request.old) (string_bytes name) (view value)
+        ≡ Some (asked_by request.new)) }
+    ensures steps { (1 ≤ request.old.question.steps) × (request.old.question.steps ≤ 100000000)
+        → (1 ≤ request.new.question.steps) × (request.new.question.steps ≤ 100000000) }
+    ensures refused { IfErr result (λ e. (e ≡ RequestError.Memory)
+        ⊎ (spec.with_member (asked_by request.old) (string_bytes name) (view value) ≡ None)) }
+{
+    match name.as_str() {
+        "id" | "roots" => {}
+        "files" => request.changes = files_in(alloc, value)?,
+        "prelude" => request.question.prelude = prelude_in(value)?,
+        "steps" => request.question.steps = steps_in(&value)?,
+        "with" => request.question.wanted = wanted_in(&value)?,
+        _ => return Err(RequestError::NoMember { name }),
+    }
+    Ok(())
+}
+
+/// A request that has these roots, and asks for nothing else than the defaults do.
+fn plain(alloc: Global, roots: Vec<String>, defaults: &Defaults) -> Result<Request, AllocError>
+    requires { (1 ≤ defaults.now.steps) × (defaults.now.steps ≤ 100000000) }
+    ensures { IfOk result (λ request. asked_by request ≡ spec.plain defaults.now (map string_bytes roots.items)) }
+{
+    let prelude = match &defaults.prelude {
+        Some(label) => Some(String::from_str(alloc, label.as_str())?),
+        None => None,
+    };
+    let question = Question {
+        roots,
+        prelude,
+        steps: defaults.steps,
+        wanted: defaults.wanted,
+    };
+    Ok(Request {
+        changes: Vec::new(alloc),
+        question,
+    })
+}
+
+/// A request with what further members say.
+fn with_members(
+    alloc: Global,
+    mut request: Request,
+    mut members: Map<String, Value>,
+) -> Result<Request, RequestError>
+    requires { (1 ≤ request.question.steps) × (request.question.steps ≤ 100000000) }
+    ensures ok { IfOk result (λ made. spec.with_members (asked_by request) (members_view members.entries)
+        ≡ Some (asked_by made)) }
+    ensures steps { IfOk result (λ made. (1 ≤ made.question.steps) × (made.question.steps ≤ 100000000)) }
+    ensures refused { IfErr result (λ e. (e ≡ RequestError.Memory)
+        ⊎ (spec.with_members (asked_by request) (members_view members.entries) ≡ None)) }
+{
+    while let Some((name, value)) = members.pop_first() {
+        match take_member(alloc, &mut request, name, value) {
+            Ok(()) => {}
+            Err(error) => return Err(error),
+        }
+    }
+    Ok(request)
+}
+
+/// The request that a value is. The reason is that of the first thing that is not as it must be.
+#[tactic(auto, unfolding(crate::specs::Requests::asking_in))]
+pub fn request_in(alloc: Global, value: Value, defaults: &Defaults) -> Result<Request, RequestError>
+    requires { (1 ≤ defaults.now.steps) × (defaults.now.steps ≤ 100000000) }
+    ensures ok { IfOk result (λ request. spec.asking_in defaults.now (view value) ≡ Some (asked_by request)) }
+    ensures steps { IfOk result (λ request. (1 ≤ request.question.steps) × (request.question.steps ≤ 100000000)) }
+    ensures refused { IfErr result (λ e. (e ≡ RequestError.Memory)
+        ⊎ (spec.asking_in defaults.now (view value) ≡ None)) }
+{
+    if value.as_object().is_none() {
+        return Err(RequestError::NotObject);
+    }
+    let roots = roots_in(alloc, &value)?;
+    let request = plain(alloc, roots, defaults)?;
+    match into_members(value) {
+        Some(members) => with_members(alloc, request, members),
+        None => Err(RequestError::NotObject),
+    }
+}
+
+/// The JSON of the `id` of a value: null where it has none.
+pub fn id_text(alloc: Global, value: &Value) -> Result<String, AllocError>
+    ensures { IfOk result (λ s. IsIdText (spec.id_in (view value.now)) (string_bytes s)) }
+{
+    match value.get("id") {
+        Some(id) => id.to_string(alloc),
+        None => Value::Null.to_string(alloc),
+    }
+}

@@ -1,0 +1,3 @@
+module starload
+
+go 1.18
