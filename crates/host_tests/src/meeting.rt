@@ -77,6 +77,8 @@ impl Gate for Meeting {
             self.alone.fetch_add(1, Ordering::SeqCst);
         }
     }
+
+    fn after_body(&self, _loader: usize, _n: usize) {}
 }
 
 /// A gate that counts the bodies of each of the first files.
@@ -114,4 +116,6 @@ impl Gate for Counting {
             self.bodies[n].fetch_add(1, Ordering::SeqCst);
         }
     }
+
+    fn after_body(&self, _loader: usize, _n: usize) {}
 }

@@ -22,10 +22,10 @@
 
 mod common;
 pub mod gate;
-mod loading;
+pub mod loading;
 mod order;
-mod running;
-mod settle;
+pub mod running;
+pub mod settle;
 mod table;
 mod work;
 

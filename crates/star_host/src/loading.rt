@@ -40,14 +40,14 @@ impl From<AllocError> for LoadError {
 }
 
 /// The effect of a turn: a load was answered, a load was begun, or the file has ended.
-pub(crate) enum Turn {
+pub enum Turn {
     Again,
     Enter(usize),
     Ended,
 }
 
 /// The result of a file after all its loads have been answered.
-fn ended<'s, 'r, 'p, 't, J: Naming, G: Gate>(
+pub fn ended<'s, 'r, 'p, 't, J: Naming, G: Gate>(
     common: &Common<'s, 'r, 'p, 't>,
     gate: &G,
     loader: usize,
@@ -79,7 +79,7 @@ fn ended<'s, 'r, 'p, 't, J: Naming, G: Gate>(
 }
 
 /// The module of a file with this end.
-fn module_of<'s, 'r, 'p, 't, J: Naming>(
+pub fn module_of<'s, 'r, 'p, 't, J: Naming>(
     common: &Common<'s, 'r, 'p, 't>,
     n: usize,
     ended: Ended,
@@ -97,7 +97,7 @@ fn module_of<'s, 'r, 'p, 't, J: Naming>(
 }
 
 /// A module in a heap block.
-fn boxed(alloc: Global, made: Module) -> Result<Box<Module>, AllocError>
+pub fn boxed(alloc: Global, made: Module) -> Result<Box<Module>, AllocError>
     ensures { IfOk result (λ b. b.value ≡ made) }
 {
     Box::new(alloc, made).map_err(AllocError::from)
@@ -131,7 +131,7 @@ fn end<'s, 'r, 'p, 't, J: Naming, R: Wait, G: Gate>(
 }
 
 /// The next load of a file to ask for; `None` if all were answered.
-fn next_load<'s, 'r, 'p, 't, J: Naming>(
+pub fn next_load<'s, 'r, 'p, 't, J: Naming>(
     common: &Common<'s, 'r, 'p, 't>,
     frame: &Frame<'s, J>,
 ) -> Option<Load>
@@ -144,7 +144,7 @@ fn next_load<'s, 'r, 'p, 't, J: Naming>(
 }
 
 /// The module that an answer is about.
-fn told_module<'s, 'r, 'p, 't, J: Naming>(
+pub fn told_module<'s, 'r, 'p, 't, J: Naming>(
     common: &Common<'s, 'r, 'p, 't>,
     n: usize,
     told: Told<J>,

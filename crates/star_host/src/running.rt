@@ -72,7 +72,7 @@ pub(crate) struct Worked<J: Naming> {
 }
 
 /// The root at an index, which may be asked for.
-fn root_at<J: Naming>(roots: &[usize], i: usize) -> usize
+pub fn root_at<J: Naming>(roots: &[usize], i: usize) -> usize
     requires i { i < length roots.now }
     requires roots { roots.now ≡ J.plan.roots }
     requires within { IsWithin J.files J.plan }

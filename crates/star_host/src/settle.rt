@@ -25,7 +25,7 @@ use std::alloc::{AllocError, Global};
 use std::sync::Wait;
 
 /// The numbers of the files that were read. They are the reached files.
-fn reached(alloc: Global, reads: &[Option<Read>]) -> Result<Vec<usize>, AllocError>
+pub fn reached(alloc: Global, reads: &[Option<Read>]) -> Result<Vec<usize>, AllocError>
     ensures { IfOk result (λ v. (n : ℕ) → IsSome (read_at reads.now n) → Contains v.items n) }
 {
     let mut numbers = Vec::new(alloc);
@@ -153,10 +153,7 @@ fn keep<J: Naming>(
 }
 
 /// The modules of all reached files, in order, from a book where each of them has ended.
-pub(crate) fn kept_of<J: Naming>(
-    alloc: Global,
-    book: Book<Told<J>>,
-) -> Result<Vec<Kept>, AllocError>
+pub fn kept_of<J: Naming>(alloc: Global, book: Book<Told<J>>) -> Result<Vec<Kept>, AllocError>
     requires cells { length J.shelf ≡ length J.files }
     requires within { IsWithin J.files J.plan }
     requires ended { (n : ℕ) → IsReached J.plan n → HasEnded book n }

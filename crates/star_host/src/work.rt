@@ -146,8 +146,8 @@ fn ended_of<J: Naming>(
     }
 }
 
-/// Calls the gate, then runs the body of a file over the modules of its loads, which are all good. Answers the end of
-/// the file.
+/// Runs the body of a file over the modules of its loads, which are all good, between the two hooks of the gate. Answers
+/// the end of the file.
 pub(crate) fn run<'s, 'r, 'p, 't, J: Naming, G: Gate>(
     common: &Common<'s, 'r, 'p, 't>,
     gate: &G,
@@ -175,7 +175,9 @@ pub(crate) fn run<'s, 'r, 'p, 't, J: Naming, G: Gate>(
         program,
         prelude,
         common.steps,
-    )?;
+    );
+    gate.after_body(loader, n);
+    let outcome = outcome?;
     let found = found_of(
         common.alloc,
         home,
