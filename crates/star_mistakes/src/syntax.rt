@@ -345,6 +345,9 @@ impl<'a> Spot<'a> {
         match sign {
             Sign::Assign if is_last => Some("a statement binds once: write two statements"),
             Sign::Assign => Some("a comparison is written `==`"),
+            Sign::Colon if has_kind(self.after, Kind::Sign(Sign::Assign)) => {
+                Some("a name is bound by a statement of its own: there is no `:=`")
+            }
             Sign::Colon if is_last || self.miss.in_list => Some("there are no type annotations"),
             Sign::Minus if has_kind(self.after, Kind::Sign(Sign::Greater)) => {
                 Some("there are no type annotations")
@@ -382,13 +385,20 @@ impl<'a> Spot<'a> {
                 return Ok(Some(help));
             }
         }
-        let Kind::Sign(sign) = self.token.kind else {
-            return Ok(None);
+        let found = match self.token.kind {
+            Kind::Sign(sign) => self.of_sign(sign),
+            Kind::Keyword(Keyword::If) if self.follows_else() => Some("write `elif`"),
+            _ => None,
         };
-        match self.of_sign(sign) {
+        match found {
             Some(help) => Ok(Some(String::from_str(self.alloc, help)?)),
             None => Ok(None),
         }
+    }
+
+    /// Whether this comes after the `else` of a statement.
+    fn follows_else(self) -> bool {
+        has_kind(self.before, Kind::Keyword(Keyword::Else)) && self.miss.wanted == "`:`"
     }
 
     /// The expected token, and the one that was found.
