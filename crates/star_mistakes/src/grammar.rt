@@ -12,7 +12,7 @@ use star_syntax::name::is_name;
 use std::alloc::{AllocError, Global};
 
 /// Where the reading of a file ends too soon.
-#[derive(Clone, Copy, Debug, PartialEq, Eq)]
+#[derive(Clone, Copy)]
 pub(crate) struct Miss {
     /// The number of the token that cannot be used.
     pub token: usize,
@@ -31,7 +31,7 @@ pub(crate) const LINE_END: &str = "the end of the line";
 const WANTS: usize = 20;
 
 /// What an expression is, as far as it matters for what may stand before `=`.
-#[derive(Clone, Copy, Debug, PartialEq, Eq)]
+#[derive(Clone, Copy, PartialEq, Eq)]
 enum Shape {
     Name,
     Index,
@@ -41,7 +41,7 @@ enum Shape {
 }
 
 /// Which brackets parameters or a display stand in.
-#[derive(Clone, Copy, Debug, PartialEq, Eq)]
+#[derive(Clone, Copy)]
 enum Bracket {
     Paren,
     Square,
@@ -49,7 +49,7 @@ enum Bracket {
 }
 
 /// What may come at a place among parameters or arguments, by what came before.
-#[derive(Clone, Copy, Debug, PartialEq, Eq)]
+#[derive(Clone, Copy)]
 struct Order {
     /// A default, or an argument by name.
     is_named: bool,
@@ -57,7 +57,7 @@ struct Order {
 }
 
 /// What is to be read of arguments, parameters, targets, clauses and displays.
-#[derive(Clone, Copy, Debug, PartialEq, Eq)]
+#[derive(Clone, Copy)]
 enum Part {
     Arguments(Order),
     ArgumentsRest(Order),
@@ -100,7 +100,7 @@ enum Part {
 }
 
 /// What is to be read.
-#[derive(Clone, Copy, Debug, PartialEq, Eq)]
+#[derive(Clone, Copy)]
 enum Want {
     /// Statements up to the end of the file.
     File,

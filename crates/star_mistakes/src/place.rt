@@ -9,7 +9,7 @@ use std::alloc::{AllocError, Global};
 use unicode_width::UnicodeWidthChar;
 
 /// A place in a file: the bytes of its text from `start` up to, but without, `end`.
-#[derive(Clone, Copy, Debug, PartialEq, Eq)]
+#[derive(Clone, Copy, PartialEq, Eq)]
 pub struct Mark {
     pub file: usize,
     pub start: usize,
@@ -24,7 +24,7 @@ pub enum Naming {
 }
 
 /// A line of a text.
-#[derive(Clone, Copy, Debug, PartialEq, Eq)]
+#[derive(Clone, Copy)]
 pub struct Line<'a> {
     /// Its number, from 1.
     pub number: usize,
