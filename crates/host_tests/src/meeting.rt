@@ -69,6 +69,8 @@ impl Meeting {
 }
 
 impl Gate for Meeting {
+    fn before_bodies(&self, _files: usize) {}
+
     fn before_body(&self, _loader: usize, n: usize) {
         self.bodies.fetch_add(1, Ordering::SeqCst);
         self.come(n);
@@ -111,6 +113,8 @@ impl Counting {
 }
 
 impl Gate for Counting {
+    fn before_bodies(&self, _files: usize) {}
+
     fn before_body(&self, _loader: usize, n: usize) {
         if n < 4 {
             self.bodies[n].fetch_add(1, Ordering::SeqCst);

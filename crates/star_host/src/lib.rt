@@ -11,7 +11,7 @@
 //!   lets the loader wait.
 //! - `work` runs a body, with no lock held, and publishes its module; `settle` collects the modules when all loaders
 //!   are done.
-//! - `Gate` is a hook that is called before each body, for tests and for callers that watch.
+//! - `Gate` has hooks that are called before all bodies and around each one, for tests and for callers that watch.
 //!
 //! Begin at `loading.rt`, with `take_turn`, then `running.rt`.
 //!

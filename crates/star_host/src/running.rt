@@ -426,6 +426,7 @@ pub fn run_in<'t, R: Threads + Wait + Sync, G: Gate + Sync>(
 {
     let modules = Shelf::new(alloc, files.len())?;
     *reads = read_parsed(rt, alloc, files, trees, parses, roots, prelude, loaders)?;
+    gate.before_bodies(read_count(reads));
     let loaders = enough(loaders, reads);
     let Closed {
         kept,
