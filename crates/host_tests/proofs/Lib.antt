@@ -1,1 +1,2 @@
 pub mod LoadsItself
+pub mod Needs
