@@ -11,7 +11,7 @@ use Rattle.star_store.specs.declared.values.Value.TheVariants as value
 use Rattle.star_store.specs.declared.values.Cell.{Cell}
 use Rattle.star_store.specs.declared.values.Cell.TheVariants as cell
 use Rattle.star_store.specs.Text.{on_path, same_address}
-use Rattle.star_data.specs.Data.{cell_data, cell_of, data_of, entries_data, items_data, text_in, value_data}
+use Rattle.star_data.specs.Data.{cell_data, cell_of, data_of, entries_data, items_data, key_in, value_data}
 use Rattle.star_data.specs.Parts.{IsPart, StandsIn, in_dict, in_list, in_tuple}
 use Rattle.star_data.specs.Paths.{AllStandInEach, StandsInEach}
 use Rattle.star_data.proofs.Options.{chained, mapped}
@@ -72,14 +72,14 @@ items_push f (y ∷ xs) (c ∷ ds) x d e h =
 
 -- ---- entries
 
-pub entry_no_key : (look : Value → Option Cell) (f : Value → Option Data) (es : List (Value × Value)) (i : ℕ) (e : Value × Value) → slice_get es i ≡ Some e → text_in (cell_of look e.0) ≡ None → entries_data look f es ≡ None
+pub entry_no_key : (look : Value → Option Cell) (f : Value → Option Data) (es : List (Value × Value)) (i : ℕ) (e : Value × Value) → slice_get es i ≡ Some e → key_in (cell_of look e.0) ≡ None → entries_data look f es ≡ None
 entry_no_key look f [] i e at n = absurd (let no : ⊥ = cc in no)
 entry_no_key look f (x ∷ es) zero e at n =
     let same : x ≡ e = cc in
-    none_then (text_in (cell_of look x.0)) (λ k. option_and_then (λ d. option_map (put k d) (entries_data look f es)) (f x.1)) (ap (λ (z : Value × Value). text_in (cell_of look z.0)) same ∙ n)
+    none_then (key_in (cell_of look x.0)) (λ k. option_and_then (λ d. option_map (put k d) (entries_data look f es)) (f x.1)) (ap (λ (z : Value × Value). key_in (cell_of look z.0)) same ∙ n)
 entry_no_key look f (x ∷ es) (suc i) e at n =
     let rest : entries_data look f es ≡ None = entry_no_key look f es i e at n in
-    then_none (text_in (cell_of look x.0)) (λ k. option_and_then (λ d. option_map (put k d) (entries_data look f es)) (f x.1))
+    then_none (key_in (cell_of look x.0)) (λ k. option_and_then (λ d. option_map (put k d) (entries_data look f es)) (f x.1))
     (λ k. then_none (f x.1) (λ d. option_map (put k d) (entries_data look f es)) (λ d. ap (option_map (put k d)) rest))
 
 -- where the entries from some place on are none, all are
@@ -88,7 +88,7 @@ rest_none look f es zero e = e
 rest_none look f [] (suc i) e = e
 rest_none look f (x ∷ es) (suc i) e =
     let rest : entries_data look f es ≡ None = rest_none look f es i e in
-    then_none (text_in (cell_of look x.0)) (λ k. option_and_then (λ d. option_map (put k d) (entries_data look f es)) (f x.1))
+    then_none (key_in (cell_of look x.0)) (λ k. option_and_then (λ d. option_map (put k d) (entries_data look f es)) (f x.1))
     (λ k. then_none (f x.1) (λ d. option_map (put k d) (entries_data look f es)) (λ d. ap (option_map (put k d)) rest))
 
 -- the entries from the place before

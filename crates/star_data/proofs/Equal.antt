@@ -19,13 +19,14 @@ use Rattle.star_store.specs.declared.values.Cell.TheVariants as cell
 use Rattle.star_store.specs.Equal.{same, same_cells, same_entries, same_found, same_items, same_pairs, same_pair, same_place, same_entry, same_values}
 use Rattle.star_store.specs.Key.{key_levels, place_of, same_key, same_key_cell, value_of}
 use Rattle.star_store.specs.Spend.{Enough, Lacks, Spend, Spent, all_places, answer, spend_then, visited}
-use Rattle.star_data.specs.Data.{cell_data, cell_of, data_of, entries_data, items_data, text_in, value_data}
+use Rattle.star_data.specs.Data.{cell_data, cell_of, data_of, entries_data, items_data, key_in, text_in, value_data}
 use Rattle.star_data.specs.Laws.{EqualAreSame, KeysStandOnce}
 use Rattle.star_data.proofs.Ints.{int_is}
 use Rattle.star_data.proofs.Rising.{Rises, count, count_new, count_put, equal_bytes, rises_put, same_members}
 use Rattle.serde_json.proofs.Views.{get_member-put, get_member-put_other}
 use Rattle.star_data.proofs.Options.{chained, mapped}
 use Rattle.star_data.proofs.Parts.{entry-data, is_text}
+use Rattle.star_data.proofs.Strings.{key_is, string_is}
 
 -- ---- bytes
 
@@ -116,10 +117,10 @@ record Entered (look : Value → Option Cell) (a : Value → Option Data) (x : V
 
 entered_by : (look : Value → Option Cell) (a : Value → Option Data) (x : Value × Value) (xs : List (Value × Value)) (ms : Members) → entries_data look a (x ∷ xs) ≡ Some ms → Entered look a x xs ms
 entered_by look a x xs ms f =
-    let k = chained (λ k. option_and_then (λ d. option_map (put k d) (entries_data look a xs)) (a x.1)) (text_in (cell_of look x.0)) ms f in
+    let k = chained (λ k. option_and_then (λ d. option_map (put k d) (entries_data look a xs)) (a x.1)) (key_in (cell_of look x.0)) ms f in
     let d = chained (λ d. option_map (put k.0 d) (entries_data look a xs)) (a x.1) ms k.2 in
     let rest = mapped (put k.0 d.0) (entries_data look a xs) ms d.2 in
-    record { key = k.0; value = d.0; others = rest.0; text = k.1; is_data = d.1; rest = rest.1; all = rest.2 }
+    record { key = k.0; value = d.0; others = rest.0; text = (key_is (cell_of look x.0) k.0 k.1).0; is_data = d.1; rest = rest.1; all = rest.2 }
 
 pub sorted_entries : (look : Value → Option Cell) (a : Value → Option Data) (xs : List (Value × Value)) (ms : Members) → entries_data look a xs ≡ Some ms → Rises ms
 sorted_entries look a [] ms f = let e : no_members ≡ ms = cc in subst Rises e tt
@@ -261,7 +262,7 @@ entered look f a b h xs ys n left once is d e p q =
     let all = members_in look a xs ms.0 ns.0 ms.1 (λ j x t u at is dx. (
     let passes : Passes (same_found f x.1 (value_of look x.0 ys)) = subst Passes (ap (same_pairs look f ys) at) (rows.1 j (within xs j x at)) in
     let v = found_passes f x.1 (value_of look x.0 ys) passes in
-    let m = by_key look b ys ns.0 ns.1 x.0 v.0 t is v.1 (λ i y there. (entry-data look b ys ns.0 ns.1 i y there).0) in
+    let m = by_key look b ys ns.0 ns.1 x.0 v.0 t is v.1 (λ i y there. (let k = (entry-data look b ys ns.0 ns.1 i y there).0 in (k.0, (key_is (cell_of look y.0) k.0 k.1).0))) in
     m.1 ∙ ap Some (sym (h x.1 v.0 u m.0 v.2 dx m.2))
     )) in
     let mine = counted look a xs ms.0 once ms.1 in
@@ -279,7 +280,7 @@ OnceIn look c = (es : List (Value × Value)) → c ≡ Some (cell.Dict es) → O
 cells : (look : Value → Option Cell) (f : Value → Value → Spend Bool) (a b : Value → Option Data) → Below f a b → (one : Bool) (x y : Option Cell) (n left : ℕ) → OnceIn look x → same_cells look f one x y n ≡ Enough true left → (d e : Data) → cell_data look a x ≡ Some d → cell_data look b y ≡ Some e → d ≡ e
 cells look f a b h one (Some (cell.Text t)) (Some (cell.Text u)) n left once is d e p q =
     let equal : pointwise nat_eq t u ≡ true = cc in
-    data_is (string t) (string u) d e p q (ap string (same_bytes t u equal))
+    sym (string_is t d p).0 ∙ (ap string (same_bytes t u equal) ∙ (string_is u e q).0)
 cells look f a b h one (Some (cell.Tuple xs)) (Some (cell.Tuple ys)) n left once is d e p q = listed f a b h xs ys n left is d e p q
 cells look f a b h one (Some (cell.List xs)) (Some (cell.List ys)) n left once is d e p q = listed f a b h xs ys n left is d e p q
 cells look f a b h one (Some (cell.Dict xs)) (Some (cell.Dict ys)) n left once is d e p q = entered look f a b h xs ys n left (once xs refl) is d e p q

@@ -4,6 +4,7 @@ pub mod Parts
 pub mod Builds
 pub mod Sent
 pub mod Ints
+pub mod Strings
 mod Rising
 mod Equal
 mod Back

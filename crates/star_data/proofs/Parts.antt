@@ -1,5 +1,5 @@
 -- The parts of what is data are data.
-use Rattle.std.proofs.Common.{◌≡◌, ℕ, zero, suc, List, [], ◌∷◌, Option, Some, None, refl, ap, sym, subst, ◌∙◌}
+use Rattle.std.proofs.Common.{◌≡◌, ℕ, zero, suc, true, false, List, [], ◌∷◌, Option, Some, None, refl, ap, sym, subst, ◌∙◌}
 use Rattle.std.specs.Prelude.{slice_get}
 use Rattle.std.specs.Option.{option_and_then, option_map}
 use Rattle.serde_json.specs.Data.{Data, Items, Members, array, item, object, put}
@@ -7,10 +7,12 @@ use Rattle.star_store.specs.declared.values.Value.{Value}
 use Rattle.star_store.specs.declared.values.Value.TheVariants as value
 use Rattle.star_store.specs.declared.values.Cell.{Cell}
 use Rattle.star_store.specs.declared.values.Cell.TheVariants as cell
-use Rattle.star_data.specs.Data.{cell_data, cell_of, data_of, entries_data, items_data, text_in, value_data}
-use Rattle.star_data.specs.Parts.{IsOpaque, IsPart, StandsIn, built_in, function, in_dict, in_list, in_tuple, key, method, range}
+use Rattle.star_data.specs.Data.{cell_data, cell_of, data_of, entries_data, items_data, key_in, text_in, value_data}
+use Rattle.star_data.specs.Parts.{IsOpaque, IsPart, StandsIn, built_in, function, in_dict, in_list, in_tuple, int, key, method, range, text}
 use Rattle.star_data.specs.Laws.{DataIsPlain, NoCycleIsData, PartsAreData}
+use Rattle.star_data.proofs.Ints.{int_is}
 use Rattle.star_data.proofs.Options.{chained, mapped}
+use Rattle.star_data.proofs.Strings.{key_is, string_is}
 
 item-data : (f : Value → Option Data) (xs : List Value) (is : Items) → items_data f xs ≡ Some is → (i : ℕ) (x : Value) → slice_get xs i ≡ Some x → (d : Data) × (f x ≡ Some d)
 item-data f [] is e i x at = absurd (let no : ⊥ = cc in no)
@@ -23,15 +25,15 @@ item-data f (y ∷ xs) is e (suc i) x at =
     let rest = mapped (item first.0) (items_data f xs) is first.2 in
     item-data f xs rest.0 rest.1 i x at
 
-pub entry-data : (look : Value → Option Cell) (f : Value → Option Data) (es : List (Value × Value)) (ms : Members) → entries_data look f es ≡ Some ms → (i : ℕ) (x : Value × Value) → slice_get es i ≡ Some x → ((t : List ℕ) × (text_in (cell_of look x.0) ≡ Some t)) × ((d : Data) × (f x.1 ≡ Some d))
+pub entry-data : (look : Value → Option Cell) (f : Value → Option Data) (es : List (Value × Value)) (ms : Members) → entries_data look f es ≡ Some ms → (i : ℕ) (x : Value × Value) → slice_get es i ≡ Some x → ((t : List ℕ) × (key_in (cell_of look x.0) ≡ Some t)) × ((d : Data) × (f x.1 ≡ Some d))
 entry-data look f [] ms e i x at = absurd (let no : ⊥ = cc in no)
 entry-data look f (y ∷ es) ms e zero x at =
-    let k = chained (λ k. option_and_then (λ d. option_map (put k d) (entries_data look f es)) (f y.1)) (text_in (cell_of look y.0)) ms e in
+    let k = chained (λ k. option_and_then (λ d. option_map (put k d) (entries_data look f es)) (f y.1)) (key_in (cell_of look y.0)) ms e in
     let d = chained (λ d. option_map (put k.0 d) (entries_data look f es)) (f y.1) ms k.2 in
     let same : y ≡ x = cc in
-    subst (λ (z : Value × Value). ((t : List ℕ) × (text_in (cell_of look z.0) ≡ Some t)) × ((d : Data) × (f z.1 ≡ Some d))) same ((k.0, k.1), (d.0, d.1))
+    subst (λ (z : Value × Value). ((t : List ℕ) × (key_in (cell_of look z.0) ≡ Some t)) × ((d : Data) × (f z.1 ≡ Some d))) same ((k.0, k.1), (d.0, d.1))
 entry-data look f (y ∷ es) ms e (suc i) x at =
-    let k = chained (λ k. option_and_then (λ d. option_map (put k d) (entries_data look f es)) (f y.1)) (text_in (cell_of look y.0)) ms e in
+    let k = chained (λ k. option_and_then (λ d. option_map (put k d) (entries_data look f es)) (f y.1)) (key_in (cell_of look y.0)) ms e in
     let d = chained (λ d. option_map (put k.0 d) (entries_data look f es)) (f y.1) ms k.2 in
     let rest = mapped (put k.0 d.0) (entries_data look f es) ms d.2 in
     entry-data look f es rest.0 rest.1 i x at
@@ -80,7 +82,10 @@ not_opaque look f v d e (range r h) = let none = by_cell look f v d (cell.Range 
 not_opaque look f v d e (key es i x h at other) =
     let all = mapped object (entries_data look f es) d (by_cell look f v d (cell.Dict es) e h) in
     let k = (entry-data look f es all.0 all.1 i x at).0 in
-    other k.0 (is_text (cell_of look x.0) k.0 k.1)
+    let is = key_is (cell_of look x.0) k.0 k.1 in
+    other k.0 (is_text (cell_of look x.0) k.0 is.0) is.1
+not_opaque look f v d e (int n is out) = let inside = int_is n d (ap (value_data look f) (sym is) ∙ e) in absurd (let both : true ≡ false = sym inside.0 ∙ out in let no : ⊥ = cc in no)
+not_opaque look f v d e (text t h other) = other (string_is t d (by_cell look f v d (cell.Text t) e h)).1
 
 pub data_is_plain : DataIsPlain
 unfolding data_of

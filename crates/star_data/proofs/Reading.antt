@@ -12,7 +12,7 @@ use Rattle.star_store.specs.declared.values.Value.{Value}
 use Rattle.star_store.specs.declared.values.Value.TheVariants as value
 use Rattle.star_store.specs.declared.values.Cell.{Cell}
 use Rattle.star_store.specs.declared.values.Cell.TheVariants as cell
-use Rattle.star_data.specs.Data.{cell_data, cell_of, data_of, entries_data, items_data, text_in, value_data}
+use Rattle.star_data.specs.Data.{cell_data, cell_of, data_of, entries_data, items_data, key_in, value_data}
 use Rattle.star_data.specs.Laws.{ReadsBack, SerdeReadsBack, TextTells}
 use Rattle.star_data.specs.Parts.{IsPart, in_dict, in_list, in_tuple}
 use Rattle.star_data.specs.Reading.{read_within}
@@ -20,6 +20,7 @@ use Rattle.star_data.proofs.Ints.{int_is}
 use Rattle.star_data.proofs.Back.{ComesBack, ItemsComeBack, MembersComeBack, array_back, boolean_back, negative_back, null_back, object_back, put_back, read_back, string_back, unsigned_back}
 use Rattle.star_data.proofs.Equal.{sorted_entries}
 use Rattle.star_data.proofs.Options.{chained, mapped}
+use Rattle.star_data.proofs.Strings.{string_is}
 
 int_back : (n : ℕ) (z : ℤ) → fits z ≡ true → ComesBack n (number (of_integer z))
 int_back n (pos m) h = unsigned_back n m (ltb-true m (2 ^ 63) h)
@@ -39,13 +40,13 @@ items_come f n (x ∷ xs) ds h e =
 members_come : (look : Value → Option Cell) (f : Value → Option Data) (n : ℕ) (es : List (Value × Value)) (ms : Members) → ((i : ℕ) (e : Value × Value) (d : Data) → slice_get es i ≡ Some e → f e.1 ≡ Some d → ComesBack n d) → entries_data look f es ≡ Some ms → MembersComeBack n ms
 members_come look f n [] ms h e = subst (MembersComeBack n) (let same : no_members ≡ ms = cc in same) tt
 members_come look f n (x ∷ es) ms h e =
-    let k = chained (λ k. option_and_then (λ d. option_map (put k d) (entries_data look f es)) (f x.1)) (text_in (cell_of look x.0)) ms e in
+    let k = chained (λ k. option_and_then (λ d. option_map (put k d) (entries_data look f es)) (f x.1)) (key_in (cell_of look x.0)) ms e in
     let d = chained (λ d. option_map (put k.0 d) (entries_data look f es)) (f x.1) ms k.2 in
     let rest = mapped (put k.0 d.0) (entries_data look f es) ms d.2 in
     subst (MembersComeBack n) rest.2 (put_back n k.0 d.0 rest.0 (h 0 x d.0 refl d.1) (members_come look f n es rest.0 (λ i. h (suc i)) rest.1))
 
 cell_back : (look : Value → Option Cell) (f : Value → Option Data) (n : ℕ) (v : Value) (c : Option Cell) (d : Data) → cell_of look v ≡ c → PartsComeBack look f n v → cell_data look f c ≡ Some d → ComesBack (suc n) d
-cell_back look f n v (Some (cell.Text t)) d is parts e = subst (ComesBack (suc n)) (let same : string t ≡ d = cc in same) (string_back (suc n) t)
+cell_back look f n v (Some (cell.Text t)) d is parts e = subst (ComesBack (suc n)) (string_is t d e).0 (string_back (suc n) t)
 cell_back look f n v (Some (cell.Tuple xs)) d is parts e =
     let all = mapped array (items_data f xs) d e in
     subst (ComesBack (suc n)) all.2 (array_back n all.0 (items_come f n xs all.0 (λ i x y at some. parts x y (in_tuple xs i is at) some) all.1))

@@ -20,7 +20,7 @@ use Rattle.serde_json.specs.Written.{items_outline, members_outline, number_text
 use Rattle.serde_json.proofs.Texts.{print-outline}
 use Rattle.star_store.specs.declared.values.Value.{Value}
 use Rattle.star_store.specs.declared.values.Cell.{Cell}
-use Rattle.star_data.specs.Data.{cell_of, entries_data, items_data, text_in}
+use Rattle.star_data.specs.Data.{cell_of, entries_data, items_data, key_in}
 use Rattle.star_data.specs.Paths.{AllStandInEach, StandsInEach}
 use Rattle.star_data.specs.Texts.{IsJson, Says, Sends, row_data}
 use Rattle.star_data.proofs.Builds.{items_push}
@@ -166,7 +166,7 @@ module _ (f : Value → Option Data) (k : Bor (List ℕ)) (v : Value) where
   row_insert (x ∷ es) hides = row_turn x es hides (row_insert es) (key_cmp k x.0) refl
 
 -- one entry more
-pub entry_more : (look : Value → Option Cell) (f : Value → Option Data) (es left : List (Value × Value)) (e : Value × Value) (k : Bor (List ℕ)) (row new : Row) → es ≡ e ∷ left → text_in (cell_of look e.0) ≡ Some k.now
+pub entry_more : (look : Value → Option Cell) (f : Value → Option Data) (es left : List (Value × Value)) (e : Value × Value) (k : Bor (List ℕ)) (row new : Row) → es ≡ e ∷ left → key_in (cell_of look e.0) ≡ Some k.now
     → entries_data look f left ≡ row_data f row → HidesData f (lookup (is_at (key_cmp k)) row) → new ≡ insert_entry key_cmp row k e.1 → entries_data look f es ≡ row_data f new
 entry_more look f es left e k row new at text was hides is =
     ap (entries_data look f) at

@@ -24,15 +24,15 @@ use Rattle.star_store.specs.declared.values.Cell.{Cell}
 use Rattle.star_store.specs.declared.values.Cell.TheVariants as cell
 use Rattle.star_store.specs.Spend.{Enough, Lacks, Spend, Spent, spend_then, visited}
 use Rattle.star_store.specs.Text.{Say, all_said, bool_text, on_path, quoted, say, say_cell, say_dict, say_entries, say_entry, say_item, say_items, say_list, say_new_dict, say_new_list, say_pair, say_place, say_tuple, say_value, separator, shown, shown_char, text, then_say, tuple_end}
-use Rattle.star_data.specs.Data.{cell_data, cell_of, data_of, entries_data, items_data, text_in, value_data}
+use Rattle.star_data.specs.Data.{cell_data, cell_of, data_of, entries_data, items_data, key_in, value_data}
 use Rattle.star_data.specs.Laws.{IsNoLonger}
 use Rattle.star_data.specs.Paths.{AllStandInEach, StandsInEach}
-use Rattle.star_data.specs.Reading.{AreUtf8}
 use Rattle.star_data.proofs.Ints.{int_is}
 use Rattle.star_data.proofs.Builds.{in_a_dict, in_a_list, in_a_tuple, mapped_at, no_cell_data, starts}
 use Rattle.star_data.proofs.Options.{chained, mapped}
 use Rattle.star_data.proofs.Parts.{is_text}
 use Rattle.star_data.proofs.Sent.{int_text}
+use Rattle.star_data.proofs.Strings.{key_is, string_is}
 
 -- ---- strings
 
@@ -225,7 +225,7 @@ abbrev KeyEnough : Say → List ℕ → Type 0
 KeyEnough a k = (out new : List ℕ) (n left : ℕ) → a out n ≡ Enough new left → 2 * length (json.quoted k) + 3 * length out ≤ 3 * length new
 
 entries_said : (look : Value → Option Cell) (g : Value → Say) (f : Value → Option Data) (whole es : List (Value × Value)) (i : ℕ) (ms : Members) → IsRest whole i es
-    → ((j : ℕ) (e : Value × Value) (d : Data) → slice_get es j ≡ Some e → f e.1 ≡ Some d → SaysEnough (g e.1) d) → ((key : Value) (k : List ℕ) → text_in (cell_of look key) ≡ Some k → KeyEnough (g key) k)
+    → ((j : ℕ) (e : Value × Value) (d : Data) → slice_get es j ≡ Some e → f e.1 ≡ Some d → SaysEnough (g e.1) d) → ((key : Value) (k : List ℕ) → key_in (cell_of look key) ≡ Some k → KeyEnough (g key) k)
     → entries_data look f es ≡ Some ms → (out new : List ℕ) (n left : ℕ) → all_said (say_entry g whole) (length es) i out n ≡ Enough new left → 2 * weight ms + 3 * length out ≤ 3 * length new
 entries_said look g f whole [] i ms rest parts keys is out new n left e =
     let none : no_members ≡ ms = cc in
@@ -233,7 +233,7 @@ entries_said look g f whole [] i ms rest parts keys is out new n left e =
     let light : weight ms ≡ 0 = ap weight (sym none) in
     omega (arith, light, ap length same)
 entries_said look g f whole (x ∷ es) i ms rest parts keys is out new n left e =
-    let k = chained (λ k. option_and_then (λ d. option_map (put k d) (entries_data look f es)) (f x.1)) (text_in (cell_of look x.0)) ms is in
+    let k = chained (λ k. option_and_then (λ d. option_map (put k d) (entries_data look f es)) (f x.1)) (key_in (cell_of look x.0)) ms is in
     let d = chained (λ d. option_map (put k.0 d) (entries_data look f es)) (f x.1) ms k.2 in
     let more = mapped (put k.0 d.0) (entries_data look f es) ms d.2 in
     let both = parted (say_entry g whole i) (all_said (say_entry g whole) (length es) (i + 1)) out new n left e in
@@ -251,7 +251,7 @@ entries_said look g f whole (x ∷ es) i ms rest parts keys is out new n left e 
     omega (arith, before, name, between, two, here, next, light)
 
 object_said : (look : Value → Option Cell) (g : Value → Say) (f : Value → Option Data) (es : List (Value × Value)) (ms : Members) → ((j : ℕ) (e : Value × Value) (d : Data) → slice_get es j ≡ Some e → f e.1 ≡ Some d → SaysEnough (g e.1) d)
-    → ((key : Value) (k : List ℕ) → text_in (cell_of look key) ≡ Some k → KeyEnough (g key) k) → entries_data look f es ≡ Some ms → SaysEnough (say_new_dict g es) (object ms)
+    → ((key : Value) (k : List ℕ) → key_in (cell_of look key) ≡ Some k → KeyEnough (g key) k) → entries_data look f es ≡ Some ms → SaysEnough (say_new_dict g es) (object ms)
 object_said look g f es ms parts keys is out new n left e =
     let one = parted (say (codes "{")) (then_say (say_entries g es) (say (codes "}"))) out new n left e in
     let two = parted (say_entries g es) (say (codes "}")) one.mid new one.steps left one.second in
@@ -269,24 +269,25 @@ plain_said : (d : Data) (t : List ℕ) → 2 * length (compact_text d) ≤ 3 * l
 plain_said d t h out new n left e = let more = said t out new n left e in omega (arith, h, more)
 
 -- a string says itself, wherever it stands
-key_said : (look : Value → Option Cell) → AreUtf8 look → (levels : ℕ) (path : List Value) (key : Value) (k : List ℕ) → text_in (cell_of look key) ≡ Some k → KeyEnough (text look levels path key) k
+key_said : (look : Value → Option Cell) (levels : ℕ) (path : List Value) (key : Value) (k : List ℕ) → key_in (cell_of look key) ≡ Some k → KeyEnough (text look levels path key) k
 unfolding text
-key_said look utf8 zero path key k is out new n left e = absurd (let no : ⊥ = cc in no)
-key_said look utf8 (suc levels) path (value.Ref h a) k is out new n left e =
-    let there = is_text (look (value.Ref h a)) k is in
+key_said look zero path key k is out new n left e = absurd (let no : ⊥ = cc in no)
+key_said look (suc levels) path (value.Ref h a) k is out new n left e =
+    let key = key_is (look (value.Ref h a)) k is in
+    let there = is_text (look (value.Ref h a)) k key.0 in
     let now = unvisited (say_value look (text look levels) path (value.Ref h a) out) n left new e in
     let spoken : say (quoted k) out (n - 1) ≡ Enough new left = ap (λ c. say_cell (text look levels) path (value.Ref h a) c out (n - 1)) (sym there) ∙ now in
     let more = said (quoted k) out new (n - 1) left spoken in
-    let short = string_long k (utf8 (value.Ref h a) k there) in
+    let short = string_long k key.1 in
     omega (arith, more, short)
-key_said look utf8 (suc levels) path _ k is out new n left e = absurd (let no : ⊥ = cc in no)
+key_said look (suc levels) path _ k is out new n left e = absurd (let no : ⊥ = cc in no)
 
 -- what stands in a value is said long enough, below every path on which it stands
 abbrev SaidWithin : (Value → Option Cell) → (List Value → Value → Say) → (Value → Option Data) → Type 0
 SaidWithin look g f = (path : List Value) (x : Value) (d : Data) → StandsInEach look path x → f x ≡ Some d → SaysEnough (g path x) d
 
 abbrev KeysSaid : (Value → Option Cell) → (List Value → Value → Say) → Type 0
-KeysSaid look g = (path : List Value) (key : Value) (k : List ℕ) → text_in (cell_of look key) ≡ Some k → KeyEnough (g path key) k
+KeysSaid look g = (path : List Value) (key : Value) (k : List ℕ) → key_in (cell_of look key) ≡ Some k → KeyEnough (g path key) k
 
 of_item : (look : Value → Option Cell) (path xs : List Value) → AllStandInEach look path xs → (g : List Value → Value → Say) (f : Value → Option Data) → SaidWithin look g f → (j : ℕ) (x : Value) (d : Data) → slice_get xs j ≡ Some x → f x ≡ Some d → SaysEnough (g path x) d
 of_item look path xs all g f within j x d at some = within path x d (all.all j x at) some
@@ -298,14 +299,16 @@ not_on_path look n path v c d is stands some = turn (on_path v path) refl
     turn false e = refl
     turn true e = absurd (let none : None ≡ Some d = sym (no_cell_data look n path v c is stands e) ∙ some in let no : ⊥ = cc in no)
 
-cell_said : (look : Value → Option Cell) → AreUtf8 look → (g : List Value → Value → Say) (n : ℕ) (path : List Value) (v : Value) → StandsInEach look path v → SaidWithin look g (data_of look n) → KeysSaid look g
-    → (c : Option Cell) → cell_of look v ≡ c → look v ≡ c → (d : Data) → cell_data look (data_of look n) c ≡ Some d → SaysEnough (say_cell g path v c) d
-cell_said look utf8 g n path v stands within keys (Some (cell.Text t)) is there d e = subst (SaysEnough (say (quoted t))) (let same : string t ≡ d = cc in same) (plain_said (string t) (quoted t) (string_long t (utf8 v t there)))
-cell_said look utf8 g n path v stands within keys (Some (cell.Tuple xs)) is there d e =
+cell_said : (look : Value → Option Cell) (g : List Value → Value → Say) (n : ℕ) (path : List Value) (v : Value) → StandsInEach look path v → SaidWithin look g (data_of look n) → KeysSaid look g
+    → (c : Option Cell) → cell_of look v ≡ c → (d : Data) → cell_data look (data_of look n) c ≡ Some d → SaysEnough (say_cell g path v c) d
+cell_said look g n path v stands within keys (Some (cell.Text t)) is d e =
+    let same = string_is t d e in
+    subst (SaysEnough (say (quoted t))) same.0 (plain_said (string t) (quoted t) (string_long t same.1))
+cell_said look g n path v stands within keys (Some (cell.Tuple xs)) is d e =
     let f = data_of look n in
     let all = mapped array (items_data f xs) d e in
     subst (SaysEnough (say_tuple (g path) xs)) all.2 (array_said (g path) f xs all.0 (codes "(") (tuple_end xs) (omega arith) (tuple_ends xs) (of_item look path xs (in_a_tuple look path v xs is stands) g f within) all.1)
-cell_said look utf8 g n path v stands within keys (Some (cell.List xs)) is there d e =
+cell_said look g n path v stands within keys (Some (cell.List xs)) is d e =
     let f = data_of look n in
     let all = mapped array (items_data f xs) d e in
     let off = not_on_path look n path v (cell.List xs) d is stands e in
@@ -313,7 +316,7 @@ cell_said look utf8 g n path v stands within keys (Some (cell.List xs)) is there
     let inside : say_new_list (g (path ++ v ∷ [])) xs out m ≡ Enough new left = sym (ap (λ b. (let s : Spent (List ℕ) = if b then say (codes "[...]") out m else say_new_list (g (path ++ v ∷ [])) xs out m in s)) off) ∙ h in
     array_said (g (path ++ v ∷ [])) f xs all.0 (codes "[") (codes "]") (omega arith) (omega arith) (of_item look (path ++ v ∷ []) xs (in_a_list look path v xs is stands) g f within) all.1 out new m left inside
     ))
-cell_said look utf8 g n path v stands within keys (Some (cell.Dict es)) is there d e =
+cell_said look g n path v stands within keys (Some (cell.Dict es)) is d e =
     let f = data_of look n in
     let all = mapped object (entries_data look f es) d e in
     let off = not_on_path look n path v (cell.Dict es) d is stands e in
@@ -322,11 +325,11 @@ cell_said look utf8 g n path v stands within keys (Some (cell.Dict es)) is there
     let inside : say_new_dict (g (path ++ v ∷ [])) es out m ≡ Enough new left = sym (ap (λ b. (let s : Spent (List ℕ) = if b then say (codes "{...}") out m else say_new_dict (g (path ++ v ∷ [])) es out m in s)) off) ∙ h in
     object_said look (g (path ++ v ∷ [])) f es all.0 (λ j x y at some. within (path ++ v ∷ []) x.1 y (values.all j x.1 (mapped_at (λ (z : Value × Value). z.1) es j x at)) some) (keys (path ++ v ∷ [])) all.1 out new m left inside
     ))
-cell_said look utf8 g n path v stands within keys (Some (cell.Range r)) is there d e = absurd (let no : ⊥ = cc in no)
-cell_said look utf8 g n path v stands within keys (Some (cell.Func r)) is there d e = absurd (let no : ⊥ = cc in no)
-cell_said look utf8 g n path v stands within keys (Some (cell.Frame r)) is there d e = absurd (let no : ⊥ = cc in no)
-cell_said look utf8 g n path v stands within keys (Some (cell.Bound m r)) is there d e = absurd (let no : ⊥ = cc in no)
-cell_said look utf8 g n path v stands within keys None is there d e = absurd (let no : ⊥ = cc in no)
+cell_said look g n path v stands within keys (Some (cell.Range r)) is d e = absurd (let no : ⊥ = cc in no)
+cell_said look g n path v stands within keys (Some (cell.Func r)) is d e = absurd (let no : ⊥ = cc in no)
+cell_said look g n path v stands within keys (Some (cell.Frame r)) is d e = absurd (let no : ⊥ = cc in no)
+cell_said look g n path v stands within keys (Some (cell.Bound m r)) is d e = absurd (let no : ⊥ = cc in no)
+cell_said look g n path v stands within keys None is d e = absurd (let no : ⊥ = cc in no)
 
 bool_short : (b : Bool) → 2 * length (compact_text (boolean b)) ≤ 3 * length (bool_text b)
 bool_short true = omega arith
@@ -335,22 +338,22 @@ bool_short false = omega arith
 int_short : (z : ℤ) → 2 * length (compact_text (number (of_integer z))) ≤ 3 * length (signed_decimal z)
 int_short z = let same = ap length (int_text z) in omega (arith, same)
 
-value_said : (look : Value → Option Cell) → AreUtf8 look → (g : List Value → Value → Say) (n : ℕ) (path : List Value) (v : Value) → StandsInEach look path v → SaidWithin look g (data_of look n) → KeysSaid look g → (d : Data) → value_data look (data_of look n) v ≡ Some d → SaysEnough (say_value look g path v) d
-value_said look utf8 g n path value.NoneValue stands within keys d e = subst (SaysEnough (say (codes "None"))) (let same : null ≡ d = cc in same) (plain_said null (codes "None") (omega arith))
-value_said look utf8 g n path (value.Bool b) stands within keys d e = subst (SaysEnough (say (bool_text b))) (let same : boolean b ≡ d = cc in same) (plain_said (boolean b) (bool_text b) (bool_short b))
-value_said look utf8 g n path (value.Int z) stands within keys d e = subst (SaysEnough (say (signed_decimal z))) (int_is z d e).1 (plain_said (number (of_integer z)) (signed_decimal z) (int_short z))
-value_said look utf8 g n path (value.Ref h a) stands within keys d e = cell_said look utf8 g n path (value.Ref h a) stands within keys (look (value.Ref h a)) refl refl d e
-value_said look utf8 g n path (value.Builtin b) stands within keys d e = absurd (let no : ⊥ = cc in no)
+value_said : (look : Value → Option Cell) (g : List Value → Value → Say) (n : ℕ) (path : List Value) (v : Value) → StandsInEach look path v → SaidWithin look g (data_of look n) → KeysSaid look g → (d : Data) → value_data look (data_of look n) v ≡ Some d → SaysEnough (say_value look g path v) d
+value_said look g n path value.NoneValue stands within keys d e = subst (SaysEnough (say (codes "None"))) (let same : null ≡ d = cc in same) (plain_said null (codes "None") (omega arith))
+value_said look g n path (value.Bool b) stands within keys d e = subst (SaysEnough (say (bool_text b))) (let same : boolean b ≡ d = cc in same) (plain_said (boolean b) (bool_text b) (bool_short b))
+value_said look g n path (value.Int z) stands within keys d e = subst (SaysEnough (say (signed_decimal z))) (int_is z d e).1 (plain_said (number (of_integer z)) (signed_decimal z) (int_short z))
+value_said look g n path (value.Ref h a) stands within keys d e = cell_said look g n path (value.Ref h a) stands within keys (look (value.Ref h a)) refl d e
+value_said look g n path (value.Builtin b) stands within keys d e = absurd (let no : ⊥ = cc in no)
 
-long_enough : (look : Value → Option Cell) → AreUtf8 look → (levels n : ℕ) → SaidWithin look (text look levels) (data_of look n)
+long_enough : (look : Value → Option Cell) (levels n : ℕ) → SaidWithin look (text look levels) (data_of look n)
 unfolding text data_of
-long_enough look utf8 zero n path v d stands some out new s left e = absurd (let no : ⊥ = cc in no)
-long_enough look utf8 (suc levels) zero path v d stands some out new s left e = absurd (let no : ⊥ = cc in no)
-long_enough look utf8 (suc levels) (suc n) path v d stands some out new s left e =
-    value_said look utf8 (text look levels) n path v stands (long_enough look utf8 levels n) (key_said look utf8 levels) d some out new (s - 1) left
+long_enough look zero n path v d stands some out new s left e = absurd (let no : ⊥ = cc in no)
+long_enough look (suc levels) zero path v d stands some out new s left e = absurd (let no : ⊥ = cc in no)
+long_enough look (suc levels) (suc n) path v d stands some out new s left e =
+    value_said look (text look levels) n path v stands (long_enough look levels n) (key_said look levels) d some out new (s - 1) left
     (unvisited (say_value look (text look levels) path v out) s left new e)
 
 pub is_no_longer : IsNoLonger
-is_no_longer look utf8 levels steps left n v t d e some =
-    let all = long_enough look utf8 levels n [] v d (starts look v) some [] t steps left e in
+is_no_longer look levels steps left n v t d e some =
+    let all = long_enough look levels n [] v d (starts look v) some [] t steps left e in
     omega (arith, all)

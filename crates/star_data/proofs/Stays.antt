@@ -6,7 +6,7 @@ use Rattle.star_store.specs.declared.values.Value.{Value}
 use Rattle.star_store.specs.declared.values.Value.TheVariants as value
 use Rattle.star_store.specs.declared.values.Cell.{Cell}
 use Rattle.star_store.specs.declared.values.Cell.TheVariants as cell
-use Rattle.star_data.specs.Data.{cell_data, cell_of, data_of, entries_data, items_data, text_in, value_data}
+use Rattle.star_data.specs.Data.{cell_data, cell_of, data_of, entries_data, items_data, key_in, value_data}
 use Rattle.star_data.specs.Laws.{DataStays, OneData}
 use Rattle.star_data.proofs.Options.{chained, mapped}
 
@@ -20,9 +20,9 @@ items-stay f g h (x ∷ xs) is e =
     let rest = mapped (item first.0) (items_data f xs) is first.2 in
     ap (option_and_then (λ d. option_map (item d) (items_data g xs))) (h x first.0 first.1) ∙ (ap (option_map (item first.0)) (items-stay f g h xs rest.0 rest.1) ∙ ap Some rest.2)
 
-text-stays : (o p : Option Cell) → ((c : Cell) → o ≡ Some c → p ≡ Some c) → (t : List ℕ) → text_in o ≡ Some t → text_in p ≡ Some t
-text-stays None p h t e = absurd (let no : ⊥ = cc in no)
-text-stays (Some c) p h t e = ap text_in (h c refl) ∙ e
+key-stays : (o p : Option Cell) → ((c : Cell) → o ≡ Some c → p ≡ Some c) → (t : List ℕ) → key_in o ≡ Some t → key_in p ≡ Some t
+key-stays None p h t e = absurd (let no : ⊥ = cc in no)
+key-stays (Some c) p h t e = ap key_in (h c refl) ∙ e
 
 led-stays : (look see : Value → Option Cell) → Stay Value Cell look see → (v : Value) (c : Cell) → cell_of look v ≡ Some c → cell_of see v ≡ Some c
 led-stays look see s (value.Ref h a) c e = s (value.Ref h a) c e
@@ -31,11 +31,11 @@ led-stays look see s _ c e = absurd (let no : ⊥ = cc in no)
 entries-stay : (look see : Value → Option Cell) → Stay Value Cell look see → (f g : Value → Option Data) → Stay Value Data f g → (es : List (Value × Value)) (ms : Members) → entries_data look f es ≡ Some ms → entries_data see g es ≡ Some ms
 entries-stay look see s f g h [] ms e = e
 entries-stay look see s f g h (x ∷ es) ms e =
-    let k = chained (λ k. option_and_then (λ d. option_map (put k d) (entries_data look f es)) (f x.1)) (text_in (cell_of look x.0)) ms e in
+    let k = chained (λ k. option_and_then (λ d. option_map (put k d) (entries_data look f es)) (f x.1)) (key_in (cell_of look x.0)) ms e in
     let d = chained (λ d. option_map (put k.0 d) (entries_data look f es)) (f x.1) ms k.2 in
     let rest = mapped (put k.0 d.0) (entries_data look f es) ms d.2 in
     let more : entries_data see g es ≡ Some rest.0 = entries-stay look see s f g h es rest.0 rest.1 in
-    let key : text_in (cell_of see x.0) ≡ Some k.0 = text-stays (cell_of look x.0) (cell_of see x.0) (led-stays look see s x.0) k.0 k.1 in
+    let key : key_in (cell_of see x.0) ≡ Some k.0 = key-stays (cell_of look x.0) (cell_of see x.0) (led-stays look see s x.0) k.0 k.1 in
     ap (option_and_then (λ k. option_and_then (λ d. option_map (put k d) (entries_data see g es)) (g x.1))) key ∙ (ap (option_and_then (λ d. option_map (put k.0 d) (entries_data see g es))) (h x.1 d.0 d.1) ∙ (ap (option_map (put k.0 d.0)) more ∙ ap Some rest.2))
 
 cell-stays : (look see : Value → Option Cell) → Stay Value Cell look see → (f g : Value → Option Data) → Stay Value Data f g → (o p : Option Cell) → ((c : Cell) → o ≡ Some c → p ≡ Some c) → (d : Data) → cell_data look f o ≡ Some d → cell_data see g p ≡ Some d

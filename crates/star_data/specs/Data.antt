@@ -1,6 +1,7 @@
 -- Values as data: the JSON of a value, if it has one.
 use Rattle.std.specs.Prelude.{ℕ, zero, suc, ℤ, if◌then◌else◌, List, [], ◌∷◌, Option, Some, None, slice_get}
 use Rattle.std.specs.Option.{option_and_then, option_map}
+use Rattle.std.specs.Str.{is_utf8}
 use Rattle.serde_json.specs.Data.{Data, Items, Members, array, boolean, item, no_items, no_members, null, number, object, put, string}
 use Rattle.serde_json.specs.Find.{of_integer}
 use Rattle.star_store.specs.Arithmetic.{fits}
@@ -25,16 +26,24 @@ abbrev pub text_in : Option Cell → Option (List ℕ)
 text_in (Some (cell.Text t)) = Some t
 text_in _ = None
 
+-- bytes that are UTF-8, as those of all strings of a run are
+abbrev pub utf8_of : List ℕ → Option (List ℕ)
+utf8_of t = if is_utf8 t then Some t else None
+
+-- the bytes of a key that is a string
+abbrev pub key_in : Option Cell → Option (List ℕ)
+key_in o = option_and_then utf8_of (text_in o)
+
 -- entries whose keys are all strings and whose values are all data: each at its key, in byte order of the keys
 abbrev pub entries_data : (Value → Option Cell) → (Value → Option Data) → List (Value × Value) → Option Members
 entries_data look f [] = Some no_members
 entries_data look f (e ∷ es) =
     option_and_then (λ k. option_and_then (λ d. option_map (put k d) (entries_data look f es)) (f e.1))
-    (text_in (cell_of look e.0))
+    (key_in (cell_of look e.0))
 
 -- strings, lists and tuples of data, dictionaries; nothing else
 abbrev pub cell_data : (Value → Option Cell) → (Value → Option Data) → Option Cell → Option Data
-cell_data look f (Some (cell.Text t)) = Some (string t)
+cell_data look f (Some (cell.Text t)) = option_map string (utf8_of t)
 cell_data look f (Some (cell.Tuple xs)) = option_map array (items_data f xs)
 cell_data look f (Some (cell.List xs)) = option_map array (items_data f xs)
 cell_data look f (Some (cell.Dict es)) = option_map object (entries_data look f es)

@@ -11,7 +11,7 @@ use Rattle.star_store.specs.Spend.{Enough}
 use Rattle.star_store.specs.Text.{text}
 use Rattle.star_data.specs.Data.{cell_of, data_of, text_in}
 use Rattle.star_data.specs.Parts.{IsOpaque, IsPart, StandsIn}
-use Rattle.star_data.specs.Reading.{AreUtf8, read_within}
+use Rattle.star_data.specs.Reading.{read_within}
 
 -- data stays where cells stay, and at every greater depth
 abbrev pub DataStays : Type 0
@@ -29,7 +29,7 @@ abbrev pub PartsAreData : Type 0
 PartsAreData = (look : Value → Option Cell) (n : ℕ) (v x : Value) (d : Data) → data_of look (suc n) v ≡ Some d
     → IsPart look v x → (e : Data) × (data_of look n x ≡ Some e)
 
--- nothing that stands in what is data is a function, a range, or a dictionary with a key that is no string
+-- nothing that stands in what is data is opaque: a function, a range, or a dictionary with a key that is no string
 abbrev pub DataIsPlain : Type 0
 DataIsPlain = (look : Value → Option Cell) (n k : ℕ) (v x : Value) (d : Data) → data_of look n v ≡ Some d
     → StandsIn look k v x → IsOpaque look x → ⊥
@@ -55,7 +55,8 @@ EqualAreSame =
 -- the text of a value's JSON is read back as its data, by a reader that opens as many levels
 abbrev pub ReadsBack : Type 0
 ReadsBack =
-    (look : Value → Option Cell) (n m : ℕ) (v : Value) (d : Data) → data_of look n v ≡ Some d → n ≤ m → read_within m (compact_text d) ≡ Some d
+    (look : Value → Option Cell) (n m : ℕ) (v : Value) (d : Data) → data_of look n v ≡ Some d → n ≤ m
+    → read_within m (compact_text d) ≡ Some d
 
 -- and by serde_json's own reader, where it nests no deeper than that reads
 abbrev pub SerdeReadsBack : Type 0
@@ -66,11 +67,12 @@ SerdeReadsBack =
 -- so the text determines the data
 abbrev pub TextTells : Type 0
 TextTells =
-    (look see : Value → Option Cell) (n m : ℕ) (v w : Value) (d e : Data) → data_of look n v ≡ Some d → data_of see m w ≡ Some e → compact_text d ≡ compact_text e → d ≡ e
+    (look see : Value → Option Cell) (n m : ℕ) (v w : Value) (d e : Data) → data_of look n v ≡ Some d
+    → data_of see m w ≡ Some e → compact_text d ≡ compact_text e → d ≡ e
 
 -- the JSON of a value is at most one and a half times as long as its text
 abbrev pub IsNoLonger : Type 0
 IsNoLonger =
-    (look : Value → Option Cell) → AreUtf8 look → (levels steps left n : ℕ) (v : Value) (t : List ℕ) (d : Data)
+    (look : Value → Option Cell) (levels steps left n : ℕ) (v : Value) (t : List ℕ) (d : Data)
     → text look levels [] v [] steps ≡ Enough t left → data_of look n v ≡ Some d
     → 2 * length (compact_text d) ≤ 3 * length t

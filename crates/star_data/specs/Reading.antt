@@ -1,20 +1,12 @@
--- What is read of the JSON of values, and what is known of the values of a run.
-use Rattle.std.specs.Prelude.{◌≡◌, ℕ, List, Option, Some, option_and_then}
-use Rattle.std.specs.Str.{IsUtf8}
+-- What is read of the JSON of values.
+use Rattle.std.specs.Prelude.{ℕ, List, Option, option_and_then}
 use Rattle.json.specs.Json.{if_last, value as json_value}
 use Rattle.json.specs.Lex.{tokens}
 use Rattle.serde_json.specs.Data.{Data}
 use Rattle.serde_json.specs.Read.{of_json}
-use Rattle.star_store.specs.declared.values.Value.{Value}
-use Rattle.star_store.specs.declared.values.Cell.{Cell}
-use Rattle.star_store.specs.declared.values.Cell.TheVariants as cell
 
 -- the data that a text is, for a reader that opens at most so many arrays and objects within each other; serde_json's
 -- own reader (`read`) opens 127
 abbrev pub read_within : ℕ → List ℕ → Option Data
 read_within levels text =
     option_and_then of_json (option_and_then (λ p. if_last p.0 p.1) (json_value levels (tokens text)))
-
--- each string is UTF-8
-abbrev pub AreUtf8 : (Value → Option Cell) → Type 0
-AreUtf8 look = (v : Value) (t : List ℕ) → look v ≡ Some (cell.Text t) → IsUtf8 t

@@ -2,10 +2,10 @@
 
 ghost use Rattle.std.specs.Prelude.{◌≡◌, ◌-◌, IfOk, OnOk, Some, map, take, vec_len};
 ghost use Rattle.std.specs.Option.{option_copied, option_map};
-ghost use Rattle.serde_json.specs.Data.{array, object};
+ghost use Rattle.serde_json.specs.Data.{array, object, string};
 ghost use Rattle.star_store.specs.Store.{look};
 ghost use Rattle.star_store.specs.Text.{on_path, same_address};
-ghost use Rattle.star_data.specs.Data.{cell_data, cell_of, data_of, entries_data, int_data, items_data, text_in};
+ghost use Rattle.star_data.specs.Data.{cell_data, cell_of, data_of, entries_data, int_data, items_data, key_in, utf8_of};
 ghost use Rattle.star_data.specs.Texts.{IsJson, Says, Sends, row_data};
 ghost use Rattle.star_store.specs.declared.values.Cell.TheVariants as cell;
 ghost use Rattle.star_data.specs.Paths.{AllStandInEach, StandsInEach};
@@ -77,6 +77,15 @@ fn write_int(number: i64, out: &mut Writer) -> Result<bool, AllocError>
     Ok(true)
 }
 
+/// A string is data: it is UTF-8.
+fn write_text(text: &str, out: &mut Writer) -> Result<bool, AllocError>
+    ensures data { IfOk result (λ b. Sends (option_map string (utf8_of text.now)) b out.old.tokens out.new.tokens) }
+    ensures before { out.new.before ≡ out.old.before }
+{
+    out.string(text)?;
+    Ok(true)
+}
+
 #[cycle(write)]
 fn write_value<'a>(
     alloc: Global,
@@ -134,10 +143,7 @@ fn write_cell<'a>(
     ensures before { out.new.before ≡ out.old.before }
 {
     match cell {
-        Some(Cell::Text(text)) => {
-            out.string(text.as_str())?;
-            Ok(true)
-        }
+        Some(Cell::Text(text)) => write_text(text.as_str(), out),
         Some(Cell::Tuple(items)) => {
             write_items(alloc, arena, homes, levels, path, items.as_slice(), out)
         }
@@ -316,9 +322,9 @@ fn write_members<'a>(
     Ok(true)
 }
 
-/// The text of a string.
+/// The text of a string, which may be a key: it is UTF-8.
 fn text_at<'a>(arena: &'a Arena, homes: &'a Homes<'a>, value: Value) -> Option<&'a str>
-    ensures { option_copied result ≡ text_in (cell_of (look arena.now homes.now) value) }
+    ensures { option_copied result ≡ key_in (cell_of (look arena.now homes.now) value) }
 {
     match arena.read(homes, value) {
         Some(Cell::Text(text)) => Some(text.as_str()),

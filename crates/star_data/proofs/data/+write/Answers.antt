@@ -8,7 +8,7 @@ use Rattle.star_store.specs.declared.values.Value.{Value}
 use Rattle.star_store.specs.declared.values.Value.TheVariants.{NoneValue}
 use Rattle.star_store.specs.declared.values.Cell.TheVariants as cell
 use Rattle.star_store.specs.Store.{look}
-use Rattle.star_data.specs.Data.{cell_data, cell_of, data_of, entries_data, int_data, text_in, value_data}
+use Rattle.star_data.specs.Data.{cell_data, cell_of, data_of, entries_data, int_data, key_in, value_data}
 use Rattle.star_data.specs.Paths.{AllStandInEach, StandsInEach}
 use Rattle.star_data.specs.Texts.{Sends, row_data}
 use Rattle.star_data.proofs.Builds.{at_place, by_ref, data_at, data_at_none, entry_no_key, in_a_dict, in_a_list, in_a_tuple, is_none, item_none, mapped_at, no_cell_data, one_back, rest_none}
@@ -124,7 +124,7 @@ write_entries-returns-in_default-clause-data t c =
     let i = c.loop-i.i - 1 in
     let e = get_or es i (NoneValue, NoneValue) in
     let less : i < length es = omega (arith, c.loop-i-test.true, c.loop-i.auto.i) in
-    let none : text_in (cell_of see e.0) ≡ None = sym c.text_at.ensures ∙ ap option_copied (is_none c.text_at.result c.in_default.not-Some) in
+    let none : key_in (cell_of see e.0) ≡ None = sym c.text_at.ensures ∙ ap option_copied (is_none c.text_at.result c.in_default.not-Some) in
     sends_none _ _ _ (ap (option_map object) (entry_no_key see f es i e (at_place es i (NoneValue, NoneValue) less) none))
 
 pub write_entries-is_data-requires : goal.write_entries-is_data-requires
@@ -154,7 +154,7 @@ write_entries-loop-i-preserved-else-not-branch t c =
     let old = c.in_ok-hidden.ensures.old in
     let some = says_some _ _ c.in_ok-is_data.ensures.data (search rules) in
     let hides : HidesData f c.in_ok-hidden.hidden = subst (HidesData f) (sym c.in-Some-hidden.is) some in
-    let text : text_in (cell_of see e.0) ≡ Some c.in-Some.key.now = sym c.text_at.ensures ∙ ap option_copied c.in-Some.is in
+    let text : key_in (cell_of see e.0) ≡ Some c.in-Some.key.now = sym c.text_at.ensures ∙ ap option_copied c.in-Some.is in
     let stands = c.requires.all i e.1 (mapped_at (λ e. e.1) es i e (at_place es i (NoneValue, NoneValue) less)) in
     record {
       path = c.in_ok-is_data.ensures.path ∙ c.loop-i.invariant.path;
@@ -173,7 +173,7 @@ write_entries-loop-i-preserved t c =
     let less : i < length es = omega (arith, c.loop-i-test.true, c.loop-i.auto.i) in
     let old = c.in_ok-hidden.ensures.old in
     let hides : HidesData f c.in_ok-hidden.hidden = subst (HidesData f) (sym (is_none c.in_ok-hidden.hidden c.in_default-hidden.not-Some)) tt in
-    let text : text_in (cell_of see e.0) ≡ Some c.in-Some.key.now = sym c.text_at.ensures ∙ ap option_copied c.in-Some.is in
+    let text : key_in (cell_of see e.0) ≡ Some c.in-Some.key.now = sym c.text_at.ensures ∙ ap option_copied c.in-Some.is in
     let stands = c.requires.all i e.1 (mapped_at (λ e. e.1) es i e (at_place es i (NoneValue, NoneValue) less)) in
     record {
       path = c.loop-i.invariant.path;
