@@ -1,6 +1,6 @@
-//! What built-in functions and methods take.
+//! The arguments that built-in functions and methods take.
 
-/// What a value has to be.
+/// The kind that a value has to be of.
 #[derive(Clone, Copy, Debug, PartialEq, Eq)]
 pub(crate) enum Wanted {
     Anything,
@@ -41,7 +41,7 @@ impl Wanted {
         }
     }
 
-    /// What it is, with its article.
+    /// Its name, with an article.
     pub(crate) fn text(self) -> &'static str {
         match self {
             Wanted::Anything => "a value",
@@ -58,7 +58,7 @@ impl Wanted {
     }
 }
 
-/// What a built-in function takes first and second.
+/// The first and second argument of a built-in function.
 fn of_function(name: &str) -> (Wanted, Wanted) {
     match name {
         "abs" => (Wanted::Int, Wanted::Anything),
@@ -75,7 +75,7 @@ fn of_function(name: &str) -> (Wanted, Wanted) {
     }
 }
 
-/// What a method takes first and second.
+/// The first and second argument of a method.
 fn of_method(name: &str, receiver: &str) -> (Wanted, Wanted) {
     match (receiver, name) {
         ("list", "extend") => (Wanted::Iterable, Wanted::Anything),
@@ -92,7 +92,7 @@ fn of_method(name: &str, receiver: &str) -> (Wanted, Wanted) {
     }
 }
 
-/// What a built-in function, or a method of a receiver of a type, takes first and second.
+/// The first and second argument of a built-in function, or of a method of a receiver of a type.
 pub(crate) fn wanted_by(name: &str, receiver: Option<&str>) -> (Wanted, Wanted) {
     match receiver {
         Some(receiver) => of_method(name, receiver),

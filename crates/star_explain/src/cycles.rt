@@ -48,7 +48,7 @@ fn orders_of(alloc: Global, ends: &Ends, roots: &[usize]) -> Result<Vec<usize>, 
     Ok(orders)
 }
 
-/// The cycle on which a file lies, from that file on.
+/// The cycle of a file that lies on one, from that file on.
 fn cycle_from(alloc: Global, ends: &Ends, first: usize) -> Result<Vec<usize>, AllocError> {
     let mut files = Vec::new(alloc);
     let mut at = first;
@@ -63,7 +63,7 @@ fn cycle_from(alloc: Global, ends: &Ends, first: usize) -> Result<Vec<usize>, Al
 }
 
 impl Cycles {
-    /// The cycles into which the loads of files lead, by the files that are their roots.
+    /// The cycles that the loads of files lead into, by the files that are their roots.
     pub(crate) fn of(
         alloc: Global,
         ends: &Ends,
@@ -100,7 +100,7 @@ impl Cycles {
         Ok(())
     }
 
-    /// The number of the cycle on which a file lies.
+    /// The number of the cycle that a file lies on.
     pub(crate) fn number(&self, file: usize) -> Option<usize> {
         self.of.get(file).copied().flatten()
     }

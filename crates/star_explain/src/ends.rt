@@ -2,6 +2,7 @@
 //! or cycle that its loads lead to.
 
 use crate::texts::{Said, Saying};
+use crate::trail::Trail;
 use crate::words::{Words, tokens_of};
 use star_check::verdict::{Judged, Verdict};
 use star_found::about::Found;
@@ -19,7 +20,7 @@ use std::alloc::{AllocError, Global};
 /// How often the ways from files are doubled: that leads over 16,384 files, and there are at most 10,000.
 const DOUBLINGS: usize = 14;
 
-/// What has become of a file.
+/// How a file ended.
 #[derive(Clone, Copy, Debug, PartialEq, Eq)]
 pub(crate) enum End {
     /// It was not reached.
@@ -32,31 +33,39 @@ pub(crate) enum End {
     Load { next: usize, line: usize },
 }
 
-/// What a run that stopped has left.
+/// The remains of a run that stopped.
 #[derive(Drop)]
 pub(crate) struct Stop {
-    /// What `fail` said, where it did.
+    /// The words of `fail`, if that was the fault.
     pub said: Option<String>,
-    /// What its fault has left on its way out, the innermost first.
-    pub trail: Vec<Step>,
+    /// The trail of its fault.
+    pub trail: Option<Trail>,
     /// The word that its fault is about, where that is known.
     pub mark: Option<Mark>,
-    /// What is said of its fault, where more is known than its code.
+    /// The text on its fault, if more is known than its code.
     pub told: Option<Said>,
 }
 
 impl Stop {
     /// Nothing.
-    fn new(alloc: Global) -> Stop {
+    fn new() -> Stop {
         Stop {
             said: None,
-            trail: Vec::new(alloc),
+            trail: None,
             mark: None,
             told: None,
         }
     }
 
-    /// What is known of what a fault is about is told.
+    /// The statements and calls that its fault has left on its way out, the innermost first.
+    pub(crate) fn steps(&self) -> &[Step] {
+        match &self.trail {
+            Some(trail) => trail.steps(),
+            None => &[],
+        }
+    }
+
+    /// Keeps the text on a fault and its word, if these are known.
     fn tell(
         &mut self,
         alloc: Global,
@@ -64,7 +73,7 @@ impl Stop {
         code: Code,
         found: &Found,
     ) -> Result<(), AllocError> {
-        let Some((file, tokens)) = tokens_of(alloc, files, self.trail.as_slice())? else {
+        let Some((file, tokens)) = tokens_of(alloc, files, self.steps())? else {
             return Ok(());
         };
         let words = Words {
@@ -86,7 +95,7 @@ impl Stop {
     }
 }
 
-/// What has become of all files, by their numbers.
+/// How all files ended, by their numbers.
 #[derive(Drop)]
 pub(crate) struct Ends {
     pub ends: Vec<End>,
@@ -94,13 +103,13 @@ pub(crate) struct Ends {
     pub loads: Vec<Vec<usize>>,
     /// The numbers of the files that were reached, in order.
     pub reached: Vec<usize>,
-    /// What the run of each one has left, where it stopped.
+    /// The remains of the run of each one, if it stopped.
     pub stops: Vec<Stop>,
     /// Whether files were run.
     pub are_run: bool,
 }
 
-/// What has become of a module.
+/// How a module ended.
 fn end_of(module: &Module) -> End {
     match &module.ended {
         Ended::Static(fault) => End::Static(*fault),
@@ -127,19 +136,19 @@ fn loads_in<'s, 't>(reads: &'s Reads<'t>, n: usize) -> &'s [Load] {
     }
 }
 
-/// What the run of a module has left. What `fail` said is its last line.
+/// The remains of the run of a module. The words of `fail` are its last line.
 fn stop_of(alloc: Global, files: &Files, module: &Module) -> Result<Stop, AllocError> {
-    let mut stop = Stop::new(alloc);
+    let mut stop = Stop::new();
     let Ended::Stopped {
         code,
+        line,
         lines,
         left: Left { trail, found },
-        ..
     } = &module.ended
     else {
         return Ok(stop);
     };
-    stop.trail.extend_from_slice(trail.as_slice())?;
+    stop.trail = Some(Trail::of(alloc, module.number, *line, trail.as_slice())?);
     if *code == Code::Fail {
         if let Some(line) = lines.last() {
             stop.said = Some(shown(alloc, line.as_str())?);
@@ -152,13 +161,13 @@ fn stop_of(alloc: Global, files: &Files, module: &Module) -> Result<Stop, AllocE
 }
 
 impl Ends {
-    /// Nothing is known of so many files.
+    /// Nothing is known of the files, of which there are `files`.
     fn new(alloc: Global, files: usize) -> Result<Ends, AllocError> {
         let mut loads = Vec::with_capacity(alloc, files)?;
         let mut stops = Vec::with_capacity(alloc, files)?;
         for _ in 0..files {
             loads.push(Vec::new(alloc))?;
-            stops.push(Stop::new(alloc))?;
+            stops.push(Stop::new())?;
         }
         Ok(Ends {
             ends: vec![in alloc; End::Unknown; files]?,
@@ -169,7 +178,7 @@ impl Ends {
         })
     }
 
-    /// What has become of the files of a run.
+    /// How the files of a run ended.
     pub(crate) fn of(alloc: Global, files: &Files, run: &mut Run) -> Result<Ends, AllocError> {
         let mut all = Ends::new(alloc, files.len())?;
         for i in 0..run.len() {
@@ -194,7 +203,7 @@ impl Ends {
         Ok(())
     }
 
-    /// What is told of files none of which was run.
+    /// The verdicts on files that were not run.
     pub(crate) fn of_check(
         alloc: Global,
         files: &Files,
@@ -219,7 +228,7 @@ impl Ends {
         }
     }
 
-    /// What is told of a file with these loads, after those against which there is nothing.
+    /// Adds the verdict on a file with these loads. The files that have nothing against them were added before.
     fn add_judged(&mut self, loads: &[Load], it: &Judged) -> Result<(), AllocError> {
         let n = it.file;
         match it.verdict {
@@ -274,7 +283,7 @@ impl Ends {
         count
     }
 
-    /// For each file the one by which it fails at last: itself, where it fails by no load. Of a file whose loads lead
+    /// For each file the one that makes it fail at last: itself, if it fails by no load. Of a file whose loads lead
     /// into a cycle it is some file of the cycle.
     pub(crate) fn roots(&self, alloc: Global) -> Result<Vec<usize>, AllocError> {
         let mut roots = Vec::with_capacity(alloc, self.ends.len())?;

@@ -73,7 +73,7 @@ impl Entry {
     }
 }
 
-/// What is said of one file, and of several.
+/// The words for one file, and for several.
 const MORE: [&str; 2] = ["more run stops here", "more runs stop here"];
 
 const FAIL: [&str; 2] = ["file fails by it", "files fail by it"];

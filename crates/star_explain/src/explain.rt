@@ -4,7 +4,7 @@ use crate::cycles::Cycles;
 use crate::ends::{End, Ends, Stop};
 use crate::entry::Entry;
 use crate::pages::page_of;
-use crate::trail::{callers, innermost};
+use crate::trail::{callers, mark_of_line};
 use star_check::verdict::Judged;
 use star_label::files::Files;
 use star_meaning::fault::Code;
@@ -29,13 +29,13 @@ pub struct Form {
     pub is_colored: bool,
 }
 
-/// What is told, so far.
+/// The text for a person, so far.
 #[derive(Drop)]
 struct Telling<'a> {
     sources: Sources<'a>,
     form: Form,
     entries: Vec<Entry>,
-    /// Files at fault, and cycles, for which there is no room.
+    /// The number of files at fault, and cycles, that found no room.
     more: usize,
     /// Whether the prelude does not parse.
     is_blind: bool,
@@ -43,7 +43,7 @@ struct Telling<'a> {
     has_prelude: bool,
 }
 
-/// What is said of a run that stopped.
+/// The text on a run that stopped.
 fn text_of_code(alloc: Global, code: Code, said: Option<&String>) -> Result<String, AllocError> {
     if let Some(said) = said {
         return format!(in alloc; "fail: {said}");
@@ -52,7 +52,7 @@ fn text_of_code(alloc: Global, code: Code, said: Option<&String>) -> Result<Stri
     String::from_str(alloc, page_of(code).map_or(code, |page| page.short))
 }
 
-/// What to do about a fault whose word is named, where its code says that.
+/// The cure of a fault whose word is named, if its code has one.
 fn cure_of(alloc: Global, code: Code) -> Result<Option<String>, AllocError> {
     let has_cure = matches!(
         code,
@@ -70,7 +70,7 @@ fn cure_of(alloc: Global, code: Code) -> Result<Option<String>, AllocError> {
     }
 }
 
-/// What is said of a run that stopped, and what to do.
+/// The text on a run that stopped, and the cure.
 fn text_and_help(
     alloc: Global,
     code: Code,
@@ -121,8 +121,11 @@ impl<'a> Telling<'a> {
         stop: &Stop,
     ) -> Result<(), AllocError> {
         let (alloc, files) = (self.sources.alloc, self.sources.files);
-        let trail = stop.trail.as_slice();
-        let mark = stop.mark.unwrap_or(innermost(files, trail, n, line));
+        let place = match &stop.trail {
+            Some(trail) => trail.innermost(files),
+            None => mark_of_line(files, n, line),
+        };
+        let mark = stop.mark.unwrap_or(place);
         let (text, help) = text_and_help(alloc, code, stop)?;
         if self.is_added(n, mark, text.as_str())? || !self.has_room() {
             return Ok(());
@@ -131,7 +134,7 @@ impl<'a> Telling<'a> {
             mark,
             code: code_text(code),
             text,
-            notes: callers(alloc, files, self.form.naming, trail)?,
+            notes: callers(alloc, files, self.form.naming, stop.steps())?,
             help,
             root: Some(n),
             more: Vec::new(alloc),
@@ -169,7 +172,7 @@ impl<'a> Telling<'a> {
         self.is_blind && self.sources.prelude != Some(n) && fault.code == StaticCode::Undefined
     }
 
-    /// What has become of a file is told. Where it has no fault of its own, it fails by the prelude.
+    /// Tells how a file ended. If it has no fault of its own, it fails by the prelude.
     fn tell(&mut self, ends: &mut Ends, n: usize) -> Result<(), AllocError> {
         match ends.end(n) {
             End::Static(fault) => {
@@ -215,7 +218,7 @@ impl Ways {
         })
     }
 
-    /// The file by which a file fails at last; of a cycle it is the first one that was found.
+    /// The file that makes a file fail at last; of a cycle it is the first one that was found.
     fn cause(&self, n: usize) -> usize {
         let root = self.roots.get(n).copied().unwrap_or(n);
         let cycle = self
@@ -228,7 +231,7 @@ impl Ways {
             .unwrap_or(root)
     }
 
-    /// The files that fail by an entry, or by the cycle of which it tells.
+    /// The files that fail by the cause of an entry.
     fn failing(&self, alloc: Global, entry: &Entry) -> Result<Vec<usize>, AllocError> {
         let mut failing = Vec::new(alloc);
         let Some(root) = entry.root else {
@@ -307,7 +310,7 @@ impl<'a> Telling<'a> {
     }
 }
 
-/// What a person is told of a run: nothing where no file is at fault.
+/// The text for a person on a run: empty if no file is at fault.
 pub fn explain(
     alloc: Global,
     files: &Files,
@@ -324,7 +327,7 @@ pub fn explain(
     told(sources, Ends::of(alloc, files, run)?, roots, form)
 }
 
-/// What a person is told of files that were read, and none of which was run: nothing where there is nothing against any.
+/// The text for a person on files that were read and not run: empty if there is nothing against any.
 pub fn explain_check(
     alloc: Global,
     files: &Files,
@@ -343,7 +346,7 @@ pub fn explain_check(
     told(sources, ends, roots, form)
 }
 
-/// What a person is told of files with these ends.
+/// The text for a person on files with these ends.
 fn told(sources: Sources, ends: Ends, roots: &[usize], form: Form) -> Result<String, AllocError> {
     let alloc = sources.alloc;
     let mut telling = Telling {

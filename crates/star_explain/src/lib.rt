@@ -9,7 +9,8 @@
 //! - `Form` says which entries are shown, how files are named, and whether there are colours (`paint`).
 //! - `pages` has a `Page` for each code of a fault: its meaning and an example, for `--explain-code`.
 //!
-//! No report rests on any of this. It is proved to be safe and to end; its texts are tested.
+//! No report rests on any of this. It is proved to be safe and to end, and the trail that is told of a run to come to the
+//! line of the report (`trail::Trail`); the texts are tested.
 #![tactic(auto)]
 
 mod built_ins;

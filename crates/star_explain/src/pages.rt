@@ -5,13 +5,13 @@
 pub struct Page {
     /// Its word in the report.
     pub code: &'static str,
-    /// What it is, in a few words.
+    /// Its name, in a few words.
     pub short: &'static str,
-    /// What it means, in a line.
+    /// Its meaning, in a line.
     pub means: &'static str,
     /// A program that has the fault, in its last file, each line after four blanks.
     pub program: &'static str,
-    /// What to do.
+    /// The cure.
     pub cure: &'static str,
 }
 

@@ -10,11 +10,11 @@ pub(crate) enum Color {
     Cyan,
 }
 
-/// What sets the colour of what comes next back.
+/// The bytes that end a colour.
 const PLAIN: &str = "\u{1b}[0m";
 
 impl Color {
-    /// What tells a terminal that what comes next has this colour.
+    /// The bytes that begin this colour on a terminal.
     fn code(self) -> &'static str {
         match self {
             Color::Red => "\u{1b}[1;31m",
@@ -39,7 +39,7 @@ pub(crate) fn push_colored(
     all.push_str(PLAIN)
 }
 
-/// Writes the lines that show a place: what stands before the text of a line is blue, and so are carets.
+/// Writes the lines that show a place: the margin before the text of a line is blue, and so are carets.
 pub(crate) fn push_lines(
     all: &mut String,
     lines: &str,
@@ -53,7 +53,7 @@ pub(crate) fn push_lines(
     Ok(())
 }
 
-/// Writes one of these lines, the first of which has the text.
+/// Writes one of these lines; the first of them has the text.
 fn push_line(
     all: &mut String,
     line: &str,

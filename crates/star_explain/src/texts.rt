@@ -1,4 +1,4 @@
-//! What is said of a fault whose part and values are known.
+//! The texts on faults whose part and values are known.
 
 use crate::built_ins::{Wanted, count, methods, wanted_by};
 use crate::words::unquoted;
@@ -11,14 +11,14 @@ use std::alloc::{AllocError, Global};
 /// How many parameters of a function are listed.
 const LISTED: usize = 12;
 
-/// What is said, and what to do.
+/// A text, and the cure.
 #[derive(Drop)]
 pub(crate) struct Said {
     pub text: String,
     pub help: Option<String>,
 }
 
-/// What is said of a fault: its code, and whose texts.
+/// The makings of a text on a fault: its code and the part that it is about.
 #[derive(Clone, Copy)]
 pub(crate) struct Saying<'a> {
     pub alloc: Global,
@@ -73,7 +73,7 @@ impl<'a> Saying<'a> {
         format!(in self.alloc; ": {left} {sign} {right}")
     }
 
-    /// What is said of a write to a value.
+    /// The text on a write to a value.
     fn written(self, value: &Shown) -> Result<Option<String>, AllocError> {
         let text = with_article(value.type_name());
         Ok(Some(match self.code {
@@ -217,7 +217,7 @@ impl<'a> Saying<'a> {
         }))
     }
 
-    /// What is said of an argument that a built-in function does not take.
+    /// The text on an argument that a built-in function does not take.
     fn argument(
         self,
         name: &str,
@@ -350,7 +350,7 @@ impl<'a> Saying<'a> {
         }
     }
 
-    /// What a fault is.
+    /// The text on a fault.
     fn text(self) -> Result<Option<String>, AllocError> {
         let alloc = self.alloc;
         Ok(Some(match &self.found.about {
@@ -431,7 +431,7 @@ impl<'a> Saying<'a> {
         Ok(Some(text))
     }
 
-    /// What to do about a key or an index that is not there.
+    /// The cure of a key or an index that is not there.
     fn lacking(self) -> Result<Option<String>, AllocError> {
         let help = match &self.found.about {
             About::Key { .. } => "take one of the two entries out",
@@ -444,7 +444,7 @@ impl<'a> Saying<'a> {
         Ok(Some(String::from_str(self.alloc, help)?))
     }
 
-    /// What to do where operands have no meaning.
+    /// The cure of operands that have no meaning.
     fn converted(
         self,
         sign: &str,
@@ -462,7 +462,7 @@ impl<'a> Saying<'a> {
         Ok(Some(String::from_str(self.alloc, help)?))
     }
 
-    /// What to do about what a call gives.
+    /// The cure of arguments that do not fit.
     fn fitting(self, misfit: &Misfit) -> Result<Option<String>, AllocError> {
         if let Misfit::Unknown(word) = misfit {
             if let Some(help) = self.near(word.as_str())? {
@@ -472,7 +472,7 @@ impl<'a> Saying<'a> {
         self.parameters()
     }
 
-    /// What to do.
+    /// The cure.
     fn help(self) -> Result<Option<String>, AllocError> {
         match &self.found.about {
             About::Loaded(name) => self.near(name.as_str()),
@@ -495,7 +495,7 @@ impl<'a> Saying<'a> {
         }
     }
 
-    /// What is said: nothing where the part that was found does not go with the code.
+    /// The text and the cure: none if the part that was found does not go with the code.
     pub(crate) fn said(self) -> Result<Option<Said>, AllocError> {
         match self.text()? {
             Some(text) => Ok(Some(Said {

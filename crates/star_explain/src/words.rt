@@ -140,13 +140,13 @@ impl<'a> Words<'a> {
         from
     }
 
-    /// Whether a token is the bracket of an index or of a slice: it stands after the end of a value.
+    /// Whether a token is the bracket of an index or of a slice: it comes after the end of a value.
     fn is_index(self, at: usize) -> bool {
         let before = self.kind(at.saturating_sub(1));
         self.word(at) == "[" && (closes(before) || matches!(before, Kind::Name | Kind::Text))
     }
 
-    /// What stands in the brackets of the first index or slice from a token on.
+    /// The words in the brackets of the first index or slice from a token on.
     fn in_brackets(self, from: usize) -> Option<Mark> {
         for at in from..self.tokens.len() {
             if self.is_index(at) {
@@ -166,7 +166,7 @@ impl<'a> Words<'a> {
         self.mark(self.find(from, sign)?)
     }
 
-    /// What is gone over, or unpacked.
+    /// The words for the value that is gone over or unpacked.
     fn source(self, from: usize) -> Option<Mark> {
         let sign = match self.find(from, "in") {
             Some(at) => at,
@@ -212,7 +212,7 @@ impl<'a> Words<'a> {
         }
     }
 
-    /// The string of the load statement in which a token stands.
+    /// The string of the load statement that has a token.
     pub(crate) fn module(self, token: usize) -> &'a str {
         let mut module = "";
         for at in 0..token.min(self.tokens.len()) {
@@ -224,22 +224,22 @@ impl<'a> Words<'a> {
     }
 }
 
-/// The file of the innermost step of a trail.
-fn file_of(trail: &[Step]) -> Option<usize> {
-    match *trail.first()? {
+/// The file of the innermost step.
+fn file_of(steps: &[Step]) -> Option<usize> {
+    match *steps.first()? {
         Step::Statement { file, .. } | Step::From { file, .. } | Step::Call { file, .. } => {
             usize::try_from(file).ok()
         }
     }
 }
 
-/// The tokens of the file in which a run stopped.
+/// The tokens of the file that a run stopped in.
 pub(crate) fn tokens_of(
     alloc: Global,
     files: &Files,
-    trail: &[Step],
+    steps: &[Step],
 ) -> Result<Option<(usize, Vec<Token>)>, AllocError> {
-    let Some(file) = file_of(trail) else {
+    let Some(file) = file_of(steps) else {
         return Ok(None);
     };
     match lex(alloc, text_of(files, file)) {

@@ -1,0 +1,2 @@
+-- What a person is told of a run that stopped.
+pub mod Trail
