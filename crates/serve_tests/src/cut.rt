@@ -47,6 +47,7 @@ fn options_of(alloc: Global, root: &str) -> Result<Options, AllocError>
         trace: false,
         dir: None,
         explain: None,
+        progress: None,
     })
 }
 

@@ -154,6 +154,7 @@ pub(crate) fn options_of(alloc: Global, loaders: usize) -> Result<Options, Alloc
         trace: true,
         dir: None,
         explain: None,
+        progress: None,
     })
 }
 
@@ -206,6 +207,7 @@ fn asked_by(alloc: Global, case: &Case, loaders: usize) -> Result<Options, Alloc
         trace: case.trace.is_some(),
         dir: None,
         explain: None,
+        progress: None,
     })
 }
 

@@ -1,4 +1,4 @@
--- What is written where nothing is run.
+-- The text that is written if nothing is run.
 use Rattle.std.proofs.Common.{arith, ◌≡◌, ◌<◌, ◌++◌, ℕ, Bool, false, List, [], ◌∷◌, Option, refl, sym, subst}
 use Rattle.star_label.specs.Files.{File}
 use Rattle.star_bundle.specs.Bundle.{Asked}

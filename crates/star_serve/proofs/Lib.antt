@@ -7,3 +7,4 @@ pub mod RepoRefusals
 pub mod Zipped
 pub mod WrittenTexts
 pub mod Checked
+pub mod Shown

@@ -1,4 +1,4 @@
--- What went through in two steps.
+-- Bytes that went through in two steps.
 use Rattle.std.proofs.Common.{ℕ, ◌-◌, ◌<◌, ◌≤◌, List, ◌++◌, length, take, Option, Some, None, Result, Ok, Err, false, ◌≡◌, append_assoc, length-append, length-take, arith, ◌∙◌, ap, sym}
 use Rattle.std.specs.Prelude.{OnOk, is_err}
 use Rattle.std.proofs.lemmas.Bool.{true≢false}
@@ -20,7 +20,7 @@ Consumes-more (Some s) None c x y h g = absurd h
 pub Gives-more : (a b c : Said) (x y : List ℕ) → Gives a b x → Gives b c y → Gives a c (x ++ y)
 Gives-more a b c x y h g = (Adds-more a.given b.given c.given x y h.0 g.0, Consumes-more a.left b.left c.left x y h.1 g.1)
 
--- so many bytes that the two are longer than the limit
+-- bytes that take a text over the limit
 pub longer : (limit : ℕ) (bytes buffer : List ℕ) (n : ℕ) → n ≤ length buffer → limit - length bytes < n → limit < length (bytes ++ take n buffer)
 longer limit bytes buffer n h g = simp (length-append, length-take) (omega arith)
 

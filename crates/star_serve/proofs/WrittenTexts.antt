@@ -1,4 +1,4 @@
--- What is written of a run.
+-- The text that is written of a run.
 use Rattle.std.proofs.Common.{◌≡◌, ◌<◌, ℕ, Bool, true, false, List, [], Option, length, map, sym, subst, Result, Ok, Err}
 use Rattle.std.specs.Prelude.{IfOk}
 use Rattle.std.specs.List.{All}
@@ -44,7 +44,7 @@ lead_within files roots prelude row read n = subst (λ k. All (λ l. l.file < k)
 pub answer_of : (plan : Plan) (ks : List KeptView) (ok : Bool) → AreModules plan ks → (ok ≡ true → AllGood ks) → (ok ≡ false → AllGood ks → ⊥) → IsAnswer plan ok
 answer_of plan ks ok are good bad = (ks, are, good, bad)
 
--- what holds of each plan of which a run is holds of the plan of files, whose run it is
+-- a fact of each plan that has this run is a fact of the plan of the files
 pub in_plan_of : (files : List File) (roots : List ℕ) (prelude : Option ℕ) (steps : ℕ) (row : Row) (run : RunView) (P : Plan → Type 0) → run.begun ≡ length run.kept → AreModulesOf files roots prelude steps run.kept → IsReadOf files roots prelude row
     → ((plan : Plan) → IsRunOf files roots row run plan → P plan) → InPlanOf files roots prelude steps P
 in_plan_of files roots prelude steps row run P begun (plan, planned, of_roots, of_prelude, of_steps, are) read each =

@@ -1,4 +1,4 @@
--- What was made of files that stand beside their parses.
+-- The parses of files, by their numbers.
 use Rattle.std.proofs.Common.{◌<◌, ℕ, zero, suc, List, [], ◌∷◌, length, arith}
 use Rattle.star_label.specs.Files.{File}
 use Rattle.star_reading.specs.Parsed.{AreParsesOf, ParsedView}

@@ -38,7 +38,8 @@ IsRefusedOf given unwritten Unpublished = ((asked : Asked) × (given ≡ Ok aske
 IsRefusedOf given unwritten Write = (asked : Asked) × (given ≡ Ok asked)
 IsRefusedOf given unwritten e = ⊥
 
--- What a refusal says: of the file at a label, that it is the first, by its round and its label, that does not pass.
+-- The meaning of a refusal: one of the file at a label says that this file is the first, by its round and its label,
+-- that does not pass.
 abbrev pub IsRefusedRepo : Said → List (List ℕ) → Option (List ℕ) → Type 0 → RepoError → Type 0
 IsRefusedRepo said roots prelude unwritten (why.File label error) =
     IsUnread said roots prelude (why.File label error) × unwritten

@@ -28,7 +28,7 @@ IsRefusedRun unwritten Unpublished = unwritten
 IsRefusedRun unwritten Write = ⊤
 IsRefusedRun unwritten e = ⊥
 
--- What a refusal says. `answers r` says that all was read, and r is what was asked for or the refusal of it; `within`
+-- The meaning of a refusal. `answers r` says that all was read, and r is what was asked for or the refusal of it; `within`
 -- that no more than the limit was read, `longer` that more was; `unwritten` that the writer is as it was.
 abbrev pub IsRefused : (Result Asked ServeError → Type 0) → Type 0 → Type 0 → Type 0 → ServeError → Type 0
 IsRefused answers within longer unwritten Read = within × unwritten
@@ -38,7 +38,7 @@ IsRefused answers within longer unwritten Unpublished = ((asked : Asked) × answ
 IsRefused answers within longer unwritten Write = (asked : Asked) × answers (Ok asked)
 IsRefused answers within longer unwritten e = answers (Err e) × unwritten
 
--- What a refusal says where the files are those of a folder. `stopped e` says that the walk through it stopped so;
+-- The meaning of a refusal if the files are those of a folder. `stopped e` says that the walk through it stopped so;
 -- `answers r` that the walk came to its end, and r is what was asked for of its files or the refusal of it; `unwritten`
 -- that the writer is as it was.
 abbrev pub IsRefusedDir : (ServeError → Type 0) → (Result Asked ServeError → Type 0) → Type 0 → ServeError → Type 0

@@ -7,7 +7,7 @@ use Rattle.star_outcome.specs.Kept.{AreModules, RunView}
 use Rattle.star_reading.specs.Found.{IsReadOf}
 use Rattle.star_reading.specs.Readings.{Row}
 
--- a run has the modules of a plan of files, of which this was read
+-- a run has the modules of a plan of files that were read so
 pub record IsRunOf (files : List File) (roots : List ℕ) (row : Row) (run : RunView) (plan : Plan) : Type 0 where
   pub planned : IsPlanOf files plan
   pub roots_are : plan.roots ≡ roots

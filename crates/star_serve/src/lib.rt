@@ -8,8 +8,8 @@
 //!   which bytes they gave and took. `CountedReader` and `CountedWriter` (`ends`) are the streams of the real program:
 //!   they count the calls that failed.
 //! - `written` chooses the text: the report, globals of the roots, or the graph of loads. For a check (`star_check`)
-//!   nothing is run. `trace` has a line for each
-//!   refused load.
+//!   nothing is run. `trace` has a line for each refused load.
+//! - `progress` shows a person how far a run is.
 //!
 //! Begin at `serve.rt`, from its end. The promise is the contract of `serve`: if it succeeds, it has read all input and
 //! written exactly the report of the definitions (`specs/Serve`); if it fails, it is by the first refusal of the rules,
@@ -18,6 +18,7 @@
 
 pub mod dir;
 pub mod ends;
+pub mod progress;
 mod read;
 pub mod repo;
 pub mod serve;

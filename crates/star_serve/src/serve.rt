@@ -12,6 +12,8 @@ ghost use Rattle.star_serve.specs.Serve.{IsRefused, IsRefusedRun, ReadsAll, Repo
 ghost use Rattle.star_serve.specs.Stream.{GaveFirst, Gives};
 ghost use Rattle.star_serve.specs.Trace.{Traces, is_said};
 
+pub use crate::progress::Progress;
+use crate::progress::Watched;
 use crate::read::read_all;
 use crate::stream::{Sink, Source};
 use crate::trace::{say, write_some};
@@ -23,26 +25,26 @@ use star_check::check::{Checked, check};
 use star_check::verdict::Judged;
 pub use star_explain::explain::Form;
 use star_explain::explain::{explain, explain_check};
-use star_host::gate::Open;
 use star_host::{Parsed, Reads, Run, RunError, Trees, read_parsed, run_in};
 pub use star_report::wanted::{Output, Wanted};
 use std::alloc::{AllocError, Global};
 use std::mem;
-use std::sync::Wait;
+use std::sync::{Arc, Wait};
 use std::thread::Threads;
 
-/// What the program is asked for.
+/// The request to the program, as its command line gives it.
 #[derive(Debug, Drop)]
 pub struct Options {
     /// How many loaders run, from 1 to 64.
     pub loaders: usize,
     /// How many steps a file may take, from 1 to 100,000,000.
     pub steps: u32,
-    /// The labels that are asked for, each word as it stands.
+    /// The labels that are asked for, each word as it was given.
     pub roots: Vec<String>,
     /// The label of the prelude: the file whose names every other file sees.
     pub prelude: Option<String>,
-    /// What is written: the report, the globals of the roots, the graph of loads, or the check, for which nothing runs.
+    /// The kind of text that is written: the report, the globals of the roots, the graph of loads, or the check, which
+    /// runs nothing.
     pub output: Output,
     /// Whether the refused loads are written after the report.
     pub trace: bool,
@@ -51,6 +53,9 @@ pub struct Options {
     /// How a person is told after the report, and after the trace, what is at fault and where: none where nothing is
     /// told.
     pub explain: Option<Form>,
+    /// Where the loaders note how far the run is, for a thread that shows it (`progress::show`): none where there is no
+    /// such thread.
+    pub progress: Option<Arc<Progress>>,
 }
 
 /// A run, and what there is to write of it.
@@ -121,7 +126,13 @@ fn answered<'t, H: Threads + Wait + Sync>(
     let files = &asked.files;
     let roots = asked.roots.as_slice();
     let (loaders, steps) = (options.loaders, options.steps);
-    let mut run = match run_in(
+    let gate = Watched {
+        rt,
+        alloc,
+        files,
+        progress: options.progress.as_ref(),
+    };
+    let outcome = run_in(
         rt,
         alloc,
         files,
@@ -132,8 +143,10 @@ fn answered<'t, H: Threads + Wait + Sync>(
         asked.prelude,
         loaders,
         steps,
-        &Open,
-    ) {
+        &gate,
+    );
+    gate.end();
+    let mut run = match outcome {
         Ok(run) => run,
         Err(RunError::Memory) => return Err(ServeError::Memory),
         Err(RunError::Unpublished) => return Err(ServeError::Unpublished),
@@ -151,7 +164,7 @@ fn answered<'t, H: Threads + Wait + Sync>(
     Ok(Answer { run, written })
 }
 
-/// What there is to write of a check. `Memory` if an allocation failed.
+/// The text of a check and its answer. `Memory` if an allocation failed.
 fn check_over<'t, H: Threads + Wait + Sync>(
     rt: &H,
     alloc: Global,
@@ -211,12 +224,12 @@ pub fn written_over<'t, H: Threads + Wait + Sync>(
     }
 }
 
-/// Frees trees, of which nothing is used any more.
+/// Frees trees that are not used any more.
 pub fn free_trees(trees: Trees) {
     drop(trees);
 }
 
-/// Writes what a person is told of a run by one write, where that is wanted. Where it gets no memory, nothing is written.
+/// Writes the text for a person on a run by one write, if it is wanted. If it gets no memory, nothing is written.
 fn write_explained<E: Sink>(
     alloc: Global,
     errors: &mut E,
@@ -235,8 +248,8 @@ fn write_explained<E: Sink>(
     }
 }
 
-/// Writes what a person is told of files none of which was run, by one write, where that is wanted. Where it gets no
-/// memory, nothing is written.
+/// Writes the text for a person on files that were not run, by one write, if it is wanted. If it gets no memory, nothing
+/// is written.
 fn write_judged<E: Sink>(
     alloc: Global,
     errors: &mut E,
@@ -446,7 +459,7 @@ pub fn serve<H: Threads + Wait + Sync, R: Source, W: Sink, E: Sink>(
         → is_said options.now.output all_ok ≡ false → errors.new ≡ errors.old) }
     ensures unsaid { IfErr result (λ _. errors.new ≡ errors.old) }
 
-    // What was read is refused so, and nothing was written.
+    // The input is refused so, and nothing was written.
     ensures refused { IfErr result (IsRefused
         (λ given. (input : List ℕ)
         × ReadsAll (R.said reader.old) (R.said reader.new) input

@@ -10,7 +10,7 @@ pub struct Failed;
 
 /// Where the bundle comes from.
 pub trait Source {
-    /// What it says of its bytes.
+    /// All that it says of its bytes.
     ghost said: { Self → Said };
 
     /// How many of its reads have failed.

@@ -21,12 +21,12 @@ use star_report::wanted::{Output, Wanted};
 use std::alloc::{AllocError, Global};
 use std::thread::Threads;
 
-/// What there is to write of a run, a line to say beside it, and the answer.
+/// The text that is written of a run, a line to say beside it, and the answer.
 #[derive(Drop)]
 pub struct Written {
-    /// What is written.
+    /// The text.
     pub text: Vec<u8>,
-    /// What is said beside it.
+    /// The line that is said beside it, or nothing.
     pub said: String,
     /// The answer: whether all modules are ok, or each root has the global that is wanted.
     pub all_ok: bool,
@@ -90,7 +90,7 @@ fn graph_written(
     Ok(with_answer(alloc, run, text))
 }
 
-/// What is said of the first root that has no data for a name.
+/// The line for the first root that has no data for a name.
 fn lack_line(alloc: Global, files: &Files, root: usize, why: Lack) -> Result<String, AllocError>
     requires { root < length files.now }
     ensures { IfOk result (λ s. string_bytes s ≡ spec.lack_line files.now root why) }
@@ -130,7 +130,7 @@ fn globals_written(
     }
 }
 
-/// What could be told of the files before they ran; the answer is whether there is nothing against any.
+/// The check of the files that were read; the answer is whether there is nothing against any.
 fn check_written(
     alloc: Global,
     files: &Files,
@@ -154,7 +154,7 @@ fn check_written(
     Ok(Written { text, said, all_ok })
 }
 
-/// What is wanted of a run.
+/// The text that is wanted of a run, and its answer.
 pub(crate) fn written_of<R: Threads + Sync>(
     rt: &R,
     alloc: Global,

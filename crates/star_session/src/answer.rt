@@ -60,6 +60,7 @@ fn report_of<'t, H: Threads + Wait + Sync>(
         trace: false,
         dir: None,
         explain: None,
+        progress: None,
     };
     let written = written_over(rt, alloc, asked, trees, parses, &options)?;
     let mut text = written.text;

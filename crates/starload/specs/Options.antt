@@ -23,7 +23,7 @@ has_word word (w ∷ ws) = if pointwise nat_eq w word then true else has_word wo
 abbrev pub is_named : ArgMatches → List ℕ → List ℕ → Bool
 is_named matches id value = has_word value (values_of matches id)
 
--- a word writes a number in decimal digits, after which nothing stands and before which a plus may
+-- a word writes a number in decimal digits and nothing more, but that a plus may come before them
 abbrev pub Writes : List ℕ → ℕ → Type 0
 Writes word n = IsNumeral 10 (without_leading_plus word) × (digits_value 10 (without_leading_plus word) ≡ n)
 
@@ -59,3 +59,10 @@ abbrev pub is_colored : ArgMatches → Errors → Bool
 is_colored matches errors =
     is_named matches (codes "color") (codes "always")
     || (is_named matches (codes "color") (codes "auto") && (errors.is_terminal && not errors.is_plain))
+
+-- whether a person is shown how far the run is: where that is asked for, or by itself on a terminal that can write one
+-- line over another
+abbrev pub is_shown : ArgMatches → Errors → Bool
+is_shown matches errors =
+    is_named matches (codes "progress") (codes "always")
+    || (is_named matches (codes "progress") (codes "auto") && (errors.is_terminal && not errors.is_dumb))

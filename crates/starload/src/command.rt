@@ -10,10 +10,10 @@ use star_mistakes::place::Naming;
 use star_serve::serve::{Form, Options, Output, Wanted};
 use std::alloc::{AllocError, Global};
 
-/// What `--version` says after the program's name: its version, and the kit that proved it.
+/// The words of `--version` after the program's name: its version, and the kit that proved it.
 const VERSION: &str = "1.3.0 (rattle-kit-13f logic dac8208d650f15bf)";
 
-/// What stands after the options in the help.
+/// The end of the help, after the options.
 const EXAMPLE: &str =
     "The files are those of DIR whose names end in .star; //app:main.star is the file app/main.star. Without
 --dir they are read on standard input, as a JSON object from labels to texts. For example:
@@ -24,7 +24,7 @@ const EXAMPLE: &str =
 The report is one line of JSON on standard output. The exit status is 0 where every file is ok, 1 where some
 file is not, and 2 where there is no report; then standard error says why.";
 
-/// What `--with` may name.
+/// The words that `--with` may have.
 const MORE: &[&str] = &["values", "loads", "steps"];
 
 fn loaders_arg<'a>(alloc: Global) -> Arg<'a> {
@@ -92,7 +92,7 @@ fn code_arg<'a>(alloc: Global) -> Arg<'a> {
         .help("Says what a code of a fault means, or `all` of them, and loads nothing")
 }
 
-/// What `--explain` may say.
+/// The words that `--explain` may have.
 const WHEN: &[&str] = &["auto", "always", "never", "all"];
 
 fn explain_arg<'a>(alloc: Global) -> Arg<'a> {
@@ -109,8 +109,8 @@ fn explain_arg<'a>(alloc: Global) -> Arg<'a> {
         .default_missing_value("always")
 }
 
-/// When there are colours.
-const COLORS: &[&str] = &["auto", "always", "never"];
+/// The words that `--color` and `--progress` may have.
+const CHOICES: &[&str] = &["auto", "always", "never"];
 
 fn color_arg<'a>(alloc: Global) -> Arg<'a> {
     Arg::new(alloc, "color")
@@ -119,8 +119,22 @@ fn color_arg<'a>(alloc: Global) -> Arg<'a> {
         .help(
             "Colours what --explain says: auto (where standard error is a terminal and NO_COLOR is not set), always or never",
         )
-        .value_parser(COLORS)
+        .value_parser(CHOICES)
         .default_value("auto")
+}
+
+fn progress_arg<'a>(alloc: Global) -> Arg<'a> {
+    Arg::new(alloc, "progress")
+        .long("progress")
+        .value_name("WHEN")
+        .help(
+            "Shows on standard error, once files have run for half a second, how many have: auto (where that is a terminal), always or never",
+        )
+        .value_parser(CHOICES)
+        .num_args(0..=1)
+        .require_equals(true)
+        .default_value("auto")
+        .default_missing_value("always")
 }
 
 fn with_arg<'a>(alloc: Global) -> Arg<'a> {
@@ -187,7 +201,8 @@ fn requests_arg<'a>(alloc: Global) -> Result<Arg<'a>, AllocError> {
         .conflicts_with("graph")?
         .conflicts_with("check")?
         .conflicts_with("trace")?
-        .conflicts_with("explain")
+        .conflicts_with("explain")?
+        .conflicts_with("progress")
 }
 
 // (`requires_arg` would be met by the default of a flag.)
@@ -234,6 +249,7 @@ pub fn command<'a>(alloc: Global) -> Result<Command<'a>, clap::Error> {
             .arg(check_arg(alloc)?)?
             .arg(explain_arg(alloc))?
             .arg(color_arg(alloc))?
+            .arg(progress_arg(alloc))?
             .arg(code_arg(alloc))?
             .arg(requests_arg(alloc)?)?
             .arg(keep_arg(alloc)?)?
@@ -294,7 +310,7 @@ fn has_word(words: &[&str], value: &str) -> bool
     false
 }
 
-/// What the words of the command line want more of each module, and of which modules.
+/// The further members of each module that the words of the command line want, and whether they want the roots alone.
 fn wanted(matches: &ArgMatches<'_>) -> Wanted
     ensures values { result.values ≡ spec.is_named matches.now (codes "with") (codes "values") }
     ensures loads { result.loads ≡ spec.is_named matches.now (codes "with") (codes "loads") }
@@ -312,7 +328,7 @@ fn wanted(matches: &ArgMatches<'_>) -> Wanted
     }
 }
 
-/// What the words of the command line want to be written: the graph, the check, or the globals of a name, or else the
+/// The kind of text that the words of the command line want: the graph, the check, or the globals of a name, or else the
 /// report.
 fn output(alloc: Global, matches: &ArgMatches<'_>) -> Result<Output, AllocError>
     ensures graph { IfOk result (λ o. (one_text (found_of matches.now) (codes "graph") ≡ Some (codes "true"))
@@ -336,13 +352,15 @@ fn output(alloc: Global, matches: &ArgMatches<'_>) -> Result<Output, AllocError>
     }
 }
 
-/// What is known of standard error.
+/// The facts about standard error that decide what is shown there.
 #[derive(Clone, Copy, Debug, PartialEq, Eq)]
 pub struct Errors {
     /// It is a terminal.
     pub is_terminal: bool,
     /// No colours are wanted there, as the environment says.
     pub is_plain: bool,
+    /// It is a terminal that cannot write one line over another, as the environment says.
+    pub is_dumb: bool,
 }
 
 /// Whether there are colours, by `--color`, and of itself on a terminal where the environment has nothing against it.
@@ -351,6 +369,15 @@ fn is_colored(matches: &ArgMatches<'_>, errors: Errors) -> bool
 {
     is_named(matches, "color", "always")
         || (is_named(matches, "color", "auto") && errors.is_terminal && !errors.is_plain)
+}
+
+/// Whether a person is shown how far the run is, by `--progress`, and of itself on a terminal that can write one line
+/// over another.
+pub fn is_shown(matches: &ArgMatches<'_>, errors: Errors) -> bool
+    ensures { result ≡ spec.is_shown matches.now errors }
+{
+    is_named(matches, "progress", "always")
+        || (is_named(matches, "progress", "auto") && errors.is_terminal && !errors.is_dumb)
 }
 
 /// How a person is told of what is at fault, by `--explain` and by whether standard error is a terminal. Files are named
@@ -380,7 +407,8 @@ fn form_of(matches: &ArgMatches<'_>, errors: Errors) -> Option<Form>
     })
 }
 
-/// The options that the words of the command line give: the roots in their order. `Memory` where a growth was refused.
+/// The options that the words of the command line give: the roots in their order, and nothing that shows how far the run
+/// is. `Memory` where a growth was refused.
 pub fn options(
     alloc: Global,
     matches: &ArgMatches<'_>,
@@ -412,6 +440,7 @@ pub fn options(
         → spec.is_named matches.now (codes "explain") (codes "all") ≡ false
         → errors.is_terminal ≡ false → o.explain ≡ None) }
     ensures colored { IfOk result (λ o. IfSome o.explain (λ f. f.is_colored ≡ spec.is_colored matches.now errors)) }
+    ensures unshown { IfOk result (λ o. o.progress ≡ None) }
 {
     let loaders = usize::from(matches.get_one::<u8>("loaders").unwrap_or(4));
     let steps = matches.get_one::<u32>("steps").unwrap_or(1_000_000);
@@ -424,5 +453,6 @@ pub fn options(
         trace: matches.get_flag("trace"),
         dir: value_of(alloc, matches, "dir")?,
         explain: form_of(matches, errors),
+        progress: None,
     })
 }

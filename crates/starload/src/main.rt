@@ -14,11 +14,14 @@ ghost use Rattle.std.specs.Prelude.{◌≤◌};
 
 mod codes;
 mod command;
+mod progress;
 mod repo;
 mod requests;
 
+use clap::ArgMatches;
 use clap::error::ErrorKind;
-use command::{Errors, command, options};
+use command::{Errors, command, is_shown, options};
+use progress::Shown;
 use repo::{RepoAsked, report_repo};
 use requests::answer_requests;
 use star_bundle::error::{ServeError, status};
@@ -33,6 +36,7 @@ use std::io::IsTerminal;
 use std::process::ExitCode;
 use std::sync::Wait;
 use std::thread::Threads;
+use std::time::Clock;
 use std::{env, io};
 
 /// Says why there is no report.
@@ -41,7 +45,7 @@ fn refuse(rt: &HostRuntime, text: &str) -> ExitCode {
     ExitCode::from(2)
 }
 
-/// What is said of a command line that could not be had.
+/// The text on a command line that could not be had.
 fn text_of(error: &io::Error) -> &'static str {
     if error.kind() == io::ErrorKind::OutOfMemory {
         ServeError::Memory.text()
@@ -93,7 +97,7 @@ fn say_what_is_read(rt: &HostRuntime) {
     }
 }
 
-/// Says why there is no report; and after that, where a person is told, what the refusal is about.
+/// Says why there is no report, and then, if a person is told, more about it.
 fn say_refusal(rt: &HostRuntime, error: ServeError, about: Result<String, AllocError>) {
     let _ = eprintln!(rt; "starload: {}", error.text());
     if let Ok(about) = about {
@@ -169,15 +173,65 @@ fn report_folder<H: Threads + Wait + Sync>(
     outcome
 }
 
-/// What is known of standard error: https://no-color.org says what `NO_COLOR` means.
+/// Writes the report, or says why there is none. The loaders are threads of `threads`.
+fn report<H: Threads + Wait + Sync>(
+    rt: &HostRuntime,
+    threads: &H,
+    alloc: Global,
+    matches: &ArgMatches<'_>,
+    options: Options,
+) -> ExitCode
+    requires loaders { (1 ≤ options.loaders) × (options.loaders ≤ 64) }
+    requires steps { (1 ≤ options.steps) × (options.steps ≤ 100000000) }
+{
+    match RepoAsked::of(alloc, matches) {
+        Ok(None) => {}
+        Ok(Some(asked)) => return report_repo(rt, threads, alloc, &asked, options),
+        Err(_) => return refuse(rt, ServeError::Memory.text()),
+    }
+    let outcome = match &options.dir {
+        Some(dir) => report_folder(rt, threads, alloc, dir.as_str(), &options),
+        None => report_bundle(rt, threads, alloc, &options),
+    };
+    ExitCode::from(status(&outcome))
+}
+
+/// Writes the report, or says why there is none, and shows meanwhile how far the run is. The loaders, and what shows it,
+/// are threads of `threads`.
+fn report_shown<H: Threads + Wait + Clock + Copy + Send + Sync + 'static>(
+    rt: &HostRuntime,
+    threads: &H,
+    alloc: Global,
+    matches: &ArgMatches<'_>,
+    options: Options,
+) -> ExitCode
+    requires loaders { (1 ≤ options.loaders) × (options.loaders ≤ 64) }
+    requires steps { (1 ≤ options.steps) × (options.steps ≤ 100000000) }
+{
+    let Some(shown) = Shown::start(rt, threads, alloc) else {
+        return report(rt, threads, alloc, matches, options);
+    };
+    let mut options = options;
+    options.progress = shown.progress();
+    let status = report(rt, threads, alloc, matches, options);
+    shown.end(threads);
+    status
+}
+
+/// The facts about standard error. (https://no-color.org says what `NO_COLOR` means.)
 fn errors_of(rt: &HostRuntime) -> Errors {
     let is_plain = match env::var(rt, "NO_COLOR") {
         Ok(value) => !value.is_empty(),
         Err(_) => false,
     };
+    let is_dumb = match env::var(rt, "TERM") {
+        Ok(value) => value.as_str() == "dumb",
+        Err(_) => false,
+    };
     Errors {
         is_terminal: rt.stderr().is_terminal(),
         is_plain,
+        is_dumb,
     }
 }
 
@@ -198,7 +252,8 @@ fn main(rt: HostRuntime) -> ExitCode {
     if let Some(code) = matches.get_str("explain-code") {
         return explain_code(&rt, code);
     }
-    let options = match options(alloc, &matches, errors_of(&rt)) {
+    let errors = errors_of(&rt);
+    let options = match options(alloc, &matches, errors) {
         Ok(options) => options,
         Err(_) => return refuse(&rt, ServeError::Memory.text()),
     };
@@ -206,14 +261,8 @@ fn main(rt: HostRuntime) -> ExitCode {
         let keep = matches.get_one::<u32>("keep").unwrap_or(268_435_456);
         return answer_requests(&rt, &rt, alloc, options, keep);
     }
-    match RepoAsked::of(alloc, &matches) {
-        Ok(None) => {}
-        Ok(Some(asked)) => return report_repo(&rt, &rt, alloc, &asked, options),
-        Err(_) => return refuse(&rt, ServeError::Memory.text()),
+    if is_shown(&matches, errors) {
+        return report_shown(&rt, &rt, alloc, &matches, options);
     }
-    let outcome = match &options.dir {
-        Some(dir) => report_folder(&rt, &rt, alloc, dir.as_str(), &options),
-        None => report_bundle(&rt, &rt, alloc, &options),
-    };
-    ExitCode::from(status(&outcome))
+    report(&rt, &rt, alloc, &matches, options)
 }

@@ -28,7 +28,7 @@ use std::thread::Threads;
 use std::{env, fs, io, slice};
 use thiserror::Error;
 
-/// What `--repo` and `--match` ask for.
+/// The words of `--repo` and `--match`.
 #[derive(Debug, Drop)]
 pub(crate) struct RepoAsked {
     /// The folder.
@@ -38,7 +38,7 @@ pub(crate) struct RepoAsked {
 }
 
 impl RepoAsked {
-    /// What the words of the command line give, where they name such a folder.
+    /// The words of the command line, if they name such a folder.
     pub(crate) fn of(
         alloc: Global,
         matches: &ArgMatches<'_>,
@@ -60,14 +60,14 @@ const PATTERN: &str = "*.star";
 /// Where the folder lies, and where the program was called.
 #[derive(Drop)]
 struct Place {
-    /// The path of the folder, in which no link is left.
+    /// The path of the folder, without links.
     top: String,
     /// A label of the folder that the program was called in: its package is `here`. None where no label names a file
     /// there.
     here: Option<Label>,
 }
 
-/// What stands below a folder, of a path that leads there.
+/// The rest of a path below a folder: `None` if it does not lead there.
 fn below<'a>(top: &str, path: &'a str) -> Option<&'a str> {
     let rest = path.strip_prefix(top)?;
     if rest == "" || top.ends_with('/') {
@@ -113,8 +113,8 @@ fn word_in(alloc: Global, place: &Place, word: &str) -> Result<String, LabelErro
 /// Why there is no report.
 #[derive(Debug, Drop, Error)]
 enum Refusal {
-    /// What the run says; and where a person is told, the load statement that asks for the file which it names, and lines
-    /// about that file.
+    /// The reason of the run; and if a person is told, the load statement that asks for the file that the reason names, and
+    /// lines about that file.
     #[error("{error}")]
     Run {
         error: RepoError,
@@ -322,7 +322,7 @@ fn say_more(rt: &HostRuntime, load: Option<&LoadAt>, about: Option<&String>) {
     }
 }
 
-/// Says why there is no report, and where a person is told, what the refusal is about.
+/// Says why there is no report, and if a person is told, more about it.
 fn say_refusal(rt: &HostRuntime, refusal: &Refusal, is_told: bool) {
     let _ = eprintln!(rt; "starload: {refusal}");
     match refusal {

@@ -12,7 +12,7 @@ use std::process::ExitCode;
 use std::sync::Wait;
 use std::thread::Threads;
 
-/// What is said where there is an end before that of standard input.
+/// The text on an end before that of standard input.
 fn text_of(error: ServeError) -> &'static str {
     match error {
         ServeError::Read => "cannot read the requests",
