@@ -15,6 +15,7 @@ use star_outcome::outcome::Run;
 use star_reading::code::StaticFault;
 use star_reading::reading::{Read, Reads};
 use star_scope::loads::Load;
+use star_trail::steps_there;
 use std::alloc::{AllocError, Global};
 
 /// How often the ways from files are doubled: that leads over 16,384 files, and there are at most 10,000.
@@ -137,7 +138,12 @@ fn loads_in<'s, 't>(reads: &'s Reads<'t>, n: usize) -> &'s [Load] {
 }
 
 /// The remains of the run of a module. The words of `fail` are its last line.
-fn stop_of(alloc: Global, files: &Files, module: &Module) -> Result<Stop, AllocError> {
+fn stop_of(
+    alloc: Global,
+    files: &Files,
+    reads: &Reads,
+    module: &Module,
+) -> Result<Stop, AllocError> {
     let mut stop = Stop::new();
     let Ended::Stopped {
         code,
@@ -148,7 +154,8 @@ fn stop_of(alloc: Global, files: &Files, module: &Module) -> Result<Stop, AllocE
     else {
         return Ok(stop);
     };
-    stop.trail = Some(Trail::of(alloc, module.number, *line, trail.as_slice())?);
+    let steps = steps_there(reads, trail.as_slice());
+    stop.trail = Some(Trail::of(alloc, module.number, *line, steps)?);
     if *code == Code::Fail {
         if let Some(line) = lines.last() {
             stop.said = Some(shown(alloc, line.as_str())?);
@@ -179,24 +186,35 @@ impl Ends {
     }
 
     /// How the files of a run ended.
-    pub(crate) fn of(alloc: Global, files: &Files, run: &mut Run) -> Result<Ends, AllocError> {
+    pub(crate) fn of(
+        alloc: Global,
+        files: &Files,
+        reads: &Reads,
+        run: &mut Run,
+    ) -> Result<Ends, AllocError> {
         let mut all = Ends::new(alloc, files.len())?;
         for i in 0..run.len() {
             let note = run.note(i);
             let module = run.module(i, note);
-            all.add(alloc, files, module)?;
+            all.add(alloc, files, reads, module)?;
         }
         Ok(all)
     }
 
-    fn add(&mut self, alloc: Global, files: &Files, module: &Module) -> Result<(), AllocError> {
+    fn add(
+        &mut self,
+        alloc: Global,
+        files: &Files,
+        reads: &Reads,
+        module: &Module,
+    ) -> Result<(), AllocError> {
         let n = module.number;
         self.set(n, end_of(module));
         self.reached.push(n)?;
         if let Some(loads) = self.loads.get_mut(n) {
             loads.extend_from_slice(module.loads.as_slice())?;
         }
-        let stop = stop_of(alloc, files, module)?;
+        let stop = stop_of(alloc, files, reads, module)?;
         if let Some(place) = self.stops.get_mut(n) {
             *place = stop;
         }

@@ -314,6 +314,7 @@ impl<'a> Telling<'a> {
 pub fn explain(
     alloc: Global,
     files: &Files,
+    reads: &Reads,
     run: &mut Run,
     roots: &[usize],
     prelude: Option<usize>,
@@ -324,7 +325,7 @@ pub fn explain(
         files,
         prelude,
     };
-    told(sources, Ends::of(alloc, files, run)?, roots, form)
+    told(sources, Ends::of(alloc, files, reads, run)?, roots, form)
 }
 
 /// The text for a person on files that were read and not run: empty if there is nothing against any.

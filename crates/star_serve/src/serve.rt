@@ -234,6 +234,7 @@ fn write_explained<E: Sink>(
     alloc: Global,
     errors: &mut E,
     asked: &AskedFor,
+    reads: &Reads,
     run: &mut Run,
     form: Option<Form>,
 )
@@ -242,8 +243,8 @@ fn write_explained<E: Sink>(
     let Some(form) = form else {
         return;
     };
-    let roots = asked.roots.as_slice();
-    if let Ok(text) = explain(alloc, &asked.files, run, roots, asked.prelude, form) {
+    let (files, roots) = (&asked.files, asked.roots.as_slice());
+    if let Ok(text) = explain(alloc, files, reads, run, roots, asked.prelude, form) {
         let _ = errors.write(text.as_bytes());
     }
 }
@@ -377,7 +378,7 @@ pub(crate) fn reported_over<'t, H: Threads + Wait + Sync, W: Sink, E: Sink>(
         run.refused(),
         options.trace,
     );
-    write_explained(alloc, errors, asked, &mut run, options.explain);
+    write_explained(alloc, errors, asked, &reads, &mut run, options.explain);
     // The process ends next, and the system takes back all of its memory at once.
     mem::forget(run);
     mem::forget(reads);
