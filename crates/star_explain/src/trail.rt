@@ -1,5 +1,6 @@
 //! The place where a run stopped, and the calls that led there.
 
+ghost use Rattle.std.proofs.Props.{props};
 ghost use Rattle.std.specs.Prelude.{◌≡◌, IfOk};
 ghost use Rattle.star_explain.specs.Trail as spec;
 
@@ -21,7 +22,7 @@ pub(crate) struct Trail {
     line: usize,
     /// The statements and calls, the innermost first: none where they do not lead to that line.
     steps: Vec<Step>,
-    ghost of_line: { spec.IsOfLine home line steps.items },
+    ghost of_line: { spec.IsOfLine home line steps.items } by { Prim.hlevel props },
 }
 
 /// The line of the innermost statement of a file.
