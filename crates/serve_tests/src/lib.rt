@@ -12,4 +12,6 @@ mod ondemand;
 #[cfg(test)]
 mod outputs;
 #[cfg(test)]
+mod progress;
+#[cfg(test)]
 mod tests;
