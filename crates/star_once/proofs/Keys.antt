@@ -10,6 +10,7 @@ use Rattle.star_store.specs.declared.values.Cell.TheVariants as cell
 use Rattle.star_store.specs.Key.{is_key, key_cell, key_value, place_of, same_key, same_key_cell, same_key_value}
 use Rattle.star_scope.proofs.Numbers.{position_next}
 use Rattle.star_data.specs.Data.{cell_of, text_in}
+use Rattle.star_data.proofs.Parts.{is_text}
 use Rattle.star_once.specs.Keys.{Apart, ApartFrom, Differ, IsFixed, IsThere, LeadsToFixed}
 
 -- strings and tuples stay
@@ -83,22 +84,11 @@ is_there look (suc n) k e = by_value look (is_key look n) k e
 
 -- ---- a key that is not among entries
 
-text_cell : (o : Option Cell) (t : List ℕ) → text_in o ≡ Some t → o ≡ Some (cell.Text t)
-text_cell (Some (cell.Text u)) t e = let same : u ≡ t = cc in ap (λ z. Some (cell.Text z)) same
-text_cell (Some (cell.Tuple xs)) t e = absurd (let no : ⊥ = cc in no)
-text_cell (Some (cell.List xs)) t e = absurd (let no : ⊥ = cc in no)
-text_cell (Some (cell.Dict xs)) t e = absurd (let no : ⊥ = cc in no)
-text_cell (Some (cell.Range xs)) t e = absurd (let no : ⊥ = cc in no)
-text_cell (Some (cell.Func xs)) t e = absurd (let no : ⊥ = cc in no)
-text_cell (Some (cell.Frame xs)) t e = absurd (let no : ⊥ = cc in no)
-text_cell (Some (cell.Bound m xs)) t e = absurd (let no : ⊥ = cc in no)
-text_cell None t e = absurd (let no : ⊥ = cc in no)
-
 same_texts : (f : Value → Value → Bool) (o p : Option Cell) (t : List ℕ) → o ≡ Some (cell.Text t) → p ≡ Some (cell.Text t) → same_key_cell f o p ≡ true
 same_texts f o p t a b = rw (a, b) ((bytes_eq-Decides t t).1 refl)
 
 same_value : (look : Value → Option Cell) (f : Value → Value → Bool) (x y : Value) (t : List ℕ) → text_in (cell_of look x) ≡ Some t → text_in (cell_of look y) ≡ Some t → same_key_value look f x y ≡ true
-same_value look f (value.Ref h a) (value.Ref k b) t p q = same_texts f (look (value.Ref h a)) (look (value.Ref k b)) t (text_cell (look (value.Ref h a)) t p) (text_cell (look (value.Ref k b)) t q)
+same_value look f (value.Ref h a) (value.Ref k b) t p q = same_texts f (look (value.Ref h a)) (look (value.Ref k b)) t (is_text (look (value.Ref h a)) t p) (is_text (look (value.Ref k b)) t q)
 same_value look f (value.Ref h a) value.NoneValue t p q = absurd (let no : ⊥ = cc in no)
 same_value look f (value.Ref h a) (value.Bool b) t p q = absurd (let no : ⊥ = cc in no)
 same_value look f (value.Ref h a) (value.Int n) t p q = absurd (let no : ⊥ = cc in no)

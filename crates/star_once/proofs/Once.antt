@@ -20,6 +20,7 @@ use Rattle.star_meaning.proofs.KeepsModule as base_module
 use Rattle.star_meaning.proofs.Runs as base_runs
 use Rattle.star_data.specs.Data.{cell_of, on_shelf, text_in}
 use Rattle.star_data.specs.Laws.{KeysStandOnce}
+use Rattle.star_data.proofs.Parts.{is_text}
 use Rattle.star_once.specs.Keys.{KeysDiffer}
 use Rattle.star_once.specs.Laws.{DifferentKeysStandOnce, FilesKeepKeys, FrozenKeysStandOnce, LoadsKeepKeys, RunsKeepKeys}
 use Rattle.star_once.proofs.Keys.{differ_stays, once}
@@ -162,19 +163,8 @@ seen_at_end w t globals (value.Int n) c home free h = absurd (let no : ⊥ = cc 
 seen_at_end w t globals (value.Builtin b) c home free h = absurd (let no : ⊥ = cc in no)
 
 -- what stands once stands once in less
-text_cell : (o : Option Cell) (t : List ℕ) → text_in o ≡ Some t → o ≡ Some (cell.Text t)
-text_cell (Some (cell.Text u)) t e = let same : u ≡ t = cc in ap (λ z. Some (cell.Text z)) same
-text_cell (Some (cell.Tuple xs)) t e = absurd (let no : ⊥ = cc in no)
-text_cell (Some (cell.List xs)) t e = absurd (let no : ⊥ = cc in no)
-text_cell (Some (cell.Dict xs)) t e = absurd (let no : ⊥ = cc in no)
-text_cell (Some (cell.Range xs)) t e = absurd (let no : ⊥ = cc in no)
-text_cell (Some (cell.Func xs)) t e = absurd (let no : ⊥ = cc in no)
-text_cell (Some (cell.Frame xs)) t e = absurd (let no : ⊥ = cc in no)
-text_cell (Some (cell.Bound m xs)) t e = absurd (let no : ⊥ = cc in no)
-text_cell None t e = absurd (let no : ⊥ = cc in no)
-
 text_too : (look see : Value → Option Cell) → ((v : Value) (c : Cell) → look v ≡ Some c → see v ≡ Some c) → (k : Value) (t : List ℕ) → text_in (cell_of look k) ≡ Some t → text_in (cell_of see k) ≡ Some t
-text_too look see all (value.Ref h a) t e = ap text_in (all (value.Ref h a) (cell.Text t) (text_cell (look (value.Ref h a)) t e))
+text_too look see all (value.Ref h a) t e = ap text_in (all (value.Ref h a) (cell.Text t) (is_text (look (value.Ref h a)) t e))
 text_too look see all value.NoneValue t e = absurd (let no : ⊥ = cc in no)
 text_too look see all (value.Bool b) t e = absurd (let no : ⊥ = cc in no)
 text_too look see all (value.Int n) t e = absurd (let no : ⊥ = cc in no)
