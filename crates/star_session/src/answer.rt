@@ -31,7 +31,7 @@ use std::alloc::Global;
 use std::sync::Wait;
 use std::thread::Threads;
 
-/// The report of what is asked for of files whose texts were parsed, without its line end.
+/// The report that is asked for, of files whose texts were parsed, without its line end.
 fn report_of<'t, H: Threads + Wait + Sync>(
     rt: &H,
     alloc: Global,
@@ -88,7 +88,7 @@ fn files_after(
     }
 }
 
-/// The files after a request, what the parser has made of their texts, and the report that was asked for.
+/// The files after a request, the results of parsing their texts, and the report that was asked for.
 #[derive(Drop)]
 struct After<'t> {
     files: Files,
@@ -146,8 +146,8 @@ fn report_after<'t, H: Threads + Wait + Sync>(
     })
 }
 
-/// The answer to a request, whose id is this JSON, and the files after it. Where it is refused, the files stay as they
-/// were before. Where nothing has changed since the last report, and the same is asked, the answer is that report.
+/// The answer to a request, whose id is this JSON, and the files after it. If it is refused, the files stay as they
+/// were before. If nothing has changed since the last report, and the same is asked, the answer is that report.
 pub(crate) fn answered<'t, H: Threads + Wait + Sync>(
     rt: &H,
     alloc: Global,

@@ -16,7 +16,7 @@ const LIMIT: usize = 268_435_456;
 /// How many bytes are asked for at once.
 const CHUNK: usize = 65_536;
 
-/// What there is of a line.
+/// Whether a line was read whole.
 #[derive(Clone, Copy, Debug, PartialEq, Eq)]
 pub enum Line {
     /// All of its bytes.
@@ -30,7 +30,7 @@ pub enum Line {
 /// A line that was taken.
 #[derive(Clone, Copy, Debug, PartialEq, Eq)]
 pub struct Taken {
-    /// What there is of it.
+    /// Whether it was read whole.
     pub line: Line,
     /// Whether it has no line end, and so is the last one.
     pub is_last: bool,
@@ -40,13 +40,13 @@ pub struct Taken {
 #[derive(Drop)]
 pub struct Lines {
     buffer: Vec<u8>,
-    /// Where the bytes that were not taken begin in the buffer, and where they end.
+    /// The begin and the end, in the buffer, of the bytes that were not taken.
     start: usize,
     end: usize,
     line: Vec<u8>,
 }
 
-/// A line with further bytes, or none of it where they are too many or a growth is refused.
+/// A line with further bytes, or none of it if they are too many or an allocation failed.
 fn extended(line: &mut Vec<u8>, known: Line, piece: &[u8]) -> Line
     ensures { (bytes : List ℕ) → IsPiece known line.old.items bytes
         → IsPiece result line.new.items (bytes ++ piece.now) }
@@ -84,7 +84,7 @@ impl Lines {
         self.line.as_slice()
     }
 
-    /// Where the first line end stands among the bytes that were not taken.
+    /// The place of the first line end among the bytes that were not taken.
     fn end_of_line(&self) -> Option<usize>
         requires { IsCut self.now }
         ensures { MatchOption result (IsOneLine (ahead_of self.now))
@@ -94,7 +94,7 @@ impl Lines {
         memchr(b'\n', &self.buffer[self.start..self.end])
     }
 
-    /// Takes so many bytes into the line.
+    /// Takes `count` bytes into the line.
     fn add(&mut self, known: Line, count: usize) -> Line
         requires cut { IsCut self.old }
         requires within { count ≤ self.old.end - self.old.start }
@@ -122,7 +122,7 @@ impl Lines {
         self.start += 1;
     }
 
-    /// Reads on, where all was taken. Whether there was more.
+    /// Reads on, if all was taken. Answers whether there was more.
     fn fill<R: Source>(&mut self, reader: &mut R) -> Result<bool, Failed>
         requires { IsCut self.old }
         ensures cut { OnOk result (IsCut self.new) }
@@ -139,7 +139,7 @@ impl Lines {
         Ok(count != 0)
     }
 
-    /// The last line: none where no byte is in it.
+    /// The last line: none if no byte is in it.
     fn last(&self, line: Line) -> Option<Taken>
         ensures { (bytes : List ℕ) → IsPiece line self.now.line.items bytes
             → MatchOption result (bytes ≡ []) (λ t. (t.line ≡ line) × (t.is_last ≡ true) × (bytes ≢ [])) }
@@ -153,7 +153,7 @@ impl Lines {
         })
     }
 
-    /// Takes the next line, which is read up to its end: none where the stream has no more. `Failed` where a read
+    /// Takes the next line, which is read up to its end: none if the stream has no more. `Failed` if a read
     /// fails.
     pub fn next<H: Wait, R: Source>(
         &mut self,

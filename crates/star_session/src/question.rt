@@ -1,20 +1,20 @@
-//! What is asked of files.
+//! The question of a request.
 
 ghost use Rattle.std.specs.Prelude.{◌≡◌, true, map, option_map, string_bytes};
 ghost use Rattle.star_session.specs.Requests.{question_of};
 
 use star_report::wanted::Wanted;
 
-/// What is asked of files: a report.
+/// The question of a request: which report of the files it asks for.
 #[derive(Drop)]
 pub struct Question {
-    /// The labels that are asked for, each as it stands.
+    /// The labels that are asked for, each as it is written.
     pub roots: Vec<String>,
     /// The label of the prelude.
     pub prelude: Option<String>,
     /// How many steps a file may take, from 1 to 100,000,000.
     pub steps: u32,
-    /// What is wanted of each module beside what the report always has.
+    /// The further members of each module that are wanted.
     pub wanted: Wanted,
 }
 
@@ -40,7 +40,7 @@ fn are_same(texts: &[String], others: &[String]) -> bool
     true
 }
 
-/// Whether this is the same text, or there is none on both sides.
+/// Whether both are the same text, or both are none.
 fn is_same_text(text: &Option<String>, other: &Option<String>) -> bool
     ensures { result ≡ true → option_map string_bytes text.now ≡ option_map string_bytes other.now }
 {

@@ -8,7 +8,7 @@ ghost use Rattle.star_session.specs.Answers as spec;
 use serde_json::Value;
 use std::alloc::{AllocError, Global};
 
-/// What is answered where there is no memory for more.
+/// The answer if there is no memory for another one.
 pub(crate) const NO_MEMORY: &str = "{\"id\":null,\"refused\":\"out of memory\"}\n";
 
 /// The line of an answer: the id of its request, which is this JSON, and a member with this JSON.

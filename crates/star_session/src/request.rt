@@ -1,4 +1,4 @@
-//! A request: changes of files, and what is asked for of the files.
+//! A request: changes of files, and a question about the files after them.
 
 ghost use Rattle.std.specs.Prelude.{◌≡◌, ◌≢◌, ◌≤◌, ◌⊎◌, codes, false, IfErr, IfOk, None, OnOk, Some, map, option_map, string_bytes};
 ghost use Rattle.serde_json.specs.Find.{as_array, as_object, as_str, get};
@@ -21,30 +21,30 @@ use star_report::wanted::Wanted;
 use std::alloc::{AllocError, AllocFailed, Global};
 use thiserror::Error;
 
-/// What a request asks for where it does not say.
+/// The defaults of a request, for members that it lacks.
 #[derive(Debug, Drop)]
 pub struct Defaults {
     /// The label of the prelude.
     pub prelude: Option<String>,
     /// How many steps a file may take, from 1 to 100,000,000.
     pub steps: u32,
-    /// What is wanted of each module beside what the report always has.
+    /// The further members of each module that are wanted.
     pub wanted: Wanted,
 }
 
 /// A request.
 #[derive(Drop)]
 pub struct Request {
-    /// The labels of the files that change, in their order: each with its new text, or with none where the file goes.
+    /// The labels of the files that change, in their order: each with its new text, or with none if the file goes.
     pub changes: Vec<(Label, Option<String>)>,
-    /// What is asked of the files after these changes.
+    /// The question about the files after these changes.
     pub question: Question,
 }
 
-/// Why a line is no request.
+/// Why a line is not a request.
 #[derive(Debug, Drop, Error)]
 pub enum RequestError {
-    /// The line is no JSON, or none that is an object.
+    /// The line is not a JSON object.
     #[error("not a JSON object")]
     NotObject,
     /// A request has no such member.
@@ -58,7 +58,7 @@ pub enum RequestError {
         name: &'static str,
         wants: &'static str,
     },
-    /// A name in `files` is no label in normal form.
+    /// A name in `files` is not a label in normal form.
     #[error("bad label in `files`: {label}")]
     BadLabel {
         label: String,
@@ -103,7 +103,7 @@ impl<T: Drop> From<AllocFailed<T>> for RequestError {
     }
 }
 
-/// The value that a line is: `NotObject` where it is no JSON.
+/// The value that a line is: `NotObject` if it is not JSON.
 pub fn value_in(alloc: Global, line: &[u8]) -> Result<Value, RequestError>
     ensures ok { IfOk result (λ v. json_of line.now ≡ Some (view v)) }
     ensures refused { IfErr result (λ e. (e ≡ RequestError.Memory) ⊎ (json_of line.now ≡ None)) }
@@ -180,7 +180,7 @@ fn changes_of(
     Ok(changes)
 }
 
-/// The texts of an array: none where an item is no text.
+/// The texts of an array: none if an item is not a text.
 fn texts_of(alloc: Global, items: &[Value]) -> Result<Option<Vec<String>>, AllocError>
     ensures { IfOk result (λ o. option_map (λ ts. map string_bytes ts.items) o ≡ spec.texts_in (items_view items.now)) }
 {
@@ -228,7 +228,7 @@ fn steps_of(value: &Value) -> Option<u32>
     }
 }
 
-/// With what a word of `with` wants more.
+/// The wanted members, with the one that a word of `with` names.
 #[tactic(auto, unfolding(crate::specs::Requests::with_word))]
 fn with_word(wanted: Wanted, word: &str) -> Option<Wanted>
     ensures { result ≡ spec.with_word wanted word.now }
@@ -244,7 +244,7 @@ fn with_word(wanted: Wanted, word: &str) -> Option<Wanted>
     Some(wanted)
 }
 
-/// What the words of `with` want.
+/// The members that the words of `with` name.
 fn with_words(items: &[Value]) -> Option<Wanted>
     ensures { result ≡ spec.with_words spec.nothing_more (items_view items.now) }
 {
@@ -311,7 +311,7 @@ fn steps_in(value: &Value) -> Result<u32, RequestError>
     }
 }
 
-/// What a request wants more of each module.
+/// The further members of each module that a request wants.
 fn wanted_in(value: &Value) -> Result<Wanted, RequestError>
     ensures ok { IfOk result (λ w.
         option_and_then (spec.with_words spec.nothing_more) (as_array (view value.now)) ≡ Some w) }
@@ -378,7 +378,7 @@ fn plain(alloc: Global, roots: Vec<String>, defaults: &Defaults) -> Result<Reque
     })
 }
 
-/// A request with what further members say.
+/// A request with further members taken into it.
 fn with_members(
     alloc: Global,
     mut request: Request,
@@ -420,7 +420,7 @@ pub fn request_in(alloc: Global, value: Value, defaults: &Defaults) -> Result<Re
     }
 }
 
-/// The JSON of the `id` of a value: null where it has none.
+/// The JSON of the `id` of a value: null if it has none.
 pub fn id_text(alloc: Global, value: &Value) -> Result<String, AllocError>
     ensures { IfOk result (λ s. IsIdText (spec.id_in (view value.now)) (string_bytes s)) }
 {

@@ -39,18 +39,18 @@ pub struct Settings {
     pub loaders: usize,
     /// Once texts of more bytes than these were parsed, the trees that are kept go.
     pub keep: usize,
-    /// What a request asks for where it does not say.
+    /// The defaults of a request, for members that it lacks.
     pub defaults: Defaults,
 }
 
-/// The files as they stand, and room for the trees of their texts.
+/// The files as they are, and room for the trees of their texts.
 #[derive(Drop)]
 struct Fresh {
     files: Files,
     trees: Trees,
 }
 
-/// The refusal of a line that is no request.
+/// The refusal of a line that is not a request.
 fn misread(alloc: Global, id: &str, error: &RequestError) -> Result<Vec<u8>, AllocError>
     ensures known { IfOk result (λ _. error.now ≢ why.Memory) }
     ensures line { IfOk result (λ line. (text : List ℕ)
@@ -117,7 +117,7 @@ fn too_long(alloc: Global) -> Result<Vec<u8>, AllocError>
     refusal(alloc, id.as_str(), "line too long")
 }
 
-/// The refusal of a line that is no JSON.
+/// The refusal of a line that is not JSON.
 fn misread_line(alloc: Global, error: &RequestError) -> Result<Vec<u8>, AllocError>
     ensures known { IfOk result (λ _. error.now ≢ why.Memory) }
     ensures line { IfOk result (λ line. (text : List ℕ) × IsRefusal null text line.items) }
@@ -126,7 +126,7 @@ fn misread_line(alloc: Global, error: &RequestError) -> Result<Vec<u8>, AllocErr
     misread(alloc, id.as_str(), error)
 }
 
-/// The answer to a line of which there are these bytes. Where there is none, for want of memory, the files stay.
+/// The answer to a line with these bytes. If there is none, for want of memory, the files stay.
 fn answer<'t, H: Threads + Wait + Sync>(
     rt: &H,
     alloc: Global,
@@ -156,7 +156,7 @@ fn answer<'t, H: Threads + Wait + Sync>(
     }
 }
 
-/// The bytes of an answer, where there is one.
+/// The bytes of an answer, or those for want of memory if there is none.
 fn said(answer: &Result<Vec<u8>, AllocError>) -> &[u8]
     ensures { MatchResult answer.now (λ line. result.now ≡ line.items) (λ _. result.now ≡ no_memory_line) }
 {
@@ -212,7 +212,7 @@ fn next_answer<'t, H: Threads + Wait + Sync, R: Source, W: Sink>(
 }
 
 /// Answers requests with these trees until the stream ends, or texts of more bytes were parsed than may be kept: then
-/// the files as they stand, and room for other trees. Where there is no memory for this room, the trees stay longer.
+/// the files as they then are, and room for other trees. If there is no memory for this room, the trees stay longer.
 fn until_full<H: Threads + Wait + Sync, R: Source, W: Sink>(
     rt: &H,
     alloc: Global,
@@ -235,7 +235,7 @@ fn until_full<H: Threads + Wait + Sync, R: Source, W: Sink>(
     ensures reads { R.failed reader.new ≡ R.failed reader.old + reads_failed result }
     ensures writes { W.failed writer.new ≡ W.failed writer.old + writes_failed result }
 {
-    // Where reading or writing fails, the process ends next.
+    // If reading or writing fails, the process ends next.
     let trees = ManuallyDrop::new(trees);
     let mut standing = Standing {
         files,
@@ -270,7 +270,7 @@ fn until_full<H: Threads + Wait + Sync, R: Source, W: Sink>(
 /// Answers requests, one a line, each with one line, up to the end of the stream. The files are those that the requests
 /// so far leave: none at first.
 ///
-/// `Read` where a read failed, `Write` where a write failed, `Memory` where there is none before the first line. A
+/// `Read` if a read failed, `Write` if a write failed, `Memory` if there is none before the first line. A
 /// request that is refused changes nothing.
 pub fn serve_requests<H: Threads + Wait + Sync, R: Source, W: Sink>(
     rt: &H,
@@ -286,7 +286,7 @@ pub fn serve_requests<H: Threads + Wait + Sync, R: Source, W: Sink>(
     ensures session { OnOk result (IsSession settings.now.defaults (R.said reader.old) (R.said reader.new)
         (W.taken writer.old) (W.taken writer.new)) }
 
-    // A read or a write failed just where the answer says so.
+    // A read or a write failed exactly if the answer says so.
     ensures reads { R.failed reader.new ≡ R.failed reader.old + reads_failed result }
     ensures writes { W.failed writer.new ≡ W.failed writer.old + writes_failed result }
 {

@@ -28,7 +28,7 @@ pub(crate) struct Last {
     pub report: Vec<u8>,
 }
 
-/// The files as the requests so far leave them, and what the parser has made of the texts of the first of them.
+/// The files as the requests so far leave them, and the results of parsing the texts of the first of them.
 #[derive(Drop)]
 pub(crate) struct Standing<'t> {
     pub files: Files,
@@ -131,7 +131,7 @@ impl<'t> Standing<'t> {
         self.files
     }
 
-    /// Whether a request leaves the files as they are, and asks what this report answers.
+    /// Whether a request leaves the files as they are, and asks the question that this report answers.
     fn is_answered_by(&self, last: &Last, request: &Request) -> bool
         ensures same { result ≡ true
             → spec.files_after self.now.files (map change_of request.now.changes.items) ≡ self.now.files }
@@ -141,7 +141,7 @@ impl<'t> Standing<'t> {
         last.question.is_same(&request.question) && are_as(&self.files, request.changes.as_slice())
     }
 
-    /// The last report, where a request leaves the files as they are and asks what was asked for it.
+    /// The last report, if a request leaves the files as they are and asks the same question.
     #[tactic(auto, using(crate::proofs::Limits::asked_again))]
     pub(crate) fn report_for(&self, request: &Request) -> Option<&[u8]>
         requires { IsLast self.now.files self.now.last }
@@ -158,7 +158,7 @@ impl<'t> Standing<'t> {
         Some(last.report.as_slice())
     }
 
-    /// What the parser has made of a text: none where the file at the label had another one, or was not parsed.
+    /// The result of parsing a text: none if the file at the label had another one, or was not parsed.
     fn known(&self, label: &Label, text: &str) -> Option<Parsed<'t>>
         requires { AreParsesOf self.now.files self.now.parses.items }
         ensures { IfSome result (IsParsed text.now) }
@@ -171,7 +171,7 @@ impl<'t> Standing<'t> {
     }
 }
 
-/// What the parser makes of a file: of a text that stood at its label before it was made once.
+/// The result of parsing a file. A text that was at its label before is not parsed again.
 fn parse_of<'t, R: Wait>(
     rt: &R,
     alloc: Global,
@@ -195,7 +195,7 @@ fn parse_of<'t, R: Wait>(
     parsed(rt, alloc, &trees.all, text)
 }
 
-/// What the parser makes of all files.
+/// The results of parsing all files.
 pub(crate) fn parses_of<'t, R: Wait>(
     rt: &R,
     alloc: Global,
