@@ -16,7 +16,6 @@ use Rattle.star_scope.specs.declared.loads.Load.{Load}
 use Rattle.star_plan.specs.Plan.{Plan, loaded, loads_of}
 use Rattle.star_plan.specs.Reached.{IsReached}
 use Rattle.star_plan.specs.Results.{IsGood}
-use Rattle.star_plan.proofs.Seen.{cycle_is_bad}
 use Rattle.star_reading.specs.Readings.{Row, loads_at, readings}
 use Rattle.star_reading.proofs.Finds.{all_one, by_cases, contains_here, contains_one, same_or_not}
 use Rattle.star_reading.proofs.Rows.{loads_are}
@@ -26,8 +25,9 @@ use Rattle.star_outcome.specs.declared.module.Module.{Module}
 use Rattle.star_report.specs.Drawn.{EndWithin, InReadPlans, IsGraphBelow, IsNextNode, LeadWithin, SayCycles, SaysCycle, node_view}
 use Rattle.star_report.specs.Graph as graph
 use Rattle.star_report.specs.Graph.{IsGraph, IsNode, targets}
-use Rattle.star_report.specs.Leads.{loaded_at}
+use Rattle.star_report.specs.Components.{AreComponents, AreOne, loaded_at}
 use Rattle.star_report.specs.Table.{IsTable, Table}
+use Rattle.star_report.specs.declared.components.Mark.{Mark}
 use Rattle.star_report.specs.declared.graph.Edge.{Edge}
 use Rattle.star_report.specs.declared.graph.Node.{Node}
 
@@ -76,14 +76,8 @@ target_within row n m within there = All-contains (λ k. k < length row) (target
 pub module_good : (plan : Plan) (n : ℕ) (m : Module) → IsModule plan n m → (ended_well m.ended ≡ true) ↔ IsGood plan n
 module_good plan n m is = end_good plan n m.ended is.ended
 
--- no load of a file that is good lies on a cycle
-pub good_says : (plan : Plan) (it : Module) (m : ℕ) → IsModule plan it.number it → ended_well it.ended ≡ true → SaysCycle plan it.number m false
-good_says plan it m is well =
-    let it_is : IsGood plan it.number = (module_good plan it.number it is).0 well in
-    (λ e. absurd (let no : ⊥ = cc in no), λ on. absurd ((cycle_is_bad plan it_is.0 it.number m on).0 it_is.1))
-
 -- where the loaded file leads back, the load lies on a cycle
-pub back_says : (plan : Plan) (row : Row) (n m : ℕ) (b : Bool) → readings row ≡ plan.reads → Loads (loaded plan) n m → (b ≡ true) ↔ LeadsTo (Loads (loaded_at row)) m n → SaysCycle plan n m b
+back_says : (plan : Plan) (row : Row) (n m : ℕ) (b : Bool) → readings row ≡ plan.reads → Loads (loaded plan) n m → (b ≡ true) ↔ LeadsTo (Loads (loaded_at row)) m n → SaysCycle plan n m b
 back_says plan row n m b read load leads = (λ e. (load, forth (leads.0 e)), λ on. leads.1 (back on.1))
   where
     same : (k : ℕ) → loaded plan k ≡ loaded_at row k
@@ -94,6 +88,14 @@ back_says plan row n m b read load leads = (λ e. (load, forth (leads.0 e)), λ 
 
     back : LeadsTo (Loads (loaded plan)) m n → LeadsTo (Loads (loaded_at row)) m n
     back (k, w) = (k, Walk-fewer (Loads (loaded_at row)) (Loads (loaded plan)) (λ x y c. subst (λ ns. Contains ns y) (same x) c) k m n w)
+
+-- where both files are of one component, it does
+pub one_says : (plan : Plan) (row : Row) (marks : List Mark) (n m : ℕ) (b : Bool) → readings row ≡ plan.reads → AreComponents row marks → n < length row → m < length row → Loads (loaded plan) n m → (b ≡ true) ↔ AreOne marks n m → SaysCycle plan n m b
+one_says plan row marks n m b read all n_in m_in load says =
+    back_says plan row n m b read load (λ e. ((all n m n_in m_in).0 (says.0 e)).1, λ back. says.1 ((all n m n_in m_in).1 ((1, (m, there, refl)), back)))
+  where
+    there : Loads (loaded_at row) n m
+    there = subst (λ ns. Contains ns m) (ap (map (λ (l : Load). l.file)) (loads_are plan row n read)) load
 
 -- ---- edges
 

@@ -10,7 +10,12 @@ pub mod Nothing
 pub mod OneText
 pub mod Tables
 pub mod Gets
-pub mod Led
+pub mod ComponentMarks
+pub mod ComponentFrames
+pub mod ComponentSearch
+pub mod ComponentCloses
+pub mod ComponentSteps
+pub mod ComponentsAll
 pub mod Drawings
 pub mod Edges
 pub mod Lines

@@ -16,7 +16,7 @@ use Rattle.star_store.specs.declared.values.Value.TheVariants as value
 use Rattle.star_store.specs.declared.values.Cell.{Cell}
 use Rattle.star_store.specs.declared.values.Cell.TheVariants as cell
 use Rattle.star_store.specs.Store.{global_of}
-use Rattle.star_data.specs.Data.{cell_data, cell_of, data_of, entries_data, items_data, on_shelf, text_in, value_data}
+use Rattle.star_data.specs.Data.{cell_data, cell_of, data_of, entries_data, items_data, key_in, on_shelf, value_data}
 use Rattle.star_data.proofs.Options.{chained, mapped}
 use Rattle.star_scope.specs.Loads.{is_private}
 use Rattle.star_meaning.specs.Module.{Good, Stopped, most_levels}
@@ -25,6 +25,7 @@ use Rattle.star_plan.specs.Plan.{Plan, loads_of}
 use Rattle.star_plan.specs.Results.{Outcome, Ran, Static, Unloaded}
 use Rattle.star_report.specs.Values.{global_data, is_opaque, put_some, value_members, with_value}
 use Rattle.star_data.proofs.Ints.{int_is}
+use Rattle.star_data.proofs.Strings.{string_is}
 use Rattle.star_report.specs.Wanted.{AreMore, AreWanted, Full, HasLoads, HasSteps, HasStepsAs, HasValues, added, followed, full_data, load_member, put_in}
 use Rattle.star_report.specs.declared.wanted.Wanted.{Wanted}
 use Rattle.star_plan.specs.Causes.{Cause, Culprit, Cycle}
@@ -94,13 +95,13 @@ items_plain f h (x ∷ xs) is e =
 entries_plain : (look : Value → Option Cell) (f : Value → Option Data) → Plain f → (es : List (Value × Value)) (ms : Members) → entries_data look f es ≡ Some ms → members_have_float ms ≡ false
 entries_plain look f h [] ms e = let same : no_members ≡ ms = cc in ap members_have_float (sym same)
 entries_plain look f h (x ∷ es) ms e =
-    let k = chained (λ k. option_and_then (λ d. option_map (put k d) (entries_data look f es)) (f x.1)) (text_in (cell_of look x.0)) ms e in
+    let k = chained (λ k. option_and_then (λ d. option_map (put k d) (entries_data look f es)) (f x.1)) (key_in (cell_of look x.0)) ms e in
     let d = chained (λ d. option_map (put k.0 d) (entries_data look f es)) (f x.1) ms k.2 in
     let rest = mapped (put k.0 d.0) (entries_data look f es) ms d.2 in
     ap members_have_float (sym rest.2) ∙ put_none k.0 d.0 rest.0 (h x.1 d.0 d.1) (entries_plain look f h es rest.0 rest.1)
 
 cell_plain : (look : Value → Option Cell) (f : Value → Option Data) → Plain f → (o : Option Cell) (d : Data) → cell_data look f o ≡ Some d → has_float d ≡ false
-cell_plain look f h (Some (cell.Text t)) d e = let same : string t ≡ d = cc in ap has_float (sym same)
+cell_plain look f h (Some (cell.Text t)) d e = ap has_float (sym (string_is t d e).0)
 cell_plain look f h (Some (cell.Tuple xs)) d e = let all = mapped array (items_data f xs) d e in ap has_float (sym all.2) ∙ items_plain f h xs all.0 all.1
 cell_plain look f h (Some (cell.List xs)) d e = let all = mapped array (items_data f xs) d e in ap has_float (sym all.2) ∙ items_plain f h xs all.0 all.1
 cell_plain look f h (Some (cell.Dict es)) d e = let all = mapped object (entries_data look f es) d e in ap has_float (sym all.2) ∙ entries_plain look f h es all.0 all.1

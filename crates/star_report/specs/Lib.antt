@@ -10,7 +10,8 @@ pub mod Texts
 pub mod Table
 pub mod Got
 pub mod Gets
-pub mod Leads
+pub mod Components
+pub mod Search
 pub mod Graph
 pub mod Drawn
 pub mod Output

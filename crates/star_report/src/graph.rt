@@ -2,19 +2,19 @@
 
 ghost use Rattle.std.specs.Prelude.{◌≡◌, ◌<◌, ◌++◌, IfOk, IfSome, OnOk, codes, flat_map, if◌then◌else◌, length, map};
 ghost use Rattle.json.specs.Print.{quoted};
-ghost use Rattle.star_cache.specs.State.{Loads};
 ghost use Rattle.star_label.specs.Files.{label_at};
 ghost use Rattle.star_outcome.specs.Kept.{AreModules};
 ghost use Rattle.star_outcome.specs.Views.{IsModule};
-ghost use Rattle.star_plan.specs.Plan.{Plan, loaded};
+ghost use Rattle.star_plan.specs.Plan.{Plan};
 ghost use Rattle.star_plan.specs.Reading.{IsPlanOf};
 ghost use Rattle.star_reading.specs.Found.{IsReadOf};
 ghost use Rattle.star_reading.specs.Readings.{loads_at};
+ghost use Rattle.star_report.specs.Components.{AreComponents};
 ghost use Rattle.star_report.specs.Graph as spec;
-ghost use Rattle.star_report.specs.Drawn.{AreNodesWithin, EndWithin, InReadPlans, IsNextNode, IsTableWithin, LeadWithin, SayCycles, SaysCycle, node_view};
+ghost use Rattle.star_report.specs.Drawn.{AreNodesWithin, EndWithin, InReadPlans, IsNextNode, IsTableWithin, LeadWithin, SayCycles, node_view};
 ghost use Rattle.star_report.specs.Table.{IsTable};
 
-use crate::leads::leads;
+use crate::components::Components;
 use crate::modules::modules_by_number;
 use crate::more::loads_in;
 use indexmap::IndexSet;
@@ -54,22 +54,16 @@ fn targets(alloc: Global, loads: &[Load]) -> Result<IndexSet<usize>, AllocError>
     Ok(files)
 }
 
-/// Whether the load of a file by a module lies on a cycle of loads. A file on a cycle is not ok.
-fn is_on_cycle(alloc: Global, reads: &Reads, it: &Module, to: usize) -> Result<bool, AllocError>
-    requires to { to < length reads.now.all.items }
+/// The edges of a module. A load lies on a cycle of loads if both files are of one component.
+fn edges_of(
+    alloc: Global,
+    reads: &Reads,
+    components: &Components,
+    it: &Module,
+) -> Result<Vec<Edge>, AllocError>
     requires loads { LeadWithin reads.now.all.items }
-    ensures { IfOk result (λ on. InReadPlans reads.now.all.items (λ plan. IsModule plan it.now.number it.now
-        → Loads (loaded plan) it.now.number to → SaysCycle plan it.now.number to on)) }
-{
-    if it.is_good() {
-        return Ok(false);
-    }
-    leads(alloc, reads, to, it.number)
-}
-
-/// The edges of a module.
-fn edges_of(alloc: Global, reads: &Reads, it: &Module) -> Result<Vec<Edge>, AllocError>
-    requires { LeadWithin reads.now.all.items }
+    requires components { AreComponents reads.now.all.items components.now.marks.items }
+    requires number { it.now.number < length reads.now.all.items }
     ensures targets { IfOk result (λ es. map (λ e. e.to) es.items
         ≡ spec.targets (loads_at reads.now.all.items it.now.number)) }
     ensures cycles { IfOk result (λ es. SayCycles reads.now.all.items it.now es.items) }
@@ -78,15 +72,22 @@ fn edges_of(alloc: Global, reads: &Reads, it: &Module) -> Result<Vec<Edge>, Allo
     let files = targets(alloc, loads_in(reads, it.number))?;
     let mut edges = Vec::with_capacity(alloc, files.len())?;
     for to in files.as_slice() {
-        let on_cycle = is_on_cycle(alloc, reads, it, *to)?;
+        let on_cycle = components.are_one(it.number, *to);
         edges.push(Edge { to: *to, on_cycle })?;
     }
     Ok(edges)
 }
 
 /// The node of a module.
-fn node_of(alloc: Global, reads: &Reads, it: &Module) -> Result<Node, AllocError>
-    requires { LeadWithin reads.now.all.items }
+fn node_of(
+    alloc: Global,
+    reads: &Reads,
+    components: &Components,
+    it: &Module,
+) -> Result<Node, AllocError>
+    requires loads { LeadWithin reads.now.all.items }
+    requires components { AreComponents reads.now.all.items components.now.marks.items }
+    requires number { it.now.number < length reads.now.all.items }
     ensures file { IfOk result (λ v. v.file ≡ it.now.number) }
     ensures node { IfOk result (λ v. InReadPlans reads.now.all.items (λ plan. IsModule plan it.now.number it.now
         → spec.IsNode plan (node_view v))) }
@@ -95,7 +96,7 @@ fn node_of(alloc: Global, reads: &Reads, it: &Module) -> Result<Node, AllocError
     Ok(Node {
         file: it.number,
         is_ok: it.is_good(),
-        edges: edges_of(alloc, reads, it)?,
+        edges: edges_of(alloc, reads, components, it)?,
     })
 }
 
@@ -103,10 +104,12 @@ fn node_of(alloc: Global, reads: &Reads, it: &Module) -> Result<Node, AllocError
 fn push_node(
     alloc: Global,
     reads: &Reads,
+    components: &Components,
     entry: Option<&Module>,
     nodes: &mut Vec<Node>,
 ) -> Result<(), AllocError>
     requires loads { LeadWithin reads.now.all.items }
+    requires components { AreComponents reads.now.all.items components.now.marks.items }
     requires within { IfSome entry (λ it. it.now.number < length reads.now.all.items) }
     ensures graph { OnOk result (InReadPlans reads.now.all.items (λ plan. IsNextNode plan entry.entry nodes.old.items
         nodes.new.items)) }
@@ -115,7 +118,7 @@ fn push_node(
 {
     match entry {
         Some(it) => {
-            let node = node_of(alloc, reads, it)?;
+            let node = node_of(alloc, reads, components, it)?;
             nodes.push(node)?;
             Ok(())
         }
@@ -135,9 +138,10 @@ fn nodes_of(
         → spec.IsGraph plan (map node_view vs.items))) }
     ensures within { IfOk result (λ vs. AreNodesWithin (length reads.now.all.items) vs.items) }
 {
+    let components = Components::of(alloc, reads)?;
     let mut nodes = Vec::new(alloc);
     for entry in table {
-        push_node(alloc, reads, *entry, &mut nodes)?;
+        push_node(alloc, reads, &components, *entry, &mut nodes)?;
     }
     Ok(nodes)
 }

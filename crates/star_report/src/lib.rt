@@ -12,13 +12,13 @@
 //! that an input has one such text, and without options the plain report.
 #![tactic(auto)]
 
+mod components;
 pub mod got;
 pub mod graph;
 mod law;
-mod leads;
 mod modules;
 mod more;
-mod pages;
+pub mod pages;
 pub mod report;
 mod values;
 pub mod wanted;

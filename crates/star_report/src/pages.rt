@@ -29,7 +29,7 @@ const SHARE: usize = 16;
 
 /// A module with the loads of its file, whether it is shown, and its text once it is written: none where a growth was refused.
 #[derive(Drop)]
-pub(crate) struct Page<'a> {
+pub struct Page<'a> {
     pub about: &'a Module,
     pub loads: &'a [Load],
     pub shown: bool,
@@ -38,7 +38,7 @@ pub(crate) struct Page<'a> {
 
 impl<'a> Page<'a> {
     /// Writes the text of the module.
-    fn write(&mut self, alloc: Global, files: &Labels, causes: &Causes, wanted: Wanted)
+    pub fn write(&mut self, alloc: Global, files: &Labels, causes: &Causes, wanted: Wanted)
         requires files { length causes.now ≡ length files.now }
         requires loads { All (λ l. l.file < length files.now) self.old.loads.now }
         requires there { self.old.about.now.number < length files.now }
@@ -70,7 +70,7 @@ fn module_text(
 }
 
 /// For each file whether it is a root.
-fn roots_marked(alloc: Global, files: usize, roots: &[usize]) -> Result<Vec<bool>, AllocError>
+pub fn roots_marked(alloc: Global, files: usize, roots: &[usize]) -> Result<Vec<bool>, AllocError>
     ensures size { IfOk result (λ v. vec_len v ≡ files) }
     ensures marks { IfOk result (λ v. AreMarked roots.now v.items) }
 {
@@ -99,7 +99,7 @@ fn page_of<'a>(wanted: Wanted, marks: &[bool], it: &'a Module, loads: &'a [Load]
 }
 
 /// A page for each module of a run, on which nothing is written yet.
-fn pages_of<'a>(
+pub fn pages_of<'a>(
     alloc: Global,
     run: &'a Run,
     reads: &'a Reads,
@@ -192,7 +192,7 @@ fn room_of(pages: &[Page]) -> usize {
 }
 
 /// The text of a report, by those of the pages that are shown. `Memory` where one was not written.
-fn joined(alloc: Global, begun: u32, pages: &[Page]) -> Result<Vec<u8>, AllocError>
+pub fn joined(alloc: Global, begun: u32, pages: &[Page]) -> Result<Vec<u8>, AllocError>
     ensures written { IfOk result (λ _. All (λ p. IsSome p.text) pages.now) }
     ensures text { IfOk result (λ s. s.items ≡ joined_text begun (shown_texts_of pages.now)) }
 {

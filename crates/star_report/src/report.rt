@@ -105,7 +105,7 @@ fn next_of(it: &Module) -> Option<usize>
 }
 
 /// For each file the file of its first load that is not good.
-pub(crate) fn nexts_of(
+pub fn nexts_of(
     alloc: Global,
     files: usize,
     run: &mut Run,
