@@ -9,17 +9,17 @@ use Rattle.star_serve.proofs.serve.answered.Goals as goal
 pub written_of-requires-clause-reads : goal.written_of-requires-clause-reads
 written_of-requires-clause-reads g c =
     let asked = c.args.asked.now in
-    λ lives within. row_size asked.files c.as_slice-roots.result.now asked.prelude c.run_in.new.reads.all.items c.in-Ok.ensures.read
+    λ lives within. row_size asked.files c.as_slice-roots.result.now asked.prelude c.run_in-outcome.new.reads.all.items c.in-Ok.ensures.read
 
 pub written_of-requires-clause-loads : goal.written_of-requires-clause-loads
 written_of-requires-clause-loads g c =
     let asked = c.args.asked.now in
-    λ lives within. lead_within asked.files c.as_slice-roots.result.now asked.prelude c.run_in.new.reads.all.items c.in-Ok.ensures.read
+    λ lives within. lead_within asked.files c.as_slice-roots.result.now asked.prelude c.run_in-outcome.new.reads.all.items c.in-Ok.ensures.read
 
 pub returns-clause-text : goal.returns-clause-text
 returns-clause-text g c =
     let asked = c.args.asked.now in
-    let row = c.run_in.new.reads.all.items in
+    let row = c.run_in-outcome.new.reads.all.items in
     let run = c.in-Ok.run' in
     let value = c.as_slice-roots.ensures.value in
     in_plan_of asked.files asked.roots.items asked.prelude c.args.options.now.steps row run _ c.in-Ok.ensures.begun
@@ -30,7 +30,7 @@ returns-clause-text g c =
 pub returns-clause-said : goal.returns-clause-said
 returns-clause-said g c =
     let asked = c.args.asked.now in
-    let row = c.run_in.new.reads.all.items in
+    let row = c.run_in-outcome.new.reads.all.items in
     let run = c.in-Ok.run' in
     let value = c.as_slice-roots.ensures.value in
     in_plan_of asked.files asked.roots.items asked.prelude c.args.options.now.steps row run _ c.in-Ok.ensures.begun
