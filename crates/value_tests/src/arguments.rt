@@ -1,5 +1,6 @@
 //! Tests of the arguments of a call and of their binding, on an example.
 
+use crate::checks::holds;
 use crate::samples::{list, shows, text};
 use star_call::binding::bound_to;
 use star_call::passed::{Passed, given};
@@ -84,8 +85,7 @@ fn a_call_gives_and_binds_its_values(
     let values = list(alloc, machine, given.plain.as_slice())?;
     shows(rt, machine, setting, Ok(values), "[1, 3, 5, True]")?;
     if let Some(named) = given.named.get(2) {
-        assert!(rt; named.name.as_str() == "k");
-        assert!(rt; named.key == Some(key));
+        holds!(rt; named.name.as_str() == "k" && named.key == Some(key));
     }
     let all = bound(alloc, machine, &given)?;
     let all = list(alloc, machine, &all)?;
@@ -107,7 +107,7 @@ fn items_are_paid_before_names_are_compared(
     ];
     for code in [Code::Args, Code::Steps] {
         let stop = given(machine, setting, 7, &twice).err();
-        assert!(rt; stop == Some(faulted(code, 7)));
+        holds!(rt; stop == Some(faulted(code, 7)));
     }
     Ok(())
 }

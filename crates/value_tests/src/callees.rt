@@ -1,5 +1,6 @@
 //! Tests of callees: which values may be called.
 
+use crate::checks::holds;
 use sqlite_items::{Boxed, Items};
 use star_call::callee::{Called, Callee, definition_number};
 use star_call::shares::make_shares;
@@ -44,7 +45,7 @@ fn sort(callee: Result<Callee<'_>, Stop>) -> Result<&'static str, Stop> {
 
 /// Asserts the kind of a callee.
 fn is_sort(rt: &impl Abort, callee: Result<Callee<'_>, Stop>, want: Result<&'static str, Stop>) {
-    assert!(rt; sort(callee) == want);
+    holds!(rt; sort(callee) == want);
 }
 
 /// The value of the first parameter, if no argument is given.
@@ -87,8 +88,8 @@ fn what_may_be_called_in(
         is_sort(rt, Callee::of(machine, setting, 7, value, found), wanted);
     }
     let number = definition_number(machine, setting, value);
-    assert!(rt; number == Some((0, 3)));
-    assert!(rt; definition_number(machine, setting, method).is_none());
+    holds!(rt; number == Some((0, 3)));
+    holds!(rt; definition_number(machine, setting, method).is_none());
     Ok(())
 }
 
@@ -106,7 +107,7 @@ fn an_active_definition_is_not_called_in(
     is_sort(rt, callee, Ok("function"));
     if let Ok(Callee::AFunction(called)) = callee {
         let first = bound(alloc, machine, setting, called)?;
-        assert!(rt; first == Some(Value::Int(8)));
+        holds!(rt; first == Some(Value::Int(8)));
     }
     machine.activate(0, 3)?;
     for found in [Some(definition), None] {

@@ -1,5 +1,6 @@
 //! Tests of each built-in function and each method, by the calls that lead to them all.
 
+use crate::checks::holds;
 use crate::samples::{is, list, plain, shows, text};
 use star_attribute::methods::{attribute, call_method};
 use star_builtin::calls::call_built_in;
@@ -181,12 +182,11 @@ fn a_bound_method_has_its_receiver(
     let bound = attribute(machine, setting, 7, word, "upper")?;
     match machine.kind(setting, bound) {
         Kind::Method(method, receiver) => {
-            assert!(rt; method == Method::StringUpper);
-            assert!(rt; receiver == word);
+            holds!(rt; method == Method::StringUpper && receiver == word);
+            Ok(())
         }
-        _ => assert!(rt; false),
+        _ => Err(Fail::from("a bound method")),
     }
-    Ok(())
 }
 
 fn calls_in(

@@ -1,35 +1,15 @@
 //! Tests of dictionaries that are large enough to have an index.
 
+use crate::checks::holds;
+use crate::stores;
+use crate::stores::{equals, text, tuple, writes};
 use star_store::arena::write::Change;
 use star_store::arena::{Arena, Homes, freeze};
-use star_store::budget::Budget;
-use star_store::equal::equal;
 use star_store::fault::StoreFault;
-use star_store::values::{Cell, Entries, Value, Values};
-use star_text::Text;
+use star_store::values::Value;
 use std::alloc::Global;
 use std::process::Abort;
 use std::test::Fail;
-
-/// A new cell, in an arena that has room.
-fn made(rt: &impl Abort, arena: &mut Arena, cell: Cell) -> Result<Value, Fail> {
-    assert!(rt; arena.len() < 1_000_000);
-    Ok(arena.make(cell)?)
-}
-
-fn text(alloc: Global, rt: &impl Abort, arena: &mut Arena, content: &str) -> Result<Value, Fail> {
-    made(rt, arena, Cell::Text(Text::new(alloc, content)?))
-}
-
-fn tuple(
-    alloc: Global,
-    rt: &impl Abort,
-    arena: &mut Arena,
-    items: &[Value],
-) -> Result<Value, Fail> {
-    let items = Vec::from_slice(alloc, items)?;
-    made(rt, arena, Cell::Tuple(Values::new(items)))
-}
 
 /// A dictionary from the ints below a number, the last first, to their opposites.
 fn counted(
@@ -39,10 +19,10 @@ fn counted(
     homes: &Homes,
     count: i64,
 ) -> Result<Value, Fail> {
-    let dict = made(rt, arena, Cell::Dict(Entries::new(alloc)))?;
+    let dict = stores::dict(alloc, rt, arena)?;
     for n in (0..count).rev() {
         let change = Change::Put(Value::Int(n), Value::Int(n.wrapping_neg()));
-        assert!(rt; arena.write(homes, dict, change) == Ok(None));
+        writes(rt, arena, homes, dict, change, Ok(None));
     }
     Ok(dict)
 }
@@ -56,8 +36,13 @@ fn finds(
     want: Option<i64>,
 ) {
     let want = want.map(Value::Int);
-    assert!(rt; arena.find(homes, dict, key) == Ok(want));
-    assert!(rt; arena.key_value(homes, dict, key) == want);
+    holds!(rt; arena.find(homes, dict, key) == Ok(want));
+    holds!(rt; arena.key_value(homes, dict, key) == want);
+}
+
+/// Asserts the place of a key.
+fn is_at(rt: &impl Abort, arena: &Arena, homes: &Homes, dict: Value, key: i64, want: usize) {
+    holds!(rt; arena.key_place(homes, dict, Value::Int(key)) == Some(want));
 }
 
 fn entries_are_found_and_taken_out_in_order(
@@ -67,24 +52,28 @@ fn entries_are_found_and_taken_out_in_order(
     homes: &Homes,
 ) -> Result<(), Fail> {
     let dict = counted(alloc, rt, arena, homes, 40)?;
-    finds(rt, arena, homes, dict, Value::Int(39), Some(-39));
-    finds(rt, arena, homes, dict, Value::Int(0), Some(0));
-    finds(rt, arena, homes, dict, Value::Int(40), None);
-    finds(rt, arena, homes, dict, Value::Bool(true), None);
-    assert!(rt; arena.key_place(homes, dict, Value::Int(39)) == Some(0));
-    let gone = arena.write(homes, dict, Change::Delete(Value::Int(38)));
-    assert!(rt; gone == Ok(Some(Value::Int(-38))));
-    assert!(rt; arena.key_place(homes, dict, Value::Int(37)) == Some(1));
-    assert!(rt; arena.key_place(homes, dict, Value::Int(0)) == Some(38));
-    let absent = arena.write(homes, dict, Change::Delete(Value::Int(38)));
-    assert!(rt; absent == Err(StoreFault::Key));
+    for (key, want) in [
+        (Value::Int(39), Some(-39)),
+        (Value::Int(0), Some(0)),
+        (Value::Int(40), None),
+        (Value::Bool(true), None),
+    ] {
+        finds(rt, arena, homes, dict, key, want);
+    }
+    is_at(rt, arena, homes, dict, 39, 0);
+    let delete = Change::Delete(Value::Int(38));
+    let gone = Ok(Some(Value::Int(-38)));
+    writes(rt, arena, homes, dict, delete, gone);
+    is_at(rt, arena, homes, dict, 37, 1);
+    is_at(rt, arena, homes, dict, 0, 38);
+    writes(rt, arena, homes, dict, delete, Err(StoreFault::Key));
     let put = Change::Put(Value::Int(38), Value::Int(1));
-    assert!(rt; arena.write(homes, dict, put) == Ok(None));
-    assert!(rt; arena.key_place(homes, dict, Value::Int(38)) == Some(39));
+    writes(rt, arena, homes, dict, put, Ok(None));
+    is_at(rt, arena, homes, dict, 38, 39);
     let other = Change::Put(Value::Int(0), Value::Int(2));
-    assert!(rt; arena.write(homes, dict, other) == Ok(Some(Value::Int(0))));
+    writes(rt, arena, homes, dict, other, Ok(Some(Value::Int(0))));
     finds(rt, arena, homes, dict, Value::Int(0), Some(2));
-    assert!(rt; arena.write(homes, dict, Change::Clear) == Ok(None));
+    writes(rt, arena, homes, dict, Change::Clear, Ok(None));
     finds(rt, arena, homes, dict, Value::Int(0), None);
     Ok(())
 }
@@ -99,18 +88,48 @@ fn texts_and_tuples_are_found_by_what_they_hold(
     let name = text(alloc, rt, arena, "name")?;
     let pair = tuple(alloc, rt, arena, &[name, Value::Int(1)])?;
     let of_name = Change::Put(name, Value::Int(100));
-    assert!(rt; arena.write(homes, dict, of_name) == Ok(None));
+    writes(rt, arena, homes, dict, of_name, Ok(None));
     let of_pair = Change::Put(pair, Value::Int(101));
-    assert!(rt; arena.write(homes, dict, of_pair) == Ok(None));
+    writes(rt, arena, homes, dict, of_pair, Ok(None));
     let again = text(alloc, rt, arena, "name")?;
     let like = tuple(alloc, rt, arena, &[again, Value::Int(1)])?;
     let unlike = tuple(alloc, rt, arena, &[again, Value::Bool(true)])?;
-    finds(rt, arena, homes, dict, again, Some(100));
-    finds(rt, arena, homes, dict, like, Some(101));
-    finds(rt, arena, homes, dict, unlike, None);
+    for (key, want) in [(again, Some(100)), (like, Some(101)), (unlike, None)] {
+        finds(rt, arena, homes, dict, key, want);
+    }
     let of_like = Change::Put(like, Value::Int(102));
-    assert!(rt; arena.write(homes, dict, of_like) == Ok(Some(Value::Int(101))));
+    let replaced = Ok(Some(Value::Int(101)));
+    writes(rt, arena, homes, dict, of_like, replaced);
     finds(rt, arena, homes, dict, pair, Some(102));
+    Ok(())
+}
+
+fn published_entries_are_found_in(
+    rt: &impl Abort,
+    alloc: Global,
+    arena: &mut Arena,
+    homes: &Homes,
+    dict: Value,
+    far: Value,
+) -> Result<(), Fail> {
+    let near = text(alloc, rt, arena, "far")?;
+    for (key, want) in [
+        (Value::Int(29), Some(-29)),
+        (Value::Int(30), None),
+        (near, Some(7)),
+        (far, Some(7)),
+    ] {
+        finds(rt, arena, homes, dict, key, want);
+    }
+    // A key of the published module in a dictionary of the running one.
+    let own = counted(alloc, rt, arena, homes, 30)?;
+    let of_far = Change::Put(far, Value::Int(8));
+    writes(rt, arena, homes, own, of_far, Ok(None));
+    finds(rt, arena, homes, own, near, Some(8));
+    let of_near = Change::Put(near, Value::Int(9));
+    writes(rt, arena, homes, own, of_near, Ok(Some(Value::Int(8))));
+    finds(rt, arena, homes, own, far, Some(9));
+    finds(rt, arena, homes, own, Value::Int(5), Some(-5));
     Ok(())
 }
 
@@ -122,26 +141,11 @@ fn published_entries_are_found(rt: HostRuntime) -> Result<(), Fail> {
     let dict = counted(alloc, &rt, &mut first, &none, 30)?;
     let far = text(alloc, &rt, &mut first, "far")?;
     let put = Change::Put(far, Value::Int(7));
-    assert!(rt; first.write(&none, dict, put) == Ok(None));
+    writes(&rt, &mut first, &none, dict, put, Ok(None));
     let store = freeze(first, Vec::new(alloc));
     let mut homes = Homes::new(alloc);
     homes.add(1, &store)?;
-    let mut arena = Arena::new(alloc, 2);
-    let near = text(alloc, &rt, &mut arena, "far")?;
-    finds(&rt, &arena, &homes, dict, Value::Int(29), Some(-29));
-    finds(&rt, &arena, &homes, dict, Value::Int(30), None);
-    finds(&rt, &arena, &homes, dict, near, Some(7));
-    finds(&rt, &arena, &homes, dict, far, Some(7));
-    // A key of the published module in a dictionary of the running one.
-    let own = counted(alloc, &rt, &mut arena, &homes, 30)?;
-    let of_far = Change::Put(far, Value::Int(8));
-    assert!(rt; arena.write(&homes, own, of_far) == Ok(None));
-    finds(&rt, &arena, &homes, own, near, Some(8));
-    let of_near = Change::Put(near, Value::Int(9));
-    assert!(rt; arena.write(&homes, own, of_near) == Ok(Some(Value::Int(8))));
-    finds(&rt, &arena, &homes, own, far, Some(9));
-    finds(&rt, &arena, &homes, own, Value::Int(5), Some(-5));
-    Ok(())
+    published_entries_are_found_in(&rt, alloc, &mut Arena::new(alloc, 2), &homes, dict, far)
 }
 
 #[test]
@@ -154,8 +158,8 @@ fn a_store_under_another_number_is_searched_by_a_walk(rt: HostRuntime) -> Result
     let mut homes = Homes::new(alloc);
     homes.add(5, &store)?;
     let arena = Arena::new(alloc, 2);
-    assert!(rt; arena.find(&homes, dict, Value::Int(3)) == Err(StoreFault::BadType));
-    assert!(rt; arena.key_value(&homes, dict, Value::Int(3)).is_none());
+    holds!(&rt; arena.find(&homes, dict, Value::Int(3)) == Err(StoreFault::BadType));
+    holds!(&rt; arena.key_value(&homes, dict, Value::Int(3)).is_none());
     let moved = Value::Ref { home: 5, at: 0 };
     finds(&rt, &arena, &homes, moved, Value::Int(3), Some(-3));
     Ok(())
@@ -168,21 +172,16 @@ fn equal_dictionaries_have_the_same_entries(
     homes: &Homes,
 ) -> Result<(), Fail> {
     let dict = counted(alloc, rt, arena, homes, 25)?;
-    let other = made(rt, arena, Cell::Dict(Entries::new(alloc)))?;
+    let other = stores::dict(alloc, rt, arena)?;
     for n in 0..25 {
         let change = Change::Put(Value::Int(n), Value::Int(n.wrapping_neg()));
-        assert!(rt; arena.write(homes, other, change) == Ok(None));
+        writes(rt, arena, homes, other, change, Ok(None));
     }
-    let mut budget = Budget {
-        steps: 100,
-        levels: 10,
-    };
-    assert!(rt; equal(arena, homes, &mut budget, dict, other) == Ok(true));
-    assert!(rt; budget.steps == 74);
+    let pair = (dict, other);
+    equals(rt, arena, homes, (100, 10), pair, Ok(true), 74);
     let change = Change::Put(Value::Int(24), Value::Int(0));
-    assert!(rt; arena.write(homes, other, change) == Ok(Some(Value::Int(-24))));
-    assert!(rt; equal(arena, homes, &mut budget, dict, other) == Ok(false));
-    assert!(rt; budget.steps == 72);
+    writes(rt, arena, homes, other, change, Ok(Some(Value::Int(-24))));
+    equals(rt, arena, homes, (74, 10), pair, Ok(false), 72);
     Ok(())
 }
 
@@ -200,10 +199,10 @@ fn a_key_is_nested_400_deep(
         like = tuple(alloc, rt, arena, &[like])?;
     }
     let change = Change::Put(key, Value::Int(1));
-    assert!(rt; arena.write(homes, dict, change) == Ok(None));
+    writes(rt, arena, homes, dict, change, Ok(None));
     finds(rt, arena, homes, dict, like, Some(1));
     let deeper = tuple(alloc, rt, arena, &[like])?;
-    assert!(rt; arena.find(homes, dict, deeper) == Err(StoreFault::BadType));
+    holds!(rt; arena.find(homes, dict, deeper) == Err(StoreFault::BadType));
     Ok(())
 }
 

@@ -12,6 +12,8 @@ mod callees;
 #[cfg(test)]
 mod calls;
 #[cfg(test)]
+mod checks;
+#[cfg(test)]
 mod indexes;
 #[cfg(test)]
 mod operations;

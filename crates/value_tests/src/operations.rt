@@ -1,5 +1,6 @@
 //! Tests of operators, comparisons, subscripts and slices, on examples.
 
+use crate::checks::holds;
 use crate::samples::{is, list, shows, text};
 use sqlite_items::Items;
 use star_machine::fault::faulted;
@@ -59,13 +60,13 @@ fn what_is_iterated_is_not_written(
     setting: &Setting,
 ) -> Result<(), Fail> {
     let row = list(alloc, machine, &[Value::Int(5)])?;
-    assert!(rt; machine.iterate(setting, 3, row) == Ok(1));
+    holds!(rt; machine.iterate(setting, 3, row) == Ok(1));
     let (nine, six) = (Value::Int(9), Value::Int(6));
     let refused = set_index(machine, setting, 400, 3, row, nine, six);
-    assert!(rt; refused == Err(faulted(Code::Iterating, 3)));
+    holds!(rt; refused == Err(faulted(Code::Iterating, 3)));
     machine.leave(row);
     let outside = set_index(machine, setting, 400, 3, row, nine, six);
-    assert!(rt; outside == Err(faulted(Code::Index, 3)));
+    holds!(rt; outside == Err(faulted(Code::Index, 3)));
     set_index(machine, setting, 400, 3, row, Value::Int(0), six)?;
     shows(rt, machine, setting, Ok(row), "[6]")
 }
@@ -85,16 +86,16 @@ fn arguments_fit_or_are_refused(
     })?;
     let given = Given { plain, named };
     let refused = Err(faulted(Code::Args, 7));
-    assert!(rt; machine.by_place(7, &given).is_err());
-    assert!(rt; machine.with_name(7, "end", &given).is_err());
+    holds!(rt; machine.by_place(7, &given).is_err());
+    holds!(rt; machine.with_name(7, "end", &given).is_err());
     let (values, sep) = machine.with_name(7, "sep", &given)?;
-    assert!(rt; sep == Some(Value::Int(7)));
-    assert!(rt; machine.two(7, values) == Ok((Value::Int(5), Value::Int(6))));
-    assert!(rt; machine.only_one(7, values) == refused);
-    assert!(rt; machine.only_one(7, &values[1..]) == Ok(Value::Int(6)));
-    assert!(rt; machine.none_or_one(7, &values[2..]) == Ok(None));
-    assert!(rt; machine.no_value(7, values).is_err());
-    assert!(rt; machine.one_or_two(7, &values[..1]) == Ok((Value::Int(5), None)));
+    holds!(rt; sep == Some(Value::Int(7)));
+    holds!(rt; machine.two(7, values) == Ok((Value::Int(5), Value::Int(6))));
+    holds!(rt; machine.only_one(7, values) == refused);
+    holds!(rt; machine.only_one(7, &values[1..]) == Ok(Value::Int(6)));
+    holds!(rt; machine.none_or_one(7, &values[2..]) == Ok(None));
+    holds!(rt; machine.no_value(7, values).is_err());
+    holds!(rt; machine.one_or_two(7, &values[..1]) == Ok((Value::Int(5), None)));
     if let Some(value) = given.named.get(0) {
         let key = machine.key_for(7, value);
         shows(rt, machine, setting, key, "\"sep\"")?;
@@ -161,11 +162,11 @@ fn definitions_are_active_until_they_end(
     };
     machine.activate(0, 4)?;
     machine.activate(1, 4)?;
-    assert!(rt; machine.is_active(&function));
+    holds!(rt; machine.is_active(&function));
     machine.deactivate();
-    assert!(rt; machine.is_active(&function));
+    holds!(rt; machine.is_active(&function));
     machine.deactivate();
-    assert!(rt; !machine.is_active(&function));
+    holds!(rt; !machine.is_active(&function));
     Ok(())
 }
 
@@ -175,7 +176,7 @@ fn what_is_made_by_itself_pays_nothing(rt: HostRuntime) -> Result<(), Fail> {
     let mut machine = Machine::new(alloc, 0, 10);
     let made = machine.make(Cell::List(Values::new(Vec::new(alloc))))?;
     machine.bind(made, 0, Value::Int(5))?;
-    assert!(rt; machine.afford(1, 10).is_ok());
+    holds!(&rt; machine.afford(1, 10).is_ok());
     Ok(())
 }
 
@@ -198,14 +199,14 @@ fn a_setting_knows_what_is_loaded_over(rt: &impl Abort, homes: &Homes) {
         },
     ];
     let setting = Setting::over(1, homes, &[None, None], &loads, Some(2));
-    assert!(rt; setting.home() == 1);
-    assert!(rt; setting.prelude() == Some(2));
-    assert!(rt; setting.loaded(0) == Some(3));
-    assert!(rt; setting.loaded(6) == Some(4));
-    assert!(rt; setting.loaded(1) == None);
-    assert!(rt; setting.published(2).is_some());
-    assert!(rt; setting.published(1).is_none());
-    assert!(rt; setting.published(9).is_none());
+    holds!(rt; setting.home() == 1);
+    holds!(rt; setting.prelude() == Some(2));
+    holds!(rt; setting.loaded(0) == Some(3));
+    holds!(rt; setting.loaded(6) == Some(4));
+    holds!(rt; setting.loaded(1) == None);
+    holds!(rt; setting.published(2).is_some());
+    holds!(rt; setting.published(1).is_none());
+    holds!(rt; setting.published(9).is_none());
 }
 
 #[test]

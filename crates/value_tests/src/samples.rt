@@ -1,5 +1,6 @@
 //! Helpers: values for tests, and assertions about them.
 
+use crate::checks::{holds, reads};
 use sqlite_items::Items;
 use star_machine::fault::Stop;
 use star_machine::machine::Machine;
@@ -30,7 +31,7 @@ pub(crate) fn plain(alloc: Global, values: &[Value]) -> Result<Given, AllocError
 
 /// Asserts an answer.
 pub(crate) fn is(rt: &impl Abort, found: Result<Value, Stop>, want: Result<Value, Stop>) {
-    assert_eq!(rt; found, want);
+    holds!(rt; found == want);
 }
 
 /// Asserts the text of a value.
@@ -42,6 +43,6 @@ pub(crate) fn shows(
     want: &str,
 ) -> Result<(), Fail> {
     let text = machine.repr(setting, 400, 7, value?)?;
-    assert_eq!(rt; text.as_str(), want);
+    reads(rt, text.as_str(), want);
     Ok(())
 }

@@ -1,5 +1,6 @@
 //! Tests of stores, on examples.
 
+use crate::checks::{holds, reads};
 use sqlite_items::Boxed;
 use star_machine::gathered::Gathered;
 use star_store::arena::write::Change;
@@ -34,7 +35,12 @@ fn made(rt: &impl Abort, arena: &mut Arena, cell: Cell) -> Result<Value, Fail> {
     Ok(arena.make(cell)?)
 }
 
-fn text(alloc: Global, rt: &impl Abort, arena: &mut Arena, content: &str) -> Result<Value, Fail> {
+pub(crate) fn text(
+    alloc: Global,
+    rt: &impl Abort,
+    arena: &mut Arena,
+    content: &str,
+) -> Result<Value, Fail> {
     made(rt, arena, Cell::Text(Text::new(alloc, content)?))
 }
 
@@ -43,7 +49,7 @@ fn list(alloc: Global, rt: &impl Abort, arena: &mut Arena, items: &[Value]) -> R
     made(rt, arena, Cell::List(Values::new(items)))
 }
 
-fn tuple(
+pub(crate) fn tuple(
     alloc: Global,
     rt: &impl Abort,
     arena: &mut Arena,
@@ -63,7 +69,7 @@ fn range(
     made(rt, arena, Cell::Range(Range { start, stop, step }))
 }
 
-fn dict(alloc: Global, rt: &impl Abort, arena: &mut Arena) -> Result<Value, Fail> {
+pub(crate) fn dict(alloc: Global, rt: &impl Abort, arena: &mut Arena) -> Result<Value, Fail> {
     made(rt, arena, Cell::Dict(Entries::new(alloc)))
 }
 
@@ -78,7 +84,7 @@ fn shows(
 ) -> Result<(), Fail> {
     let mut budget = AMPLE;
     let text = repr(alloc, arena, homes, &mut budget, value)?;
-    assert_eq!(rt; text.as_str(), want);
+    reads(rt, text.as_str(), want);
     Ok(())
 }
 
@@ -95,12 +101,12 @@ fn tells(
 ) {
     let mut budget = Budget { steps, levels };
     let refusal = repr(alloc, arena, homes, &mut budget, value).err();
-    assert!(rt; refusal == want);
-    assert!(rt; budget.steps == left);
+    holds!(rt; refusal == want);
+    holds!(rt; budget.steps == left);
 }
 
 /// Asserts the answer of a write.
-fn writes(
+pub(crate) fn writes(
     rt: &impl Abort,
     arena: &mut Arena,
     homes: &Homes,
@@ -109,7 +115,20 @@ fn writes(
     want: Result<Option<Value>, StoreFault>,
 ) {
     let answer = arena.write(homes, target, change);
-    assert!(rt; answer == want);
+    holds!(rt; answer == want);
+}
+
+/// Asserts the answers of writes of one value, made one after the other.
+fn are_written(
+    rt: &impl Abort,
+    arena: &mut Arena,
+    homes: &Homes,
+    target: Value,
+    rows: &[(Change, Result<Option<Value>, StoreFault>)],
+) {
+    for (change, want) in rows {
+        writes(rt, arena, homes, target, *change, *want);
+    }
 }
 
 /// Asserts the answer of a look-up.
@@ -122,7 +141,7 @@ fn finds(
     want: Result<Option<Value>, StoreFault>,
 ) {
     let answer = arena.find(homes, dict, key);
-    assert!(rt; answer == want);
+    holds!(rt; answer == want);
 }
 
 /// Asserts whether a value may be written.
@@ -134,7 +153,7 @@ fn may_write(
     want: Result<(), StoreFault>,
 ) {
     let answer = arena.may_write(homes, target);
-    assert!(rt; answer == want);
+    holds!(rt; answer == want);
 }
 
 /// Opens an iteration if none is open.
@@ -144,7 +163,7 @@ fn iterate(rt: &impl Abort, arena: &mut Arena, value: Value) {
 }
 
 /// Asserts the answer of equality with these steps and levels, and how many steps it leaves.
-fn equals(
+pub(crate) fn equals(
     rt: &impl Abort,
     arena: &Arena,
     homes: &Homes,
@@ -155,9 +174,9 @@ fn equals(
 ) {
     let mut budget = Budget { steps, levels };
     let answer = equal(arena, homes, &mut budget, x, y);
-    assert!(rt; answer == want);
-    assert!(rt; budget.steps == left);
-    assert!(rt; budget.levels == levels);
+    holds!(rt; answer == want);
+    holds!(rt; budget.steps == left);
+    holds!(rt; budget.levels == levels);
 }
 
 /// Asserts the answer of order with 20 steps, and how many steps it leaves.
@@ -174,8 +193,8 @@ fn ordered(
         levels: 400,
     };
     let answer = order(arena, homes, &mut budget, x, y);
-    assert!(rt; answer == want);
-    assert!(rt; budget.steps == left);
+    holds!(rt; answer == want);
+    holds!(rt; budget.steps == left);
 }
 
 /// Asserts the answer of a key check with these steps and levels, and how many steps it leaves.
@@ -190,11 +209,11 @@ fn checks(
 ) {
     let mut budget = Budget { steps, levels };
     let answer = check_key(arena, homes, &mut budget, key);
-    assert!(rt; answer == want);
-    assert!(rt; budget.steps == left);
+    holds!(rt; answer == want);
+    holds!(rt; budget.steps == left);
 }
 
-// A list is iterated, written, shown and published.
+// A list is iterated, written and shown.
 fn a_list_in_its_life(
     rt: &impl Abort,
     alloc: Global,
@@ -202,35 +221,36 @@ fn a_list_in_its_life(
     homes: &Homes,
 ) -> Result<(), Fail> {
     let v = list(alloc, rt, arena, &[Value::Int(1)])?;
-    assert_eq!(rt; v, Value::Ref { home: 0, at: 0 });
+    let append = Change::Append(Value::Int(2));
+    holds!(rt; v == Value::Ref { home: 0, at: 0 });
     iterate(rt, arena, v);
-    writes(
-        rt,
-        arena,
-        homes,
-        v,
-        Change::Append(Value::Int(2)),
-        Err(StoreFault::Iterating),
-    );
+    writes(rt, arena, homes, v, append, Err(StoreFault::Iterating));
     may_write(rt, arena, homes, v, Err(StoreFault::Iterating));
     arena.close_iter(v);
     may_write(rt, arena, homes, v, Ok(()));
-    writes(rt, arena, homes, v, Change::Append(Value::Int(2)), Ok(None));
+    writes(rt, arena, homes, v, append, Ok(None));
     shows(alloc, rt, arena, homes, v, "[1, 2]")?;
     let t = text(alloc, rt, arena, "t")?;
-    writes(
-        rt,
-        arena,
-        homes,
-        t,
-        Change::Append(Value::Int(2)),
-        Err(StoreFault::BadType),
-    );
+    writes(rt, arena, homes, t, append, Err(StoreFault::BadType));
     may_write(rt, arena, homes, t, Err(StoreFault::BadType));
     Ok(())
 }
 
-// A published list is read and not written, and the first global of a name counts.
+// A published list is read and not written.
+fn a_published_list_is_only_read(
+    rt: &impl Abort,
+    alloc: Global,
+    arena: &mut Arena,
+    homes: &Homes,
+    v: Value,
+) -> Result<(), Fail> {
+    let change = Change::Append(Value::Int(3));
+    writes(rt, arena, homes, v, change, Err(StoreFault::Frozen));
+    may_write(rt, arena, homes, v, Err(StoreFault::Frozen));
+    shows(alloc, rt, arena, homes, v, "[1, 2]")
+}
+
+// The first global of a name counts.
 #[test]
 fn a_published_list(rt: HostRuntime) -> Result<(), Fail> {
     let alloc = rt.alloc();
@@ -240,16 +260,11 @@ fn a_published_list(rt: HostRuntime) -> Result<(), Fail> {
     globals.push((String::from_str(alloc, "v")?, v))?;
     globals.push((String::from_str(alloc, "v")?, Value::NoneValue))?;
     let frozen = freeze(arena, globals);
-    assert!(rt; frozen.global("v") == Some(v));
-    assert!(rt; frozen.global("w").is_none());
+    holds!(&rt; frozen.global("v") == Some(v));
+    holds!(&rt; frozen.global("w").is_none());
     let mut homes = Homes::new(alloc);
     homes.add(0, &frozen)?;
-    let mut arena = Arena::new(alloc, 1);
-    let change = Change::Append(Value::Int(3));
-    writes(&rt, &mut arena, &homes, v, change, Err(StoreFault::Frozen));
-    may_write(&rt, &arena, &homes, v, Err(StoreFault::Frozen));
-    shows(alloc, &rt, &arena, &homes, v, "[1, 2]")?;
-    Ok(())
+    a_published_list_is_only_read(&rt, alloc, &mut Arena::new(alloc, 1), &homes, v)
 }
 
 // Each change of a list, and each refusal.
@@ -262,46 +277,20 @@ fn changes_of_a_list(
     let l = list(alloc, rt, arena, &[])?;
     let one = Value::Int(1);
     let two = Value::Int(2);
-    writes(
-        rt,
-        arena,
-        homes,
-        l,
-        Change::Insert(1, one),
-        Err(StoreFault::Index),
-    );
-    writes(rt, arena, homes, l, Change::Insert(0, one), Ok(None));
-    writes(rt, arena, homes, l, Change::Insert(1, two), Ok(None));
-    writes(rt, arena, homes, l, Change::Set(1, one), Ok(Some(two)));
-    writes(
-        rt,
-        arena,
-        homes,
-        l,
-        Change::Set(2, one),
-        Err(StoreFault::Index),
-    );
-    writes(
-        rt,
-        arena,
-        homes,
-        l,
-        Change::RemoveAt(2),
-        Err(StoreFault::Index),
-    );
-    writes(rt, arena, homes, l, Change::RemoveAt(0), Ok(Some(one)));
-    writes(
-        rt,
-        arena,
-        homes,
-        l,
-        Change::Put(one, two),
-        Err(StoreFault::BadType),
-    );
+    let rows = [
+        (Change::Insert(1, one), Err(StoreFault::Index)),
+        (Change::Insert(0, one), Ok(None)),
+        (Change::Insert(1, two), Ok(None)),
+        (Change::Set(1, one), Ok(Some(two))),
+        (Change::Set(2, one), Err(StoreFault::Index)),
+        (Change::RemoveAt(2), Err(StoreFault::Index)),
+        (Change::RemoveAt(0), Ok(Some(one))),
+        (Change::Put(one, two), Err(StoreFault::BadType)),
+    ];
+    are_written(rt, arena, homes, l, &rows);
     shows(alloc, rt, arena, homes, l, "[1]")?;
     writes(rt, arena, homes, l, Change::Clear, Ok(None));
-    shows(alloc, rt, arena, homes, l, "[]")?;
-    Ok(())
+    shows(alloc, rt, arena, homes, l, "[]")
 }
 
 // Each change of a dictionary, and each refusal; the order of insertion stays, and True is another key than 1.
@@ -315,50 +304,32 @@ fn changes_of_a_dictionary(
     let a = text(alloc, rt, arena, "a")?;
     let b = text(alloc, rt, arena, "b")?;
     let b_again = text(alloc, rt, arena, "b")?;
-    writes(rt, arena, homes, d, Change::Put(b, Value::Int(1)), Ok(None));
-    writes(rt, arena, homes, d, Change::Put(a, Value::Int(2)), Ok(None));
-    writes(
-        rt,
-        arena,
-        homes,
-        d,
-        Change::Put(b_again, Value::Int(3)),
-        Ok(Some(Value::Int(1))),
-    );
+    let (one, three) = (Value::Int(1), Value::Int(3));
+    let rows = [
+        (Change::Put(b, one), Ok(None)),
+        (Change::Put(a, Value::Int(2)), Ok(None)),
+        (Change::Put(b_again, three), Ok(Some(one))),
+    ];
+    are_written(rt, arena, homes, d, &rows);
     shows(alloc, rt, arena, homes, d, "{\"b\": 3, \"a\": 2}")?;
-    finds(rt, arena, homes, d, b_again, Ok(Some(Value::Int(3))));
-    finds(rt, arena, homes, d, Value::Int(1), Ok(None));
-    finds(rt, arena, homes, d, d, Err(StoreFault::BadType));
-    finds(rt, arena, homes, a, a, Err(StoreFault::BadType));
-    writes(
-        rt,
-        arena,
-        homes,
-        d,
-        Change::Put(d, a),
-        Err(StoreFault::BadType),
-    );
-    writes(
-        rt,
-        arena,
-        homes,
-        d,
-        Change::Append(a),
-        Err(StoreFault::BadType),
-    );
-    writes(
-        rt,
-        arena,
-        homes,
-        d,
-        Change::Delete(b_again),
-        Ok(Some(Value::Int(3))),
-    );
-    writes(rt, arena, homes, d, Change::Delete(b), Err(StoreFault::Key));
+    for (dict, key, want) in [
+        (d, b_again, Ok(Some(three))),
+        (d, one, Ok(None)),
+        (d, d, Err(StoreFault::BadType)),
+        (a, a, Err(StoreFault::BadType)),
+    ] {
+        finds(rt, arena, homes, dict, key, want);
+    }
+    let rows = [
+        (Change::Put(d, a), Err(StoreFault::BadType)),
+        (Change::Append(a), Err(StoreFault::BadType)),
+        (Change::Delete(b_again), Ok(Some(three))),
+        (Change::Delete(b), Err(StoreFault::Key)),
+    ];
+    are_written(rt, arena, homes, d, &rows);
     shows(alloc, rt, arena, homes, d, "{\"a\": 2}")?;
     writes(rt, arena, homes, d, Change::Clear, Ok(None));
-    shows(alloc, rt, arena, homes, d, "{}")?;
-    Ok(())
+    shows(alloc, rt, arena, homes, d, "{}")
 }
 
 // A key check visits the key and the items of its tuples.
@@ -366,10 +337,14 @@ fn keys(rt: &impl Abort, alloc: Global, arena: &mut Arena, homes: &Homes) -> Res
     let empty = tuple(alloc, rt, arena, &[])?;
     let key = tuple(alloc, rt, arena, &[Value::Int(1), empty])?;
     let l = list(alloc, rt, arena, &[])?;
-    checks(rt, arena, homes, (10, 400), key, Ok(()), 7);
-    checks(rt, arena, homes, (10, 400), l, Err(StoreFault::BadType), 9);
-    checks(rt, arena, homes, (2, 400), key, Err(StoreFault::Steps), 0);
-    checks(rt, arena, homes, (10, 1), key, Err(StoreFault::Deep), 9);
+    for (budget, value, want, left) in [
+        ((10, 400), key, Ok(()), 7),
+        ((10, 400), l, Err(StoreFault::BadType), 9),
+        ((2, 400), key, Err(StoreFault::Steps), 0),
+        ((10, 1), key, Err(StoreFault::Deep), 9),
+    ] {
+        checks(rt, arena, homes, budget, value, want, left);
+    }
     Ok(())
 }
 
@@ -385,33 +360,13 @@ fn equality_of_what_holds_itself(
     writes(rt, arena, homes, x, Change::Append(x), Ok(None));
     writes(rt, arena, homes, y, Change::Append(y), Ok(None));
     let ample = 1_000_000;
-    equals(
-        rt,
-        arena,
-        homes,
-        (5, 400),
-        (x, y),
-        Err(StoreFault::Steps),
-        0,
-    );
-    equals(
-        rt,
-        arena,
-        homes,
-        (ample, 400),
-        (x, y),
-        Err(StoreFault::Deep),
-        ample - 400,
-    );
-    equals(
-        rt,
-        arena,
-        homes,
-        (ample, 400),
-        (x, x),
-        Err(StoreFault::Deep),
-        ample - 400,
-    );
+    for (steps, pair, want, left) in [
+        (5, (x, y), Err(StoreFault::Steps), 0),
+        (ample, (x, y), Err(StoreFault::Deep), ample - 400),
+        (ample, (x, x), Err(StoreFault::Deep), ample - 400),
+    ] {
+        equals(rt, arena, homes, (steps, 400), pair, want, left);
+    }
     Ok(())
 }
 
@@ -419,24 +374,29 @@ fn equality_of_what_holds_itself(
 fn equality(rt: &impl Abort, alloc: Global, arena: &mut Arena, homes: &Homes) -> Result<(), Fail> {
     let one = Value::Int(1);
     let two = Value::Int(2);
-    equals(
-        rt,
-        arena,
-        homes,
-        (9, 9),
-        (Value::Bool(true), one),
-        Ok(false),
-        8,
-    );
+    let truth = Value::Bool(true);
+    equals(rt, arena, homes, (9, 9), (truth, one), Ok(false), 8);
     let r = range(rt, arena, 0, 5, 3)?;
     let s = range(rt, arena, 0, 4, 3)?;
     equals(rt, arena, homes, (9, 9), (r, s), Ok(true), 8);
     let d = dict(alloc, rt, arena)?;
     let e = dict(alloc, rt, arena)?;
-    writes(rt, arena, homes, d, Change::Put(one, r), Ok(None));
-    writes(rt, arena, homes, d, Change::Put(two, s), Ok(None));
-    writes(rt, arena, homes, e, Change::Put(two, r), Ok(None));
-    writes(rt, arena, homes, e, Change::Put(one, r), Ok(None));
+    let (first, second) = (Change::Put(one, r), Change::Put(two, s));
+    are_written(
+        rt,
+        arena,
+        homes,
+        d,
+        &[(first, Ok(None)), (second, Ok(None))],
+    );
+    let second = Change::Put(two, r);
+    are_written(
+        rt,
+        arena,
+        homes,
+        e,
+        &[(second, Ok(None)), (first, Ok(None))],
+    );
     equals(rt, arena, homes, (9, 9), (d, e), Ok(true), 6);
     Ok(())
 }
@@ -451,12 +411,16 @@ fn orders(rt: &impl Abort, alloc: Global, arena: &mut Arena, homes: &Homes) -> R
     let x = list(alloc, rt, arena, &[one, one])?;
     let y = list(alloc, rt, arena, &[one, two])?;
     let z = list(alloc, rt, arena, &[one])?;
-    ordered(rt, arena, homes, (two, one), Ok(Ordering::Greater), 19);
-    ordered(rt, arena, homes, bools, Ok(Ordering::Less), 19);
-    ordered(rt, arena, homes, (t, u), Ok(Ordering::Less), 19);
-    ordered(rt, arena, homes, (one, t), Err(StoreFault::BadType), 19);
-    ordered(rt, arena, homes, (x, y), Ok(Ordering::Less), 16);
-    ordered(rt, arena, homes, (x, z), Ok(Ordering::Greater), 18);
+    for (pair, want, left) in [
+        ((two, one), Ok(Ordering::Greater), 19),
+        (bools, Ok(Ordering::Less), 19),
+        ((t, u), Ok(Ordering::Less), 19),
+        ((one, t), Err(StoreFault::BadType), 19),
+        ((x, y), Ok(Ordering::Less), 16),
+        ((x, z), Ok(Ordering::Greater), 18),
+    ] {
+        ordered(rt, arena, homes, pair, want, left);
+    }
     Ok(())
 }
 
@@ -476,28 +440,21 @@ fn texts_of_what_holds_itself(
     let key = text(alloc, rt, arena, "d")?;
     writes(rt, arena, homes, d, Change::Put(key, d), Ok(None));
     shows(alloc, rt, arena, homes, d, "{\"d\": {...}}")?;
-    tells(alloc, rt, arena, homes, (4, 400), d, None, 1);
-    tells(
-        alloc,
-        rt,
-        arena,
-        homes,
-        (1, 400),
-        d,
-        Some(StoreFault::Steps),
-        0,
-    );
-    tells(
-        alloc,
-        rt,
-        arena,
-        homes,
-        (4, 1),
-        d,
-        Some(StoreFault::Deep),
-        3,
-    );
+    for (budget, want, left) in [
+        ((4, 400), None, 1),
+        ((1, 400), Some(StoreFault::Steps), 0),
+        ((4, 1), Some(StoreFault::Deep), 3),
+    ] {
+        tells(alloc, rt, arena, homes, budget, d, want, left);
+    }
     Ok(())
+}
+
+/// Asserts slots.
+fn are_slots(rt: &impl Abort, slots: &Slots, rows: &[(usize, Option<Option<Value>>)]) {
+    for (at, want) in rows {
+        holds!(rt; slots.get(*at) == *want);
+    }
 }
 
 // Slots are bound in any order, near ones and far ones, and another value takes the place of the first.
@@ -517,53 +474,134 @@ fn slots_near_and_far(rt: HostRuntime) -> Result<(), Fail> {
     ] {
         slots.set(at, Value::Int(number))?;
     }
-    for (at, number) in [(0, 2), (15, 4), (27, 5), (39, 6), (50, 7), (99, 8)] {
-        assert_eq!(rt; slots.get(at), Some(Some(Value::Int(number))));
-    }
-    assert_eq!(rt; slots.get(16), Some(None));
-    assert_eq!(rt; slots.get(98), Some(None));
-    assert_eq!(rt; slots.get(100), None);
+    let rows = [
+        (0, Some(Some(Value::Int(2)))),
+        (15, Some(Some(Value::Int(4)))),
+        (27, Some(Some(Value::Int(5)))),
+        (39, Some(Some(Value::Int(6)))),
+        (50, Some(Some(Value::Int(7)))),
+        (99, Some(Some(Value::Int(8)))),
+        (16, Some(None)),
+        (98, Some(None)),
+        (100, None),
+    ];
+    are_slots(&rt, &slots, &rows);
     Ok(())
 }
 
-// Slots over defaults have them until they are bound, and so has what shares the defaults.
-#[test]
-fn slots_over_defaults(rt: HostRuntime) -> Result<(), Fail> {
-    let alloc = rt.alloc();
-    let row = vec![in alloc; Value::Int(70), Value::Int(71), Value::Int(72)]?;
-    let defaults = Defaults::new(row)?;
+/// Slots over defaults, each by its rank.
+fn over(
+    alloc: Global,
+    count: usize,
+    ranks: Vec<Option<usize>>,
+    defaults: &Defaults,
+) -> Result<Slots, Fail> {
+    let ranks = ArcSlice::from_vec(ranks)?;
+    Ok(Slots::over(alloc, count, ranks, defaults.share()?)?)
+}
+
+// Slots over defaults have them until they are bound.
+fn slots_have_defaults(rt: &impl Abort, alloc: Global, defaults: &Defaults) -> Result<(), Fail> {
     let ranks = vec![in alloc; None, None, Some(0), Some(1), Some(2)]?;
-    let mut slots = Slots::over(alloc, 6, ArcSlice::from_vec(ranks)?, defaults.share()?)?;
+    let mut slots = over(alloc, 6, ranks, defaults)?;
     slots.set(3, Value::Int(1))?;
-    for (at, slot) in [
+    let rows = [
         (1, Some(None)),
         (2, Some(Some(Value::Int(70)))),
         (3, Some(Some(Value::Int(1)))),
         (4, Some(Some(Value::Int(72)))),
         (5, Some(None)),
         (6, None),
-    ] {
-        assert_eq!(rt; slots.get(at), slot);
-    }
+    ];
+    are_slots(rt, &slots, &rows);
+    Ok(())
+}
+
+// The ranks may be in any order, and lead to no default.
+fn slots_have_ranks(rt: &impl Abort, alloc: Global, defaults: &Defaults) -> Result<(), Fail> {
     let ranks = vec![in alloc; Some(1), None, Some(7)]?;
-    let turned = Slots::over(alloc, 3, ArcSlice::from_vec(ranks)?, defaults.share()?)?;
-    assert_eq!(rt; turned.get(0), Some(Some(Value::Int(71))));
-    assert_eq!(rt; turned.get(1), Some(None));
-    assert_eq!(rt; turned.get(2), Some(None));
+    let turned = over(alloc, 3, ranks, defaults)?;
+    let rows = [
+        (0, Some(Some(Value::Int(71)))),
+        (1, Some(None)),
+        (2, Some(None)),
+    ];
+    are_slots(rt, &turned, &rows);
+    Ok(())
+}
+
+fn a_far_slot_has_its_default(
+    rt: &impl Abort,
+    alloc: Global,
+    defaults: &Defaults,
+) -> Result<(), Fail> {
     let mut ranks = Vec::new(alloc);
     ranks.resize(21, None)?;
     ranks.push(Some(1))?;
-    let far = Slots::over(alloc, 30, ArcSlice::from_vec(ranks)?, defaults.share()?)?;
-    assert_eq!(rt; far.get(20), Some(None));
-    assert_eq!(rt; far.get(21), Some(Some(Value::Int(71))));
-    assert!(rt; defaults.as_slice() == [Value::Int(70), Value::Int(71), Value::Int(72)].as_slice());
-    assert_eq!(rt; defaults.len(), 3);
-    assert_eq!(rt; defaults.get(2), Some(Value::Int(72)));
-    assert_eq!(rt; defaults.get(3), None);
-    let none = Defaults::new(Vec::new(alloc))?;
-    assert!(rt; none.as_slice().is_empty());
-    assert_eq!(rt; none.share()?.len(), 0);
+    let far = over(alloc, 30, ranks, defaults)?;
+    let rows = [(20, Some(None)), (21, Some(Some(Value::Int(71))))];
+    are_slots(rt, &far, &rows);
     Ok(())
+}
+
+/// Asserts default values.
+fn are_defaults(rt: &impl Abort, defaults: &Defaults, want: &[Value]) {
+    holds!(rt; defaults.as_slice() == want);
+    holds!(rt; defaults.len() == want.len());
+    holds!(rt; defaults.get(2) == want.get(2).copied());
+    holds!(rt; defaults.get(3).is_none());
+}
+
+// What shares the defaults has them too.
+#[test]
+fn slots_over_defaults(rt: HostRuntime) -> Result<(), Fail> {
+    let alloc = rt.alloc();
+    let row = [Value::Int(70), Value::Int(71), Value::Int(72)];
+    let defaults = Defaults::new(Vec::from_slice(alloc, &row)?)?;
+    slots_have_defaults(&rt, alloc, &defaults)?;
+    slots_have_ranks(&rt, alloc, &defaults)?;
+    a_far_slot_has_its_default(&rt, alloc, &defaults)?;
+    are_defaults(&rt, &defaults, &row);
+    let none = Defaults::new(Vec::new(alloc))?;
+    are_defaults(&rt, &none, &[]);
+    are_defaults(&rt, &none.share()?, &[]);
+    Ok(())
+}
+
+/// A frame of 100 slots, of which none is bound.
+fn frame(alloc: Global, rt: &impl Abort, arena: &mut Arena) -> Result<Value, Fail> {
+    let frame = Frame {
+        file: 0,
+        block: 0,
+        parent: None,
+        slots: Slots::unbound(alloc, 100)?,
+    };
+    made(rt, arena, Cell::Frame(BoxedFrame::new(alloc, frame)?))
+}
+
+/// A function with the name `f`.
+fn function(
+    alloc: Global,
+    rt: &impl Abort,
+    arena: &mut Arena,
+    frame: Value,
+) -> Result<Value, Fail> {
+    let function = Function {
+        file: 0,
+        definition: 3,
+        name: Text::new(alloc, "f")?,
+        defaults: Defaults::new(Vec::new(alloc))?,
+        frame,
+    };
+    made(rt, arena, Cell::Func(Boxed::new(alloc, function)?))
+}
+
+/// The first slot of a frame.
+fn first_slot(arena: &Arena, homes: &Homes, frame: Value) -> Option<Option<Value>> {
+    match arena.read(homes, frame) {
+        Some(Cell::Frame(found)) => found.get().slots.get(0),
+        _ => None,
+    }
 }
 
 // A frame's slot is bound, and a function shows its name.
@@ -573,31 +611,64 @@ fn frames_and_functions(
     arena: &mut Arena,
     homes: &Homes,
 ) -> Result<(), Fail> {
-    let frame = Frame {
-        file: 0,
-        block: 0,
-        parent: None,
-        slots: Slots::unbound(alloc, 100)?,
-    };
-    let frame = BoxedFrame::new(alloc, frame)?;
-    let frame = made(rt, arena, Cell::Frame(frame))?;
+    let frame = frame(alloc, rt, arena)?;
     arena.bind(frame, 0, Value::Int(7))?;
-    let slot = match arena.read(homes, frame) {
-        Some(Cell::Frame(found)) => found.get().slots.get(0),
-        _ => None,
-    };
-    assert_eq!(rt; slot, Some(Some(Value::Int(7))));
-    let function = Function {
-        file: 0,
-        definition: 3,
-        name: Text::new(alloc, "f")?,
-        defaults: Defaults::new(Vec::new(alloc))?,
-        frame,
-    };
-    let function = Boxed::new(alloc, function)?;
-    let function = made(rt, arena, Cell::Func(function))?;
+    holds!(rt; first_slot(arena, homes, frame) == Some(Some(Value::Int(7))));
+    let function = function(alloc, rt, arena, frame)?;
     shows(alloc, rt, arena, homes, function, "<function f>")?;
-    assert!(rt; is_true(arena, homes, function));
+    holds!(rt; is_true(arena, homes, function));
+    Ok(())
+}
+
+/// Asserts that a value is no key.
+fn is_no_key(
+    rt: &impl Abort,
+    alloc: Global,
+    arena: &Arena,
+    homes: &Homes,
+    value: Value,
+) -> Result<(), Fail> {
+    let found = content(alloc, arena, homes, value)?;
+    holds!(rt; found.is_none());
+    Ok(())
+}
+
+/// Asserts that two values have one content.
+fn have_one_content(
+    rt: &impl Abort,
+    alloc: Global,
+    arena: &Arena,
+    homes: &Homes,
+    (x, y): (Value, Value),
+) -> Result<(), Fail> {
+    let found = content(alloc, arena, homes, x)?;
+    let other = content(alloc, arena, homes, y)?;
+    holds!(rt; found == other);
+    Ok(())
+}
+
+/// Asserts the content of a tuple of the string `a`, of a tuple of True and None, and of -7.
+fn has_content(
+    rt: &impl Abort,
+    alloc: Global,
+    arena: &Arena,
+    homes: &Homes,
+    key: Value,
+) -> Result<(), Fail> {
+    let wanted = [
+        Atom::Row(3),
+        Atom::Text(Text::new(alloc, "a")?),
+        Atom::Row(2),
+        Atom::Bool(true),
+        Atom::Nothing,
+        Atom::Int(-7),
+    ];
+    let found = content(alloc, arena, homes, key)?;
+    let atoms = match &found {
+        Some(found) => found.as_slice(),
+        None => &[],
+    };
+    holds!(rt; atoms == wanted.as_slice());
     Ok(())
 }
 
@@ -610,37 +681,23 @@ fn a_key_has_its_content(
     let word = text(alloc, rt, arena, "a")?;
     let inner = tuple(alloc, rt, arena, &[Value::Bool(true), Value::NoneValue])?;
     let key = tuple(alloc, rt, arena, &[word, inner, Value::Int(-7)])?;
-    let wanted = vec![in alloc;
-        Atom::Row(3),
-        Atom::Text(Text::new(alloc, "a")?),
-        Atom::Row(2),
-        Atom::Bool(true),
-        Atom::Nothing,
-        Atom::Int(-7),
-    ]?;
-    let found = content(alloc, arena, homes, key)?;
-    let atoms = match &found {
-        Some(found) => found.as_slice(),
-        None => &[],
-    };
-    assert!(rt; atoms == wanted.as_slice());
+    has_content(rt, alloc, arena, homes, key)?;
     let twin = text(alloc, rt, arena, "a")?;
-    assert!(rt; content(alloc, arena, homes, word)? == content(alloc, arena, homes, twin)?);
+    have_one_content(rt, alloc, arena, homes, (word, twin))?;
     let items = list(alloc, rt, arena, &[word])?;
     let other = tuple(alloc, rt, arena, &[word, items])?;
-    assert!(rt; content(alloc, arena, homes, other)?.is_none());
-    Ok(())
+    is_no_key(rt, alloc, arena, homes, other)
 }
 
 fn rows_with_room(rt: &impl Abort, alloc: Global) -> Result<(), Fail> {
     let mut entries = Entries::with_capacity(alloc, 1)?;
-    assert_eq!(rt; entries.len(), 0);
+    holds!(rt; entries.len() == 0);
     entries.push(Value::Int(1), Value::NoneValue)?;
     entries.push(Value::Int(2), Value::Bool(true))?;
-    assert_eq!(rt; entries.get(0), Some((Value::Int(1), Value::NoneValue)));
-    assert_eq!(rt; entries.get(1), Some((Value::Int(2), Value::Bool(true))));
-    let gathered = Gathered::with_capacity(alloc, 1)?;
-    assert_eq!(rt; gathered.into_entries().len(), 0);
+    holds!(rt; entries.get(0) == Some((Value::Int(1), Value::NoneValue)));
+    holds!(rt; entries.get(1) == Some((Value::Int(2), Value::Bool(true))));
+    let gathered = Gathered::with_capacity(alloc, 1)?.into_entries();
+    holds!(rt; gathered.len() == 0);
     Ok(())
 }
 
