@@ -3,6 +3,7 @@
 
 ghost use Rattle.star_folder.specs.Folder.{unsaid};
 
+use crate::checks::{holds, reads};
 use star_bundle::error::ServeError;
 use star_folder::disk::{DiskFolder, front_at, path_of};
 use star_folder::folder::{Folder, FolderError, Kind};
@@ -49,7 +50,7 @@ fn files_of_a_tree(rt: HostRuntime) -> Result<(), Fail> {
         file("lib/deep", "c.star", b""),
     ];
     let files = files_in(rt.alloc(), &mut MemoryFolder::new(&rows))?;
-    assert_eq!(rt; files.len(), 4);
+    holds!(&rt; files.len() == 4);
     for (n, label, text) in [
         (0, "//:a.star", "load('//lib:b.star', 'k')"),
         (1, "//:z.star", "z = 1"),
@@ -57,11 +58,11 @@ fn files_of_a_tree(rt: HostRuntime) -> Result<(), Fail> {
         (3, "//lib:b.star", "k = 1"),
     ] {
         assert!(rt; n < files.len());
-        assert_eq!(rt; files.label(n).text(), label);
-        assert_eq!(rt; files.text(n), text);
+        reads(&rt, files.label(n).text(), label);
+        reads(&rt, files.text(n), text);
     }
     let none = files_in(rt.alloc(), &mut MemoryFolder::new(&[]))?;
-    assert!(rt; none.is_empty());
+    holds!(&rt; none.is_empty());
     Ok(())
 }
 
@@ -72,7 +73,7 @@ fn refuses<H: Abort>(
     want: ServeError,
 ) -> Result<(), Fail> {
     let refused = files_in(alloc, &mut MemoryFolder::new(rows)).err();
-    assert_eq!(rt; refused, Some(want));
+    holds!(rt; refused == Some(want));
     Ok(())
 }
 
@@ -128,10 +129,11 @@ impl Folder for Many {
 #[test]
 fn more_than_the_limits(rt: HostRuntime) -> Result<(), Fail> {
     let alloc = rt.alloc();
-    assert_eq!(rt; files_in(alloc, &mut Many(10_000))?.len(), 10_000);
+    let files = files_in(alloc, &mut Many(10_000))?;
+    holds!(&rt; files.len() == 10_000);
     for count in [10_001, 100_001] {
         let refused = files_in(alloc, &mut Many(count)).err();
-        assert_eq!(rt; refused, Some(ServeError::TooMany));
+        holds!(&rt; refused == Some(ServeError::TooMany));
     }
     Ok(())
 }
@@ -139,10 +141,11 @@ fn more_than_the_limits(rt: HostRuntime) -> Result<(), Fail> {
 #[test]
 fn folders_of_the_disk(rt: HostRuntime) -> Result<(), Fail> {
     let alloc = rt.alloc();
-    assert!(rt; files_in(alloc, &mut DiskFolder::new(&rt, "."))?.is_empty());
+    let files = files_in(alloc, &mut DiskFolder::new(&rt, "."))?;
+    holds!(&rt; files.is_empty());
     for none in ["", "no-such-folder"] {
         let refused = files_in(alloc, &mut DiskFolder::new(&rt, none)).err();
-        assert_eq!(rt; refused, Some(ServeError::BadDir));
+        holds!(&rt; refused == Some(ServeError::BadDir));
     }
     Ok(())
 }
@@ -156,14 +159,14 @@ fn files_of_the_disk(rt: HostRuntime) -> Result<(), Fail> {
         ("/", "//a/b/c.star"),
         ("", "a/b/c.star"),
     ] {
-        assert_eq!(rt; path_of(alloc, top, &label)?.as_str(), want);
+        reads(&rt, path_of(alloc, top, &label)?.as_str(), want);
     }
     let label = Label::read(alloc, "//:BUILD", "")?;
-    assert_eq!(rt; path_of(alloc, ".", &label)?.as_str(), ".//BUILD");
+    reads(&rt, path_of(alloc, ".", &label)?.as_str(), ".//BUILD");
     fs::write(&rt, "front-of-a-file", "x = 1")?;
     let front = front_at(&rt, String::from_str(alloc, "front-of-a-file")?, 3)?;
     fs::remove_file(&rt, "front-of-a-file")?;
-    assert_eq!(rt; front.bytes.as_slice(), b"x =".as_slice());
-    assert_eq!(rt; front.path.as_str(), "front-of-a-file");
+    holds!(&rt; front.bytes.as_slice() == b"x =".as_slice());
+    reads(&rt, front.path.as_str(), "front-of-a-file");
     Ok(())
 }

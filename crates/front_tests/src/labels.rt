@@ -1,5 +1,6 @@
 //! Tests of labels and of numbered files, with values from the environment, so that no compiler can fold them.
 
+use crate::checks::{answers, hold, holds, reads};
 use star_label::error::LabelError;
 use star_label::files::Files;
 use star_label::label::Label;
@@ -65,16 +66,16 @@ fn reads_the_table(rt: HostRuntime) -> Result<(), Fail> {
             continue;
         };
         assert!(rt; is_package(package), "{package}");
-        match Label::read(alloc, text, package) {
-            Ok(label) => assert_eq!(rt; label.text(), wanted, "{text} in {package}"),
-            Err(error) => {
-                assert_eq!(rt; error, LabelError::BadLabel, "{text} in {package}");
-                assert_eq!(rt; wanted, "!", "{text} in {package}");
-            }
-        }
+        let label = Label::read(alloc, text, package);
+        let found = match &label {
+            Ok(label) => label.text(),
+            Err(LabelError::BadLabel) => "!",
+            Err(_) => "another fault",
+        };
+        answers(&rt, text, found, wanted);
         rows = u32::saturating_add(rows, 1);
     }
-    assert_eq!(rt; rows, 256);
+    holds!(&rt; rows == 256);
     Ok(())
 }
 
@@ -83,10 +84,10 @@ fn has_a_package_and_a_text(rt: HostRuntime) -> Result<(), Fail> {
     let alloc = rt.alloc();
     assert!(rt; is_package("lib"));
     let label = Label::read(alloc, ":x.star", "lib")?;
-    assert_eq!(rt; label.text(), "//lib:x.star");
-    assert_eq!(rt; label.package(), "lib");
-    let text = format!(in alloc; "{label}")?;
-    assert_eq!(rt; text.as_str(), "//lib:x.star");
+    reads(&rt, label.text(), "//lib:x.star");
+    reads(&rt, label.package(), "lib");
+    let text = format!(in alloc; "{}", &label)?;
+    reads(&rt, text.as_str(), "//lib:x.star");
     Ok(())
 }
 
@@ -94,9 +95,9 @@ fn has_a_package_and_a_text(rt: HostRuntime) -> Result<(), Fail> {
 fn stands_at_folders(rt: HostRuntime) -> Result<(), Fail> {
     let alloc = rt.alloc();
     let deep = Label::at(alloc, &["lib", "a-b"], "b.star")?;
-    assert_eq!(rt; deep.text(), "//lib/a-b:b.star");
+    reads(&rt, deep.text(), "//lib/a-b:b.star");
     let top = Label::at(alloc, &[], "b.star")?;
-    assert_eq!(rt; top.text(), "//:b.star");
+    reads(&rt, top.text(), "//:b.star");
     for (folder, name) in [
         ("lib", "x y.star"),
         ("..", "x"),
@@ -104,11 +105,8 @@ fn stands_at_folders(rt: HostRuntime) -> Result<(), Fail> {
         ("", "x"),
         ("lib", ""),
     ] {
-        let refused = Label::at(alloc, &[folder], name);
-        assert!(rt;
-            matches!(refused, Err(LabelError::BadLabel)),
-            "{folder} {name}"
-        );
+        let refused = Label::at(alloc, &[folder], name).err();
+        hold(&rt, refused == Some(LabelError::BadLabel), name);
     }
     Ok(())
 }
@@ -127,20 +125,17 @@ fn many(alloc: Global, count: usize) -> Result<BTreeMap<Label, String>, Fail> {
 fn takes_ten_thousand_files(rt: HostRuntime) -> Result<(), Fail> {
     let alloc = rt.alloc();
     let files = Files::new(alloc, many(alloc, 10_000)?)?;
-    assert_eq!(rt; files.len(), 10_000);
+    holds!(&rt; files.len() == 10_000);
     let more = Files::new(alloc, many(alloc, 10_001)?);
-    assert!(rt; matches!(more, Err(LabelError::TooMany)));
+    holds!(&rt; matches!(&more, Err(LabelError::TooMany)));
     let none = Files::new(alloc, BTreeMap::new(alloc))?;
-    assert!(rt; none.is_empty());
+    holds!(&rt; none.is_empty());
     Ok(())
 }
 
 /// One file with a text of `bytes` bytes.
 fn one(alloc: Global, bytes: usize) -> Result<Result<Files, LabelError>, Fail> {
-    let mut text = String::new(alloc);
-    for _ in 0..bytes {
-        text.push('x')?;
-    }
+    let text = "x".repeat(alloc, bytes)?;
     let mut files = BTreeMap::new(alloc);
     files.insert(Label::read(alloc, "//:a", "")?, text)?;
     Ok(Files::new(alloc, files))
@@ -151,30 +146,35 @@ fn takes_a_text_of_a_mebibyte(rt: HostRuntime) -> Result<(), Fail> {
     let alloc = rt.alloc();
     let files = one(alloc, 1_048_576)??;
     assert!(rt; files.len() == 1);
-    assert_eq!(rt; files.text(0).len(), 1_048_576);
+    holds!(&rt; files.text(0).len() == 1_048_576);
     let longer = one(alloc, 1_048_577)?;
-    assert!(rt; matches!(longer, Err(LabelError::TooLong)));
+    holds!(&rt; matches!(&longer, Err(LabelError::TooLong)));
     Ok(())
+}
+
+/// Four files, each with its label for its text.
+fn four(alloc: Global) -> Result<Files, Fail> {
+    let mut files = BTreeMap::new(alloc);
+    for name in ["//b:a", "//:z", "//a/b:x", "//a:y"] {
+        let text = String::from_str(alloc, name)?;
+        files.insert(Label::read(alloc, name, "")?, text)?;
+    }
+    Ok(Files::new(alloc, files)?)
 }
 
 #[test]
 fn numbers_by_the_order_of_labels(rt: HostRuntime) -> Result<(), Fail> {
     let alloc = rt.alloc();
-    let mut files = BTreeMap::new(alloc);
-    for name in ["//b:a", "//:z", "//a/b:x", "//a:y"] {
-        files.insert(
-            Label::read(alloc, name, "")?,
-            String::from_str(alloc, name)?,
-        )?;
-    }
-    let files = Files::new(alloc, files)?;
+    let files = four(alloc)?;
     assert!(rt; files.len() == 4);
     for (n, name) in ["//:z", "//a/b:x", "//a:y", "//b:a"].iter().enumerate() {
         assert!(rt; n < files.len());
-        assert_eq!(rt; files.label(n).text(), *name);
-        assert_eq!(rt; files.text(n), *name);
-        assert_eq!(rt; files.find(&Label::read(alloc, *name, "")?), Some(n));
+        reads(&rt, files.label(n).text(), *name);
+        reads(&rt, files.text(n), *name);
+        let label = Label::read(alloc, *name, "")?;
+        holds!(&rt; files.find(&label) == Some(n));
     }
-    assert_eq!(rt; files.find(&Label::read(alloc, "//:y", "")?), None);
+    let label = Label::read(alloc, "//:y", "")?;
+    holds!(&rt; files.find(&label) == None);
     Ok(())
 }

@@ -9,6 +9,8 @@
 #[cfg(test)]
 mod bundle;
 #[cfg(test)]
+mod checks;
+#[cfg(test)]
 mod folder;
 #[cfg(test)]
 mod labels;

@@ -1,5 +1,6 @@
 //! Tests of the resolver: the spots of the names of small files.
 
+use crate::checks::{answers, holds};
 use star_label::files::Files;
 use star_label::label::Label;
 use star_parser::parse;
@@ -46,11 +47,11 @@ fn two(alloc: Global) -> Result<Files, Fail> {
 }
 
 /// The tokens below 64 that have spots, with these; or the line of the first undefined name.
-fn shown(alloc: Global, answer: Result<Program<'_>, ScopeFault>) -> Result<String, AllocError> {
+fn shown(alloc: Global, answer: &Result<Program<'_>, ScopeFault>) -> Result<String, AllocError> {
     let program = match answer {
         Ok(program) => program,
         Err(ScopeFault::Undefined { line }) => return format!(in alloc; "undefined {line}"),
-        Err(_) => return format!(in alloc; "another fault"),
+        Err(_) => return String::from_str(alloc, "another fault"),
     };
     let mut out = String::new(alloc);
     for token in 0..64usize {
@@ -74,20 +75,17 @@ fn check(rt: &impl Abort, alloc: Global, cells: &[&str]) -> Result<(), Fail> {
     };
     let files = two(alloc)?;
     assert!(rt; 0 < files.len());
-    let mut trees = Vec::new(alloc);
-    trees.push(parse(alloc, outside)?)?;
-    trees.push(parse(alloc, text)?)?;
-    let [first, tree] = trees.as_slice() else {
-        return Ok(());
-    };
+    let trees = [parse(alloc, outside)?, parse(alloc, text)?];
+    let [first, tree] = &trees;
     let prelude = Prelude::new(alloc, 1, Some(first))?;
     let seen = if outside.is_empty() {
         None
     } else {
         Some(&prelude)
     };
-    let found = shown(alloc, resolve(alloc, &files, 0, tree, seen))?;
-    assert_eq!(rt; found.as_str(), *wanted, "{text}");
+    let answer = resolve(alloc, &files, 0, tree, seen);
+    let found = shown(alloc, &answer)?;
+    answers(rt, text, found.as_str(), *wanted);
     Ok(())
 }
 
@@ -100,7 +98,7 @@ fn places_names(rt: HostRuntime) -> Result<(), Fail> {
         check(&rt, rt.alloc(), cells.as_slice())?;
         rows = u32::saturating_add(rows, 1);
     }
-    assert_eq!(rt; rows, 16);
+    holds!(&rt; rows == 16);
     Ok(())
 }
 
@@ -122,6 +120,6 @@ fn a_name_is_found_many_blocks_up(rt: HostRuntime) -> Result<(), Fail> {
     let text = nested_functions(alloc, 99)?;
     let tree = parse(alloc, text.as_str())?;
     let program = resolve(alloc, &files, 0, &tree, None)?;
-    assert!(rt; program.spot(200) == Some(Spot::Frame { up: 99, slot: 0 }));
+    holds!(&rt; program.spot(200) == Some(Spot::Frame { up: 99, slot: 0 }));
     Ok(())
 }

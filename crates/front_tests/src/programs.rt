@@ -1,5 +1,6 @@
 //! Tests of the resolver: whole files, by their texts, with their definitions, blocks and loads.
 
+use crate::checks::{answers, holds, reads};
 use star_label::files::Files;
 use star_label::label::Label;
 use star_parser::parse;
@@ -10,17 +11,27 @@ use std::alloc::{AllocError, Global};
 use std::collections::BTreeMap;
 use std::test::Fail;
 
+/// The name of a fault, and its line: 0 for want of memory.
+pub(crate) fn named(fault: ScopeFault) -> (&'static str, usize) {
+    match fault {
+        ScopeFault::Undefined { line } => ("undefined", line),
+        ScopeFault::BadPlace { line } => ("place", line),
+        ScopeFault::Conflict { line } => ("conflict", line),
+        ScopeFault::Private { line } => ("private", line),
+        ScopeFault::NoFile { line } => ("no_file", line),
+        ScopeFault::BadLabel { line } => ("bad_label", line),
+        ScopeFault::Memory => ("memory", 0),
+    }
+}
+
 /// The name of a fault and its line, or `-` for a program.
-fn shown(alloc: Global, answer: Result<Program<'_>, ScopeFault>) -> Result<String, AllocError> {
+fn shown(alloc: Global, answer: &Result<Program<'_>, ScopeFault>) -> Result<String, AllocError> {
     match answer {
-        Ok(_) => format!(in alloc; "-"),
-        Err(ScopeFault::Undefined { line }) => format!(in alloc; "undefined {line}"),
-        Err(ScopeFault::BadPlace { line }) => format!(in alloc; "place {line}"),
-        Err(ScopeFault::Conflict { line }) => format!(in alloc; "conflict {line}"),
-        Err(ScopeFault::Private { line }) => format!(in alloc; "private {line}"),
-        Err(ScopeFault::NoFile { line }) => format!(in alloc; "no_file {line}"),
-        Err(ScopeFault::BadLabel { line }) => format!(in alloc; "bad_label {line}"),
-        Err(ScopeFault::Memory) => format!(in alloc; "memory"),
+        Ok(_) => String::from_str(alloc, "-"),
+        Err(fault) => {
+            let (name, line) = named(*fault);
+            format!(in alloc; "{name} {line}")
+        }
     }
 }
 
@@ -121,11 +132,11 @@ fn answers_a_program_or_the_first_fault(rt: HostRuntime) -> Result<(), Fail> {
             continue;
         };
         let tree = parse(alloc, text)?;
-        let answer = shown(alloc, resolve(alloc, &files, 0, &tree, None))?;
-        assert_eq!(rt; answer.as_str(), wanted, "{text}");
+        let answer = shown(alloc, &resolve(alloc, &files, 0, &tree, None))?;
+        answers(&rt, text, answer.as_str(), wanted);
         rows = u32::saturating_add(rows, 1);
     }
-    assert_eq!(rt; rows, 74);
+    holds!(&rt; rows == 74);
     Ok(())
 }
 
@@ -141,15 +152,15 @@ const PRELUDES: &str = "\
     \x1ex = zz\x1fx = 1\x1f-\x1fundefined 1";
 
 /// The answers for `//:a.star` and for the prelude `//:b.star`, whose tree comes first.
-fn answers(alloc: Global, files: &Files, trees: &[Tree]) -> Result<(String, String), Fail> {
+fn both_answers(alloc: Global, files: &Files, trees: &[Tree]) -> Result<(String, String), Fail> {
     let own = String::new(alloc);
     match trees {
         [first, file] if files.len() == 2 => {
             let prelude = Prelude::new(alloc, 1, Some(first))?;
             let program = resolve(alloc, files, 0, file, Some(&prelude));
-            let own = shown(alloc, program)?;
+            let own = shown(alloc, &program)?;
             let program = resolve(alloc, files, 1, first, Some(&prelude));
-            Ok((own, shown(alloc, program)?))
+            Ok((own, shown(alloc, &program)?))
         }
         _ => Ok((own, String::new(alloc))),
     }
@@ -170,15 +181,13 @@ fn sees_the_prelude(rt: HostRuntime) -> Result<(), Fail> {
         let Some((own, its)) = wanted.split_once('\x1f') else {
             continue;
         };
-        let mut trees = Vec::new(alloc);
-        trees.push(parse(alloc, first)?)?;
-        trees.push(parse(alloc, text)?)?;
-        let (of_file, of_prelude) = answers(alloc, &files, trees.as_slice())?;
-        assert_eq!(rt; of_file.as_str(), own, "{text}");
-        assert_eq!(rt; of_prelude.as_str(), its, "{first}");
+        let trees = [parse(alloc, first)?, parse(alloc, text)?];
+        let (of_file, of_prelude) = both_answers(alloc, &files, &trees)?;
+        answers(&rt, text, of_file.as_str(), own);
+        answers(&rt, first, of_prelude.as_str(), its);
         rows = u32::saturating_add(rows, 1);
     }
-    assert_eq!(rt; rows, 8);
+    holds!(&rt; rows == 8);
     Ok(())
 }
 
@@ -194,9 +203,9 @@ fn loads_the_prelude_first(rt: HostRuntime) -> Result<(), Fail> {
     for load in program.loads() {
         loads.push_str(format!(in alloc; "{} {};", load.file, load.line)?.as_str())?;
     }
-    assert_eq!(rt; loads.as_str(), "1 1;0 3;");
-    assert!(rt; program.is_loaded("y"));
-    assert!(rt; !program.is_loaded("x"));
+    reads(&rt, loads.as_str(), "1 1;0 3;");
+    holds!(&rt; program.is_loaded("y"));
+    holds!(&rt; !program.is_loaded("x"));
     Ok(())
 }
 
@@ -210,15 +219,15 @@ fn finds_definitions_and_blocks_by_their_tokens(rt: HostRuntime) -> Result<(), F
         "def f(a, b):\n  b = 1\n  c = lambda a: [a for d in b]\nx = f",
     )?;
     let program = resolve(alloc, &files, 0, &tree, None)?;
-    assert_eq!(rt; program.body().len(), 2);
-    assert_eq!(rt; program.slots(0), 2);
-    assert_eq!(rt; program.slots(1), 3);
-    assert_eq!(rt; program.slots(2), 0);
+    holds!(&rt; program.body().len() == 2);
+    holds!(&rt; program.slots(0) == 2);
+    holds!(&rt; program.slots(1) == 3);
+    holds!(&rt; program.slots(2) == 0);
     let parameters = match program.definition(0) {
         Some(definition) => definition.parameters.len(),
         None => 0,
     };
-    assert_eq!(rt; parameters, 2);
-    assert!(rt; program.definition(1).is_none());
+    holds!(&rt; parameters == 2);
+    holds!(&rt; program.definition(1).is_none());
     Ok(())
 }

@@ -2,6 +2,7 @@
 
 ghost use Rattle.star_repo.specs.Held.{unsaid};
 
+use crate::checks::{hold, holds, reads};
 use star_folder::folder::FolderError;
 use star_label::label::Label;
 use star_repo::disk::DiskRepo;
@@ -115,7 +116,7 @@ fn files_that_are_reached(rt: HostRuntime) -> Result<(), Fail> {
             ),
         ] {
             let got = outcome(&rt, alloc, &mut folder, &words, threads)?;
-            assert_eq!(rt; got.as_str(), want);
+            reads(&rt, got.as_str(), want);
         }
     }
     Ok(())
@@ -127,16 +128,22 @@ fn trees_of_the_files(rt: HostRuntime) -> Result<(), Fail> {
     let trees: ManuallyDrop<boxcar::Vec<Tree>> = ManuallyDrop::new(boxcar::Vec::new(alloc)?);
     let words = labels(alloc, &["//:a.star"])?;
     let mut folder = MemoryRepo::new(&TREE);
-    let Ok(reached) = read_reached(&rt, alloc, &mut folder, &*trees, words, 1) else {
-        assert!(rt; false);
-        return Ok(());
-    };
+    let reached = read_reached(&rt, alloc, &mut folder, &*trees, words, 1);
     let reached = ManuallyDrop::new(reached);
-    assert_eq!(rt; reached.files.len(), 2);
-    assert_eq!(rt; reached.parses.len(), 2);
-    assert!(rt; reached.parses[0].is_ok());
-    assert!(rt; reached.parses[1].is_err());
-    assert_eq!(rt; reached.files.text(0), "load('//lib:c.bzl', 'c')\na = 1");
+    let Ok(reached) = &*reached else {
+        return Err(Fail::from("a file is not read"));
+    };
+    assert!(rt; reached.files.len() == 2);
+    let [first, second] = reached.parses.as_slice() else {
+        return Err(Fail::from("two parses are wanted"));
+    };
+    holds!(&rt; first.is_ok());
+    holds!(&rt; second.is_err());
+    reads(
+        &rt,
+        reached.files.text(0),
+        "load('//lib:c.bzl', 'c')\na = 1",
+    );
     Ok(())
 }
 
@@ -192,8 +199,8 @@ fn each_read_fails_in_turn(rt: HostRuntime) -> Result<(), Fail> {
             };
             let got = outcome(&rt, alloc, &mut folder, &["//:main.star"], threads)?;
             let want = format!(in alloc; "cannot read a file: {label}")?;
-            assert_eq!(rt; got.as_str(), want.as_str());
-            assert_eq!(rt; folder.failed, 1);
+            reads(&rt, got.as_str(), want.as_str());
+            holds!(&rt; folder.failed == 1);
         }
     }
     let mut folder = Failing {
@@ -202,11 +209,12 @@ fn each_read_fails_in_turn(rt: HostRuntime) -> Result<(), Fail> {
         failed: 0,
     };
     let got = outcome(&rt, alloc, &mut folder, &["//:main.star"], 4)?;
-    assert_eq!(rt;
+    reads(
+        &rt,
         got.as_str(),
-        "//:a.star //:main.star //lib:BUILD //lib:c.bzl"
+        "//:a.star //:main.star //lib:BUILD //lib:c.bzl",
     );
-    assert_eq!(rt; folder.failed, 0);
+    holds!(&rt; folder.failed == 0);
     Ok(())
 }
 
@@ -219,11 +227,11 @@ fn texts_within_the_limits(rt: HostRuntime) -> Result<(), Fail> {
     }
     let files = [file("//:a.star", text.as_str())];
     let got = outcome(&rt, alloc, &mut MemoryRepo::new(&files), &["//:a.star"], 1)?;
-    assert_eq!(rt; got.as_str(), "//:a.star");
+    reads(&rt, got.as_str(), "//:a.star");
     text.push(' ')?;
     let files = [file("//:a.star", text.as_str())];
     let got = outcome(&rt, alloc, &mut MemoryRepo::new(&files), &["//:a.star"], 1)?;
-    assert_eq!(rt; got.as_str(), "file too long: //:a.star");
+    reads(&rt, got.as_str(), "file too long: //:a.star");
     Ok(())
 }
 
@@ -261,12 +269,12 @@ fn a_chain_of_loads(rt: HostRuntime) -> Result<(), Fail> {
     let trees: ManuallyDrop<boxcar::Vec<Tree>> = ManuallyDrop::new(boxcar::Vec::new(alloc)?);
     let words = labels(alloc, &["//:0.star"])?;
     let mut folder = Chain { count: 40 };
-    let Ok(reached) = read_reached(&rt, alloc, &mut folder, &*trees, words, 4) else {
-        assert!(rt; false);
-        return Ok(());
-    };
+    let reached = read_reached(&rt, alloc, &mut folder, &*trees, words, 4);
     let reached = ManuallyDrop::new(reached);
-    assert_eq!(rt; reached.files.len(), 40);
+    let Ok(reached) = &*reached else {
+        return Err(Fail::from("a file is not read"));
+    };
+    holds!(&rt; reached.files.len() == 40);
     Ok(())
 }
 
@@ -282,13 +290,13 @@ fn a_file_of_the_disk(rt: HostRuntime) -> Result<(), Fail> {
         1,
     )?;
     fs::remove_file(&rt, "reached.star")?;
-    assert_eq!(rt; got.as_str(), "//:reached.star");
+    reads(&rt, got.as_str(), "//:reached.star");
     // A folder, a path through a file, and a name that is too long lead to no file.
     let long = "x".repeat(alloc, 300)?;
     let long = format!(in alloc; "//:{long}")?;
     for word in ["//:none.star", "//a/b:c.star", long.as_str()] {
         let got = outcome(&rt, alloc, &mut DiskRepo::new(&rt, "."), &[word], 1)?;
-        assert_eq!(rt; got.as_str(), "");
+        reads(&rt, got.as_str(), "");
     }
     Ok(())
 }
@@ -307,10 +315,12 @@ fn labels_of_paths(rt: HostRuntime) -> Result<(), Fail> {
         ("", "x y.star", None),
         ("apps", "a b/c.star", None),
     ] {
-        match label_of(alloc, here, path)? {
-            Some(label) => assert_eq!(rt; Some(label.text()), want),
-            None => assert_eq!(rt; None, want),
-        }
+        let label = ManuallyDrop::new(label_of(alloc, here, path)?);
+        let text = match &*label {
+            Some(label) => Some(label.text()),
+            None => None,
+        };
+        hold(&rt, text == want, path);
     }
     Ok(())
 }

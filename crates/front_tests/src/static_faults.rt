@@ -1,5 +1,7 @@
 //! Tests of the resolver: small files with a static fault.
 
+use crate::checks::{answers, holds};
+use crate::programs::named;
 use star_label::files::Files;
 use star_label::label::Label;
 use star_parser::parse;
@@ -14,18 +16,12 @@ use std::test::Fail;
 
 /// The name of a fault, its line and its token, or `-`.
 fn shown(alloc: Global, first: Option<Refusal>) -> Result<String, AllocError> {
-    let Some(refusal) = first else {
-        return format!(in alloc; "-");
-    };
-    let token = refusal.token;
-    match refusal.fault {
-        ScopeFault::Undefined { line } => format!(in alloc; "undefined {line} {token}"),
-        ScopeFault::BadPlace { line } => format!(in alloc; "place {line} {token}"),
-        ScopeFault::Conflict { line } => format!(in alloc; "conflict {line} {token}"),
-        ScopeFault::Private { line } => format!(in alloc; "private {line} {token}"),
-        ScopeFault::NoFile { line } => format!(in alloc; "no_file {line} {token}"),
-        ScopeFault::BadLabel { line } => format!(in alloc; "bad_label {line} {token}"),
-        ScopeFault::Memory => format!(in alloc; "memory"),
+    match first {
+        Some(Refusal { token, fault }) => {
+            let (name, line) = named(fault);
+            format!(in alloc; "{name} {line} {token}")
+        }
+        None => String::from_str(alloc, "-"),
     }
 }
 
@@ -60,10 +56,10 @@ fn finds_misplaced_statements(rt: HostRuntime) -> Result<(), Fail> {
         };
         let tree = parse(alloc, text)?;
         let first = shown(alloc, misplaced(tree.statements.as_slice()))?;
-        assert_eq!(rt; first.as_str(), wanted, "{text}");
+        answers(&rt, text, first.as_str(), wanted);
         rows = u32::saturating_add(rows, 1);
     }
-    assert_eq!(rt; rows, 18);
+    holds!(&rt; rows == 18);
     Ok(())
 }
 
@@ -112,12 +108,12 @@ fn finds_loads_and_their_faults(rt: HostRuntime) -> Result<(), Fail> {
         for load in &found.loads {
             loads.push_str(format!(in alloc; "{} {};", load.file, load.line)?.as_str())?;
         }
-        assert_eq!(rt; loads.as_str(), wanted, "{text}");
+        answers(&rt, text, loads.as_str(), wanted);
         let first = shown(alloc, found.first)?;
-        assert_eq!(rt; first.as_str(), fault, "{text}");
+        answers(&rt, text, first.as_str(), fault);
         rows = u32::saturating_add(rows, 1);
     }
-    assert_eq!(rt; rows, 14);
+    holds!(&rt; rows == 14);
     Ok(())
 }
 
@@ -146,11 +142,11 @@ fn finds_repeated_parameters(rt: HostRuntime) -> Result<(), Fail> {
                 continue;
             };
             let first = shown(alloc, repeated_parameter(alloc, parameters.as_slice())?)?;
-            assert_eq!(rt; first.as_str(), wanted, "{text}");
+            answers(&rt, text, first.as_str(), wanted);
             rows = u32::saturating_add(rows, 1);
         }
     }
-    assert_eq!(rt; rows, 8);
+    holds!(&rt; rows == 8);
     Ok(())
 }
 
@@ -180,10 +176,10 @@ fn finds_conflicts_in_the_block_of_the_file(rt: HostRuntime) -> Result<(), Fail>
         };
         let tree = parse(alloc, text)?;
         let first = shown(alloc, block_conflict(alloc, tree.statements.as_slice())?)?;
-        assert_eq!(rt; first.as_str(), wanted, "{text}");
+        answers(&rt, text, first.as_str(), wanted);
         rows = u32::saturating_add(rows, 1);
     }
-    assert_eq!(rt; rows, 13);
+    holds!(&rt; rows == 13);
     Ok(())
 }
 
@@ -201,10 +197,10 @@ fn takes_the_first_token_then_the_lower_number(rt: HostRuntime) -> Result<(), Fa
         token: 5,
         fault: ScopeFault::Undefined { line: 1 },
     };
-    assert_eq!(rt; earlier(earlier(None, later), private), Some(private));
-    assert_eq!(rt; earlier(Some(private), conflict), Some(conflict));
-    assert_eq!(rt; earlier(Some(conflict), private), Some(conflict));
-    assert!(rt; conflict.stands_before(private));
-    assert!(rt; !conflict.stands_before(conflict));
+    holds!(&rt; earlier(earlier(None, later), private) == Some(private));
+    holds!(&rt; earlier(Some(private), conflict) == Some(conflict));
+    holds!(&rt; earlier(Some(conflict), private) == Some(conflict));
+    holds!(&rt; conflict.stands_before(private));
+    holds!(&rt; !conflict.stands_before(conflict));
     Ok(())
 }

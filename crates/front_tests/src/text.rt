@@ -1,5 +1,6 @@
 //! Tests of `Text`: its copies share the bytes.
 
+use crate::checks::{holds, reads};
 use star_text::Text;
 use std::hash::{DefaultHasher, Hash, Hasher};
 use std::test::Fail;
@@ -12,15 +13,16 @@ fn hash_of(text: &Text) -> u64 {
 
 #[test]
 fn text_of_a_string(rt: HostRuntime) -> Result<(), Fail> {
-    let text = Text::new(rt.alloc(), "aé")?;
-    assert_eq!(rt; text.as_str(), "aé");
+    let alloc = rt.alloc();
+    let text = Text::new(alloc, "aé")?;
+    reads(&rt, text.as_str(), "aé");
     let copy = text.share()?;
-    assert!(rt; text == copy);
-    assert!(rt; hash_of(&text) == hash_of(&copy));
+    holds!(&rt; text == copy);
+    holds!(&rt; hash_of(&text) == hash_of(&copy));
     drop(text);
-    assert_eq!(rt; copy.as_str(), "aé");
-    let text = Text::of(String::from_str(rt.alloc(), "b")?)?;
-    assert_eq!(rt; text.as_str(), "b");
-    assert!(rt; text != copy);
+    reads(&rt, copy.as_str(), "aé");
+    let text = Text::of(String::from_str(alloc, "b")?)?;
+    reads(&rt, text.as_str(), "b");
+    holds!(&rt; text != copy);
     Ok(())
 }

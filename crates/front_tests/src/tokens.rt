@@ -1,5 +1,6 @@
 //! Tests of the lexer: texts with their tokens or their first fault.
 
+use crate::checks::{answers, hold, holds, reads};
 use crate::rows::ROWS;
 use star_lex::lex;
 use star_lex::token::{Kind, Span, SyntaxFault, Token};
@@ -20,24 +21,27 @@ fn letter(kind: Kind) -> char {
     }
 }
 
-fn shown(alloc: Global, answer: Result<Vec<Token>, SyntaxFault>) -> Result<String, AllocError> {
-    match answer {
-        Ok(tokens) => {
-            let mut out = String::new(alloc);
-            for token in &tokens {
-                let gap = if out.is_empty() { "" } else { " " };
-                let (letter, span) = (letter(token.kind), token.span);
-                out.push_str(&format!(in alloc;
-                    "{gap}{letter}{}:{}-{}",
-                    token.line, span.start, span.end
-                )?)?;
-            }
-            Ok(out)
-        }
-        Err(SyntaxFault::BadToken { line }) => format!(in alloc; "bad_token {line}"),
-        Err(SyntaxFault::BadIndent { line }) => format!(in alloc; "bad_indent {line}"),
-        Err(fault) => format!(in alloc; "{fault}"),
+/// The tokens, each as a word, after a blank but for the first.
+fn words(alloc: Global, tokens: &[Token]) -> Result<String, AllocError> {
+    let mut out = String::new(alloc);
+    for token in tokens {
+        let gap = if out.is_empty() { "" } else { " " };
+        let (letter, line, span) = (letter(token.kind), token.line, token.span);
+        let word = format!(in alloc; "{gap}{letter}{line}:{}-{}", span.start, span.end)?;
+        out.push_str(&word)?;
     }
+    Ok(out)
+}
+
+/// The answer of `lex` for a text, as text.
+fn shown(alloc: Global, text: &str) -> Result<String, AllocError> {
+    let (fault, line) = match lex(alloc, text) {
+        Ok(tokens) => return words(alloc, &tokens),
+        Err(SyntaxFault::BadToken { line }) => ("bad_token", line),
+        Err(SyntaxFault::BadIndent { line }) => ("bad_indent", line),
+        Err(_) => return String::from_str(alloc, "another fault"),
+    };
+    format!(in alloc; "{fault} {line}")
 }
 
 #[test]
@@ -45,12 +49,12 @@ fn tokens_of_the_rows(rt: HostRuntime) -> Result<(), AllocError> {
     let mut count = 0u32;
     for row in ROWS.split('\x1e').skip(1) {
         if let Some((text, wanted)) = row.split_once('\x1f') {
-            let found = shown(rt.alloc(), lex(rt.alloc(), text))?;
-            assert_eq!(rt; found.as_str(), wanted, "{text}");
+            let found = shown(rt.alloc(), text)?;
+            answers(&rt, text, found.as_str(), wanted);
             count = count.saturating_add(1);
         }
     }
-    assert_eq!(rt; count, 363);
+    holds!(&rt; count == 363);
     Ok(())
 }
 
@@ -65,7 +69,7 @@ fn values_of_ints(rt: HostRuntime) {
         (b"0X7fffffffffffffff", 9223372036854775807),
     ];
     for (text, wanted) in &rows {
-        assert_eq!(rt; int_value(text), *wanted);
+        holds!(&rt; int_value(text) == *wanted);
     }
 }
 
@@ -91,7 +95,7 @@ fn values_of_strings(rt: HostRuntime) -> Result<(), AllocError> {
     ];
     for (text, wanted) in &rows {
         let found = string_value(rt.alloc(), text)?;
-        assert!(rt; found.as_slice() == *wanted);
+        holds!(&rt; found.as_slice() == *wanted);
     }
     Ok(())
 }
@@ -130,7 +134,7 @@ fn wrong_escapes(rt: HostRuntime) {
         "'\\",
     ];
     for text in &texts {
-        assert!(rt; strings(rt.alloc(), text) == Err(1), "{text}");
+        hold(&rt, strings(rt.alloc(), text) == Err(1), text);
     }
 }
 
@@ -161,15 +165,10 @@ fn line_ends(rt: HostRuntime) -> Result<(), AllocError> {
         "if a:\r b\r  c\r d",
     ];
     for i in 0..6 {
-        let wanted = shown(rt.alloc(), lex(rt.alloc(), texts[i]))?;
-        assert_eq!(rt;
-            shown(rt.alloc(), lex(rt.alloc(), alone[i]))?.as_str(),
-            wanted.as_str()
-        );
-        assert_eq!(rt;
-            strings(rt.alloc(), after[i]),
-            strings(rt.alloc(), texts[i])
-        );
+        let wanted = shown(rt.alloc(), texts[i])?;
+        let found = shown(rt.alloc(), alone[i])?;
+        reads(&rt, found.as_str(), wanted.as_str());
+        holds!(&rt; strings(rt.alloc(), after[i]) == strings(rt.alloc(), texts[i]));
     }
     Ok(())
 }
@@ -206,7 +205,7 @@ fn every_prefix(rt: HostRuntime) {
     for text in &texts {
         for size in 0..text.len() {
             if let Some(prefix) = text.get(..size) {
-                assert!(rt; well_formed(prefix, lex(rt.alloc(), prefix)), "{prefix}");
+                hold(&rt, well_formed(prefix, lex(rt.alloc(), prefix)), prefix);
             }
         }
     }
@@ -215,7 +214,7 @@ fn every_prefix(rt: HostRuntime) {
 #[test]
 fn texts_of_spans(rt: HostRuntime) {
     let source: &[u8] = b"ab cd";
-    assert!(rt; text_at(source, Span { start: 3, end: 5 }) == b"cd".as_slice());
-    assert!(rt; text_at(source, Span { start: 3, end: 9 }) == b"cd".as_slice());
-    assert!(rt; text_at(source, Span { start: 6, end: 9 }).is_empty());
+    holds!(&rt; text_at(source, Span { start: 3, end: 5 }) == b"cd".as_slice());
+    holds!(&rt; text_at(source, Span { start: 3, end: 9 }) == b"cd".as_slice());
+    holds!(&rt; text_at(source, Span { start: 6, end: 9 }).is_empty());
 }

@@ -1,5 +1,6 @@
 //! Tests of the parser: texts with their trees or their fault.
 
+use crate::checks::{answers, hold, holds, reads};
 use star_lex::lex;
 use star_lex::token::SyntaxFault;
 use star_parser::nest::too_nested;
@@ -9,17 +10,19 @@ use star_syntax::name::is_name;
 use star_tree::tree::{BinaryOperator, Expression, Form, Position, Target, Tree};
 use std::alloc::{AllocError, Global};
 
-/// A letter for the answer, and the line of a fault that has one: a tree, or a bad token, indentation, nesting or
-/// syntax.
-fn shown(alloc: Global, answer: Result<Tree, SyntaxFault>) -> Result<String, AllocError> {
-    match answer {
-        Ok(_) => format!(in alloc; "t"),
-        Err(SyntaxFault::BadToken { line }) => format!(in alloc; "b{line}"),
-        Err(SyntaxFault::BadIndent { line }) => format!(in alloc; "i{line}"),
-        Err(SyntaxFault::TooNested { line }) => format!(in alloc; "n{line}"),
-        Err(SyntaxFault::BadSyntax) => format!(in alloc; "s"),
-        Err(SyntaxFault::Memory) => format!(in alloc; "m"),
-    }
+/// A letter for the answer of `parse` for a text, and the line of a fault that has one: a tree, or a bad token,
+/// indentation, nesting or syntax.
+fn shown(alloc: Global, text: &str) -> Result<String, AllocError> {
+    let answer = parse(alloc, text);
+    let (letter, line) = match &answer {
+        Ok(_) => return String::from_str(alloc, "t"),
+        Err(SyntaxFault::BadSyntax) => return String::from_str(alloc, "s"),
+        Err(SyntaxFault::Memory) => return String::from_str(alloc, "m"),
+        Err(SyntaxFault::BadToken { line }) => ('b', *line),
+        Err(SyntaxFault::BadIndent { line }) => ('i', *line),
+        Err(SyntaxFault::TooNested { line }) => ('n', *line),
+    };
+    format!(in alloc; "{letter}{line}")
 }
 
 /// Each row is a text, and the answer for it as text.
@@ -133,12 +136,12 @@ fn rules_of_the_grammar(rt: HostRuntime) -> Result<(), AllocError> {
     let mut count = 0u32;
     for row in ROWS.split('\x1e').skip(1) {
         if let Some((text, wanted)) = row.split_once('\x1f') {
-            let found = shown(rt.alloc(), parse(rt.alloc(), text))?;
-            assert_eq!(rt; found.as_str(), wanted, "{text}");
+            let found = shown(rt.alloc(), text)?;
+            answers(&rt, text, found.as_str(), wanted);
             count = count.saturating_add(1);
         }
     }
-    assert_eq!(rt; count, 102);
+    holds!(&rt; count == 102);
     Ok(())
 }
 
@@ -197,7 +200,7 @@ fn assigns_difference(tree: &Tree) -> bool {
 #[test]
 fn minus_groups_to_the_left(rt: HostRuntime) {
     let answer = parse(rt.alloc(), "pass\nx = 1 - 2 - 3\n");
-    assert!(rt; matches!(&answer, Ok(tree) if assigns_difference(tree)));
+    holds!(&rt; matches!(&answer, Ok(tree) if assigns_difference(tree)));
 }
 
 fn is_one_tuple(tree: &Tree) -> bool {
@@ -213,19 +216,21 @@ fn is_one_tuple(tree: &Tree) -> bool {
 #[test]
 fn a_trailing_comma_makes_a_tuple(rt: HostRuntime) {
     let answer = parse(rt.alloc(), "(1,)\n");
-    assert!(rt; matches!(&answer, Ok(tree) if is_one_tuple(tree)));
+    holds!(&rt; matches!(&answer, Ok(tree) if is_one_tuple(tree)));
     let answer = parse(rt.alloc(), "(1)\n");
-    assert!(rt; matches!(&answer, Ok(tree) if !is_one_tuple(tree)));
+    holds!(&rt; matches!(&answer, Ok(tree) if !is_one_tuple(tree)));
 }
 
-fn settles(answer: Result<Tree, SyntaxFault>) -> bool {
-    !matches!(answer, Err(SyntaxFault::Memory))
+/// Whether `parse` has an answer for a text, and not only for want of memory.
+fn settles(alloc: Global, text: &str) -> bool {
+    let answer = parse(alloc, text);
+    !matches!(&answer, Err(SyntaxFault::Memory))
 }
 
 fn every_prefix_settles(alloc: Global, text: &str) -> bool {
     for size in 0..text.len() {
         if let Some(prefix) = text.get(..size) {
-            if !settles(parse(alloc, prefix)) {
+            if !settles(alloc, prefix) {
                 return false;
             }
         }
@@ -248,7 +253,7 @@ fn every_prefix(rt: HostRuntime) {
         "x = -1 not in (2, 3,), 'é'\n",
     ];
     for text in &texts {
-        assert!(rt; every_prefix_settles(rt.alloc(), text), "{text}");
+        hold(&rt, every_prefix_settles(rt.alloc(), text), text);
     }
 }
 
@@ -276,8 +281,8 @@ fn nesting(rt: HostRuntime) -> Result<(), AllocError> {
     ];
     for (opening, closing, wanted) in rows {
         let text = brackets(rt.alloc(), opening, closing)?;
-        let found = shown(rt.alloc(), parse(rt.alloc(), text.as_str()))?;
-        assert_eq!(rt; found.as_str(), wanted);
+        let found = shown(rt.alloc(), text.as_str())?;
+        reads(&rt, found.as_str(), wanted);
     }
     Ok(())
 }
@@ -293,9 +298,9 @@ fn weighed(alloc: Global, text: &str) -> Result<Option<usize>, AllocError> {
 #[test]
 fn weights(rt: HostRuntime) -> Result<(), AllocError> {
     let alloc = rt.alloc();
-    assert!(rt; weighed(alloc, "x = 1\n")? == None);
+    holds!(&rt; weighed(alloc, "x = 1\n")? == None);
     let text = brackets(alloc, 101, 0)?;
-    assert!(rt; weighed(alloc, text.as_str())? == Some(1));
+    holds!(&rt; weighed(alloc, text.as_str())? == Some(1));
     Ok(())
 }
 
@@ -322,14 +327,14 @@ fn third_is_text(
 #[test]
 fn leaves_of_a_text(rt: HostRuntime) -> Result<(), AllocError> {
     let position = Position { line: 2, token: 2 };
-    assert!(rt; third_is_text(rt.alloc(), "x\n'\\u00e9'", "é", position)?);
+    holds!(&rt; third_is_text(rt.alloc(), "x\n'\\u00e9'", "é", position)?);
     Ok(())
 }
 
 #[test]
 fn names(rt: HostRuntime) {
-    assert!(rt; is_name(b"a1_"));
-    assert!(rt; !is_name(b"1a"));
-    assert!(rt; !is_name(b""));
-    assert!(rt; !is_name(b"load"));
+    holds!(&rt; is_name(b"a1_"));
+    holds!(&rt; !is_name(b"1a"));
+    holds!(&rt; !is_name(b""));
+    holds!(&rt; !is_name(b"load"));
 }

@@ -1,5 +1,6 @@
 //! Tests of the words of the command line: the labels that they name, and the files that a pattern finds.
 
+use crate::checks::{hold, holds, reads};
 use star_bundle::error::ServeError;
 use star_folder::folder::{FolderError, Kind};
 use star_label::label::Label;
@@ -33,7 +34,7 @@ fn words_that_name_labels(rt: HostRuntime) -> Result<(), Fail> {
             Some(label) => Some(label.text()),
             None => None,
         };
-        assert_eq!(rt; text, want);
+        hold(&rt, text == want, word);
     }
     Ok(())
 }
@@ -52,14 +53,18 @@ fn labels_of_several_words(rt: HostRuntime) -> Result<(), Fail> {
     let alloc = rt.alloc();
     let here = Label::read(alloc, "//app:x.star", "")?;
     let words = texts(alloc, &["b.star", "//:a.star"])?;
-    let Some(labels) = labels_of_words(alloc, here.package(), words.as_slice())? else {
+    let labels = labels_of_words(alloc, here.package(), words.as_slice())?;
+    let Some(labels) = &labels else {
         return Err(Fail::from("no label"));
     };
-    assert_eq!(rt; labels.len(), 2);
-    assert_eq!(rt; labels[0].as_str(), "//app:b.star");
-    assert_eq!(rt; labels[1].as_str(), "//:a.star");
+    let [first, second] = labels.as_slice() else {
+        return Err(Fail::from("two labels are wanted"));
+    };
+    reads(&rt, first.as_str(), "//app:b.star");
+    reads(&rt, second.as_str(), "//:a.star");
     let words = texts(alloc, &["b.star", "/"])?;
-    assert!(rt; labels_of_words(alloc, here.package(), words.as_slice())?.is_none());
+    let none = labels_of_words(alloc, here.package(), words.as_slice())?;
+    holds!(&rt; none.is_none());
     Ok(())
 }
 
@@ -69,17 +74,13 @@ fn labels_that_are_asked_for(rt: HostRuntime) -> Result<(), Fail> {
     let prelude = String::from_str(alloc, "//:p.star")?;
     let roots = texts(alloc, &["//:b.star", "//:a.star", "//:b.star"])?;
     let labels = asked_labels(alloc, roots.as_slice(), Some(&prelude))?;
-    assert_eq!(rt; labels.len(), 3);
+    holds!(&rt; labels.len() == 3);
     let bad = texts(alloc, &["//:b.star", ":a.star"])?;
-    match asked_labels(alloc, bad.as_slice(), None) {
-        Err(ServeError::BadRoot) => {}
-        _ => return Err(Fail::from("a root that is no label")),
-    }
+    let refused = asked_labels(alloc, bad.as_slice(), None);
+    holds!(&rt; matches!(&refused, Err(ServeError::BadRoot)));
     let word = String::from_str(alloc, ":a.star")?;
-    match asked_labels(alloc, roots.as_slice(), Some(&word)) {
-        Err(ServeError::BadPrelude) => {}
-        _ => return Err(Fail::from("a prelude that is no label")),
-    }
+    let refused = asked_labels(alloc, roots.as_slice(), Some(&word));
+    holds!(&rt; matches!(&refused, Err(ServeError::BadPrelude)));
     Ok(())
 }
 
@@ -99,7 +100,8 @@ fn names_that_match(rt: HostRuntime) -> Result<(), Fail> {
         ("a*b*c", "abb", false),
         ("??", "a", false),
     ] {
-        assert_eq!(rt; matches(pattern.as_bytes(), name.as_bytes()), want);
+        let found = matches(pattern.as_bytes(), name.as_bytes());
+        hold(&rt, found == want, pattern);
     }
     Ok(())
 }
@@ -141,15 +143,15 @@ fn files_below_a_folder(rt: HostRuntime) -> Result<(), Fail> {
         text.push_str(label.text())?;
         text.push(' ')?;
     }
-    assert_eq!(rt;
+    reads(
+        &rt,
         text.as_str(),
-        "//app/in/in:a.star //app/in:a.star //app:a.star "
+        "//app/in/in:a.star //app/in:a.star //app:a.star ",
     );
     let mut folder = Same { lists: false };
-    match files_below(alloc, &mut folder, "", "*") {
-        Err(ServeError::BadDir) => Ok(()),
-        _ => Err(Fail::from("a folder that cannot be listed")),
-    }
+    let refused = files_below(alloc, &mut folder, "", "*");
+    holds!(&rt; matches!(&refused, Err(ServeError::BadDir)));
+    Ok(())
 }
 
 #[test]
@@ -175,7 +177,7 @@ fn words_that_ask_for_folders(rt: HostRuntime) -> Result<(), Fail> {
             Some(label) => Some(label.text()),
             None => None,
         };
-        assert_eq!(rt; text, want);
+        hold(&rt, text == want, word);
     }
     Ok(())
 }

@@ -1,5 +1,6 @@
 //! Tests of the schedule: the file that a loader runs next.
 
+use crate::checks::holds;
 use star_flow::{Flow, Graph, Schedule};
 use std::alloc::Global;
 use std::test::Fail;
@@ -20,11 +21,11 @@ fn diamond(alloc: Global) -> Result<Flow, Fail> {
 #[test]
 fn a_file_is_handed_out_when_its_loads_have_ended(rt: HostRuntime) -> Result<(), Fail> {
     let flow = diamond(rt.alloc())?;
-    assert_eq!(rt; flow.take(&rt, None), Some(3));
-    assert_eq!(rt; flow.take(&rt, Some(3)), Some(2));
-    assert_eq!(rt; flow.take(&rt, Some(2)), Some(1));
-    assert_eq!(rt; flow.take(&rt, Some(1)), Some(0));
-    assert_eq!(rt; flow.take(&rt, Some(0)), None);
+    holds!(&rt; flow.take(&rt, None) == Some(3));
+    holds!(&rt; flow.take(&rt, Some(3)) == Some(2));
+    holds!(&rt; flow.take(&rt, Some(2)) == Some(1));
+    holds!(&rt; flow.take(&rt, Some(1)) == Some(0));
+    holds!(&rt; flow.take(&rt, Some(0)) == None);
     Ok(())
 }
 
@@ -37,8 +38,8 @@ fn files_on_a_cycle_are_left(rt: HostRuntime) -> Result<(), Fail> {
     graph.add_load(0, 1)?;
     graph.add_load(1, 0)?;
     let flow = graph.into_flow(rt.alloc())?;
-    assert_eq!(rt; flow.take(&rt, None), Some(2));
-    assert_eq!(rt; flow.take(&rt, Some(2)), None);
+    holds!(&rt; flow.take(&rt, None) == Some(2));
+    holds!(&rt; flow.take(&rt, Some(2)) == None);
     Ok(())
 }
 
@@ -48,10 +49,10 @@ fn a_file_is_handed_out_once_it_is_found(rt: HostRuntime) -> Result<(), Fail> {
     let mut schedule = Schedule::new(vec![in alloc; 1; 3]?, Vec::new(alloc));
     schedule.ended(&[0]);
     let flow = Flow::new(Vec::new(alloc), schedule);
-    assert_eq!(rt; flow.take_after(&rt, None), Some(0));
-    assert_eq!(rt; flow.take_after(&rt, Some(&[1, 2, 1])), Some(2));
-    assert_eq!(rt; flow.take_after(&rt, None), Some(1));
+    holds!(&rt; flow.take_after(&rt, None) == Some(0));
+    holds!(&rt; flow.take_after(&rt, Some(&[1, 2, 1])) == Some(2));
+    holds!(&rt; flow.take_after(&rt, None) == Some(1));
     flow.leave(&rt);
-    assert_eq!(rt; flow.take_after(&rt, Some(&[0])), None);
+    holds!(&rt; flow.take_after(&rt, Some(&[0])) == None);
     Ok(())
 }

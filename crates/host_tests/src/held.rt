@@ -4,6 +4,7 @@ ghost use Rattle.std.specs.Prelude.{◌≡◌, ◌<◌, All, length};
 ghost use Rattle.star_host.specs.Worlds.{IsWorld};
 ghost use Rattle.star_outcome.specs.Fits.{IsAsked};
 
+use crate::checks::holds;
 use crate::meeting::Meeting;
 use crate::runs::{all_roots, files_of};
 use star_cache::{LoadCache, Seat};
@@ -125,7 +126,8 @@ fn a_note_is_used_while_another_body_is_held(rt: HostRuntime) -> Result<(), Fail
         return Err(Fail::from("two files are wanted"));
     }
     let gate = Meeting::new([0, 0b100, 0, 0], LOOKS);
-    assert!(rt; read_while_held(&rt, alloc, &files, &gate, &roots)?);
-    assert_eq!(rt; (gate.bodies(), gate.alone()), (2, 0));
+    let closes = read_while_held(&rt, alloc, &files, &gate, &roots)?;
+    holds!(&rt; closes);
+    gate.has_held(&rt, 2, 0);
     Ok(())
 }

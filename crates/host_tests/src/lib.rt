@@ -7,6 +7,8 @@
 #[cfg(test)]
 mod cache;
 #[cfg(test)]
+mod checks;
+#[cfg(test)]
 mod flow;
 #[cfg(test)]
 mod held;

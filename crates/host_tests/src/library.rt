@@ -4,6 +4,7 @@ ghost use Rattle.std.specs.Prelude.{◌≡◌, ◌<◌, All, length};
 ghost use Rattle.star_host.specs.Worlds.{IsWorld};
 ghost use Rattle.star_outcome.specs.Fits.{IsAsked};
 
+use crate::checks::holds;
 use crate::runs::files_of;
 use star_cache::{Book, LoadCache};
 use star_host::gate::Open;
@@ -108,7 +109,7 @@ fn a_root_is_loaded_with_all_that_it_loads(rt: HostRuntime) -> Result<(), Fail> 
         first: 3,
         sum: 3,
     };
-    assert!(rt; loaded == Some(want));
+    holds!(&rt; loaded == Some(want));
     Ok(())
 }
 
@@ -128,6 +129,6 @@ fn a_root_is_told_bad_where_a_name_is_missing(rt: HostRuntime) -> Result<(), Fai
         first: 2,
         sum: 2,
     };
-    assert!(rt; loaded == Some(want));
+    holds!(&rt; loaded == Some(want));
     Ok(())
 }

@@ -1,6 +1,8 @@
 //! A gate that makes bodies wait for one another.
 
+use crate::checks::holds;
 use star_host::gate::Gate;
+use std::process::Abort;
 use std::sync::atomic::{AtomicU64, Ordering};
 use std::thread;
 
@@ -36,14 +38,10 @@ impl Meeting {
         }
     }
 
-    /// How many bodies have come.
-    pub fn bodies(&self) -> u64 {
-        self.bodies.load(Ordering::SeqCst)
-    }
-
-    /// How many bodies went on without one that they waited for.
-    pub fn alone(&self) -> u64 {
-        self.alone.load(Ordering::SeqCst)
+    /// Asserts how many bodies have come, and how many of them went on without one that they waited for.
+    pub fn has_held(&self, rt: &impl Abort, bodies: u64, alone: u64) {
+        holds!(rt; self.bodies.load(Ordering::SeqCst) == bodies);
+        holds!(rt; self.alone.load(Ordering::SeqCst) == alone);
     }
 
     /// The body of a file comes, or another event by that number.

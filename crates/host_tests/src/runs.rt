@@ -2,6 +2,7 @@
 
 ghost use Rattle.std.specs.Prelude.{◌≡◌, ◌<◌, ◌≤◌, All, IfOk, length};
 
+use crate::checks::{holds, reads};
 use star_host::gate::{Gate, Open};
 use star_host::{Reads, Run, run};
 use star_label::files::Files;
@@ -10,6 +11,7 @@ use star_report::report::report;
 use star_report::wanted::Wanted;
 use std::alloc::{AllocError, Global};
 use std::collections::BTreeMap;
+use std::process::Abort;
 use std::sync::Wait;
 use std::test::Fail;
 use std::thread::Threads;
@@ -116,6 +118,29 @@ pub fn report_text<R: Threads + Sync>(
     let reads = Reads::new(alloc);
     let text = report(rt, alloc, files, &reads, run, roots, wanted, threads)?;
     Ok(String::from_utf8(text)?)
+}
+
+/// Asserts the report of a run, without further members.
+pub fn reports<R: Abort + Threads + Sync>(
+    rt: &R,
+    alloc: Global,
+    files: &Files,
+    run: &mut Run,
+    threads: usize,
+    want: &str,
+) -> Result<(), Fail>
+    requires { length run.old.cells ≡ length files.now }
+{
+    let text = report_text(rt, alloc, files, run, &[], Wanted::NOTHING, threads)?;
+    reads(rt, text.as_str(), want);
+    Ok(())
+}
+
+/// Asserts how many files a run began, and how many each of its first loaders.
+pub fn began(rt: &impl Abort, run: &Run, begun: u32, first: &[u32]) {
+    let counts = run.per_loader();
+    holds!(rt; run.begun() == begun);
+    holds!(rt; counts.starts_with(first));
 }
 
 /// The report of a bundle all of whose files are roots, where each body may take 100,000 steps.

@@ -2,6 +2,7 @@
 
 ghost use Rattle.std.specs.Prelude.{◌<◌, All};
 
+use crate::checks::holds;
 use star_sound::{Prospect, prospects};
 use std::alloc::Global;
 use std::process::Abort;
@@ -37,7 +38,7 @@ fn files_wait_for_what_they_need(rt: HostRuntime) -> Result<(), Fail> {
         Prospect::Sound,
         Prospect::Barred,
     ];
-    assert_eq!(rt; told.as_slice(), wanted.as_slice());
+    holds!(&rt; told.as_slice() == wanted.as_slice());
     Ok(())
 }
 
@@ -50,7 +51,7 @@ fn the_first_need_that_is_not_sound_is_named(rt: HostRuntime) -> Result<(), Fail
         Prospect::Sound,
         Prospect::Barred,
     ];
-    assert_eq!(rt; told.as_slice(), wanted.as_slice());
+    holds!(&rt; told.as_slice() == wanted.as_slice());
     Ok(())
 }
 
@@ -63,6 +64,6 @@ fn files_on_a_cycle_are_not_sound(rt: HostRuntime) -> Result<(), Fail> {
         Prospect::Sound,
         Prospect::Barred,
     ];
-    assert_eq!(rt; told.as_slice(), wanted.as_slice());
+    holds!(&rt; told.as_slice() == wanted.as_slice());
     Ok(())
 }

@@ -1,5 +1,6 @@
 //! Reports of whole runs by 1, 2, 3, 4 and 64 loaders, which must all be the same.
 
+use crate::checks::reads;
 use crate::runs::report_of;
 use std::test::Fail;
 
@@ -11,9 +12,11 @@ fn a_file_that_two_load_runs_once(rt: HostRuntime) -> Result<(), Fail> {
         ("//:c.star", "print(\"once\")\nk = (1,)"),
     ];
     for loaders in [1, 2, 3, 4, 64] {
-        assert_eq!(rt;
-            report_of(&rt, rt.alloc(), &bundle, loaders)?.as_str(),
-            "{\"begun\":3,\"modules\":[{\"globals\":{\"x\":\"(1,)\"},\"label\":\"//:a.star\",\"lines\":[],\"status\":\"ok\"},{\"globals\":{\"y\":\"[(1,), (1,)]\"},\"label\":\"//:b.star\",\"lines\":[],\"status\":\"ok\"},{\"globals\":{\"k\":\"(1,)\"},\"label\":\"//:c.star\",\"lines\":[\"once\"],\"status\":\"ok\"}]}\n"
+        let report = report_of(&rt, rt.alloc(), &bundle, loaders)?;
+        reads(
+            &rt,
+            report.as_str(),
+            "{\"begun\":3,\"modules\":[{\"globals\":{\"x\":\"(1,)\"},\"label\":\"//:a.star\",\"lines\":[],\"status\":\"ok\"},{\"globals\":{\"y\":\"[(1,), (1,)]\"},\"label\":\"//:b.star\",\"lines\":[],\"status\":\"ok\"},{\"globals\":{\"k\":\"(1,)\"},\"label\":\"//:c.star\",\"lines\":[\"once\"],\"status\":\"ok\"}]}\n",
         );
     }
     Ok(())

@@ -1,7 +1,8 @@
 //! Tests of loaders that work at the same time.
 
+use crate::checks::{hold, holds, reads};
 use crate::meeting::{Counting, Meeting};
-use crate::runs::{files_of, report_of, report_text, rings, run_all, sums};
+use crate::runs::{began, files_of, report_of, report_text, reports, rings, run_all, sums};
 use star_host::gate::Open;
 use star_report::wanted::Wanted;
 use std::test::Fail;
@@ -15,11 +16,8 @@ fn two_bodies_are_in_flight_at_once(rt: HostRuntime) -> Result<(), Fail> {
     let files = files_of(alloc, &[("//:a.star", "x = 1"), ("//:b.star", "x = 2")])?;
     let gate = Meeting::new([0b11, 0b11, 0, 0], LOOKS);
     let run = run_all(&rt, alloc, &files, 2, &gate)?;
-    let counts = run.per_loader();
-    assert_eq!(rt; gate.alone(), 0);
-    assert_eq!(rt; gate.bodies(), 2);
-    assert_eq!(rt; run.begun(), 2);
-    assert_eq!(rt; (counts[0], counts[1]), (1, 1));
+    gate.has_held(&rt, 2, 0);
+    began(&rt, &run, 2, &[1, 1]);
     Ok(())
 }
 
@@ -35,12 +33,8 @@ fn four_bodies_are_in_flight_at_once(rt: HostRuntime) -> Result<(), Fail> {
     let files = files_of(alloc, &bundle)?;
     let gate = Meeting::new([0b1111, 0b1111, 0b1111, 0b1111], LOOKS);
     let run = run_all(&rt, alloc, &files, 4, &gate)?;
-    let counts = run.per_loader();
-    assert_eq!(rt; gate.alone(), 0);
-    assert_eq!(rt; gate.bodies(), 4);
-    assert_eq!(rt; run.begun(), 4);
-    assert_eq!(rt; (counts[0], counts[1]), (1, 1));
-    assert_eq!(rt; (counts[2], counts[3]), (1, 1));
+    gate.has_held(&rt, 4, 0);
+    began(&rt, &run, 4, &[1, 1, 1, 1]);
     Ok(())
 }
 
@@ -62,17 +56,16 @@ fn modules_are_read_while_a_body_is_held(rt: HostRuntime) -> Result<(), Fail> {
     let gate = Meeting::new([0b1000, 0, 0b0001, 0], LOOKS);
     let mut run = run_all(&rt, alloc, &files, 2, &gate)?;
     let counts = run.per_loader();
-    assert_eq!(rt; gate.alone(), 0);
-    assert_eq!(rt; gate.bodies(), 4);
-    assert_eq!(rt;
-        (counts[0].min(counts[1]), counts[0].max(counts[1])),
-        (1, 3)
-    );
-    assert_eq!(rt;
-        report_text(&rt, alloc, &files, &mut run, &[], Wanted::NOTHING, 2)?.as_str(),
-        "{\"begun\":4,\"modules\":[{\"globals\":{\"x\":\"1\"},\"label\":\"//:a.star\",\"lines\":[],\"status\":\"ok\"},{\"globals\":{\"y\":\"[(3,)]\"},\"label\":\"//:b.star\",\"lines\":[],\"status\":\"ok\"},{\"globals\":{\"k\":\"(3,)\"},\"label\":\"//:c.star\",\"lines\":[],\"status\":\"ok\"},{\"globals\":{\"z\":\"([(3,)], (3,))\"},\"label\":\"//:d.star\",\"lines\":[],\"status\":\"ok\"}]}\n"
-    );
-    Ok(())
+    gate.has_held(&rt, 4, 0);
+    holds!(&rt; (counts[0].min(counts[1]), counts[0].max(counts[1])) == (1, 3));
+    reports(
+        &rt,
+        alloc,
+        &files,
+        &mut run,
+        2,
+        "{\"begun\":4,\"modules\":[{\"globals\":{\"x\":\"1\"},\"label\":\"//:a.star\",\"lines\":[],\"status\":\"ok\"},{\"globals\":{\"y\":\"[(3,)]\"},\"label\":\"//:b.star\",\"lines\":[],\"status\":\"ok\"},{\"globals\":{\"k\":\"(3,)\"},\"label\":\"//:c.star\",\"lines\":[],\"status\":\"ok\"},{\"globals\":{\"z\":\"([(3,)], (3,))\"},\"label\":\"//:d.star\",\"lines\":[],\"status\":\"ok\"}]}\n",
+    )
 }
 
 // One loader never has two bodies in flight, so here the first body gives up.
@@ -82,9 +75,8 @@ fn one_loader_runs_one_body_at_a_time(rt: HostRuntime) -> Result<(), Fail> {
     let files = files_of(alloc, &[("//:a.star", "x = 1"), ("//:b.star", "x = 2")])?;
     let gate = Meeting::new([0b11, 0b11, 0, 0], 1_000);
     let run = run_all(&rt, alloc, &files, 1, &gate)?;
-    assert_eq!(rt; gate.alone(), 1);
-    assert_eq!(rt; gate.bodies(), 2);
-    assert_eq!(rt; run.per_loader()[0], 2);
+    gate.has_held(&rt, 2, 1);
+    began(&rt, &run, 2, &[2]);
     Ok(())
 }
 
@@ -95,16 +87,14 @@ fn each_body_runs_once(rt: HostRuntime) -> Result<(), Fail> {
     let alone = Meeting::new([0, 0, 0, 0], LOOKS);
     let mut run = run_all(&rt, alloc, &files, 1, &alone)?;
     let one = report_text(&rt, alloc, &files, &mut run, &[], Wanted::NOTHING, 1)?;
-    assert!(rt; one.as_str().contains("832040"), "the 30th sum is missing");
+    let has_sum = one.as_str().contains("832040");
+    hold(&rt, has_sum, "the 30th sum is there");
     for loaders in [2, 3, 4, 64] {
         let gate = Meeting::new([0, 0, 0, 0], LOOKS);
         let mut run = run_all(&rt, alloc, &files, loaders, &gate)?;
-        assert_eq!(rt; gate.bodies(), 30);
-        assert_eq!(rt; run.begun(), 30);
-        assert_eq!(rt;
-            report_text(&rt, alloc, &files, &mut run, &[], Wanted::NOTHING, loaders)?.as_str(),
-            one.as_str()
-        );
+        gate.has_held(&rt, 30, 0);
+        began(&rt, &run, 30, &[]);
+        reports(&rt, alloc, &files, &mut run, loaders, one.as_str())?;
     }
     Ok(())
 }
@@ -125,8 +115,8 @@ fn each_of_three_bodies_runs_once(rt: HostRuntime) -> Result<(), Fail> {
     for _ in 0..20u32 {
         let gate = Counting::new();
         let run = run_all(&rt, alloc, &files, 4, &gate)?;
-        assert_eq!(rt; gate.counts(), [1, 1, 1, 0]);
-        assert_eq!(rt; run.begun(), 3);
+        holds!(&rt; gate.counts() == [1, 1, 1, 0]);
+        began(&rt, &run, 3, &[]);
     }
     Ok(())
 }
@@ -143,7 +133,7 @@ fn a_ring_has_one_report(rt: HostRuntime) -> Result<(), Fail> {
     let one = report_of(&rt, alloc, &bundle, 1)?;
     for _ in 0..50 {
         let three = report_of(&rt, alloc, &bundle, 3)?;
-        assert_eq!(rt; three.as_str(), one.as_str());
+        reads(&rt, three.as_str(), one.as_str());
     }
     Ok(())
 }
@@ -154,14 +144,11 @@ fn thirty_of_three_hundred_files_lie_on_cycles(rt: HostRuntime) -> Result<(), Fa
     let files = rings(alloc)?;
     let mut run = run_all(&rt, alloc, &files, 1, &Open)?;
     let one = report_text(&rt, alloc, &files, &mut run, &[], Wanted::NOTHING, 1)?;
-    assert_eq!(rt; run.begun(), 300);
+    began(&rt, &run, 300, &[]);
     for loaders in [2, 4, 16] {
         let mut run = run_all(&rt, alloc, &files, loaders, &Open)?;
-        assert_eq!(rt; run.begun(), 300);
-        assert_eq!(rt;
-            report_text(&rt, alloc, &files, &mut run, &[], Wanted::NOTHING, loaders)?.as_str(),
-            one.as_str()
-        );
+        began(&rt, &run, 300, &[]);
+        reports(&rt, alloc, &files, &mut run, loaders, one.as_str())?;
     }
     Ok(())
 }

@@ -2,6 +2,7 @@
 
 ghost use Rattle.star_outcome.specs.Refusals.{IsRefusal};
 
+use crate::checks::holds;
 use star_host::{Naming, Refused, Trace};
 use std::alloc::{AllocError, Global};
 use std::marker::Brand;
@@ -38,6 +39,7 @@ fn two_of_a_ring<R: Wait>(rt: &R, alloc: Global) -> Result<bool, AllocError> {
 
 #[test]
 fn two_items_are_read_by_token_and_in_order(rt: HostRuntime) -> Result<(), Fail> {
-    assert!(rt; two_of_a_ring(&rt, rt.alloc())?);
+    let in_order = two_of_a_ring(&rt, rt.alloc())?;
+    holds!(&rt; in_order);
     Ok(())
 }

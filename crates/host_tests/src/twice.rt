@@ -1,5 +1,6 @@
 //! A second run in one process, after one that may have been refused memory.
 
+use crate::checks::holds;
 use crate::runs::all_roots;
 use star_host::gate::Open;
 use star_host::{Reads, run};
@@ -45,6 +46,6 @@ fn a_second_run_in_one_process(rt: HostRuntime) -> Result<(), Fail> {
     let second = reported(&rt, rt.alloc());
     let want =
         "{\"begun\":3,\"modules\":[{\"globals\":{\"x\":\"(1,)\"},\"label\":\"//:a.star\",\"lines\":[],\"status\":\"ok\"},{\"globals\":{\"y\":\"[(1,), (1,)]\"},\"label\":\"//:b.star\",\"lines\":[],\"status\":\"ok\"},{\"globals\":{\"k\":\"(1,)\"},\"label\":\"//:c.star\",\"lines\":[\"once\"],\"status\":\"ok\"}]}\n";
-    assert_eq!(rt; second.as_deref(), Some(want));
+    holds!(&rt; second.as_deref() == Some(want));
     Ok(())
 }

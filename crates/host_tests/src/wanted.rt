@@ -2,6 +2,7 @@
 
 ghost use Rattle.std.specs.Prelude.{◌≡◌, length};
 
+use crate::checks::{holds, reads};
 use crate::runs::{files_of, report_text, run_all};
 use star_host::Run;
 use star_host::gate::Open;
@@ -9,6 +10,7 @@ use star_label::files::Files;
 use star_report::got::{Got, Lack, globals_of};
 use star_report::wanted::Wanted;
 use std::alloc::{AllocError, Global};
+use std::process::Abort;
 use std::test::Fail;
 
 const BUNDLE: [(&str, &str); 2] = [
@@ -30,9 +32,11 @@ fn values_are_reported_as_json(rt: HostRuntime) -> Result<(), Fail> {
         steps: true,
         only_roots: false,
     };
-    assert_eq!(rt;
-        report_text(&rt, alloc, &files, &mut run, &[0, 1], wanted, 2)?.as_str(),
-        "{\"begun\":2,\"modules\":[{\"globals\":{\"_y\":\"1\",\"x\":\"[1, (2,), {\\\"k\\\": None}]\",\"z\":\"<built-in function len>\"},\"label\":\"//:a.star\",\"lines\":[],\"opaque\":[\"z\"],\"status\":\"ok\",\"steps\":75,\"values\":{\"x\":[1,[2],{\"k\":null}]}},{\"globals\":{\"r\":\"range(2)\",\"t\":\"{\\\"k\\\": None}\"},\"label\":\"//:b.star\",\"lines\":[],\"opaque\":[\"r\"],\"status\":\"ok\",\"steps\":39,\"values\":{\"t\":{\"k\":null}}}]}\n"
+    let report = report_text(&rt, alloc, &files, &mut run, &[0, 1], wanted, 2)?;
+    reads(
+        &rt,
+        report.as_str(),
+        "{\"begun\":2,\"modules\":[{\"globals\":{\"_y\":\"1\",\"x\":\"[1, (2,), {\\\"k\\\": None}]\",\"z\":\"<built-in function len>\"},\"label\":\"//:a.star\",\"lines\":[],\"opaque\":[\"z\"],\"status\":\"ok\",\"steps\":75,\"values\":{\"x\":[1,[2],{\"k\":null}]}},{\"globals\":{\"r\":\"range(2)\",\"t\":\"{\\\"k\\\": None}\"},\"label\":\"//:b.star\",\"lines\":[],\"opaque\":[\"r\"],\"status\":\"ok\",\"steps\":39,\"values\":{\"t\":{\"k\":null}}}]}\n",
     );
     Ok(())
 }
@@ -48,27 +52,35 @@ fn roots_alone_are_reported(rt: HostRuntime) -> Result<(), Fail> {
         steps: false,
         only_roots: true,
     };
-    assert_eq!(rt;
-        report_text(&rt, alloc, &files, &mut run, &[1], wanted, 1)?.as_str(),
-        "{\"begun\":2,\"modules\":[{\"globals\":{\"r\":\"range(2)\",\"t\":\"{\\\"k\\\": None}\"},\"label\":\"//:b.star\",\"lines\":[],\"status\":\"ok\"}]}\n"
+    let report = report_text(&rt, alloc, &files, &mut run, &[1], wanted, 1)?;
+    reads(
+        &rt,
+        report.as_str(),
+        "{\"begun\":2,\"modules\":[{\"globals\":{\"r\":\"range(2)\",\"t\":\"{\\\"k\\\": None}\"},\"label\":\"//:b.star\",\"lines\":[],\"status\":\"ok\"}]}\n",
     );
     Ok(())
 }
 
-/// The lines with a global of two roots, or none and the first that has none.
-fn got_of(
+/// Asserts the lines with a global of the two files, of which the second is asked for first; or the first that has none.
+fn gets(
+    rt: &impl Abort,
     alloc: Global,
     files: &Files,
     run: &mut Run,
     name: &str,
-) -> Result<(Vec<u8>, Option<(usize, Lack)>), AllocError>
+    lines: &str,
+    lack: Option<(usize, Lack)>,
+) -> Result<(), AllocError>
     requires { length run.old.cells ≡ length files.now }
     ensures { run.new ≡ run.old }
 {
-    match globals_of(alloc, files, run, &[1, 0], name)? {
-        Got::Lines(lines) => Ok((lines, None)),
-        Got::Lack { root, why } => Ok((Vec::new(alloc), Some((root, why)))),
-    }
+    let (found, why) = match globals_of(alloc, files, run, &[1, 0], name)? {
+        Got::Lines(lines) => (lines, None),
+        Got::Lack { root, why } => (Vec::new(alloc), Some((root, why))),
+    };
+    holds!(rt; found.as_slice() == lines.as_bytes());
+    holds!(rt; why == lack);
+    Ok(())
 }
 
 #[test]
@@ -82,17 +94,25 @@ fn globals_of_roots_are_lines_of_json(rt: HostRuntime) -> Result<(), Fail> {
         ],
     )?;
     let mut run = run_all(&rt, alloc, &files, 2, &Open)?;
-    let (lines, lack) = got_of(alloc, &files, &mut run, "x")?;
-    assert_eq!(rt;
-        lines.as_slice(),
-        "{\"k\":\"\\n\"}\n[[1],null]\n".as_bytes()
-    );
-    assert_eq!(rt; lack, None);
-    let (lines, lack) = got_of(alloc, &files, &mut run, "y")?;
-    assert!(rt; lines.is_empty());
-    assert_eq!(rt; lack, Some((1, Lack::NoGlobal)));
-    let (lines, lack) = got_of(alloc, &files, &mut run, "z")?;
-    assert!(rt; lines.is_empty());
-    assert_eq!(rt; lack, Some((1, Lack::NoData)));
+    let lines = "{\"k\":\"\\n\"}\n[[1],null]\n";
+    gets(&rt, alloc, &files, &mut run, "x", lines, None)?;
+    gets(
+        &rt,
+        alloc,
+        &files,
+        &mut run,
+        "y",
+        "",
+        Some((1, Lack::NoGlobal)),
+    )?;
+    gets(
+        &rt,
+        alloc,
+        &files,
+        &mut run,
+        "z",
+        "",
+        Some((1, Lack::NoData)),
+    )?;
     Ok(())
 }

@@ -4,38 +4,20 @@ ghost use Rattle.std.specs.Prelude.{◌≤◌};
 ghost use Rattle.star_meaning.specs.Places.{Stands};
 ghost use Rattle.star_meaning.specs.Programs.{IsOfFile, trees_of};
 
-use star_label::files::Files as Labels;
-use star_label::label::Label;
+use crate::checks::hold;
+use crate::variables::{published, two};
 use star_meaning::fault::Code;
 use star_module::module::{MOST_STEPS, Outcome, run_body};
 use star_parser::parse;
 use star_scope::program::Program;
-use star_store::arena::{Arena, Frozen, Homes, freeze};
-use star_store::values::Value;
+use star_store::arena::Homes;
 use star_text::Text;
 use star_world::files::{Files, program_of};
 use star_world::world::World;
 use std::alloc::{AllocError, Global};
-use std::collections::BTreeMap;
 use std::mem::ManuallyDrop;
 use std::process::Abort;
 use std::test::Fail;
-
-/// The labels of `//:a.star`, whose body is run, and of `//:p.star`, which it may load.
-fn two(alloc: Global) -> Result<Labels, Fail> {
-    let mut labels = BTreeMap::new(alloc);
-    for name in ["//:a.star", "//:p.star"] {
-        labels.insert(Label::read(alloc, name, "")?, String::new(alloc))?;
-    }
-    Ok(Labels::new(alloc, labels)?)
-}
-
-/// The published module of `//:p.star`: `k` is 5.
-fn published(alloc: Global) -> Result<Frozen, AllocError> {
-    let mut globals = Vec::new(alloc);
-    globals.push((String::from_str(alloc, "k")?, Value::Int(5)))?;
-    Ok(freeze(Arena::new(alloc, 1), globals))
-}
 
 fn outcome_over(
     alloc: Global,
@@ -85,7 +67,7 @@ fn printed(
     for line in lines {
         found.push(line.as_str())?;
     }
-    assert_eq!(rt; found.as_slice(), want, "{source}");
+    hold(rt, found.as_slice() == want, source);
     Ok(())
 }
 
@@ -101,7 +83,7 @@ fn shown(
     for (name, text) in texts {
         found.push((name.as_str(), text.as_str()))?;
     }
-    assert_eq!(rt; found.as_slice(), want, "{source}");
+    hold(rt, found.as_slice() == want, source);
     Ok(())
 }
 
@@ -121,17 +103,14 @@ pub(crate) fn good(
             lines: found,
             left,
         } => {
-            assert!(rt; left <= steps, "{source}: {left} steps left");
+            hold(rt, left <= steps, source);
             shown(rt, alloc, texts.as_slice(), globals, source)?;
             for (name, _text) in globals {
-                assert!(rt; frozen.global(*name).is_some(), "{source}");
+                hold(rt, frozen.global(*name).is_some(), source);
             }
             printed(rt, alloc, found.as_slice(), lines, source)
         }
-        Outcome::Fault { code, line, .. } => {
-            assert!(rt; false, "{source}: {code:?} in line {line}");
-            Ok(())
-        }
+        Outcome::Fault { .. } => Err(Fail::from("a fault in place of a good end")),
     }
 }
 
@@ -145,17 +124,14 @@ fn fault(
     lines: &[&str],
 ) -> Result<(), Fail> {
     match outcome_of(rt, alloc, source, steps)? {
-        Outcome::Good { .. } => {
-            assert!(rt; false, "{source}: no fault");
-            Ok(())
-        }
+        Outcome::Good { .. } => Err(Fail::from("a good end in place of a fault")),
         Outcome::Fault {
             code,
             line,
             lines: found,
             ..
         } => {
-            assert_eq!(rt; (code, line), want, "{source}");
+            hold(rt, (code, line) == want, source);
             printed(rt, alloc, found.as_slice(), lines, source)
         }
     }

@@ -3,6 +3,7 @@
 ghost use Rattle.star_call.specs.Callees.{IsDefined, IsFound};
 ghost use Rattle.star_meaning.specs.Programs.{IsOfFile};
 
+use crate::checks::{hold, holds};
 use crate::variables::two;
 use star_call::callee::{Called, Callee};
 use star_call::passed::{Passed, given};
@@ -46,17 +47,17 @@ fn defaults(alloc: Global) -> Result<Defaults, AllocError> {
 
 /// Asserts that its parameters have their layout.
 fn are_laid_out(rt: &impl Abort, layout: &Layout) -> Result<(), Fail> {
-    assert_eq!(rt; layout.count(), 19);
-    assert_eq!(rt; layout.by_place(), 15);
-    assert_eq!(rt; layout.defaults(), 14);
-    assert_eq!(rt; layout.needed().len(), 3);
-    assert_eq!(rt; layout.needed().last().copied(), Some(16));
-    assert_eq!(rt; layout.rest(), Some(15));
-    assert_eq!(rt; layout.names(), Some(18));
-    assert!(rt; layout.is_own(17) && !layout.is_own(15));
-    assert!(rt; !layout.is_own(18) && !layout.is_own(19));
+    holds!(rt; layout.count() == 19);
+    holds!(rt; layout.by_place() == 15);
+    holds!(rt; layout.defaults() == 14);
+    holds!(rt; layout.needed().len() == 3);
+    holds!(rt; layout.needed().last().copied() == Some(16));
+    holds!(rt; layout.rest() == Some(15));
+    holds!(rt; layout.names() == Some(18));
+    holds!(rt; layout.is_own(17) && !layout.is_own(15));
+    holds!(rt; !layout.is_own(18) && !layout.is_own(19));
     let ranks = layout.ranks()?;
-    assert_eq!(rt; ranks.as_slice().get(17).copied(), Some(Some(13)));
+    holds!(rt; ranks.as_slice().get(17).copied() == Some(Some(13)));
     Ok(())
 }
 
@@ -66,14 +67,13 @@ fn are_bound(rt: &impl Abort, machine: &Machine, world: &World, frame: Value) {
     match machine.content(world.setting(), frame) {
         Content::Held(Cell::Frame(frame)) => {
             let slots = &frame.get().slots;
-            assert_eq!(rt; slots.get(1), Some(Some(Value::Int(2))));
-            assert_eq!(rt; slots.get(2), Some(Some(Value::Int(70))));
-            assert_eq!(rt; slots.get(16), Some(Some(Value::Int(3))));
-            assert_eq!(rt; slots.get(17), Some(Some(Value::Int(83))));
-            assert!(rt; slots.get(15) != Some(None) && slots.get(18) != Some(None));
-            assert!(rt; slots.get(19).is_none());
+            for (at, number) in [(1, 2), (2, 70), (16, 3), (17, 83)] {
+                holds!(rt; slots.get(at) == Some(Some(Value::Int(number))));
+            }
+            holds!(rt; slots.get(15) != Some(None) && slots.get(18) != Some(None));
+            holds!(rt; slots.get(19).is_none());
         }
-        _ => assert!(rt; false),
+        _ => hold(rt, false, "a frame"),
     }
 }
 
@@ -91,7 +91,7 @@ fn a_call_is_bound_by_its_layout(
             let place = enter_bound(machine, 1, called, bound)?;
             are_bound(rt, machine, world, place.frame);
         }
-        None => assert!(rt; false),
+        None => return Err(Fail::from("a call that is not bound")),
     }
     Ok(())
 }
@@ -109,10 +109,7 @@ fn a_callee_is_bound_by_its_layout(
         Callee::AFunction(called) => {
             a_call_is_bound_by_its_layout(rt, machine, world, called, given)
         }
-        _ => {
-            assert!(rt; false);
-            Ok(())
-        }
+        _ => Err(Fail::from("a callee that is no function")),
     }
 }
 
@@ -137,13 +134,13 @@ fn many_parameters_have_a_layout_over(
     let world = World::new(0, homes, files, &[], None);
     match world.order(0, 0) {
         Some(order) => {
-            assert_eq!(rt; order.names.len(), 19);
+            holds!(rt; order.names.len() == 19);
             are_laid_out(rt, order.layout)?;
         }
-        None => assert!(rt; false),
+        None => return Err(Fail::from("a definition without an order")),
     }
-    assert!(rt; world.order(0, 1).is_none());
-    assert!(rt; world.order(1, 0).is_none());
+    holds!(rt; world.order(0, 1).is_none());
+    holds!(rt; world.order(1, 0).is_none());
     let mut machine = Machine::new(alloc, 0, 1_000);
     let passed = [
         Passed::Plain(Value::Int(1)),

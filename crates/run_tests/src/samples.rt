@@ -2,6 +2,7 @@
 
 ghost use Rattle.star_meaning.specs.Programs.{IsOfFile};
 
+use crate::checks::hold;
 use crate::variables::{published, two};
 use star_eval::evaluate::evaluate;
 use star_eval::execute::{execute, execute_each};
@@ -94,7 +95,7 @@ fn sample_is_as_wanted_in(
         Ok(text) => Ok(text.as_str()),
         Err(stop) => Err(*stop),
     };
-    assert_eq!(rt; made, sample.want, "{}", sample.source);
+    hold(rt, made == sample.want, sample.source);
     Ok(())
 }
 

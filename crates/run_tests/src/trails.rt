@@ -4,8 +4,9 @@ ghost use Rattle.std.specs.Prelude.{◌<◌, length};
 ghost use Rattle.star_meaning.specs.Places.{Stands};
 ghost use Rattle.star_meaning.specs.Programs.{IsOfFile, trees_of};
 
+use crate::checks::hold;
+use crate::variables::two;
 use star_label::files::Files as Labels;
-use star_label::label::Label;
 use star_meaning::story::Step;
 use star_module::module::{Outcome, run_body};
 use star_parser::parse;
@@ -15,19 +16,8 @@ use star_tree::tree::Tree;
 use star_world::files::{Files, program_of};
 use star_world::world::World;
 use std::alloc::{AllocError, Global};
-use std::collections::BTreeMap;
-use std::mem::ManuallyDrop;
 use std::process::Abort;
 use std::test::Fail;
-
-/// The labels of `//:a.star`, whose body is run, and of `//:p.star`, which it may load.
-fn two(alloc: Global) -> Result<Labels, Fail> {
-    let mut labels = BTreeMap::new(alloc);
-    for name in ["//:a.star", "//:p.star"] {
-        labels.insert(Label::read(alloc, name, "")?, String::new(alloc))?;
-    }
-    Ok(Labels::new(alloc, labels)?)
-}
 
 /// How a file's body ends over these stores.
 fn outcome_over(
@@ -92,17 +82,17 @@ fn leaves(
     assert!(rt; 1 < labels.len());
     let (tree, library) = (parse(alloc, source)?, parse(alloc, library)?);
     match outcome_of_trees(alloc, &labels, &tree, &library)? {
-        Outcome::Good { .. } => assert!(rt; false, "{source}: no fault"),
+        Outcome::Good { .. } => Err(Fail::from("a good end in place of a fault")),
         Outcome::Fault {
             line: at,
             remains,
             ..
         } => {
-            assert_eq!(rt; at, line, "{source}");
-            assert_eq!(rt; remains.trail.as_slice(), want, "{source}");
+            hold(rt, at == line, source);
+            hold(rt, remains.trail.as_slice() == want, source);
+            Ok(())
         }
     }
-    Ok(())
 }
 
 #[test]

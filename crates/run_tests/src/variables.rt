@@ -2,6 +2,7 @@
 
 ghost use Rattle.star_meaning.specs.Programs.{IsOfFile};
 
+use crate::checks::{hold, holds};
 use star_label::files::Files as Labels;
 use star_label::label::Label;
 use star_machine::fault::{Stop, faulted};
@@ -53,18 +54,19 @@ fn name(alloc: Global, text: &str, token: usize) -> Result<Name, AllocError> {
     })
 }
 
-/// Asserts the value of the name at a token.
-fn is(
+/// Asserts the value of the name at each of these tokens.
+fn are(
     rt: &impl Abort,
     alloc: Global,
     machine: &Machine,
     world: &World,
     place: Place,
-    at: (&str, usize),
-    want: Result<Value, Stop>,
+    rows: &[(&str, usize, Result<Value, Stop>)],
 ) -> Result<(), AllocError> {
-    let name = name(alloc, at.0, at.1)?;
-    assert_eq!(rt; read(machine, world, &place, &name), want, "{}", at.0);
+    for (text, token, want) in rows {
+        let name = name(alloc, *text, *token)?;
+        hold(rt, read(machine, world, &place, &name) == *want, *text);
+    }
     Ok(())
 }
 
@@ -80,6 +82,35 @@ fn give(
     bind(machine, world, &place, &name, value)
 }
 
+fn names_are_read_and_bound_in_a_body(
+    rt: &impl Abort,
+    alloc: Global,
+    machine: &mut Machine,
+    world: &World,
+    frame: Value,
+) -> Result<(), Fail> {
+    let body = Place {
+        file: 0,
+        frame,
+        line: 3,
+    };
+    let seven = Ok(Value::Int(7));
+    let unbound = Err(faulted(Code::Unbound, 3));
+    let rows = [("x", 14, seven), ("y", 16, unbound)];
+    are(rt, alloc, machine, world, body, &rows)?;
+    give(alloc, machine, world, body, ("y", 7), Value::Bool(true))?;
+    let rows = [
+        ("y", 16, Ok(Value::Bool(true))),
+        ("z", 18, unbound),
+        ("len", 20, Ok(Value::Builtin(BuiltIn::Len))),
+        ("k", 22, Ok(Value::Int(5))),
+    ];
+    are(rt, alloc, machine, world, body, &rows)?;
+    give(alloc, machine, world, body, ("x", 14), Value::Int(8))?;
+    are(rt, alloc, machine, world, body, &[("x", 14, seven)])?;
+    Ok(())
+}
+
 fn names_are_read_and_bound_by_their_places_in(
     rt: &impl Abort,
     alloc: Global,
@@ -92,89 +123,13 @@ fn names_are_read_and_bound_by_their_places_in(
         frame: own,
         line: 1,
     };
-    is(
-        rt,
-        alloc,
-        machine,
-        world,
-        file,
-        ("x", 0),
-        Err(faulted(Code::Unbound, 1)),
-    )?;
+    let unbound = Err(faulted(Code::Unbound, 1));
+    are(rt, alloc, machine, world, file, &[("x", 0, unbound)])?;
     give(alloc, machine, world, file, ("x", 0), Value::Int(7))?;
-    is(rt, alloc, machine, world, file, ("x", 0), Ok(Value::Int(7)))?;
+    let seven = Ok(Value::Int(7));
+    are(rt, alloc, machine, world, file, &[("x", 0, seven)])?;
     let frame = paid_frame(machine, world, 3, 0, 5, Some(own))?;
-    let body = Place {
-        file: 0,
-        frame,
-        line: 3,
-    };
-    is(
-        rt,
-        alloc,
-        machine,
-        world,
-        body,
-        ("x", 14),
-        Ok(Value::Int(7)),
-    )?;
-    is(
-        rt,
-        alloc,
-        machine,
-        world,
-        body,
-        ("y", 16),
-        Err(faulted(Code::Unbound, 3)),
-    )?;
-    give(alloc, machine, world, body, ("y", 7), Value::Bool(true))?;
-    is(
-        rt,
-        alloc,
-        machine,
-        world,
-        body,
-        ("y", 16),
-        Ok(Value::Bool(true)),
-    )?;
-    is(
-        rt,
-        alloc,
-        machine,
-        world,
-        body,
-        ("z", 18),
-        Err(faulted(Code::Unbound, 3)),
-    )?;
-    is(
-        rt,
-        alloc,
-        machine,
-        world,
-        body,
-        ("len", 20),
-        Ok(Value::Builtin(BuiltIn::Len)),
-    )?;
-    is(
-        rt,
-        alloc,
-        machine,
-        world,
-        body,
-        ("k", 22),
-        Ok(Value::Int(5)),
-    )?;
-    give(alloc, machine, world, body, ("x", 14), Value::Int(8))?;
-    is(
-        rt,
-        alloc,
-        machine,
-        world,
-        body,
-        ("x", 14),
-        Ok(Value::Int(7)),
-    )?;
-    Ok(())
+    names_are_read_and_bound_in_a_body(rt, alloc, machine, world, frame)
 }
 
 fn names_are_read_and_bound_by_their_places_over(
@@ -231,7 +186,7 @@ fn a_file_without_a_program_has_no_places(rt: HostRuntime) -> Result<(), Fail> {
     let alloc = rt.alloc();
     let mut programs = Programs::new(alloc);
     programs.push(None)?;
-    assert!(rt; programs.spot(0, 3).is_none());
-    assert_eq!(rt; programs.slots(0, 0), 0);
+    holds!(&rt; programs.spot(0, 3).is_none());
+    holds!(&rt; programs.slots(0, 0) == 0);
     Ok(())
 }

@@ -2,6 +2,7 @@
 
 ghost use Rattle.std.specs.Prelude.{◌≤◌, IfOk};
 
+use crate::checks::{holds, writes};
 use crate::tests::{NEVER, scripted, writer_of};
 use serde_json::Value;
 use star_bundle::error::ServeError;
@@ -75,9 +76,9 @@ fn has_report<H: Abort + Threads + Wait + Sync>(
     let text = Value::try_from_str(alloc, front)?.to_string(alloc)?;
     let bundle = format!(in alloc; "{{\"//:a.star\":{text},\"//:b.star\":\"l = []\"}}")?;
     let (answer, written) = served(rt, alloc, &bundle, "//:a.star")?;
-    assert!(rt; answer.is_ok());
-    assert!(rt; written.starts_with(b"{\"begun\":"));
-    assert!(rt; written.ends_with(b"\"}]}\n"));
+    holds!(rt; answer.is_ok());
+    holds!(rt; written.starts_with(b"{\"begun\":"));
+    holds!(rt; written.ends_with(b"\"}]}\n"));
     Ok(())
 }
 
@@ -99,10 +100,10 @@ fn a_mebibyte_of_brackets(rt: HostRuntime) -> Result<(), Fail> {
     let brackets = "(".repeat(alloc, 1_048_576)?;
     let bundle = format!(in alloc; "{{\"//:a.star\":\"{brackets}\"}}")?;
     let (answer, written) = served(&rt, alloc, &bundle, "//:a.star")?;
-    assert_eq!(rt; answer, Ok(false));
+    holds!(&rt; answer == Ok(false));
     let want =
         "{\"begun\":1,\"modules\":[{\"fault\":\"nested\",\"label\":\"//:a.star\",\"line\":1,\"lines\":[],\"status\":\"static\"}]}\n";
-    assert_eq!(rt; written.as_slice(), want.as_bytes());
+    writes(&rt, written.as_slice(), want);
     Ok(())
 }
 
@@ -124,7 +125,7 @@ fn chain_of(alloc: Global) -> Result<String, AllocError> {
 fn a_chain_of_a_thousand_files(rt: HostRuntime) -> Result<(), Fail> {
     let alloc = rt.alloc();
     let (answer, written) = served(&rt, alloc, &chain_of(alloc)?, "//:f1.star")?;
-    assert_eq!(rt; answer, Ok(true));
-    assert!(rt; written.starts_with(b"{\"begun\":1000,\"modules\":[{"));
+    holds!(&rt; answer == Ok(true));
+    holds!(&rt; written.starts_with(b"{\"begun\":1000,\"modules\":[{"));
     Ok(())
 }

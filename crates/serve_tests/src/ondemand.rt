@@ -3,6 +3,7 @@
 ghost use Rattle.std.specs.Prelude.{◌≤◌};
 ghost use Rattle.star_repo.specs.Held.{unsaid};
 
+use crate::checks::{hold, reads, writes};
 use crate::tests::{NEVER, options_of, writer_of};
 use star_bundle::error::ServeError;
 use star_folder::folder::FolderError;
@@ -99,8 +100,8 @@ fn files_on_demand(rt: HostRuntime) -> Result<(), Fail> {
     for loaders in [1, 4, 16] {
         let mut folder = MemoryRepo::new(&FILES);
         let (said, written) = asked(&rt, alloc, &mut folder, "//:a.star", loaders)?;
-        assert_eq!(rt; said.as_str(), "true");
-        assert_eq!(rt; written.as_slice(), REPORT.as_bytes());
+        reads(&rt, said.as_str(), "true");
+        writes(&rt, written.as_slice(), REPORT);
         for (root, want) in [
             ("//:c.star", "false"),
             ("//:latin.star", "a file is not text: //:latin.star"),
@@ -108,8 +109,8 @@ fn files_on_demand(rt: HostRuntime) -> Result<(), Fail> {
             ("a.star", "bad root"),
         ] {
             let (said, written) = asked(&rt, alloc, &mut folder, root, loaders)?;
-            assert_eq!(rt; said.as_str(), want);
-            assert_eq!(rt; written.is_empty(), want != "false");
+            reads(&rt, said.as_str(), want);
+            hold(&rt, written.is_empty() == (want != "false"), want);
         }
     }
     Ok(())
@@ -129,8 +130,8 @@ fn each_read_on_demand_fails(rt: HostRuntime) -> Result<(), Fail> {
             failed: 0,
         };
         let (said, written) = asked(&rt, alloc, &mut folder, "//:a.star", 4)?;
-        assert_eq!(rt; said.as_str(), want);
-        assert_eq!(rt; written.is_empty(), left < 2);
+        reads(&rt, said.as_str(), want);
+        hold(&rt, written.is_empty() == (left < 2), want);
     }
     Ok(())
 }

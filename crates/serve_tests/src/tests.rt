@@ -10,6 +10,7 @@ mod more_values;
 mod static_faults;
 mod values;
 
+use crate::checks::{hold, holds, writes};
 use star_bundle::error::{ServeError, status};
 use star_folder::folder::{Folder, FolderError, Kind};
 use star_folder::memory::{MemoryFolder, Row};
@@ -182,8 +183,8 @@ fn refuses<H: Abort + Threads + Wait + Sync>(
     want: ServeError,
 ) -> Result<(), Fail> {
     let (outcome, written) = served(rt, alloc, &mut scripted(input, 7, NEVER), false)?;
-    assert_eq!(rt; outcome, Err(want));
-    assert!(rt; written.is_empty());
+    holds!(rt; outcome == Err(want));
+    holds!(rt; written.is_empty());
     Ok(())
 }
 
@@ -222,13 +223,10 @@ fn comes_of<H: Abort + Threads + Wait + Sync>(
     let mut reader = scripted(case.bundle.as_bytes(), 5, NEVER);
     let (mut writer, mut errors) = (writer_of(alloc, NEVER), writer_of(alloc, NEVER));
     let answer = serve(rt, alloc, &mut reader, &mut writer, &mut errors, &options);
-    assert_eq!(rt; answer, case.answer);
-    assert_eq!(rt; writer.bytes.as_slice(), case.report.as_bytes());
+    hold(rt, answer == case.answer, case.report);
+    writes(rt, writer.bytes.as_slice(), case.report);
     if loaders == 1 || case.trace.is_none() {
-        assert_eq!(rt;
-            errors.bytes.as_slice(),
-            case.trace.unwrap_or("").as_bytes()
-        );
+        writes(rt, errors.bytes.as_slice(), case.trace.unwrap_or(""));
     }
     Ok(())
 }
@@ -331,21 +329,21 @@ fn a_reader_that_fails_at_each_call(rt: HostRuntime) -> Result<(), Fail> {
     for fails_at in 0..7 {
         let mut reader = scripted(b"{\"//:a.star\":\"\"}", 3, fails_at);
         let (outcome, written) = served(&rt, alloc, &mut reader, false)?;
-        assert_eq!(rt; outcome, Err(ServeError::Read));
-        assert!(rt; written.is_empty());
-        assert_eq!(rt; reader.failed, 1);
+        holds!(&rt; outcome == Err(ServeError::Read));
+        holds!(&rt; written.is_empty());
+        holds!(&rt; reader.failed == 1);
     }
     let mut reader = scripted(b"{\"//:a.star\":\"\"}", 3, 7);
     let (outcome, _) = served(&rt, alloc, &mut reader, false)?;
-    assert_eq!(rt; outcome, Ok(true));
+    holds!(&rt; outcome == Ok(true));
     Ok(())
 }
 
 #[test]
 fn a_reader_that_never_ends(rt: HostRuntime) -> Result<(), Fail> {
     let (outcome, written) = served(&rt, rt.alloc(), &mut Spaces, false)?;
-    assert_eq!(rt; outcome, Err(ServeError::TooBig));
-    assert!(rt; written.is_empty());
+    holds!(&rt; outcome == Err(ServeError::TooBig));
+    holds!(&rt; written.is_empty());
     Ok(())
 }
 
@@ -353,8 +351,8 @@ fn a_reader_that_never_ends(rt: HostRuntime) -> Result<(), Fail> {
 fn a_writer_that_fails(rt: HostRuntime) -> Result<(), Fail> {
     let mut reader = scripted(b"{\"//:a.star\":\"\"}", 9, NEVER);
     let (outcome, written) = served(&rt, rt.alloc(), &mut reader, true)?;
-    assert_eq!(rt; outcome, Err(ServeError::Write));
-    assert!(rt; written.is_empty());
+    holds!(&rt; outcome == Err(ServeError::Write));
+    holds!(&rt; written.is_empty());
     Ok(())
 }
 
@@ -370,20 +368,20 @@ fn a_trace_that_fails(rt: HostRuntime) -> Result<(), Fail> {
         let mut reader = scripted(bundle.as_bytes(), 9, NEVER);
         let (mut writer, mut errors) = (writer_of(alloc, NEVER), writer_of(alloc, fails_at));
         let outcome = serve(&rt, alloc, &mut reader, &mut writer, &mut errors, &options);
-        assert_eq!(rt; outcome, Ok(false));
-        assert!(rt; !writer.bytes.is_empty());
-        assert_eq!(rt; errors.bytes.as_slice(), want.as_bytes());
-        assert_eq!(rt; errors.failed, 1);
+        holds!(&rt; outcome == Ok(false));
+        holds!(&rt; !writer.bytes.is_empty());
+        writes(&rt, errors.bytes.as_slice(), want);
+        holds!(&rt; errors.failed == 1);
     }
     Ok(())
 }
 
 #[test]
 fn statuses(rt: HostRuntime) -> Result<(), Fail> {
-    assert_eq!(rt; status(&Ok(true)), 0);
-    assert_eq!(rt; status(&Ok(false)), 1);
-    assert_eq!(rt; status(&Err(ServeError::NoRoot)), 2);
-    assert_eq!(rt; ServeError::NoRoot.text(), "no such root");
+    holds!(&rt; status(&Ok(true)) == 0);
+    holds!(&rt; status(&Ok(false)) == 1);
+    holds!(&rt; status(&Err(ServeError::NoRoot)) == 2);
+    holds!(&rt; ServeError::NoRoot.text() == "no such root");
     Ok(())
 }
 
@@ -481,8 +479,8 @@ fn a_folder_is_reported(rt: HostRuntime) -> Result<(), Fail> {
     for loaders in [1, 3] {
         let rows = two_files();
         let (outcome, written) = served_dir(&rt, rt.alloc(), &rows, 99, false, loaders)?;
-        assert_eq!(rt; outcome, Ok(true));
-        assert_eq!(rt; written.as_slice(), want.as_bytes());
+        holds!(&rt; outcome == Ok(true));
+        writes(&rt, written.as_slice(), want);
     }
     Ok(())
 }
@@ -498,11 +496,11 @@ fn a_folder_that_fails(rt: HostRuntime) -> Result<(), Fail> {
     ] {
         let rows = two_files();
         let (outcome, written) = served_dir(&rt, rt.alloc(), &rows, fails_at, false, 1)?;
-        assert_eq!(rt; outcome, Err(want));
-        assert!(rt; written.is_empty());
+        holds!(&rt; outcome == Err(want));
+        holds!(&rt; written.is_empty());
     }
     let (outcome, _) = served_dir(&rt, rt.alloc(), &two_files(), 4, true, 1)?;
-    assert_eq!(rt; outcome, Err(ServeError::Write));
+    holds!(&rt; outcome == Err(ServeError::Write));
     Ok(())
 }
 
@@ -510,9 +508,9 @@ fn a_folder_that_fails(rt: HostRuntime) -> Result<(), Fail> {
 fn a_folder_that_is_refused(rt: HostRuntime) -> Result<(), Fail> {
     let rows = [row("", "a.star", Kind::File, b"\xff")];
     let (outcome, written) = served_dir(&rt, rt.alloc(), &rows, 99, false, 1)?;
-    assert_eq!(rt; outcome, Err(ServeError::NotText));
-    assert!(rt; written.is_empty());
+    holds!(&rt; outcome == Err(ServeError::NotText));
+    holds!(&rt; written.is_empty());
     let (outcome, _) = served_dir(&rt, rt.alloc(), &[], 99, false, 1)?;
-    assert_eq!(rt; outcome, Err(ServeError::NoRoot));
+    holds!(&rt; outcome == Err(ServeError::NoRoot));
     Ok(())
 }

@@ -5,6 +5,7 @@ ghost use Rattle.star_cache.specs.Ring.{ring};
 ghost use Rattle.star_cache.specs.State.{Loads};
 
 use super::kept::{Kept, ended, next};
+use crate::checks::holds;
 use star_cache::{Book, BookError, Entry, LoadCache, Reply, Seat};
 use std::alloc::{AllocError, Global};
 use std::marker::Brand;
@@ -120,7 +121,8 @@ fn ring<R: Threads + Wait + Sync>(
 #[test]
 fn three_loaders_end_a_ring_of_four(rt: HostRuntime) -> Result<(), Fail> {
     for _ in 0..200u32 {
-        assert!(rt; ring(&rt, rt.alloc(), 3, 4)?);
+        let ends = ring(&rt, rt.alloc(), 3, 4)?;
+        holds!(&rt; ends);
     }
     Ok(())
 }
@@ -128,7 +130,8 @@ fn three_loaders_end_a_ring_of_four(rt: HostRuntime) -> Result<(), Fail> {
 #[test]
 fn two_loaders_end_two_files_that_load_each_other(rt: HostRuntime) -> Result<(), Fail> {
     for _ in 0..2000u32 {
-        assert!(rt; ring(&rt, rt.alloc(), 2, 2)?);
+        let ends = ring(&rt, rt.alloc(), 2, 2)?;
+        holds!(&rt; ends);
     }
     Ok(())
 }
@@ -200,7 +203,8 @@ fn shared<R: Threads + Wait + Sync>(
 
 #[test]
 fn sixty_four_loaders_share_one_entry(rt: HostRuntime) -> Result<(), Fail> {
-    assert!(rt; shared(&rt, rt.alloc(), 64)? == Some((1, 63)));
+    let shared = shared(&rt, rt.alloc(), 64)?;
+    holds!(&rt; shared == Some((1, 63)));
     Ok(())
 }
 
@@ -316,7 +320,8 @@ fn spoiled_for_the_waiter<R: Threads + Wait + Sync>(
 #[test]
 fn a_waiter_is_told_of_what_was_given_up(rt: HostRuntime) -> Result<(), Fail> {
     for _ in 0..20u32 {
-        assert!(rt; spoiled_for_the_waiter(&rt, rt.alloc())?);
+        let spoiled = spoiled_for_the_waiter(&rt, rt.alloc())?;
+        holds!(&rt; spoiled);
     }
     Ok(())
 }
@@ -346,6 +351,7 @@ fn closed_late(alloc: Global) -> Result<bool, AllocError> {
 
 #[test]
 fn a_cache_with_a_seat_missing_stays_open(rt: HostRuntime) -> Result<(), Fail> {
-    assert!(rt; closed_late(rt.alloc())?);
+    let closes = closed_late(rt.alloc())?;
+    holds!(&rt; closes);
     Ok(())
 }
