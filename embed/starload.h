@@ -38,8 +38,12 @@ enum {
     STARLOAD_ROOM = 3     /* out has no room for the report, which has length bytes, and is as it was: call again */
 };
 
-/* Some of the refusals: starload_refusal has the text of each. */
-enum { STARLOAD_OUT_OF_MEMORY = 11, STARLOAD_BAD_STEPS = 17, STARLOAD_BAD_WORDS = 18 };
+/* The refusals of a call: starload_refusal has the text of each. The numbers left out are the program's alone. */
+enum {
+    STARLOAD_TOO_BIG = 2, STARLOAD_BAD_BUNDLE = 3, STARLOAD_BAD_KEY = 4, STARLOAD_TOO_MANY = 5, STARLOAD_TOO_LONG = 6,
+    STARLOAD_BAD_ROOT = 7, STARLOAD_NO_ROOT = 8, STARLOAD_BAD_PRELUDE = 9, STARLOAD_NO_PRELUDE = 10,
+    STARLOAD_OUT_OF_MEMORY = 11, STARLOAD_UNPUBLISHED = 13, STARLOAD_BAD_STEPS = 17, STARLOAD_BAD_WORDS = 18
+};
 
 typedef struct {
     uint32_t status;

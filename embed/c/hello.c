@@ -19,7 +19,9 @@ int main(void)
     };
     uint8_t out[4096];
     starload_answer answer = starload_run(&asked, out, sizeof out);
-    if (answer.status > STARLOAD_FAULTY)
+    if (answer.status == STARLOAD_ROOM)
+        return printf("no room: the report has %zu bytes\n", answer.length), 2;
+    if (answer.status == STARLOAD_REFUSED)
         return printf("no report: %s\n", starload_refusal(answer.refusal)), 2;
     printf("%.*s", (int)answer.length, (const char *)out);
     return (int)answer.status;

@@ -1,5 +1,5 @@
 /* run BUNDLE STEPS PRELUDE FLAGS ROOT..: writes the report of a bundle, as the program does. PRELUDE is - where there is none; FLAGS has v, l, s and r
-   for what is wanted more. For tests/embedding. */
+   for what is wanted more, and m for room that is mostly enough. For tests/embedding and bench/embedding. */
 #include "starload.h"
 #include <stdio.h>
 #include <stdlib.h>
@@ -42,7 +42,7 @@ int main(int count, char **words)
         .with_steps = strchr(words[4], 's') != NULL,
         .only_roots = strchr(words[4], 'r') != NULL,
     };
-    size_t room = 4096;
+    size_t room = 4096 + (strchr(words[4], 'm') ? 4 * asked.bundle.length : 0);
     uint8_t *out = malloc(room);
     starload_answer answer = starload_run(&asked, out, room);
     if (answer.status == STARLOAD_ROOM) {

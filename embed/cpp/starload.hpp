@@ -2,10 +2,12 @@
 #ifndef STARLOAD_HPP
 #define STARLOAD_HPP
 #include "starload.h"
+#include <cstdint>
 #include <optional>
 #include <stdexcept>
 #include <string>
 #include <string_view>
+#include <utility>
 #include <vector>
 
 namespace starload {
@@ -13,7 +15,7 @@ namespace starload {
 /// Why there is no report.
 class Refused : public std::runtime_error {
 public:
-    explicit Refused(std::uint32_t refusal) : std::runtime_error(starload_refusal(refusal)), refusal(refusal) {}
+    explicit Refused(std::uint32_t number) : std::runtime_error(starload_refusal(number)), refusal(number) {}
     std::uint32_t refusal;
 };
 

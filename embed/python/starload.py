@@ -28,6 +28,9 @@ class Refused(Error):
         super().__init__(text)
         self.code = code
 
+    def __reduce__(self):
+        return type(self), (self.code, str(self))
+
 
 class BadBundle(Refused):
     """The files are no bundle: a label is not in normal form, or there are too many files or bytes."""
@@ -72,6 +75,9 @@ class Module:
         self.lines = data["lines"]
         self.globals = data.get("globals", {})
         self.values = data.get("values", {})
+        self.opaque = data.get("opaque", [])
+        self.loads = data.get("loads", [])
+        self.paid = data.get("steps")
         self.fault = data.get("fault")
         self.line = data.get("line")
         self.cause = data.get("cause")
@@ -145,14 +151,18 @@ def _library():
 
 _run = _library().starload_run
 _room = threading.local()
+_KEPT = 1 << 16
 
 
 def _buffer(size):
-    """A buffer of this thread's own, which stays from one call to the next."""
-    buffer = getattr(_room, "buffer", None)
-    if buffer is None or len(buffer) < size:
-        buffer = _room.buffer = ctypes.create_string_buffer(max(size, 1 << 16))
-    return buffer
+    """A buffer that nobody else has: for little room that of this thread, which a call takes and gives back."""
+    kept = _room.__dict__.pop("buffer", None) if size <= _KEPT else None
+    return kept or ctypes.create_string_buffer(max(size, _KEPT))
+
+
+def _give_back(buffer):
+    if len(buffer) == _KEPT:
+        _room.buffer = buffer
 
 
 def _bytes(it):
@@ -161,9 +171,9 @@ def _bytes(it):
 
 def _answer(bundle, roots, prelude, steps, flags):
     """The bytes of the report, and whether every file is ok."""
-    words = [it.encode("utf-8", "surrogateescape") for it in roots]
+    words = [it.encode("utf-8", "surrogatepass") for it in roots]
     row = (_Bytes * max(len(words), 1))(*map(_bytes, words))
-    label = (prelude or "").encode("utf-8", "surrogateescape")
+    label = (prelude or "").encode("utf-8", "surrogatepass")
     if not 1 <= steps <= 100_000_000:
         steps = 0
     asked = _Asked(_bytes(bundle), _Words(row, len(words)), _bytes(label), steps, prelude is not None, *flags)
@@ -175,7 +185,9 @@ def _answer(bundle, roots, prelude, steps, flags):
             kind, text = _REFUSALS.get(answer.refusal, (Refused, "no report"))
             raise kind(answer.refusal, text)
         if answer.status != ROOM:
-            return ctypes.string_at(out, answer.length), answer.status == OK
+            text = ctypes.string_at(out, answer.length)
+            _give_back(out)
+            return text, answer.status == OK
         size = answer.length
 
 

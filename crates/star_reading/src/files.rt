@@ -18,8 +18,8 @@ use std::alloc::{AllocError, Global};
 use std::sync::Wait;
 use std::thread::Threads;
 
-/// The file as the prelude, which has the names of this tree.
-fn prelude_over<'t>(
+/// The file as the prelude, which has the names of this tree; none without a tree. The error: an allocation failed.
+pub fn prelude_over<'t>(
     alloc: Global,
     n: usize,
     tree: Option<&'t Tree>,

@@ -61,6 +61,27 @@ impl<'t> Reads<'t> {
     }
 }
 
+/// The result of resolving the tree of a file, which sees this prelude. The error: an allocation failed.
+pub fn resolved<'t>(
+    alloc: Global,
+    files: &Labels,
+    prelude: Option<&Prelude<'t>>,
+    n: usize,
+    tree: &'t Tree,
+) -> Result<Read<'t>, AllocError>
+    requires file { n < length files.now }
+    requires tree { Parses (text_at files.now n) (Ok tree.now) }
+    ensures { IfOk result (IsReadAs files.now (option_copied prelude.entry) n) }
+{
+    match resolve(alloc, files, n, tree, prelude) {
+        Ok(program) => Ok(Read::Program(program)),
+        Err(fault) => match of_scope(fault) {
+            Some(fault) => Ok(Read::Fault(fault)),
+            None => Err(AllocError),
+        },
+    }
+}
+
 /// All that is needed to read files: their texts, the place of their trees, the texts that are parsed already, the
 /// prelude, and the roots.
 #[derive(Drop)]
@@ -75,21 +96,6 @@ pub struct Reader<'s, 't> {
 }
 
 impl<'s, 't> Reader<'s, 't> {
-    /// Resolves the tree of a file.
-    fn resolved(&self, n: usize, tree: &'t Tree) -> Result<Read<'t>, AllocError>
-        requires file { n < length self.now.files.now }
-        requires tree { Parses (text_at self.now.files.now n) (Ok tree.now) }
-        ensures { IfOk result (IsReadAs self.now.files.now (option_copied self.now.prelude) n) }
-    {
-        match resolve(self.alloc, self.files, n, tree, self.prelude) {
-            Ok(program) => Ok(Read::Program(program)),
-            Err(fault) => match of_scope(fault) {
-                Some(fault) => Ok(Read::Fault(fault)),
-                None => Err(AllocError),
-            },
-        }
-    }
-
     /// Reads and resolves a file.
     pub(crate) fn read<R: Wait>(&self, rt: &R, n: usize) -> Result<Read<'t>, AllocError>
         requires parses { AreParsesOf self.now.files.now self.now.parses.now }
@@ -97,7 +103,7 @@ impl<'s, 't> Reader<'s, 't> {
         ensures { IfOk result (IsReadAs self.now.files.now (option_copied self.now.prelude) n) }
     {
         match parsed_once(rt, self.alloc, self.files, self.trees, self.parses, n)? {
-            Ok(tree) => self.resolved(n, tree),
+            Ok(tree) => resolved(self.alloc, self.files, self.prelude, n, tree),
             Err(fault) => match of_syntax(fault) {
                 Some(fault) => Ok(Read::Fault(fault)),
                 None => unreachable!(),
@@ -188,15 +194,15 @@ pub fn numbers(alloc: Global, loads: &[Load]) -> Result<Vec<usize>, AllocError>
 /// The files that were found so far: the results of reading them, whether each was found, and the numbers of the files
 /// that wait to be read.
 #[derive(Drop)]
-pub(crate) struct Found<'t> {
+pub struct Found<'t> {
     pub reads: Vec<Option<Read<'t>>>,
     pub marks: Vec<bool>,
     pub todo: Vec<usize>,
 }
 
 impl<'t> Found<'t> {
-    /// Nothing found yet, of `count` files.
-    pub(crate) fn new(alloc: Global, count: usize) -> Result<Found<'t>, AllocError>
+    /// Nothing found yet, of `count` files. The error: an allocation failed.
+    pub fn new(alloc: Global, count: usize) -> Result<Found<'t>, AllocError>
         ensures reads { IfOk result (λ f. vec_len f.reads ≡ count) }
         ensures none { IfOk result (λ f. All (λ o. o ≡ None) f.reads.items) }
         ensures marks { IfOk result (λ f. f.marks.items ≡ replicate count false) }
@@ -214,7 +220,7 @@ impl<'t> Found<'t> {
     }
 
     /// Takes a file that waits to be read; `None` if none waits.
-    fn next(&mut self) -> Option<usize>
+    pub fn next(&mut self) -> Option<usize>
         ensures reads { self.new.reads ≡ self.old.reads }
         ensures marks { self.new.marks ≡ self.old.marks }
         ensures todo { MatchOption result
@@ -225,7 +231,7 @@ impl<'t> Found<'t> {
     }
 
     /// Whether a file was read.
-    fn is_read(&self, n: usize) -> bool
+    pub fn is_read(&self, n: usize) -> bool
         ensures yes { IsTrue result → IsSome (read_at self.now.reads.items n) }
         ensures no { IsFalse result → read_at self.now.reads.items n ≡ None }
     {
@@ -249,8 +255,8 @@ impl<'t> Found<'t> {
         Ok(())
     }
 
-    /// Records that several files are found.
-    pub(crate) fn mark_each(&mut self, numbers: &[usize]) -> Result<(), AllocError>
+    /// Records that several files are found. The error: an allocation failed.
+    pub fn mark_each(&mut self, numbers: &[usize]) -> Result<(), AllocError>
         ensures reads { self.new.reads ≡ self.old.reads }
         ensures grew { OnOk result (Grew numbers.now self.old.marks.items self.old.todo.items
             self.new.marks.items self.new.todo.items) }
@@ -277,8 +283,8 @@ impl<'t> Found<'t> {
         Ok(())
     }
 
-    /// Records that a file was read, and that its loads are found.
-    pub(crate) fn add(&mut self, n: usize, read: Read<'t>) -> Result<(), AllocError>
+    /// Records that a file was read, and that its loads are found. The error: an allocation failed.
+    pub fn add(&mut self, n: usize, read: Read<'t>) -> Result<(), AllocError>
         requires { n < vec_len self.old.reads }
         ensures reads { OnOk result (self.new.reads.items ≡ slice_set self.old.reads.items n (Some read.entry)) }
         ensures grew { OnOk result (Grew (map (λ l. l.file) (loads_read read.entry))

@@ -1,17 +1,20 @@
 -- One report, one reply.
-use Rattle.std.proofs.Common.{◌≡◌, ◌++◌, ℕ, Bool, List, Option, Some, Result, Ok, ap, sym, ◌∙◌, subst}
+use Rattle.std.proofs.Common.{◌≡◌, ◌++◌, ℕ, Bool, true, false, if◌then◌else◌, List, length, Option, Some, Result, Ok, Err, ap, sym, ◌∙◌, subst, refl}
 use Rattle.std.proofs.Common.{None}
 use Rattle.std.proofs.lemmas.List.{append-nil}
+use Rattle.std.specs.Prelude.{nat_lt}
+use Rattle.star_alone.specs.Alone.{asked_within, bytes_limit}
 use Rattle.std.specs.Io.KnownBytes.{Consumes, IsAtEnd}
 use Rattle.star_label.specs.Files.{File, IsOrdered}
-use Rattle.star_bundle.specs.Bundle.{Asked, asked_among}
+use Rattle.star_bundle.specs.Bundle.{Asked, asked_among, asked_of}
 use Rattle.star_bundle.specs.declared.error.ServeError.{ServeError}
+use Rattle.star_bundle.specs.declared.error.ServeError.TheVariants.{TooBig}
 use Rattle.star_plan.specs.Plan.{Plan}
 use Rattle.star_plan.proofs.Plans.{one-plan}
 use Rattle.star_report.specs.Output.{IsOutput}
 use Rattle.star_report.specs.declared.wanted.Output.{Output}
 use Rattle.star_serve.specs.Serve.{Reports}
-use Rattle.star_reply.specs.Laws.{Answers, OneAnswer, OneReply, OneReplyDir, OneServed, Replies}
+use Rattle.star_reply.specs.Laws.{AloneReplies, Answers, OneAnswer, OneReply, OneReplyDir, OneServed, Replies}
 use Rattle.star_reply.proofs.Ordered.{asked, asked_files, walked}
 use Rattle.star_reply.proofs.Outputs.{one_output}
 use Rattle.star_reply.proofs.Walks.{one_walk}
@@ -35,6 +38,18 @@ pub one_reply : OneReply
 one_reply output roots prelude steps input before x y ok well h k =
     let same = ok_same _ h.0 k.0 h.1 k.1 in
     one_reported output h.0 (asked roots prelude input h.0 h.1) steps before x y ok well h.2 (subst (λ (a : Asked). Reports output a steps (Some before) y well) same k.2)
+
+-- an input within the limit is asked for as any other
+by_limit : (b : Bool) (r : Result Asked ServeError) (a : Asked) → (if b then Err TooBig else r) ≡ Ok a → r ≡ Ok a
+by_limit true r a e = absurd (let no : ⊥ = cc in no)
+by_limit false r a e = e
+
+within_limit : (roots : List (List ℕ)) (prelude : Option (List ℕ)) (input : List ℕ) (a : Asked) → asked_within roots prelude input ≡ Ok a → asked_of roots prelude input ≡ Ok a
+unfolding asked_within
+within_limit roots prelude input a e = by_limit (nat_lt bytes_limit (length input)) (asked_of roots prelude input) a e
+
+pub alone_replies : AloneReplies
+alone_replies wanted roots prelude steps input a e text ok h = (a, within_limit roots prelude input a e, (text, refl, h))
 
 pub one_reply_dir : OneReplyDir
 one_reply_dir output roots prelude steps held all before x y ok well h k =

@@ -1,5 +1,5 @@
 -- Laws of the one report of an input.
-use Rattle.std.specs.Prelude.{◌≡◌, ◌≢◌, ℕ, Bool, List, Option, Some, Ok}
+use Rattle.std.specs.Prelude.{◌≡◌, ◌≢◌, ℕ, Bool, List, [], Option, Some, Ok}
 use Rattle.star_label.specs.Files.{File, IsOrdered}
 use Rattle.star_bundle.specs.Bundle.{Asked, asked_among, asked_of}
 use Rattle.star_folder.specs.Folder.{Contents, Entry}
@@ -9,7 +9,10 @@ use Rattle.star_folder.specs.Refusal.{IsStopped}
 use Rattle.star_folder.specs.Walk.{AreFilesOf}
 use Rattle.star_folder.specs.Memory.{contents_of}
 use Rattle.star_folder.specs.declared.memory.Row.{Row}
+use Rattle.star_alone.specs.Alone.{IsAnswered, asked_within}
 use Rattle.star_report.specs.declared.wanted.Output.{Output}
+use Rattle.star_report.specs.declared.wanted.Output.TheVariants.{Report}
+use Rattle.star_report.specs.declared.wanted.Wanted.{Wanted}
 use Rattle.star_serve.specs.Serve.{ReadsAll, Reports}
 use Rattle.star_serve.specs.Stream.{Said}
 
@@ -62,6 +65,14 @@ OneReply =
     (output : Output) (roots : List (List ℕ)) (prelude : Option (List ℕ)) (steps : ℕ) (input before : List ℕ)
     → (x y : Option (List ℕ)) (ok well : Bool) → Replies output roots prelude steps input before x ok
     → Replies output roots prelude steps input before y well → (x ≡ y) × (ok ≡ well)
+
+-- what is answered by the caller's own thread is a reply of `serve`, to a writer that had taken nothing; so it has the
+-- text of every such reply
+abbrev pub AloneReplies : Type 0
+AloneReplies =
+    (wanted : Wanted) (roots : List (List ℕ)) (prelude : Option (List ℕ)) (steps : ℕ) (input : List ℕ) (asked : Asked)
+    → asked_within roots prelude input ≡ Ok asked → (text : List ℕ) (ok : Bool) → IsAnswered wanted asked steps text ok
+    → Replies (Report wanted) roots prelude steps input [] (Some text) ok
 
 -- the promise of `serve` on its reader too: all that it gave was the input
 abbrev pub Serves : Output → List (List ℕ) → Option (List ℕ) → ℕ → Said → Said → List ℕ → Option (List ℕ) → Bool → Type 0

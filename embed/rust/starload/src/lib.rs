@@ -9,8 +9,15 @@ use starload_sys::{starload_asked, starload_bytes, starload_run, starload_words}
 use std::fmt;
 
 /// Why there is no report: its number in `starload.h`.
-#[derive(Clone, Copy, Debug, PartialEq, Eq)]
+#[derive(Clone, Copy, PartialEq, Eq)]
 pub struct Refused(pub u32);
+
+/// The number and the text, as a `main` that returns the refusal shows it.
+impl fmt::Debug for Refused {
+    fn fmt(&self, out: &mut fmt::Formatter<'_>) -> fmt::Result {
+        write!(out, "Refused({}): {self}", self.0)
+    }
+}
 
 impl fmt::Display for Refused {
     fn fmt(&self, out: &mut fmt::Formatter<'_>) -> fmt::Result {

@@ -1,0 +1,28 @@
+-- What is answered of the bytes of a bundle.
+use Rattle.std.specs.Prelude.{◌≡◌, ◌⊎◌, ℕ, List, Bool, Option, Result, Ok, Err, if◌then◌else◌, length, nat_lt}
+use Rattle.star_bundle.specs.Bundle.{Asked, asked_of}
+use Rattle.star_bundle.specs.Refusal.{Fails}
+use Rattle.star_bundle.specs.declared.error.ServeError.{ServeError}
+use Rattle.star_bundle.specs.declared.error.ServeError.TheVariants.{TooBig, Unpublished}
+use Rattle.star_report.specs.Output.{InPlanOf, IsOutput}
+use Rattle.star_report.specs.declared.wanted.Output.TheVariants.{Report}
+use Rattle.star_report.specs.declared.wanted.Wanted.{Wanted}
+
+-- the most bytes that a bundle may have, as of one that is read from a stream
+abbrev pub bytes_limit : ℕ
+bytes_limit = 268435456
+
+-- the input that a bundle with these bytes is for these words, or the refusal of it: that of too many bytes comes first
+unfoldable pub asked_within : List (List ℕ) → Option (List ℕ) → List ℕ → Result Asked ServeError
+asked_within roots prelude input =
+    if nat_lt bytes_limit (length input) then Err TooBig else asked_of roots prelude input
+
+-- a text is the report of an input, with what is wanted more, and the answer is whether each module of it is ok
+abbrev pub IsAnswered : Wanted → Asked → ℕ → List ℕ → Bool → Type 0
+IsAnswered wanted asked steps text all_ok =
+    InPlanOf asked.files asked.roots asked.prelude steps
+    (λ plan. IsOutput (Report wanted) asked.files plan text all_ok)
+
+-- a refusal of this input: the one that the rules give, or want of memory; or a module of it was not published
+abbrev pub IsRefusedBy : Result Asked ServeError → ServeError → Type 0
+IsRefusedBy given e = Fails e given ⊎ ((e ≡ Unpublished) × ((asked : Asked) × (given ≡ Ok asked)))

@@ -1,0 +1,130 @@
+//! From the bytes of a bundle to the text of its report, by the caller's own thread.
+
+ghost use Rattle.std.specs.Prelude.{◌≡◌, ◌+◌, ◌<◌, ◌≤◌, ◌⊎◌, All, IfErr, IfOk, IfSome, Ok, length, map, option_map, string_bytes};
+ghost use Rattle.star_bundle.specs.Bundle as bundle;
+ghost use Rattle.star_bundle.specs.Refusal.{Gives};
+ghost use Rattle.star_bundle.specs.View.{asked_view};
+ghost use Rattle.star_alone.specs.Alone.{IsAnswered, IsRefusedBy, asked_within};
+
+use crate::reading::tree_cells;
+use crate::report::report_alone;
+use crate::running::run_alone;
+use star_bundle::bundle::{AskedFor, asked_for};
+use star_bundle::error::ServeError;
+use star_host::{Reads, RunError};
+use star_outcome::shelf::Shelf;
+use star_report::report::all_good;
+use star_report::wanted::Wanted;
+use star_tree::tree::Tree;
+use std::alloc::Global;
+
+/// The most bytes that a bundle may have.
+const LIMIT: usize = 268_435_456;
+
+/// The text of a report, and whether every module of it is ok.
+#[derive(Drop)]
+pub struct Answered {
+    pub text: Vec<u8>,
+    pub all_ok: bool,
+}
+
+/// Runs what is asked for over these cells, and writes the report.
+fn answer_over<'t>(
+    alloc: Global,
+    asked: &AskedFor,
+    trees: &'t Shelf<Tree>,
+    reads: &mut Reads<'t>,
+    steps: u32,
+    wanted: Wanted,
+) -> Result<Answered, ServeError>
+    requires cells { length trees.now ≡ length asked.now.files + 1 }
+    requires roots { All (λ n. n < length asked.now.files) asked.now.roots.items }
+    requires prelude { IfSome asked.now.prelude (λ n. n < length asked.now.files) }
+    requires steps { (1 ≤ steps) × (steps ≤ 100000000) }
+    ensures kinds { IfErr result (λ e. (e ≡ ServeError.Memory) ⊎ (e ≡ ServeError.Unpublished)) }
+    ensures ok { IfOk result (λ a. IsAnswered wanted (asked_view asked.now) steps a.text.items a.all_ok) }
+{
+    let files = &asked.files;
+    let roots = asked.roots.as_slice();
+    let mut run = match run_alone(alloc, files, trees, reads, roots, asked.prelude, steps) {
+        Ok(run) => run,
+        Err(RunError::Memory) => return Err(ServeError::Memory),
+        Err(RunError::Unpublished) => return Err(ServeError::Unpublished),
+    };
+    let text = report_alone(alloc, files, reads, &mut run, roots, wanted)?;
+    let all_ok = all_good(&mut run);
+    Ok(Answered { text, all_ok })
+}
+
+/// The report of what is asked for, with what is wanted more of each module.
+fn answer_asked(
+    alloc: Global,
+    asked: &AskedFor,
+    steps: u32,
+    wanted: Wanted,
+) -> Result<Answered, ServeError>
+    requires roots { All (λ n. n < length asked.now.files) asked.now.roots.items }
+    requires prelude { IfSome asked.now.prelude (λ n. n < length asked.now.files) }
+    requires steps { (1 ≤ steps) × (steps ≤ 100000000) }
+    ensures kinds { IfErr result (λ e. (e ≡ ServeError.Memory) ⊎ (e ≡ ServeError.Unpublished)) }
+    ensures ok { IfOk result (λ a. IsAnswered wanted (asked_view asked.now) steps a.text.items a.all_ok) }
+{
+    let trees = tree_cells(alloc, &asked.files)?;
+    let mut reads = Reads::new(alloc);
+    answer_over(alloc, asked, &trees, &mut reads, steps, wanted)
+}
+
+/// The input, by the bytes of a bundle and the words of the roots and the prelude. `TooBig` if there are too many bytes.
+#[tactic(auto, unfolding(crate::specs::Alone::asked_within))]
+fn input_of(
+    alloc: Global,
+    bytes: &[u8],
+    roots: &[String],
+    prelude: Option<&String>,
+) -> Result<AskedFor, ServeError>
+    ensures asked { Gives asked_view result
+        (asked_within (map string_bytes roots.now) (option_map (λ p. string_bytes p.now) prelude.entry) bytes.now) }
+    ensures roots { IfOk result (λ a. All (λ n. n < length a.files) a.roots.items) }
+    ensures prelude { IfOk result (λ a. IfSome a.prelude (λ n. n < length a.files)) }
+{
+    if bytes.len() > LIMIT {
+        return Err(ServeError::TooBig);
+    }
+    asked_for(alloc, bytes, roots, prelude)
+}
+
+/// The report of the bundle with these bytes, for these roots and this prelude, with what is wanted more of each module.
+/// `steps` is the number of steps that each body may take, from 1 to 100,000,000. All is done by the caller's own
+/// thread, and all memory but the text's is back when it returns.
+///
+/// The rules are those of `docs/REPORT.md`: what a bundle is, the refusals in their order, and the report. `TooBig` if
+/// there are more than 268,435,456 bytes, before all other refusals.
+pub fn answer_alone(
+    alloc: Global,
+    bytes: &[u8],
+    roots: &[String],
+    prelude: Option<&String>,
+    steps: u32,
+    wanted: Wanted,
+) -> Result<Answered, ServeError>
+    requires steps { (1 ≤ steps) × (steps ≤ 100000000) }
+
+    // The bytes are a bundle that has each root and the prelude, and the text is its report, and so is the answer.
+    ensures ok { IfOk result (λ a. (asked : bundle.Asked)
+        × (asked_within (map string_bytes roots.now) (option_map (λ p. string_bytes p.now) prelude.entry) bytes.now
+        ≡ Ok asked)
+        × IsAnswered wanted asked steps a.text.items a.all_ok) }
+
+    // The refusal is the first that the rules give, or memory was refused, or a module was not published.
+    ensures refused { IfErr result (IsRefusedBy
+        (asked_within (map string_bytes roots.now) (option_map (λ p. string_bytes p.now) prelude.entry) bytes.now)) }
+{
+    let asked = match input_of(alloc, bytes, roots, prelude) {
+        Ok(asked) => asked,
+        Err(error) => return Err(error),
+    };
+    match answer_asked(alloc, &asked, steps, wanted) {
+        Ok(answered) => Ok(answered),
+        Err(error) => Err(error),
+    }
+}

@@ -1,0 +1,56 @@
+//! The report of a run, written by the caller's own thread.
+
+ghost use Rattle.std.specs.Prelude.{◌≡◌, ◌<◌, All, IfOk, length};
+ghost use Rattle.star_outcome.specs.Kept.{AreModules};
+ghost use Rattle.star_plan.specs.Plan.{Plan};
+ghost use Rattle.star_plan.specs.Reading.{IsPlanOf};
+ghost use Rattle.star_reading.specs.Found.{IsReadOf};
+ghost use Rattle.star_report.specs.Pages.{AreWritten};
+ghost use Rattle.star_report.specs.Shelf.{LeadToFiles};
+ghost use Rattle.star_report.specs.Shown.{IsReportBut};
+
+use star_cause::Causes;
+use star_host::{Reads, Run};
+use star_label::files::Files as Labels;
+use star_report::pages::{Page, joined, pages_of, roots_marked};
+use star_report::report::nexts_of;
+use star_report::wanted::Wanted;
+use std::alloc::{AllocError, Global};
+
+/// Writes all pages, one after another.
+fn write_each(alloc: Global, files: &Labels, causes: &Causes, wanted: Wanted, pages: &mut [Page])
+    requires files { length causes.now ≡ length files.now }
+    requires loads { All (λ p. All (λ l. l.file < length files.now) p.loads.now) pages.old }
+    requires there { All (λ p. p.about.now.number < length files.now) pages.old }
+    ensures { AreWritten wanted files.now causes.now pages.old pages.new }
+{
+    for i in 0..pages.len() {
+        pages[i].write(alloc, files, causes, wanted);
+    }
+}
+
+/// The report of a run for these roots over these files as its text, with its line end and with what is wanted more of
+/// each module: the same bytes as by any number of threads. The error: an allocation failed.
+pub(crate) fn report_alone(
+    alloc: Global,
+    files: &Labels,
+    reads: &Reads,
+    run: &mut Run,
+    roots: &[usize],
+    wanted: Wanted,
+) -> Result<Vec<u8>, AllocError>
+    requires files { length run.old.cells ≡ length files.now }
+    requires loads { LeadToFiles files.now reads.now.all.items }
+    ensures same { run.new ≡ run.old }
+    ensures text { IfOk result (λ s. (plan : Plan) → IsPlanOf files.now plan → plan.roots ≡ roots.now
+        → IsReadOf files.now roots.now plan.prelude reads.now.all.items → AreModules plan run.old.kept
+        → IsReportBut wanted files.now plan (length run.old.kept) run.old.begun s.items) }
+{
+    let nexts = nexts_of(alloc, files.len(), run)?;
+    let causes = Causes::new(alloc, nexts)?;
+    let mut kept = run.kept(alloc)?;
+    let marks = roots_marked(alloc, files.len(), roots)?;
+    let mut pages = pages_of(alloc, run, reads, kept.as_mut_slice(), wanted, &marks)?;
+    write_each(alloc, files, &causes, wanted, pages.as_mut_slice());
+    joined(alloc, run.begun(), pages.as_slice())
+}

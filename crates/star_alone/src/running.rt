@@ -1,0 +1,187 @@
+//! The run by one loader that never waits.
+
+ghost use Rattle.std.specs.Prelude.{◌≡◌, ◌+◌, ◌<◌, ◌≤◌, ℕ, All, IfOk, IfSome, length, sum, vec_len};
+ghost use Rattle.star_cache.specs.State.{HasEnded, begun_count};
+ghost use Rattle.star_host.specs.Counts.{AreCounts};
+ghost use Rattle.star_host.specs.Worlds.{IsWorld};
+ghost use Rattle.star_outcome.specs.Fits.{IsWithin};
+ghost use Rattle.star_outcome.specs.Kept.{AllKept, AreModules, AreModulesOf};
+ghost use Rattle.star_outcome.specs.Refusals.{AreRefusals, AreRefusalsOf};
+ghost use Rattle.star_plan.specs.Reached.{IsReached};
+ghost use Rattle.star_reading.specs.Found.{IsReadOf, Within};
+ghost use Rattle.star_reading.specs.Readings.{IsPlaceable};
+
+use crate::cache::Cache;
+use crate::loading::load;
+use crate::reading::{ReadError, read_alone};
+use star_cache::Book;
+use star_host::running::root_at;
+use star_host::settle::{kept_of, reached};
+use star_host::{Common, LoadError, Run, RunError, programs};
+use star_label::files::Files as Labels;
+use star_outcome::module::Module;
+use star_outcome::naming::Naming;
+use star_outcome::outcome::Kept;
+use star_outcome::shelf::Shelf;
+use star_outcome::told::Told;
+use star_outcome::trace::Refused;
+use star_reading::reading::Reads;
+use star_tree::tree::Tree;
+use std::alloc::{AllocError, Global};
+use std::marker::Brand;
+
+/// What a run says of files that were not read.
+fn unread(error: ReadError) -> RunError {
+    match error {
+        ReadError::Memory => RunError::Memory,
+        ReadError::Unpublished => RunError::Unpublished,
+    }
+}
+
+/// What a book tells in which all reached files have ended, without the shelf.
+#[derive(Drop)]
+struct Ended {
+    kept: Vec<Kept>,
+    begun: u32,
+    refused: Vec<Refused>,
+}
+
+/// Loads each root.
+fn load_each<'s, 'r, 'p, 't, J: Naming>(
+    common: &Common<'s, 'r, 'p, 't>,
+    cache: &mut Cache<J>,
+    roots: &[usize],
+) -> Result<(), LoadError>
+    requires world { IsWorld J.files J.plan J.shelf common.now }
+    requires within { IsWithin J.files J.plan }
+    requires roots { roots.now ≡ J.plan.roots }
+{
+    for i in 0..roots.len() {
+        load(common, cache, root_at::<J>(roots, i))?;
+    }
+    Ok(())
+}
+
+/// What a book tells in which all reached files have ended.
+fn ended_of<J: Naming>(
+    alloc: Global,
+    book: Book<Told<J>>,
+    refused: Vec<Refused>,
+) -> Result<Ended, AllocError>
+    requires cells { length J.shelf ≡ length J.files }
+    requires within { IsWithin J.files J.plan }
+    requires ended { (n : ℕ) → IsReached J.plan n → HasEnded book n }
+    requires refused { AreRefusals J.plan refused.items }
+    ensures kept { IfOk result (λ c. AllKept J.shelf c.kept.items) }
+    ensures modules { IfOk result (λ c. AreModules J.plan c.kept.items) }
+    ensures begun { IfOk result (λ c. c.begun ≡ vec_len c.kept) }
+    ensures refused { IfOk result (λ c. AreRefusals J.plan c.refused.items) }
+{
+    let begun = book.begun();
+    let kept = kept_of(alloc, book)?;
+    Ok(Ended {
+        kept,
+        begun,
+        refused,
+    })
+}
+
+/// The run of a naming: its roots are loaded, and the modules of all reached files are kept.
+fn run_named<'s, 'r, 'p, 't, J: Naming>(
+    common: &Common<'s, 'r, 'p, 't>,
+    roots: &[usize],
+) -> Result<Ended, RunError>
+    requires world { IsWorld J.files J.plan J.shelf common.now }
+    requires within { IsWithin J.files J.plan }
+    requires roots { roots.now ≡ J.plan.roots }
+    ensures kept { IfOk result (λ c. AllKept common.now.modules.now c.kept.items) }
+    ensures modules { IfOk result (λ c. AreModules J.plan c.kept.items) }
+    ensures begun { IfOk result (λ c. c.begun ≡ vec_len c.kept) }
+    ensures refused { IfOk result (λ c. AreRefusals J.plan c.refused.items) }
+{
+    let alloc = common.alloc;
+    let mut cache = Cache::<J>::new(alloc, common.files.len())?;
+    load_each(common, &mut cache, roots)?;
+    let reached = reached(alloc, common.reads)?;
+    if !cache.have_ended(&reached) {
+        return Err(RunError::Unpublished);
+    }
+    let (book, refused) = cache.into_parts();
+    Ok(ended_of(alloc, book, refused)?)
+}
+
+/// The run over what was read, with a shelf for the modules.
+fn run_over<'s, 'r, 't>(
+    alloc: Global,
+    files: &'s Labels,
+    reads: &'r Reads<'t>,
+    modules: &'s Shelf<Module>,
+    roots: &[usize],
+    prelude: Option<usize>,
+    steps: u32,
+) -> Result<Ended, RunError>
+    requires prelude { IfSome prelude (λ p. p < length files.now) }
+    requires steps { (1 ≤ steps) × (steps ≤ 100000000) }
+    requires cells { length modules.now ≡ length files.now }
+    requires read { IsReadOf files.now roots.now prelude reads.now.all.items }
+    requires placeable { All IsPlaceable reads.now.all.items }
+    ensures kept { IfOk result (λ c. AllKept modules.now c.kept.items) }
+    ensures modules { IfOk result (λ c. AreModulesOf files.now roots.now prelude steps c.kept.items) }
+    ensures begun { IfOk result (λ c. c.begun ≡ vec_len c.kept) }
+    ensures refused { IfOk result (λ c. AreRefusalsOf files.now roots.now prelude steps c.refused.items) }
+{
+    let programs = programs(alloc, reads)?;
+    let common = Common::new(
+        alloc, files, reads, &programs, modules, roots, prelude, steps,
+    );
+    run_named::<Brand>(&common, roots)
+}
+
+/// The counts of the loaders where one has begun all files.
+fn counts_of_one(begun: u32) -> [u32; 64]
+    ensures counts { AreCounts 1 begun result }
+    ensures sum { sum result ≡ begun }
+{
+    let mut counts = [0; 64];
+    counts[0] = begun;
+    counts
+}
+
+/// Loads the roots by the caller's own thread: the modules of exactly the reached files, in order, each with its
+/// outcome; and the loads that were refused, each of which lies on a cycle of loads.
+/// `steps` is what each body may take; the roots and the prelude are numbers of files. The trees and what was read of
+/// the files stay with the caller. `Memory` where a growth was refused; `Unpublished` where a cell did not take its
+/// module or its tree.
+pub fn run_alone<'t>(
+    alloc: Global,
+    files: &Labels,
+    trees: &'t Shelf<Tree>,
+    reads: &mut Reads<'t>,
+    roots: &[usize],
+    prelude: Option<usize>,
+    steps: u32,
+) -> Result<Run, RunError>
+    requires cells { length trees.now ≡ length files.now + 1 }
+    requires roots { Within files.now roots.now }
+    requires prelude { IfSome prelude (λ n. n < length files.now) }
+    requires steps { (1 ≤ steps) × (steps ≤ 100000000) }
+    ensures read { IfOk result (λ _. IsReadOf files.now roots.now prelude reads.new.all.items) }
+    ensures files { IfOk result (λ r. length r.cells ≡ length files.now) }
+    ensures modules { IfOk result (λ r. AreModulesOf files.now roots.now prelude steps r.kept) }
+    ensures begun { IfOk result (λ r. r.begun ≡ length r.kept) }
+    ensures sum { IfOk result (λ r. sum r.per_loader ≡ r.begun) }
+    ensures counts { IfOk result (λ r. AreCounts 1 r.begun r.per_loader) }
+    ensures refused { IfOk result (λ r. AreRefusalsOf files.now roots.now prelude steps r.refused) }
+{
+    let modules = Shelf::new(alloc, files.len())?;
+    *reads = match read_alone(alloc, files, trees, roots, prelude) {
+        Ok(reads) => reads,
+        Err(error) => return Err(unread(error)),
+    };
+    let Ended {
+        kept,
+        begun,
+        refused,
+    } = run_over(alloc, files, reads, &modules, roots, prelude, steps)?;
+    Ok(Run::new(modules, kept, begun, counts_of_one(begun), refused))
+}
