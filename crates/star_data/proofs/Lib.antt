@@ -3,6 +3,7 @@ pub mod Stays
 pub mod Parts
 pub mod Builds
 pub mod Sent
+pub mod Rows
 pub mod Ints
 pub mod Strings
 mod Rising

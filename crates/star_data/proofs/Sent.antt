@@ -115,7 +115,7 @@ members_end f es rest old before new was at e =
 
 -- ---- a row in which each name is put
 
-abbrev key_cmp : Bor (List ℕ) → Bor (List ℕ) → Ordering
+abbrev pub key_cmp : Bor (List ℕ) → Bor (List ℕ) → Ordering
 key_cmp x y = slice_cmp nat_cmp x.now y.now
 
 -- what is put at a name which stands in the row already must hide data
@@ -125,10 +125,10 @@ HidesData f (Some v) = (d : Data) × (f v ≡ Some d)
 
 module _ (f : Value → Option Data) (k : Bor (List ℕ)) (v : Value) where
   -- the members with one more
-  abbrev with_one : Option Members → Option Members
+  abbrev pub with_one : Option Members → Option Members
   with_one ms = option_and_then (λ d. option_map (put k.now d) ms) (f v)
 
-  at_less : (x : Bor (List ℕ) × Value) (es : Row) (o : Option Data) (p : Option Data) (q : Option Members) → key_cmp k x.0 ≡ Less
+  pub at_less : (x : Bor (List ℕ) × Value) (es : Row) (o : Option Data) (p : Option Data) (q : Option Members) → key_cmp k x.0 ≡ Less
       → option_and_then (λ d. option_map (member k.now d) (option_and_then (λ c. option_map (member x.0.now c) q) p)) o ≡ option_and_then (λ d. option_map (put k.now d) (option_and_then (λ c. option_map (member x.0.now c) q) p)) o
   at_less x es None p q less = refl
   at_less x es (Some d) None q less = refl
@@ -141,7 +141,7 @@ module _ (f : Value → Option Data) (k : Bor (List ℕ)) (v : Value) where
   at_equal x (Some d) c None same = refl
   at_equal x (Some d) c (Some ms) same = ap (λ r. Some (match_ordering r (member k.now d (member x.0.now c ms)) (member x.0.now d ms) (member x.0.now c (put k.now d ms)))) (sym same)
 
-  at_greater : (x : Bor (List ℕ) × Value) (o : Option Data) (p : Option Data) (q : Option Members) → key_cmp k x.0 ≡ Greater
+  pub at_greater : (x : Bor (List ℕ) × Value) (o : Option Data) (p : Option Data) (q : Option Members) → key_cmp k x.0 ≡ Greater
       → option_and_then (λ c. option_map (member x.0.now c) (option_and_then (λ d. option_map (put k.now d) q) o)) p ≡ option_and_then (λ d. option_map (put k.now d) (option_and_then (λ c. option_map (member x.0.now c) q) p)) o
   at_greater x None None q more = refl
   at_greater x None (Some c) q more = refl

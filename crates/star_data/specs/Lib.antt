@@ -3,5 +3,6 @@ pub mod Data
 pub mod Parts
 pub mod Paths
 pub mod Texts
+pub mod Rows
 pub mod Reading
 pub mod Laws

@@ -1,6 +1,6 @@
 //! `write_data`: writes the JSON of a value after a text, or finds that it has none.
 
-ghost use Rattle.std.specs.Prelude.{◌≡◌, ◌-◌, IfOk, OnOk, Some, map, take, vec_len};
+ghost use Rattle.std.specs.Prelude.{◌≡◌, ◌-◌, IfOk, IfSome, None, OnOk, Some, if◌then◌else◌, map, take, vec_len};
 ghost use Rattle.std.specs.Option.{option_copied, option_map};
 ghost use Rattle.serde_json.specs.Data.{array, object, string};
 ghost use Rattle.star_store.specs.Store.{look};
@@ -9,11 +9,13 @@ ghost use Rattle.star_data.specs.Data.{cell_data, cell_of, data_of, entries_data
 ghost use Rattle.star_data.specs.Texts.{IsJson, Says, Sends, row_data};
 ghost use Rattle.star_store.specs.declared.values.Cell.TheVariants as cell;
 ghost use Rattle.star_data.specs.Paths.{AllStandInEach, StandsInEach};
+ghost use Rattle.star_data.specs.Rows.{IsRowOf, put_new};
 
 use json::Writer;
 use star_store::arena::{Arena, Homes};
 use star_store::values::{Cell, Value};
 use std::alloc::{AllocError, Global};
+use std::cmp::Ordering;
 use std::collections::BTreeMap;
 
 /// A text, and whether the JSON of a value was written after it.
@@ -49,6 +51,10 @@ pub fn write_data<'a>(
     }
     Ok(Written { text, is_data })
 }
+
+/// The most entries of a dictionary whose members are put in order in a plain row, in which each is moved at most once for
+/// each other.
+const FEW: usize = 16;
 
 /// Whether a value is data.
 #[cycle(write)]
@@ -279,6 +285,34 @@ fn write_entries<'a>(
     ensures path { OnOk result (path.new.items ≡ path.old.items) }
     ensures before { out.new.before ≡ out.old.before }
 {
+    if entries.len() <= FEW {
+        let row = few_members(alloc, arena, homes, entries)?;
+        if let Some(row) = row {
+            return write_row(alloc, arena, homes, levels, path, &row, out);
+        }
+    }
+    write_many(alloc, arena, homes, levels, path, entries, out)
+}
+
+/// The same with a map, for any number of entries, and for a key that stands twice.
+#[cycle(write)]
+fn write_many<'a>(
+    alloc: Global,
+    arena: &'a Arena,
+    homes: &'a Homes<'a>,
+    levels: u32,
+    path: &mut Vec<Value>,
+    entries: &'a [(Value, Value)],
+    out: &mut Writer,
+) -> Result<bool, AllocError>
+    requires { AllStandInEach (look arena.now homes.now) path.old.items (map (λ e. e.1) entries.now) }
+    ensures data { IfOk result (λ b. Sends
+        (option_map object
+        (entries_data (look arena.now homes.now) (data_of (look arena.now homes.now) levels) entries.now)) b
+        out.old.tokens out.new.tokens) }
+    ensures path { OnOk result (path.new.items ≡ path.old.items) }
+    ensures before { out.new.before ≡ out.old.before }
+{
     let mut members = BTreeMap::new(alloc);
     for i in (0..entries.len()).rev() {
         let Some(key) = text_at(arena, homes, entries[i].0) else {
@@ -319,6 +353,78 @@ fn write_members<'a>(
         }
     }
     out.end_object()?;
+    Ok(true)
+}
+
+#[cycle(write)]
+fn write_row<'a>(
+    alloc: Global,
+    arena: &'a Arena,
+    homes: &'a Homes<'a>,
+    levels: u32,
+    path: &mut Vec<Value>,
+    row: &[(&'a str, Value)],
+    out: &mut Writer,
+) -> Result<bool, AllocError>
+    requires { AllStandInEach (look arena.now homes.now) path.old.items (map (λ e. e.1) row.now) }
+    ensures data { IfOk result (λ b. Sends
+        (option_map object (row_data (data_of (look arena.now homes.now) levels) row.now)) b
+        out.old.tokens out.new.tokens) }
+    ensures path { OnOk result (path.new.items ≡ path.old.items) }
+    ensures before { out.new.before ≡ out.old.before }
+{
+    out.begin_object()?;
+    for member in row {
+        out.key(member.0)?;
+        if !write_value(alloc, arena, homes, levels, path, member.1, out)? {
+            return Ok(false);
+        }
+    }
+    out.end_object()?;
+    Ok(true)
+}
+
+/// The members of a small dictionary, in byte order of their names. None says nothing: it is the answer where a key is no
+/// string, or a string stands twice as a key.
+fn few_members<'a>(
+    alloc: Global,
+    arena: &'a Arena,
+    homes: &'a Homes<'a>,
+    entries: &[(Value, Value)],
+) -> Result<Option<Vec<(&'a str, Value)>>, AllocError>
+    ensures { IfOk result (λ found. IfSome found (λ row. IsRowOf (look arena.now homes.now) entries.now row.items)) }
+{
+    let mut row = Vec::with_capacity(alloc, entries.len())?;
+    for i in (0..entries.len()).rev() {
+        let Some(key) = text_at(arena, homes, entries[i].0) else {
+            return Ok(None);
+        };
+        if !put_new(&mut row, key, entries[i].1)? {
+            return Ok(None);
+        }
+    }
+    Ok(Some(row))
+}
+
+/// Puts a name with a value at its place among names in byte order: whether the name was new.
+fn put_new<'a>(
+    row: &mut Vec<(&'a str, Value)>,
+    key: &'a str,
+    value: Value,
+) -> Result<bool, AllocError>
+    ensures { IfOk result (λ is_new. (if is_new then Some row.new.items else None) ≡ put_new row.old.items key.entry value) }
+{
+    for i in 0..row.len() {
+        match key.cmp(row[i].0) {
+            Ordering::Less => {
+                row.insert(i, (key, value))?;
+                return Ok(true);
+            }
+            Ordering::Equal => return Ok(false),
+            Ordering::Greater => {}
+        }
+    }
+    row.push((key, value))?;
     Ok(true)
 }
 

@@ -5,7 +5,7 @@ ghost use Rattle.star_once.specs.Results.{EqualResultsAreSame, ResultsKeepKeys};
 ghost use Rattle.star_once.specs.Laws.{DifferentKeysStandOnce, FilesKeepKeys, FrozenKeysStandOnce, LoadsKeepKeys, RunsKeepKeys};
 
 /// Where keys differ before an expression or a statement that ends well, they differ after it: whatever it puts into
-/// dictionaries, no key is there twice. (`docs/LANGUAGE.md`, "Dictionaries".)
+/// dictionaries, no key is there twice. (`docs/LANGUAGE.md`, "Equality, order, keys and texts".)
 pub fn runs_keep_keys()
     ensures { RunsKeepKeys }
 {}
@@ -35,7 +35,7 @@ pub fn results_keep_keys()
     ensures { ResultsKeepKeys }
 {}
 
-/// So two values there that are equal, and have JSON, have the same. (`docs/REPORT.md`, "Values".)
+/// So two values there that are equal, and have JSON, have the same. (`docs/REPORT.md`, "Values as JSON".)
 pub fn equal_results_are_same()
     ensures { EqualResultsAreSame }
 {

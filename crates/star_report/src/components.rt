@@ -14,11 +14,11 @@ use std::alloc::{AllocError, Global};
 /// What is known of a file.
 #[derive(Clone, Copy, Debug, PartialEq, Eq)]
 pub(crate) enum Mark {
-    /// It was not found yet.
+    /// It has not been found yet.
     New,
-    /// It was found, and more files of its component may be: its place among all files of which this holds.
+    /// It has been found, but perhaps not all of its component: its place among the files in this state.
     Open(usize),
-    /// All files of its component were found: the number of the component.
+    /// Its whole component has been found: the number of the component.
     Closed(usize),
 }
 
@@ -29,9 +29,9 @@ pub(crate) struct Frame {
     pub file: usize,
     /// Its place among the open files.
     pub place: usize,
-    /// The number of its loads that were followed.
+    /// How many of its loads have been followed.
     pub next: usize,
-    /// The lowest place to which it was seen to lead.
+    /// The lowest place that it is known to lead to.
     pub low: usize,
 }
 
@@ -44,7 +44,7 @@ pub(crate) struct Search {
     pub stack: Vec<usize>,
     /// The files whose loads are being followed; each loads the next.
     pub path: Vec<Frame>,
-    /// The number of components that were found.
+    /// How many components have been found.
     pub count: usize,
 }
 
@@ -66,7 +66,7 @@ fn close_all(marks: &mut Vec<Mark>, files: &[usize], count: usize)
 }
 
 impl Search {
-    /// No file was found.
+    /// A search that has found no file.
     fn new(alloc: Global, count: usize) -> Result<Search, AllocError>
         ensures marks { IfOk result (λ s. s.marks.items ≡ replicate count New) }
         ensures stack { IfOk result (λ s. s.stack.items ≡ []) }
@@ -81,7 +81,7 @@ impl Search {
         })
     }
 
-    /// A file is found: it is open, and its loads are followed next.
+    /// Opens a file that is found; its loads are followed next.
     fn enter(&mut self, n: usize) -> Result<(), AllocError>
         requires { n < length self.old.marks.items }
         ensures { OnOk result (Enters self.old n self.new) }
@@ -98,7 +98,7 @@ impl Search {
         Ok(())
     }
 
-    /// A frame is on the path again: one more of its loads was followed.
+    /// Puts a frame back on the path, after one more of its loads.
     fn push(&mut self, frame: Frame, low: usize) -> Result<(), AllocError>
         requires { frame.next < 2 ^ 63 }
         ensures { OnOk result (Pushes self.old (went_on frame low) self.new) }
@@ -129,7 +129,7 @@ impl Search {
         }
     }
 
-    /// The open files from a place on are a component.
+    /// Makes the open files from a place on a component.
     fn close(&mut self, place: usize)
         requires count { self.old.count < length self.old.marks.items }
         requires place { place ≤ length self.old.stack.items }
@@ -140,7 +140,7 @@ impl Search {
         self.count += 1;
     }
 
-    /// A frame that leads to a lower place ends: what it leads to, the frame before it leads to.
+    /// Ends a frame that reaches a lower place: the frame before it reaches that place, too.
     fn merge(&mut self, frame: Frame) -> Result<(), AllocError>
         ensures { OnOk result ((row : Row) → IsSearchingAt row frame self.old
             → length (loaded_at row frame.file) ≤ frame.next → frame.low < frame.place
@@ -158,7 +158,7 @@ impl Search {
         }
     }
 
-    /// Ends a frame, whose loads were all followed.
+    /// Ends a frame after its last load.
     fn leave(&mut self, frame: Frame) -> Result<(), AllocError>
         requires count { self.old.count < length self.old.marks.items }
         requires place { frame.place ≤ length self.old.stack.items }
@@ -172,7 +172,7 @@ impl Search {
         Ok(())
     }
 
-    /// Goes on with the last frame, which is off the path.
+    /// One step with the last frame, which is off the path.
     fn step(&mut self, reads: &Reads, frame: Frame) -> Result<(), AllocError>
         requires search { IsSearchingAt reads.now.all.items frame self.old }
         requires loads { LeadWithin reads.now.all.items }
@@ -207,7 +207,7 @@ impl Search {
 }
 
 impl Components {
-    /// The components of what was read. The error: an allocation failed.
+    /// The components of the files that were read. The error: an allocation failed.
     pub(crate) fn of(alloc: Global, reads: &Reads) -> Result<Components, AllocError>
         requires { LeadWithin reads.now.all.items }
         ensures { IfOk result (λ c. AreComponents reads.now.all.items c.marks.items) }
@@ -223,7 +223,7 @@ impl Components {
         })
     }
 
-    /// Whether two files are of one component: each leads to the other.
+    /// Whether two files are in one component: each leads to the other.
     pub(crate) fn are_one(&self, n: usize, m: usize) -> bool
         ensures { (result ≡ true) ↔ AreOne self.now.marks.items n m }
     {

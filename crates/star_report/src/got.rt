@@ -25,14 +25,14 @@ use std::alloc::{AllocError, Global};
 pub enum Lack {
     /// Its file is not ok.
     NotOk,
-    /// No global of its file has that name and is not private.
+    /// Its file has no public global with that name.
     NoGlobal,
-    /// That global is no data.
+    /// That global is not data.
     NoData,
 }
 
 impl Lack {
-    /// What is said of it.
+    /// The reason as text.
     pub fn text(self) -> &'static str
         ensures { result.now ≡ lack_text self }
     {
@@ -44,16 +44,16 @@ impl Lack {
     }
 }
 
-/// What the roots have for a name.
+/// The globals of the roots with one name.
 #[derive(Debug, Drop)]
 pub enum Got {
-    /// Each its data: a line for each.
+    /// All have data: a line for each.
     Lines(Vec<u8>),
-    /// The first that has none, and why.
+    /// The first root without data, and why.
     Lack { root: usize, why: Lack },
 }
 
-/// The global with a name: none where the name is private.
+/// The global with a name; none if the name is private.
 fn public_global(own: Option<&Frozen>, name: &str) -> Option<Value>
     ensures { result ≡ public_global (globals_in (option_copied own.entry)) name.now }
 {
@@ -75,7 +75,7 @@ fn json_got<'a>(
     let Some(value) = global else {
         return Ok(Err(Lack::NoGlobal));
     };
-    match json_of(alloc, arena, homes, value)? {
+    match json_of(alloc, arena, homes, value, 0)? {
         Some(json) => Ok(Ok(json)),
         None => Ok(Err(Lack::NoData)),
     }
@@ -152,7 +152,7 @@ fn json_at(
     }
 }
 
-/// A line for each root, up to the first that has none.
+/// A line for each root, up to the first without data.
 fn lines_of(
     alloc: Global,
     table: &[Option<&Module>],
@@ -176,8 +176,8 @@ fn lines_of(
     Ok(Got::Lines(lines))
 }
 
-/// For each root of a run, in their order, a line with the JSON of its global of a name; or the first root that has
-/// none, and why.
+/// A line for each root of a run, in their order, with the JSON of its global of a name; or the first root without
+/// data, and why.
 pub fn globals_of(
     alloc: Global,
     files: &Labels,

@@ -54,7 +54,7 @@ fn targets(alloc: Global, loads: &[Load]) -> Result<IndexSet<usize>, AllocError>
     Ok(files)
 }
 
-/// The edges of a module. A load lies on a cycle of loads if both files are of one component.
+/// The edges of a module. A load lies on a cycle of loads if both files are in one component.
 fn edges_of(
     alloc: Global,
     reads: &Reads,
@@ -100,7 +100,7 @@ fn node_of(
     })
 }
 
-/// The node of a module, where there is one, after those of the files before it.
+/// Adds the node of a module, if there is one, after those of the files before it.
 fn push_node(
     alloc: Global,
     reads: &Reads,
@@ -146,7 +146,7 @@ fn nodes_of(
     Ok(nodes)
 }
 
-/// A text, and a label in double quotes.
+/// Adds a label in double quotes to a text.
 fn with_label(text: Vec<u8>, files: &Labels, n: usize) -> Result<Vec<u8>, AllocError>
     requires { n < length files.now }
     ensures { IfOk result (λ t. t.items ≡ text.items ++ quoted (label_at files.now n)) }
@@ -156,7 +156,7 @@ fn with_label(text: Vec<u8>, files: &Labels, n: usize) -> Result<Vec<u8>, AllocE
     Ok(out.into_inner())
 }
 
-/// A text, and the line of a node.
+/// Adds the line of a node to a text.
 fn with_node(text: Vec<u8>, files: &Labels, node: &Node) -> Result<Vec<u8>, AllocError>
     requires { node.now.file < length files.now }
     ensures { IfOk result (λ t. t.items ≡ text.items ++ spec.node_line files.now (node_view node.now)) }
@@ -172,7 +172,7 @@ fn with_node(text: Vec<u8>, files: &Labels, node: &Node) -> Result<Vec<u8>, Allo
     Ok(text)
 }
 
-/// What ends the line of an edge.
+/// The end of the line of an edge.
 fn edge_end(edge: &Edge) -> &'static str
     ensures { result.now ≡ (if edge.now.on_cycle then codes " [color=red];\n" else codes ";\n") }
 {
@@ -183,7 +183,7 @@ fn edge_end(edge: &Edge) -> &'static str
     }
 }
 
-/// A text, and the line of an edge.
+/// Adds the line of an edge to a text.
 fn with_edge(text: Vec<u8>, files: &Labels, n: usize, edge: &Edge) -> Result<Vec<u8>, AllocError>
     requires from { n < length files.now }
     requires to { edge.now.to < length files.now }
@@ -198,7 +198,7 @@ fn with_edge(text: Vec<u8>, files: &Labels, n: usize, edge: &Edge) -> Result<Vec
     Ok(text)
 }
 
-/// A text, and the lines of the edges of a node.
+/// Adds the lines of a node's edges to a text.
 fn with_edges(text: Vec<u8>, files: &Labels, node: &Node) -> Result<Vec<u8>, AllocError>
     requires from { node.now.file < length files.now }
     requires to { EndWithin (length files.now) node.now.edges.items }
@@ -211,7 +211,7 @@ fn with_edges(text: Vec<u8>, files: &Labels, node: &Node) -> Result<Vec<u8>, All
     Ok(text)
 }
 
-/// A text, and the lines of all nodes.
+/// Adds the lines of all nodes to a text.
 fn with_nodes(text: Vec<u8>, files: &Labels, nodes: &[Node]) -> Result<Vec<u8>, AllocError>
     requires { AreNodesWithin (length files.now) nodes.now }
     ensures { IfOk result (λ t. t.items
@@ -224,7 +224,7 @@ fn with_nodes(text: Vec<u8>, files: &Labels, nodes: &[Node]) -> Result<Vec<u8>, 
     Ok(text)
 }
 
-/// A text, and the lines of the edges of all nodes.
+/// Adds the lines of all edges to a text.
 fn with_all_edges(text: Vec<u8>, files: &Labels, nodes: &[Node]) -> Result<Vec<u8>, AllocError>
     requires { AreNodesWithin (length files.now) nodes.now }
     ensures { IfOk result (λ t. t.items

@@ -2,7 +2,7 @@
 
 ghost use Rattle.star_report.specs.Laws.{EdgesAreLoads, EdgesStandOnce, NoneDropped, NoneTwice, NothingMore, OneFullText, ReportAsBefore};
 
-/// Where nothing more is wanted, the report is that of before.
+/// If no option asks for more, the report is the plain one.
 pub fn nothing_more_wanted()
     ensures { NothingMore }
 {}
@@ -12,7 +12,7 @@ pub fn one_full_text()
     ensures { OneFullText }
 {}
 
-/// Where nothing more is wanted, what is written is the report of before.
+/// If no option asks for more, the plain report is written.
 pub fn report_as_before()
     ensures { ReportAsBefore }
 {}
@@ -22,18 +22,18 @@ pub fn edges_are_loads()
     ensures { EdgesAreLoads }
 {}
 
-/// Each edge stands once.
+/// No edge comes twice.
 pub fn edges_stand_once()
     ensures { EdgesStandOnce }
 {}
 
-/// Each global that is not private is among the values, with its data, or by its name among the opaque ones, and
-/// no other is in either.
+/// Each public global is among the values, with its data, or among the opaque names; no other
+/// global is in either.
 pub fn none_dropped()
     ensures { NoneDropped }
 {}
 
-/// No global of a file that ended well is in both, and none twice in one.
+/// No global of a file that ended well is in both, or in one of them twice.
 pub fn none_twice()
     ensures { NoneTwice }
 {

@@ -2,9 +2,9 @@
 //!
 //! - `report` (in `pages`, for `report.rt`) writes a page for each module, in several threads if there are many, and
 //!   joins the pages in the order of labels. `report.rt` makes the JSON of a module.
-//! - `Wanted` says which members are wanted beside the usual ones: values as JSON (`values`, with `star_data`), loads,
+//! - `Wanted` says which further members each module gets: values as JSON (`values`, with `star_data`), loads,
 //!   steps (`more`).
-//! - `Output` is what is written of a run: the report; or in its place a global of each root as JSON (`got`), or the
+//! - `Output` says what a run writes: the report, or in its place a global of each root as JSON (`got`), or the
 //!   graph of loads as DOT (`graph`). It may also be the check of files, of which `star_check` makes the text: none runs.
 //!
 //! Begin at `report.rt::module_value`. The promise is the contract of `report`: the text is exactly that of the

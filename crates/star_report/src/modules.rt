@@ -10,7 +10,7 @@ use star_outcome::module::Module;
 use star_outcome::outcome::{Kept, Run};
 use std::alloc::{AllocError, Global};
 
-/// For each file its module: none where it is not reached.
+/// The module of each file; none for a file that is not reached.
 pub(crate) fn modules_by_number<'a>(
     alloc: Global,
     files: usize,

@@ -1,4 +1,4 @@
-//! The text of a module, with what is wanted more of it.
+//! The text of a module with its further members.
 
 ghost use Rattle.std.specs.Prelude.{◌≡◌, ◌<◌, ◌++◌, ◌∷◌, [], false, All, IfOk, codes, filter, is_some, length, map};
 ghost use Rattle.json.specs.Print.{quoted};
@@ -23,7 +23,7 @@ use star_reading::reading::{Read, Reads};
 use star_scope::loads::Load;
 use std::alloc::{AllocError, Global};
 
-/// An object with one member more; other JSON stays.
+/// An object with one more member; other JSON stays.
 fn with_member(alloc: Global, shown: Json, key: &str, json: Json) -> Result<Json, AllocError>
     ensures { IfOk result (λ v. view v ≡ put_in key.now (view json) (view shown)) }
 {
@@ -36,7 +36,7 @@ fn with_member(alloc: Global, shown: Json, key: &str, json: Json) -> Result<Json
     }
 }
 
-/// The loads of a file: none where it has a static fault.
+/// The loads of a file; none if it has a static fault.
 pub(crate) fn loads_in<'s, 't>(reads: &'s Reads<'t>, n: usize) -> &'s [Load]
     ensures { result.now ≡ loads_at reads.now.all.items n }
 {
@@ -46,7 +46,7 @@ pub(crate) fn loads_in<'s, 't>(reads: &'s Reads<'t>, n: usize) -> &'s [Load]
     }
 }
 
-/// A load, by the label of its file and its line.
+/// A load as JSON: the label of its file, and its line.
 fn load_json(alloc: Global, files: &Labels, load: &Load) -> Result<Json, AllocError>
     requires { load.now.file < length files.now }
     ensures { IfOk result (λ v. view v ≡ load_member files.now load.now) }
@@ -55,7 +55,7 @@ fn load_json(alloc: Global, files: &Labels, load: &Load) -> Result<Json, AllocEr
     json!(in alloc; {"label": label, "line": load.line as u64})
 }
 
-/// The loads of load statements, in order: the prelude's has none.
+/// The loads of load statements, in order. The load of the prelude has no statement.
 fn loads_json(alloc: Global, files: &Labels, loads: &[Load]) -> Result<Vec<Json>, AllocError>
     requires { All (λ l. l.file < length files.now) loads.now }
     ensures { IfOk result (λ v. map view v.items
@@ -70,7 +70,7 @@ fn loads_json(alloc: Global, files: &Labels, loads: &[Load]) -> Result<Vec<Json>
     Ok(all)
 }
 
-/// A module with its loads, where they are wanted.
+/// A module with its loads, if they are wanted.
 fn with_loads(
     alloc: Global,
     files: &Labels,
@@ -88,7 +88,7 @@ fn with_loads(
     with_member(alloc, shown, "loads", Json::Array(loads))
 }
 
-/// A module with the steps that it has paid, where they are wanted and it is ok.
+/// A module with the steps that it has paid, if they are wanted and it is ok.
 fn with_steps(alloc: Global, wanted: Wanted, ended: &Ended, shown: Json) -> Result<Json, AllocError>
     ensures { IfOk result (λ v. view v ≡ added (steps_part wanted ended.now) (view shown)) }
 {
@@ -100,7 +100,7 @@ fn with_steps(alloc: Global, wanted: Wanted, ended: &Ended, shown: Json) -> Resu
     }
 }
 
-/// A comma, where something stands before.
+/// Adds a comma to a text, unless it is at its first item.
 fn with_comma(text: Vec<u8>, later: bool) -> Result<Vec<u8>, AllocError>
     ensures { IfOk result (λ t. t.items ≡ text.items ++ comma_if later) }
 {
@@ -111,41 +111,62 @@ fn with_comma(text: Vec<u8>, later: bool) -> Result<Vec<u8>, AllocError>
     Ok(text)
 }
 
-/// A text, and a name with its colon.
-fn with_key(text: Vec<u8>, name: &str) -> Result<Vec<u8>, AllocError>
-    ensures { IfOk result (λ t. t.items ≡ text.items ++ (quoted name.now ++ 58 ∷ [])) }
+/// The text of a name with its colon.
+fn key_text(alloc: Global, name: &str) -> Result<Vec<u8>, AllocError>
+    ensures { IfOk result (λ t. t.items ≡ quoted name.now ++ 58 ∷ []) }
 {
-    let mut out = Writer::new(text);
+    let mut out = Writer::new(Vec::new(alloc));
     out.key(name)?;
     Ok(out.into_inner())
 }
 
-/// One member more in the text of an object, by its JSON.
-fn with_text(text: Vec<u8>, later: bool, name: &str, json: &[u8]) -> Result<Vec<u8>, AllocError>
+/// Adds a name with its colon to a text. The name is written apart, since a writer first fills much of the room after
+/// its text.
+fn with_key(alloc: Global, text: Vec<u8>, name: &str) -> Result<Vec<u8>, AllocError>
+    ensures { IfOk result (λ t. t.items ≡ text.items ++ (quoted name.now ++ 58 ∷ [])) }
+{
+    let mut text = text;
+    let named = key_text(alloc, name)?;
+    text.extend_from_slice(named.as_slice())?;
+    Ok(text)
+}
+
+/// Adds one more member to the text of an object, by its JSON.
+fn with_text(
+    alloc: Global,
+    text: Vec<u8>,
+    later: bool,
+    name: &str,
+    json: &[u8],
+) -> Result<Vec<u8>, AllocError>
     ensures { IfOk result (λ t. t.items ≡ text.items ++ (comma_if later ++ (quoted name.now ++ 58 ∷ json.now))) }
 {
     let text = with_comma(text, later)?;
-    let mut text = with_key(text, name)?;
+    let mut text = with_key(alloc, text, name)?;
     text.extend_from_slice(json)?;
     Ok(text)
 }
 
-/// A text, and the object of these members, each by its JSON.
-fn with_object(text: Vec<u8>, members: &Map<&str, Vec<u8>>) -> Result<Vec<u8>, AllocError>
+/// Adds the object of these members to a text, each by its JSON.
+fn with_object(
+    alloc: Global,
+    text: Vec<u8>,
+    members: &Map<&str, Vec<u8>>,
+) -> Result<Vec<u8>, AllocError>
     ensures { IfOk result (λ t. t.items ≡ text.items ++ 123 ∷ joined_members false members.now.entries) }
 {
     let mut text = text;
     let mut later = false;
     text.push(b'{')?;
     for (name, json) in members.iter() {
-        text = with_text(text, later, *name, json.as_slice())?;
+        text = with_text(alloc, text, later, *name, json.as_slice())?;
         later = true;
     }
     text.push(b'}')?;
     Ok(text)
 }
 
-/// The text of an object with one member more, which is the last, and is itself an object of these members.
+/// The text of an object with one more member, the last, which is itself an object of these members.
 fn with_last(
     alloc: Global,
     shown: &Json,
@@ -159,13 +180,13 @@ fn with_last(
     let mut text = shown.to_vec(alloc)?;
     text.pop();
     text.push(b',')?;
-    let text = with_key(text, name)?;
-    let mut text = with_object(text, members)?;
+    let text = with_key(alloc, text, name)?;
+    let mut text = with_object(alloc, text, members)?;
     text.push(b'}')?;
     Ok(text)
 }
 
-/// The text of a module with the values of its globals, and with the names of those that are no data.
+/// The text of a module with the values of its globals and the names of the opaque ones.
 fn text_with_values(
     alloc: Global,
     files: &Labels,
@@ -182,7 +203,7 @@ fn text_with_values(
     with_last(alloc, &shown, "values", &values)
 }
 
-/// The text of a module with what is wanted more of it.
+/// The text of a module with its further members.
 pub(crate) fn text_with_more(
     alloc: Global,
     files: &Labels,

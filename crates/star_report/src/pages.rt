@@ -24,10 +24,11 @@ use std::alloc::{AllocError, Global};
 use std::thread;
 use std::thread::Threads;
 
-/// For so many modules a thread more writes.
+/// One more thread writes for each 16 modules.
 const SHARE: usize = 16;
 
-/// A module with the loads of its file, whether it is shown, and its text once it is written: none where a growth was refused.
+/// A module with the loads of its file, whether it is shown, and its text once it is written; none if a growth was
+/// refused.
 #[derive(Drop)]
 pub struct Page<'a> {
     pub about: &'a Module,
@@ -69,7 +70,7 @@ fn module_text(
     text_with_more(alloc, files, loads, wanted, it, shown)
 }
 
-/// For each file whether it is a root.
+/// Whether each file is a root.
 pub fn roots_marked(alloc: Global, files: usize, roots: &[usize]) -> Result<Vec<bool>, AllocError>
     ensures size { IfOk result (λ v. vec_len v ≡ files) }
     ensures marks { IfOk result (λ v. AreMarked roots.now v.items) }
@@ -83,7 +84,7 @@ pub fn roots_marked(alloc: Global, files: usize, roots: &[usize]) -> Result<Vec<
     Ok(marks)
 }
 
-/// A page of a module, on which nothing is written yet.
+/// The empty page of a module.
 fn page_of<'a>(wanted: Wanted, marks: &[bool], it: &'a Module, loads: &'a [Load]) -> Page<'a>
     requires { it.now.number < length marks.now }
     ensures known { result.about.now ≡ it.now }
@@ -98,7 +99,7 @@ fn page_of<'a>(wanted: Wanted, marks: &[bool], it: &'a Module, loads: &'a [Load]
     }
 }
 
-/// A page for each module of a run, on which nothing is written yet.
+/// An empty page for each module of a run.
 pub fn pages_of<'a>(
     alloc: Global,
     run: &'a Run,
@@ -125,7 +126,7 @@ pub fn pages_of<'a>(
     Ok(pages)
 }
 
-/// Writes all pages by at most so many threads.
+/// Writes all pages, with at most this number of threads.
 fn write_pages<R: Threads + Sync>(
     rt: &R,
     alloc: Global,
@@ -153,7 +154,7 @@ fn write_pages<R: Threads + Sync>(
     );
 }
 
-/// One text more, after a comma where others stand before it.
+/// Adds one more text, after a comma unless it is the first.
 fn push_text(all: &mut Vec<u8>, later: bool, text: &[u8]) -> Result<(), AllocError>
     ensures { OnOk result (all.new.items ≡ all.old.items ++ (comma_if later ++ text.now)) }
 {
@@ -163,7 +164,8 @@ fn push_text(all: &mut Vec<u8>, later: bool, text: &[u8]) -> Result<(), AllocErr
     all.extend_from_slice(text)
 }
 
-/// The text of a page more, where it is shown: whether some text stands there now. `Memory` where it was not written.
+/// Adds the text of a page, if the page is shown. Answers whether any has been added so far. The error: it was not
+/// written.
 fn push_page(all: &mut Vec<u8>, later: bool, page: &Page) -> Result<bool, AllocError>
     ensures written { IfOk result (λ _. IsSome page.now.text) }
     ensures later { IfOk result (λ stands. stands ≡ (later || page.now.shown)) }
@@ -180,7 +182,7 @@ fn push_page(all: &mut Vec<u8>, later: bool, page: &Page) -> Result<bool, AllocE
     Ok(true)
 }
 
-/// How many bytes the texts of all pages take, and a comma for each.
+/// The number of bytes of all texts, with a comma for each.
 fn room_of(pages: &[Page]) -> usize {
     let mut room: usize = 0;
     for page in pages {
@@ -191,13 +193,13 @@ fn room_of(pages: &[Page]) -> usize {
     room
 }
 
-/// The text of a report, by those of the pages that are shown. `Memory` where one was not written.
+/// The text of a report, by the texts of the pages that are shown. The error: one was not written.
 pub fn joined(alloc: Global, begun: u32, pages: &[Page]) -> Result<Vec<u8>, AllocError>
     ensures written { IfOk result (λ _. All (λ p. IsSome p.text) pages.now) }
     ensures text { IfOk result (λ s. s.items ≡ joined_text begun (shown_texts_of pages.now)) }
 {
     let mut all = format!(in alloc; "{{\"begun\":{begun},\"modules\":[")?.into_bytes();
-    // A text that grew while other threads live would be moved, and each processor told of it.
+    // All room is taken at once: a text that grows while other threads live is moved, which interrupts each processor.
     all.reserve(room_of(pages))?;
     let mut later = false;
     for i in 0..pages.len() {
@@ -207,8 +209,8 @@ pub fn joined(alloc: Global, begun: u32, pages: &[Page]) -> Result<Vec<u8>, Allo
     Ok(all)
 }
 
-/// The report of a run for these roots over these files as its text, with its line end and with what is wanted more of
-/// each module: the same bytes by any number of threads.
+/// The text of the report of a run for these roots over these files, with its line end and the further members of
+/// each module that are wanted: the same bytes with any number of threads.
 pub fn report<R: Threads + Sync>(
     rt: &R,
     alloc: Global,

@@ -26,7 +26,7 @@ use star_reading::code::{StaticFault, code_text};
 use star_text::Text;
 use std::alloc::{AllocError, Global};
 
-/// One more global's name with its text.
+/// Adds the name of a global with its text.
 fn put_global(
     members: &mut Map<String, Value>,
     alloc: Global,
@@ -40,7 +40,7 @@ fn put_global(
     Ok(())
 }
 
-/// Each global's name with its text.
+/// The name of each global with its text.
 fn global_texts(alloc: Global, shown: &[(String, Text)]) -> Result<Map<String, Value>, AllocError>
     ensures { IfOk result (λ m. members_view m.entries ≡ fold with_global no_members (shown_texts shown.now)) }
 {
@@ -62,7 +62,7 @@ fn strings(alloc: Global, lines: &[Text]) -> Result<Vec<Value>, AllocError>
     Ok(items)
 }
 
-/// A module that failed by itself.
+/// A module whose own run failed.
 fn failed_module(
     alloc: Global,
     label: &str,
@@ -92,7 +92,7 @@ fn good_module(
     json!(in alloc; {"globals": globals, "label": label, "lines": lines, "status": "ok"})
 }
 
-/// The file of a module's first load that is not good: none where it ended otherwise.
+/// The file of a module's first load that is not good; none if it ended otherwise.
 fn next_of(it: &Module) -> Option<usize>
     requires { IsLoadBelow (length it.now.loads.items) it.now.ended }
     ensures within { IfSome result (λ n. Contains it.now.loads.items n) }
@@ -104,7 +104,7 @@ fn next_of(it: &Module) -> Option<usize>
     }
 }
 
-/// For each file the file of its first load that is not good.
+/// The file of each file's first load that is not good.
 pub fn nexts_of(
     alloc: Global,
     files: usize,
@@ -137,7 +137,7 @@ fn labels_of(alloc: Global, files: &Labels, numbers: &[usize]) -> Result<Vec<Val
     Ok(labels)
 }
 
-/// A module that failed since a load of it did, by this file.
+/// A module that failed by a load, because of this file.
 fn caused_module(
     alloc: Global,
     files: &Labels,
@@ -153,7 +153,7 @@ fn caused_module(
     json!(in alloc; {"cause": cause, "label": label, "line": line as u64, "lines": lines, "status": "load"})
 }
 
-/// A module that failed since a load of it did, by this cycle of loads.
+/// A module that failed by a load, because of this cycle of loads.
 fn cycle_module(
     alloc: Global,
     files: &Labels,
@@ -169,7 +169,7 @@ fn cycle_module(
     json!(in alloc; {"cycle": cycle, "label": label, "line": line as u64, "lines": lines, "status": "load"})
 }
 
-/// A module that failed since a load of it did.
+/// A module that failed by a load.
 fn load_module(
     alloc: Global,
     files: &Labels,

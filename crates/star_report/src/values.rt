@@ -24,7 +24,10 @@ use std::alloc::{AllocError, Global};
 /// The most levels that a value whose text was made has.
 pub(crate) const LEVELS: u32 = 400;
 
-/// The globals that are data, each with its JSON, and the names of those that are not.
+/// How many bytes more than its text the JSON of a global may have before it must move.
+const SPARE: usize = 16;
+
+/// The globals that are data, each with its JSON, and the names of the opaque ones.
 #[derive(Drop)]
 pub(crate) struct Values<'b> {
     pub values: Map<&'b str, Vec<u8>>,
@@ -43,7 +46,7 @@ impl<'b> Values<'b> {
         }
     }
 
-    /// One more global: its JSON, where it has one.
+    /// Adds a global: its JSON, if it has one.
     fn add(&mut self, alloc: Global, name: &'b str, json: Option<Vec<u8>>) -> Result<(), AllocError>
         ensures values { (d : Option Data) (ms : Members) → IsTextFor d json → AreTexts self.old.values.entries ms
             → OnOk result (AreTexts self.new.values.entries (put_some name.now d ms)) }
@@ -57,7 +60,7 @@ impl<'b> Values<'b> {
         Ok(())
     }
 
-    /// One more global, by its name.
+    /// Adds a global by its name. Its JSON has about `room` bytes.
     fn add_global<'a>(
         &mut self,
         alloc: Global,
@@ -65,6 +68,7 @@ impl<'b> Values<'b> {
         homes: &'a Homes<'a>,
         own: Option<&'a Frozen>,
         name: &'b str,
+        room: usize,
     ) -> Result<(), AllocError>
         ensures values { (ms : Members) → AreTexts self.old.values.entries ms → OnOk result
             (AreTexts self.new.values.entries (with_value (global_data (look arena.now homes.now) (globals_in (option_copied own.entry))) ms name.now)) }
@@ -75,7 +79,7 @@ impl<'b> Values<'b> {
         if is_private(name) {
             return Ok(());
         }
-        let json = global_json(alloc, arena, homes, own, name)?;
+        let json = global_json(alloc, arena, homes, own, name, room)?;
         self.add(alloc, name, json)
     }
 }
@@ -90,13 +94,14 @@ pub(crate) fn is_private(name: &str) -> bool
     }
 }
 
-/// The JSON of the global with a name: none where it has none.
+/// The JSON of the global with a name; none if it has none. It has about `room` bytes.
 fn global_json<'a>(
     alloc: Global,
     arena: &'a Arena,
     homes: &'a Homes<'a>,
     own: Option<&'a Frozen>,
     name: &str,
+    room: usize,
 ) -> Result<Option<Vec<u8>>, AllocError>
     ensures { IfOk result (IsTextFor (global_data (look arena.now homes.now) (globals_in (option_copied own.entry)) name.now)) }
 {
@@ -104,17 +109,18 @@ fn global_json<'a>(
         return Ok(None);
     };
     match own.global(name) {
-        Some(value) => json_of(alloc, arena, homes, value),
+        Some(value) => json_of(alloc, arena, homes, value, room),
         None => Ok(None),
     }
 }
 
-/// The JSON of a value: none where it has none.
+/// The JSON of a value; none if it has none. It has about `room` bytes; if it has more, it moves as it grows.
 pub(crate) fn json_of<'a>(
     alloc: Global,
     arena: &'a Arena,
     homes: &'a Homes<'a>,
     value: Value,
+    room: usize,
 ) -> Result<Option<Vec<u8>>, AllocError>
     ensures { IfOk result (IsTextFor (data_of (look arena.now homes.now) most_levels value)) }
 {
@@ -124,12 +130,12 @@ pub(crate) fn json_of<'a>(
         homes,
         LEVELS,
         value,
-        Vec::new(alloc),
+        Vec::with_capacity(alloc, room)?,
     )?;
     Ok(if is_data { Some(text) } else { None })
 }
 
-/// The globals of a module, by their names, as far as they are not private.
+/// The public globals of a module, by their names.
 fn values_of<'a, 'b>(
     alloc: Global,
     arena: &'a Arena,
@@ -147,12 +153,13 @@ fn values_of<'a, 'b>(
 {
     let mut all = Values::new(alloc);
     for global in shown {
-        all.add_global(alloc, arena, homes, own, global.0.as_str())?;
+        let room = global.1.as_str().len().saturating_add(SPARE);
+        all.add_global(alloc, arena, homes, own, global.0.as_str(), room)?;
     }
     Ok(all)
 }
 
-/// The same of the file with this number, whose store is among others.
+/// The same for the file with this number, whose store is among others.
 fn values_among<'b>(
     alloc: Global,
     arena: &Arena,

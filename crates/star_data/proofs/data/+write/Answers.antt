@@ -1,6 +1,6 @@
-use Rattle.std.proofs.Common.{arith, rules, ◌≡◌, ◌<◌, ◌-◌, ◌∙◌, ◌∷◌, [], ℕ, List, Bor, Some, None, ap, sym, subst, length, map, suc, take, drop, get_or, refl}
-use Rattle.std.specs.Option.{option_copied, option_map}
-use Rattle.std.proofs.lemmas.List.{drop_all, take_all, take_more}
+use Rattle.std.proofs.Common.{arith, rules, ◌≡◌, ◌<◌, ◌-◌, ◌+◌, ◌∙◌, ◌∷◌, [], ℕ, List, Bor, Some, None, ap, sym, subst, length, map, suc, take, drop, get_or, refl}
+use Rattle.std.specs.Option.{IfSome, option_copied, option_map}
+use Rattle.std.proofs.lemmas.List.{drop_all, drop_more, take_all, take_more}
 use Rattle.std.specs.Result.{IfOk}
 use Rattle.std.proofs.lemmas.Result.{IfOk-weaker}
 use Rattle.serde_json.specs.Data.{array, object}
@@ -10,6 +10,7 @@ use Rattle.star_store.specs.declared.values.Cell.TheVariants as cell
 use Rattle.star_store.specs.Store.{look}
 use Rattle.star_data.specs.Data.{cell_data, cell_of, data_of, entries_data, int_data, key_in, value_data}
 use Rattle.star_data.specs.Paths.{AllStandInEach, StandsInEach}
+use Rattle.star_data.specs.Rows.{IsRowOf}
 use Rattle.star_data.specs.Texts.{Sends, row_data}
 use Rattle.star_data.proofs.Builds.{at_place, by_ref, data_at, data_at_none, entry_no_key, in_a_dict, in_a_list, in_a_tuple, is_none, item_none, mapped_at, no_cell_data, one_back, rest_none}
 use Rattle.star_data.proofs.Sent.{HidesData, LeftMembers, SentItems, entry_hides_none, entry_more, found_stands, items_begin, items_end, items_more, members_begin, members_end, members_more, members_none, none_sent, says_none, says_some, sends_none, sends_some, sent_as, some_sent, stand_insert}
@@ -103,8 +104,24 @@ write_items-returns-clause-data t c =
 
 -- ---- entries
 
-pub write_entries-loop-i-init : goal.write_entries-loop-i-init
-write_entries-loop-i-init t c =
+pub write_entries-write_row-requires : goal.write_entries-write_row-requires
+write_entries-write_row-requires t c =
+    let see = look c.args.arena.now c.args.homes.now in
+    let es = c.args.entries.now in
+    let row : IsRowOf see es c.in-Some.row.items = subst (λ o. IfSome o (λ row. IsRowOf see es row.items)) c.in-Some.is c.in_ok-row.ensures in
+    (omega arith, subst (λ ms. AllStandInEach see c.args.path.now.items (map (λ e. e.1) ms)) (sym c.deref.ensures.value) (row.stand c.args.path.now.items c.requires))
+
+pub write_entries-returns-in-Some-clause-data : goal.write_entries-returns-in-Some-clause-data
+write_entries-returns-in-Some-clause-data t c =
+    let see = look c.args.arena.now c.args.homes.now in
+    let f = data_of see c.args.levels in
+    let es = c.args.entries.now in
+    let row : IsRowOf see es c.in-Some.row.items = subst (λ o. IfSome o (λ row. IsRowOf see es row.items)) c.in-Some.is c.in_ok-row.ensures in
+    let same : row_data f c.deref.result.now ≡ entries_data see f es = ap (row_data f) c.deref.ensures.value ∙ sym (row.data_as f) in
+    IfOk-weaker c.write_row.result _ _ (λ b h. sent_as _ _ b c.args.out.now.tokens c.write_row.new.out.tokens (ap (option_map object) same) h) c.write_row.ensures.data
+
+pub write_many-loop-i-init : goal.write_many-loop-i-init
+write_many-loop-i-init t c =
     let see = look c.args.arena.now c.args.homes.now in
     let f = data_of see c.args.levels in
     let es = c.args.entries.now in
@@ -116,8 +133,8 @@ write_entries-loop-i-init t c =
       stand = subst (λ ms. AllStandInEach see c.args.path.now.items (map (λ e. e.1) ms)) (sym blank) (record { all = λ i x at. absurd (let no : ⊥ = cc in no) });
     }
 
-pub write_entries-returns-in_default-clause-data : goal.write_entries-returns-in_default-clause-data
-write_entries-returns-in_default-clause-data t c =
+pub write_many-returns-in_default-clause-data : goal.write_many-returns-in_default-clause-data
+write_many-returns-in_default-clause-data t c =
     let see = look c.args.arena.now c.args.homes.now in
     let f = data_of see c.args.levels in
     let es = c.args.entries.now in
@@ -127,14 +144,14 @@ write_entries-returns-in_default-clause-data t c =
     let none : key_in (cell_of see e.0) ≡ None = sym c.text_at.ensures ∙ ap option_copied (is_none c.text_at.result c.in_default.not-Some) in
     sends_none _ _ _ (ap (option_map object) (entry_no_key see f es i e (at_place es i (NoneValue, NoneValue) less) none))
 
-pub write_entries-is_data-requires : goal.write_entries-is_data-requires
-write_entries-is_data-requires t c =
+pub write_many-is_data-requires : goal.write_many-is_data-requires
+write_many-is_data-requires t c =
     let see = look c.args.arena.now c.args.homes.now in
     let there = sym c.in_ok-hidden.ensures.old ∙ c.in-Some-hidden.is in
     (omega arith, subst (λ p. StandsInEach see p c.in-Some-hidden.hidden) (sym c.loop-i.invariant.path) (found_stands see c.args.path.now.items c.in-Some.key c.loop-i.members.entries c.in-Some-hidden.hidden there c.loop-i.invariant.stand))
 
-pub write_entries-returns-then-not-branch-clause-data : goal.write_entries-returns-then-not-branch-clause-data
-write_entries-returns-then-not-branch-clause-data t c =
+pub write_many-returns-then-not-branch-clause-data : goal.write_many-returns-then-not-branch-clause-data
+write_many-returns-then-not-branch-clause-data t c =
     let see = look c.args.arena.now c.args.homes.now in
     let f = data_of see c.args.levels in
     let es = c.args.entries.now in
@@ -143,8 +160,8 @@ write_entries-returns-then-not-branch-clause-data t c =
     let row : row_data f c.loop-i.members.entries ≡ None = entry_hides_none f c.in-Some.key c.loop-i.members.entries c.in-Some-hidden.hidden there none in
     sends_none _ _ _ (ap (option_map object) (rest_none see f es c.loop-i.i (c.loop-i.invariant.row ∙ row)))
 
-pub write_entries-loop-i-preserved-else-not-branch : goal.write_entries-loop-i-preserved-else-not-branch
-write_entries-loop-i-preserved-else-not-branch t c =
+pub write_many-loop-i-preserved-else-not-branch : goal.write_many-loop-i-preserved-else-not-branch
+write_many-loop-i-preserved-else-not-branch t c =
     let see = look c.args.arena.now c.args.homes.now in
     let f = data_of see c.args.levels in
     let es = c.args.entries.now in
@@ -163,8 +180,8 @@ write_entries-loop-i-preserved-else-not-branch t c =
       stand = subst (λ ms. AllStandInEach see c.args.path.now.items (map (λ e. e.1) ms)) (sym c.in_ok-hidden.ensures.entries) (stand_insert see c.args.path.now.items c.loop-i.members.entries c.in-Some.key e.1 c.loop-i.invariant.stand stands);
     }
 
-pub write_entries-loop-i-preserved : goal.write_entries-loop-i-preserved
-write_entries-loop-i-preserved t c =
+pub write_many-loop-i-preserved : goal.write_many-loop-i-preserved
+write_many-loop-i-preserved t c =
     let see = look c.args.arena.now c.args.homes.now in
     let f = data_of see c.args.levels in
     let es = c.args.entries.now in
@@ -182,13 +199,13 @@ write_entries-loop-i-preserved t c =
       stand = subst (λ ms. AllStandInEach see c.args.path.now.items (map (λ e. e.1) ms)) (sym c.in_ok-hidden.ensures.entries) (stand_insert see c.args.path.now.items c.loop-i.members.entries c.in-Some.key e.1 c.loop-i.invariant.stand stands);
     }
 
-pub write_entries-write_members-requires : goal.write_entries-write_members-requires
-write_entries-write_members-requires t c =
+pub write_many-write_members-requires : goal.write_many-write_members-requires
+write_many-write_members-requires t c =
     let see = look c.args.arena.now c.args.homes.now in
     (omega arith, subst (λ p. AllStandInEach see p (map (λ e. e.1) c.loop-i.members.entries)) (sym c.loop-i.invariant.path) c.loop-i.invariant.stand)
 
-pub write_entries-returns-clause-data : goal.write_entries-returns-clause-data
-write_entries-returns-clause-data t c =
+pub write_many-returns-clause-data : goal.write_many-returns-clause-data
+write_many-returns-clause-data t c =
     let see = look c.args.arena.now c.args.homes.now in
     let f = data_of see c.args.levels in
     let es = c.args.entries.now in
@@ -242,6 +259,62 @@ pub write_members-returns-clause-data : goal.write_members-returns-clause-data
 write_members-returns-clause-data t c =
     let f = data_of (look c.args.arena.now c.args.homes.now) c.args.levels in
     members_end f c.args.members.now.entries c.loop-key.key-iterator c.args.out.now.tokens c.loop-key.out.tokens c.end_object.new.self.tokens c.loop-key.invariant.sent c.in-None.ensures.steps.0 (search rules)
+
+-- ---- a row
+
+-- what stands at a place past the end of a row
+abbrev no_member : Bor (List ℕ) × Value
+no_member = (record { ref_ptr = (0, 0); now = [] }, NoneValue)
+
+pub write_row-loop-member-init : goal.write_row-loop-member-init
+write_row-loop-member-init t c =
+    let f = data_of (look c.args.arena.now c.args.homes.now) c.args.levels in
+    record {
+      path = search rules;
+      before = search rules;
+      sent = members_begin f c.args.row.now c.args.out.now.tokens c.begin_object.new.self.tokens (search rules);
+    }
+
+pub write_row-write_value-requires : goal.write_row-write_value-requires
+write_row-write_value-requires t c =
+    let see = look c.args.arena.now c.args.homes.now in
+    let es = c.args.row.now in
+    let i = c.loop-member.member-index in
+    let e = get_or es i no_member in
+    let less : i < length es = omega (arith, c.loop-member-test.true, c.loop-member.auto.member-index-end) in
+    (omega arith, subst (λ p. StandsInEach see p e.1) (sym c.loop-member.invariant.path) (c.requires.all i e.1 (mapped_at (λ e. e.1) es i e (at_place es i no_member less))))
+
+pub write_row-returns-then-not-branch-clause-data : goal.write_row-returns-then-not-branch-clause-data
+write_row-returns-then-not-branch-clause-data t c =
+    let f = data_of (look c.args.arena.now c.args.homes.now) c.args.levels in
+    let es = c.args.row.now in
+    let i = c.loop-member.member-index in
+    let e = get_or es i no_member in
+    let less : i < length es = omega (arith, c.loop-member-test.true, c.loop-member.auto.member-index-end) in
+    let none : f e.1 ≡ None = none_sent _ _ _ _ c.in_ok-write_value.ensures.data (search rules) in
+    sends_none _ _ _ (ap (option_map object) (members_none f es e (drop (i + 1) es) (drop i es) c.args.out.now.tokens c.loop-member.out.tokens c.loop-member.invariant.sent (drop_more es i no_member less) none))
+
+pub write_row-loop-member-preserved : goal.write_row-loop-member-preserved
+write_row-loop-member-preserved t c =
+    let f = data_of (look c.args.arena.now c.args.homes.now) c.args.levels in
+    let es = c.args.row.now in
+    let i = c.loop-member.member-index in
+    let e = get_or es i no_member in
+    let less : i < length es = omega (arith, c.loop-member-test.true, c.loop-member.auto.member-index-end) in
+    let some = some_sent (f e.1) _ _ _ c.in_ok-write_value.ensures.data (search rules) in
+    record {
+      path = c.in_ok-write_value.ensures.path ∙ c.loop-member.invariant.path;
+      before = search rules;
+      sent = members_more f es e (drop (i + 1) es) (drop i es) some.0 c.args.out.now.tokens c.loop-member.out.tokens c.key.new.self.tokens c.write_value.new.out.tokens c.loop-member.invariant.sent (drop_more es i no_member less) some.1 (search rules) some.2;
+    }
+
+pub write_row-returns-clause-data : goal.write_row-returns-clause-data
+write_row-returns-clause-data t c =
+    let f = data_of (look c.args.arena.now c.args.homes.now) c.args.levels in
+    let es = c.args.row.now in
+    let i = c.loop-member.member-index in
+    let none_left : drop i es ≡ [] = drop_all i es (omega (arith, c.loop-member-test.false, c.loop-member.auto.member-index-end)) in
+    members_end f es (drop i es) c.args.out.now.tokens c.loop-member.out.tokens c.end_object.new.self.tokens c.loop-member.invariant.sent none_left (search rules)
 
 -- ---- values
 

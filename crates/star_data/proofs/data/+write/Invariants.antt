@@ -24,14 +24,20 @@ decreases-write_items l = 6 * l.levels + 3
 abbrev pub decreases-write_list : goal.decreases-write_list
 decreases-write_list l = 6 * l.levels + 4
 
+abbrev pub decreases-write_many : goal.decreases-write_many
+decreases-write_many l = 6 * l.levels + 2
+
 abbrev pub decreases-write_members : goal.decreases-write_members
-decreases-write_members l = 6 * l.levels + 2
+decreases-write_members l = 6 * l.levels + 1
+
+abbrev pub decreases-write_row : goal.decreases-write_row
+decreases-write_row l = 6 * l.levels + 1
 
 abbrev pub decreases-write_value : goal.decreases-write_value
 decreases-write_value l = 6 * l.levels
 
-abbrev pub invariant-write_entries-loop-i : goal.invariant-write_entries-loop-i
-invariant-write_entries-loop-i l = record {
+abbrev pub invariant-write_many-loop-i : goal.invariant-write_many-loop-i
+invariant-write_many-loop-i l = record {
   path : l.path.items ≡ l.fn.path.items;
   out : l.out ≡ l.fn.out;
   row : entries_data (look l.arena l.homes) (data_of (look l.arena l.homes) l.levels) (drop l.i l.entries) ≡ row_data (data_of (look l.arena l.homes) l.levels) l.members.entries;
@@ -51,4 +57,11 @@ invariant-write_members-loop-key l = record {
   before : l.out.before ≡ l.fn.out.before;
   sent : LeftMembers (data_of (look l.arena l.homes) l.levels) l.members.entries l.key-iterator l.fn.out.tokens l.out.tokens;
   stand : AllStandInEach (look l.arena l.homes) l.fn.path.items (map (λ e. e.1) l.key-iterator);
+}
+
+abbrev pub invariant-write_row-loop-member : goal.invariant-write_row-loop-member
+invariant-write_row-loop-member l = record {
+  path : l.path.items ≡ l.fn.path.items;
+  before : l.out.before ≡ l.fn.out.before;
+  sent : LeftMembers (data_of (look l.arena l.homes) l.levels) l.row (drop l.member-index l.row) l.fn.out.tokens l.out.tokens;
 }

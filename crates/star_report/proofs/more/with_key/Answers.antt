@@ -1,10 +1,7 @@
-use Rattle.std.proofs.Common.{rules, ◌≡◌, ◌∷◌, []}
-use Rattle.json.specs.Token.{key}
-use Rattle.star_report.proofs.Members.{keyed}
+use Rattle.std.proofs.Common.{rules, ◌≡◌, ◌∙◌, ◌++◌, ap}
 use Rattle.star_report.proofs.more.with_key.Goals as goal
 
 pub returns : goal.returns
 returns c =
-    let was : c.key.new.self.before ≡ c.args.text.items = search rules in
-    let sent : c.key.new.self.tokens ≡ key c.args.name.now ∷ [] = search rules in
-    keyed c.args.text.items c.into_inner.result.items c.key.new.self.before c.key.new.self.tokens c.args.name.now c.into_inner.ensures.items was sent
+    let last : c.extend_from_slice.new.self.items ≡ c.args.text.items ++ c.in_ok-named.named.items = search rules in
+    last ∙ ap (λ t. c.args.text.items ++ t) c.in_ok-named.ensures
