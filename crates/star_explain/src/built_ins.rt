@@ -1,7 +1,9 @@
 //! The arguments that built-in functions and methods take.
 
+use star_found::about::Type;
+
 /// The kind that a value has to be of.
-#[derive(Clone, Copy, Debug, PartialEq, Eq)]
+#[derive(Clone, Copy)]
 pub(crate) enum Wanted {
     Anything,
     Int,
@@ -21,23 +23,20 @@ pub(crate) enum Wanted {
     Key,
 }
 
-fn is_iterable(type_name: &str) -> bool {
-    matches!(type_name, "list" | "tuple" | "dict" | "range")
-}
-
 impl Wanted {
     /// Whether a value of a type may be it.
-    pub(crate) fn is_met(self, type_name: &str) -> bool {
+    pub(crate) fn is_met(self, kind: Type) -> bool {
+        let is_iterable = matches!(kind, Type::List | Type::Tuple | Type::Dict | Type::Range);
         match self {
             Wanted::Anything => true,
-            Wanted::Int => type_name == "int",
-            Wanted::Bool => type_name == "bool",
-            Wanted::Text => type_name == "string",
-            Wanted::Texts => matches!(type_name, "string" | "tuple"),
-            Wanted::Iterable | Wanted::Pairs => is_iterable(type_name),
-            Wanted::Sized => type_name == "string" || is_iterable(type_name),
-            Wanted::Numeral => matches!(type_name, "string" | "int" | "bool"),
-            Wanted::Key => !matches!(type_name, "list" | "dict"),
+            Wanted::Int => matches!(kind, Type::Int),
+            Wanted::Bool => matches!(kind, Type::Bool),
+            Wanted::Text => matches!(kind, Type::Text),
+            Wanted::Texts => matches!(kind, Type::Text | Type::Tuple),
+            Wanted::Iterable | Wanted::Pairs => is_iterable,
+            Wanted::Sized => is_iterable || matches!(kind, Type::Text),
+            Wanted::Numeral => matches!(kind, Type::Text | Type::Int | Type::Bool),
+            Wanted::Key => !matches!(kind, Type::List | Type::Dict),
         }
     }
 
@@ -58,77 +57,138 @@ impl Wanted {
     }
 }
 
-/// The first and second argument of a built-in function.
+/// The first and second argument of built-in functions that do not take anything.
+const FUNCTIONS: &[(&'static str, Wanted, Wanted)] = &[
+    ("abs", Wanted::Int, Wanted::Anything),
+    ("all", Wanted::Iterable, Wanted::Anything),
+    ("any", Wanted::Iterable, Wanted::Anything),
+    ("list", Wanted::Iterable, Wanted::Anything),
+    ("tuple", Wanted::Iterable, Wanted::Anything),
+    ("reversed", Wanted::Iterable, Wanted::Anything),
+    ("sorted", Wanted::Iterable, Wanted::Anything),
+    ("dict", Wanted::Pairs, Wanted::Anything),
+    ("enumerate", Wanted::Iterable, Wanted::Int),
+    ("int", Wanted::Numeral, Wanted::Anything),
+    ("len", Wanted::Sized, Wanted::Anything),
+    ("range", Wanted::Int, Wanted::Int),
+    ("zip", Wanted::Iterable, Wanted::Iterable),
+];
+
+/// The first and second argument of methods that do not take anything.
+const METHODS: &[(Type, &'static str, Wanted, Wanted)] = &[
+    (Type::List, "extend", Wanted::Iterable, Wanted::Anything),
+    (Type::List, "insert", Wanted::Int, Wanted::Anything),
+    (Type::List, "pop", Wanted::Int, Wanted::Anything),
+    (Type::Dict, "get", Wanted::Key, Wanted::Anything),
+    (Type::Dict, "pop", Wanted::Key, Wanted::Anything),
+    (Type::Dict, "setdefault", Wanted::Key, Wanted::Anything),
+    (Type::Dict, "update", Wanted::Pairs, Wanted::Anything),
+    (Type::Text, "startswith", Wanted::Texts, Wanted::Anything),
+    (Type::Text, "endswith", Wanted::Texts, Wanted::Anything),
+    (Type::Text, "find", Wanted::Text, Wanted::Int),
+    (Type::Text, "join", Wanted::Iterable, Wanted::Anything),
+    (Type::Text, "replace", Wanted::Text, Wanted::Text),
+    (Type::Text, "split", Wanted::Text, Wanted::Int),
+    (Type::Text, "strip", Wanted::Text, Wanted::Anything),
+    (Type::Text, "lstrip", Wanted::Text, Wanted::Anything),
+    (Type::Text, "rstrip", Wanted::Text, Wanted::Anything),
+];
+
 fn of_function(name: &str) -> (Wanted, Wanted) {
-    match name {
-        "abs" => (Wanted::Int, Wanted::Anything),
-        "all" | "any" | "list" | "tuple" | "reversed" | "sorted" => {
-            (Wanted::Iterable, Wanted::Anything)
+    for (function, first, second) in FUNCTIONS {
+        if *function == name {
+            return (*first, *second);
         }
-        "dict" => (Wanted::Pairs, Wanted::Anything),
-        "enumerate" => (Wanted::Iterable, Wanted::Int),
-        "int" => (Wanted::Numeral, Wanted::Anything),
-        "len" => (Wanted::Sized, Wanted::Anything),
-        "range" => (Wanted::Int, Wanted::Int),
-        "zip" => (Wanted::Iterable, Wanted::Iterable),
-        _ => (Wanted::Anything, Wanted::Anything),
     }
+    (Wanted::Anything, Wanted::Anything)
 }
 
-/// The first and second argument of a method.
-fn of_method(name: &str, receiver: &str) -> (Wanted, Wanted) {
-    match (receiver, name) {
-        ("list", "extend") => (Wanted::Iterable, Wanted::Anything),
-        ("list", "insert" | "pop") => (Wanted::Int, Wanted::Anything),
-        ("dict", "get" | "pop" | "setdefault") => (Wanted::Key, Wanted::Anything),
-        ("dict", "update") => (Wanted::Pairs, Wanted::Anything),
-        ("string", "startswith" | "endswith") => (Wanted::Texts, Wanted::Anything),
-        ("string", "find") => (Wanted::Text, Wanted::Int),
-        ("string", "join") => (Wanted::Iterable, Wanted::Anything),
-        ("string", "replace") => (Wanted::Text, Wanted::Text),
-        ("string", "split") => (Wanted::Text, Wanted::Int),
-        ("string", "strip" | "lstrip" | "rstrip") => (Wanted::Text, Wanted::Anything),
-        _ => (Wanted::Anything, Wanted::Anything),
+fn of_method(name: &str, receiver: Type) -> (Wanted, Wanted) {
+    for (kind, method, first, second) in METHODS {
+        if *kind == receiver && *method == name {
+            return (*first, *second);
+        }
     }
+    (Wanted::Anything, Wanted::Anything)
 }
 
 /// The first and second argument of a built-in function, or of a method of a receiver of a type.
-pub(crate) fn wanted_by(name: &str, receiver: Option<&str>) -> (Wanted, Wanted) {
+pub(crate) fn wanted_by(name: &str, receiver: Option<Type>) -> (Wanted, Wanted) {
     match receiver {
         Some(receiver) => of_method(name, receiver),
         None => of_function(name),
     }
 }
 
-/// How many values a built-in function, or a method of a receiver of a type, takes.
-pub(crate) fn count(name: &str, receiver: Option<&str>) -> &'static str {
-    match (receiver, name) {
-        (None, "bool" | "list" | "tuple" | "dict") => "at most one value",
-        (None, "enumerate") => "one or two values",
-        (None, "max" | "min") => "at least one value",
-        (None, "range") => "one to three ints",
-        (Some("list"), "insert") => "two values",
-        (Some("list"), "pop") => "at most one value",
-        (Some("dict"), "get" | "pop" | "setdefault") => "one or two values",
-        (Some("dict"), "update") => "at most one value",
-        (Some("string"), "strip" | "lstrip" | "rstrip") => "at most one value",
-        (Some("string"), "find") => "one to three values",
-        (Some("string"), "split") => "one or two values",
-        (Some("string"), "replace") => "two or three values",
-        (Some(_), "clear" | "items" | "keys" | "popitem" | "values" | "lower" | "upper") => {
-            "no value"
+/// How many values built-in functions take, if not one.
+const FUNCTION_COUNTS: &[(&'static str, &'static str)] = &[
+    ("bool", "at most one value"),
+    ("list", "at most one value"),
+    ("tuple", "at most one value"),
+    ("dict", "at most one value"),
+    ("enumerate", "one or two values"),
+    ("max", "at least one value"),
+    ("min", "at least one value"),
+    ("range", "one to three ints"),
+];
+
+/// How many values methods take, if not one.
+const METHOD_COUNTS: &[(Type, &'static str, &'static str)] = &[
+    (Type::List, "clear", "no value"),
+    (Type::List, "insert", "two values"),
+    (Type::List, "pop", "at most one value"),
+    (Type::Dict, "clear", "no value"),
+    (Type::Dict, "get", "one or two values"),
+    (Type::Dict, "items", "no value"),
+    (Type::Dict, "keys", "no value"),
+    (Type::Dict, "pop", "one or two values"),
+    (Type::Dict, "popitem", "no value"),
+    (Type::Dict, "setdefault", "one or two values"),
+    (Type::Dict, "update", "at most one value"),
+    (Type::Dict, "values", "no value"),
+    (Type::Text, "find", "one to three values"),
+    (Type::Text, "lower", "no value"),
+    (Type::Text, "lstrip", "at most one value"),
+    (Type::Text, "replace", "two or three values"),
+    (Type::Text, "rstrip", "at most one value"),
+    (Type::Text, "split", "one or two values"),
+    (Type::Text, "strip", "at most one value"),
+    (Type::Text, "upper", "no value"),
+];
+
+fn function_count(name: &str) -> &'static str {
+    for (function, count) in FUNCTION_COUNTS {
+        if *function == name {
+            return *count;
         }
-        _ => "one value",
+    }
+    "one value"
+}
+
+fn method_count(name: &str, receiver: Type) -> &'static str {
+    for (kind, method, count) in METHOD_COUNTS {
+        if *kind == receiver && *method == name {
+            return *count;
+        }
+    }
+    "one value"
+}
+
+/// How many values a built-in function, or a method of a receiver of a type, takes.
+pub(crate) fn count(name: &str, receiver: Option<Type>) -> &'static str {
+    match receiver {
+        Some(receiver) => method_count(name, receiver),
+        None => function_count(name),
     }
 }
 
 /// The methods of a type.
-pub(crate) fn methods(type_name: &str) -> &'static [&'static str] {
-    match type_name {
-        "list" => &[
+pub(crate) fn methods(kind: Type) -> &'static [&'static str] {
+    match kind {
+        Type::List => &[
             "append", "clear", "extend", "index", "insert", "pop", "remove",
         ],
-        "dict" => &[
+        Type::Dict => &[
             "clear",
             "get",
             "items",
@@ -139,7 +199,7 @@ pub(crate) fn methods(type_name: &str) -> &'static [&'static str] {
             "update",
             "values",
         ],
-        "string" => &[
+        Type::Text => &[
             "endswith",
             "find",
             "format",

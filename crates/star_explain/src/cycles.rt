@@ -4,6 +4,7 @@ use crate::ends::{End, Ends};
 use crate::entry::Entry;
 use crate::trail::mark_of_line;
 use star_label::files::Files;
+use star_mistakes::message::{Part, message, push_message};
 use star_mistakes::place::{Naming, label_of, push_short_place};
 use std::alloc::{AllocError, Global};
 
@@ -145,7 +146,7 @@ impl Cycles {
         Ok(Some(Entry {
             mark: mark_of_line(files, last, line),
             code: "load",
-            text: format!(in alloc; "this load of {label} closes a cycle of loads")?,
+            text: closing(alloc, label)?,
             notes: notes_of(alloc, files, ends, naming, ordered.as_slice())?,
             help: Some(String::from_str(
                 alloc,
@@ -155,6 +156,16 @@ impl Cycles {
             more: Vec::new(alloc),
         }))
     }
+}
+
+/// The text on the load that closes a cycle.
+fn closing(alloc: Global, label: &str) -> Result<String, AllocError> {
+    let parts = [
+        Part::Plain("this load of "),
+        Part::Plain(label),
+        Part::Plain(" closes a cycle of loads"),
+    ];
+    message(alloc, &parts)
 }
 
 /// The loads of files of a cycle, a line each.
@@ -170,15 +181,21 @@ fn notes_of(
         if let End::Load { next, line } = ends.end(*file) {
             notes.push_str("  ")?;
             push_short_place(&mut notes, files, mark_of_line(files, *file, line), naming)?;
-            write!(notes, ": loads {}\n", label_of(files, next))?;
+            let loads = [
+                Part::Plain(": loads "),
+                Part::Plain(label_of(files, next)),
+                Part::Plain("\n"),
+            ];
+            push_message(&mut notes, &loads)?;
         }
     }
     if cycle.len() > LISTED {
-        write!(
-            notes,
-            "  and {} more loads\n",
-            cycle.len().saturating_sub(LISTED)
-        )?;
+        let more = [
+            Part::Plain("  and "),
+            Part::Number(cycle.len().saturating_sub(LISTED)),
+            Part::Plain(" more loads\n"),
+        ];
+        push_message(&mut notes, &more)?;
     }
     Ok(notes)
 }

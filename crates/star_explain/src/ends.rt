@@ -22,7 +22,7 @@ use std::alloc::{AllocError, Global};
 const DOUBLINGS: usize = 14;
 
 /// How a file ended.
-#[derive(Clone, Copy, Debug, PartialEq, Eq)]
+#[derive(Clone, Copy)]
 pub(crate) enum End {
     /// It was not reached.
     Unknown,
@@ -108,6 +108,15 @@ pub(crate) struct Ends {
     pub stops: Vec<Stop>,
     /// Whether files were run.
     pub are_run: bool,
+}
+
+/// How many files end in each way.
+#[derive(Clone, Copy)]
+pub(crate) struct Counts {
+    pub good: usize,
+    /// Those with a fault of their own.
+    pub own: usize,
+    pub by_loads: usize,
 }
 
 /// How a module ended.
@@ -266,7 +275,7 @@ impl Ends {
     /// The end of a file with these loads: the first of them against which there is something.
     fn first_bad(&self, loads: &[Load]) -> End {
         for load in loads {
-            if self.end(load.file) != End::Good {
+            if !matches!(self.end(load.file), End::Good) {
                 return End::Load {
                     next: load.file,
                     line: load.line,
@@ -288,17 +297,22 @@ impl Ends {
         }
     }
 
-    /// How many of the files that were reached have such an end.
-    pub(crate) fn count<F: Fn(End) -> bool>(&self, is_such: F) -> usize
-        requires { F.IsAlwaysCallable is_such }
-    {
-        let mut count: usize = 0;
+    /// How many of the files that were reached end in each way.
+    pub(crate) fn counts(&self) -> Counts {
+        let mut counts = Counts {
+            good: 0,
+            own: 0,
+            by_loads: 0,
+        };
         for n in &self.reached {
-            if is_such(self.end(*n)) {
-                count = count.saturating_add(1);
+            match self.end(*n) {
+                End::Good => counts.good = counts.good.saturating_add(1),
+                End::Static(_) | End::Stopped { .. } => counts.own = counts.own.saturating_add(1),
+                End::Load { .. } => counts.by_loads = counts.by_loads.saturating_add(1),
+                End::Unknown => {}
             }
         }
-        count
+        counts
     }
 
     /// For each file the one that makes it fail at last: itself, if it fails by no load. Of a file whose loads lead

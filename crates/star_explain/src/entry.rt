@@ -3,6 +3,7 @@
 use crate::explain::Form;
 use crate::paint::{Color, push_colored, push_lines};
 use star_label::files::Files;
+use star_mistakes::message::{Part, push_message};
 use star_mistakes::mistake::Mistake;
 use star_mistakes::place::{Mark, label_of, push_place, push_source};
 use std::alloc::{AllocError, Global};
@@ -57,7 +58,14 @@ impl Entry {
         push_place(all, files, self.mark, form.naming)?;
         all.push_str(": ")?;
         push_colored(all, "error", Color::Red, form.is_colored)?;
-        write!(all, ": {} [{}]\n", self.text, self.code)?;
+        let told = [
+            Part::Plain(": "),
+            Part::Plain(self.text.as_str()),
+            Part::Plain(" ["),
+            Part::Plain(self.code),
+            Part::Plain("]\n"),
+        ];
+        push_message(all, &told)?;
         let mut lines = String::new(alloc);
         push_source(&mut lines, alloc, files, self.mark)?;
         push_lines(all, lines.as_str(), form.is_colored)?;
@@ -65,11 +73,24 @@ impl Entry {
         if let Some(help) = &self.help {
             all.push_str("  ")?;
             push_colored(all, "help", Color::Cyan, form.is_colored)?;
-            write!(all, ": {help}\n")?;
+            let cure = [
+                Part::Plain(": "),
+                Part::Plain(help.as_str()),
+                Part::Plain("\n"),
+            ];
+            push_message(all, &cure)?;
         }
         push_files(all, files, self.more.as_slice(), MORE)?;
         push_files(all, files, failing, FAIL)?;
         all.push('\n')
+    }
+}
+
+/// A text of its own.
+pub(crate) fn owned(alloc: Global, text: Option<&str>) -> Result<Option<String>, AllocError> {
+    match text {
+        Some(text) => Ok(Some(String::from_str(alloc, text)?)),
+        None => Ok(None),
     }
 }
 
@@ -91,7 +112,14 @@ fn push_files(
         1 => of_one,
         _ => of_several,
     };
-    write!(all, "  {} {said}: ", numbers.len())?;
+    let front = [
+        Part::Plain("  "),
+        Part::Number(numbers.len()),
+        Part::Plain(" "),
+        Part::Plain(said),
+        Part::Plain(": "),
+    ];
+    push_message(all, &front)?;
     for (i, n) in numbers.iter().take(NAMED).enumerate() {
         if i > 0 {
             all.push_str(", ")?;

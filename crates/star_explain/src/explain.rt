@@ -2,12 +2,13 @@
 
 use crate::cycles::Cycles;
 use crate::ends::{End, Ends, Stop};
-use crate::entry::Entry;
+use crate::entry::{Entry, owned};
 use crate::pages::page_of;
 use crate::trail::{callers, mark_of_line};
 use star_check::verdict::Judged;
 use star_label::files::Files;
 use star_meaning::fault::Code;
+use star_mistakes::message::{Part, message, push_message};
 use star_mistakes::place::{Mark, Naming};
 use star_mistakes::statics::Sources;
 use star_outcome::outcome::Run;
@@ -19,7 +20,7 @@ use std::alloc::{AllocError, Global};
 const ENTRIES: usize = 20;
 
 /// Which entries are shown, and how.
-#[derive(Clone, Copy, Debug, PartialEq, Eq)]
+#[derive(Clone, Copy, Debug)]
 pub struct Form {
     /// How files are named.
     pub naming: Naming,
@@ -43,17 +44,16 @@ struct Telling<'a> {
     has_prelude: bool,
 }
 
-/// The text on a run that stopped.
-fn text_of_code(alloc: Global, code: Code, said: Option<&String>) -> Result<String, AllocError> {
-    if let Some(said) = said {
-        return format!(in alloc; "fail: {said}");
-    }
-    let code = code_text(code);
-    String::from_str(alloc, page_of(code).map_or(code, |page| page.short))
+/// What is told of a run that stopped.
+#[derive(Clone, Copy)]
+struct Message<'s> {
+    front: &'static str,
+    text: &'s str,
+    help: Option<&'s str>,
 }
 
 /// The cure of a fault whose word is named, if its code has one.
-fn cure_of(alloc: Global, code: Code) -> Result<Option<String>, AllocError> {
+fn cure_of(code: Code) -> Option<&'static str> {
     let has_cure = matches!(
         code,
         Code::Frozen
@@ -65,30 +65,42 @@ fn cure_of(alloc: Global, code: Code) -> Result<Option<String>, AllocError> {
             | Code::Cut
     );
     match page_of(code_text(code)) {
-        Some(page) if has_cure => Ok(Some(String::from_str(alloc, page.cure)?)),
-        _ => Ok(None),
+        Some(page) if has_cure => Some(page.cure),
+        _ => None,
     }
 }
 
-/// The text on a run that stopped, and the cure.
-fn text_and_help(
-    alloc: Global,
-    code: Code,
-    stop: &Stop,
-) -> Result<(String, Option<String>), AllocError> {
-    let said = stop.said.as_ref();
-    let Some(told) = &stop.told else {
-        let help = match page_of(code_text(code)) {
-            Some(page) if said.is_none() => Some(String::from_str(alloc, page.cure)?),
-            _ => None,
-        };
-        return Ok((text_of_code(alloc, code, said)?, help));
+/// What is told by the code alone.
+fn by_code(code: &'static str) -> Message<'static> {
+    let (text, help) = match page_of(code) {
+        Some(page) => (page.short, Some(page.cure)),
+        None => (code, None),
     };
-    let help = match &told.help {
-        Some(help) => Some(String::from_str(alloc, help.as_str())?),
-        None => cure_of(alloc, code)?,
-    };
-    Ok((String::from_str(alloc, told.text.as_str())?, help))
+    Message {
+        front: "",
+        text,
+        help,
+    }
+}
+
+/// What is told of a run that stopped, and the cure.
+fn told_of<'s>(code: Code, stop: &'s Stop) -> Message<'s> {
+    match (&stop.told, &stop.said) {
+        (Some(told), _) => Message {
+            front: "",
+            text: told.text.as_str(),
+            help: match &told.help {
+                Some(help) => Some(help.as_str()),
+                None => cure_of(code),
+            },
+        },
+        (None, Some(said)) => Message {
+            front: "fail: ",
+            text: said.as_str(),
+            help: None,
+        },
+        (None, None) => by_code(code_text(code)),
+    }
 }
 
 impl<'a> Telling<'a> {
@@ -126,19 +138,21 @@ impl<'a> Telling<'a> {
             None => mark_of_line(files, n, line),
         };
         let mark = stop.mark.unwrap_or(place);
-        let (text, help) = text_and_help(alloc, code, stop)?;
+        let told = told_of(code, stop);
+        let text = message(alloc, &[Part::Plain(told.front), Part::Plain(told.text)])?;
         if self.is_added(n, mark, text.as_str())? || !self.has_room() {
             return Ok(());
         }
-        self.entries.push(Entry {
+        let entry = Entry {
             mark,
             code: code_text(code),
             text,
             notes: callers(alloc, files, self.form.naming, stop.steps())?,
-            help,
+            help: owned(alloc, told.help)?,
             root: Some(n),
             more: Vec::new(alloc),
-        })?;
+        };
+        self.entries.push(entry)?;
         Ok(())
     }
 
@@ -218,17 +232,16 @@ impl Ways {
         })
     }
 
+    /// The first file that was found of the cycle that a file lies on.
+    fn first_of_cycle(&self, file: usize) -> Option<usize> {
+        let number = self.cycles.number(file)?;
+        self.cycles.all.get(number)?.first().copied()
+    }
+
     /// The file that makes a file fail at last; of a cycle it is the first one that was found.
     fn cause(&self, n: usize) -> usize {
         let root = self.roots.get(n).copied().unwrap_or(n);
-        let cycle = self
-            .cycles
-            .number(root)
-            .and_then(|number| self.cycles.all.get(number));
-        cycle
-            .and_then(|files| files.first())
-            .copied()
-            .unwrap_or(root)
+        self.first_of_cycle(root).unwrap_or(root)
     }
 
     /// The files that fail by the cause of an entry.
@@ -253,24 +266,32 @@ impl Ways {
 
     /// `N files: ..`
     fn push_summary(&self, all: &mut String) -> Result<(), AllocError> {
-        let good = self.ends.count(|end| end == End::Good);
-        let own = self
-            .ends
-            .count(|end| matches!(end, End::Static(_) | End::Stopped { .. }));
-        let by_loads = self.ends.count(|end| matches!(end, End::Load { .. }));
+        let counts = self.ends.counts();
         let count = self.ends.reached.len();
-        let files = if count == 1 { "file" } else { "files" };
-        let whose = if by_loads == 1 { "its" } else { "their" };
-        if !self.ends.are_run {
-            return write!(
-                all,
-                "{count} {files} checked: {own} at fault, {by_loads} by {whose} loads\n"
-            );
+        let whose = if counts.by_loads == 1 {
+            " by its loads\n"
+        } else {
+            " by their loads\n"
+        };
+        let files = if count == 1 { " file" } else { " files" };
+        push_message(all, &[Part::Number(count), Part::Plain(files)])?;
+        if self.ends.are_run {
+            let good = [
+                Part::Plain(": "),
+                Part::Number(counts.good),
+                Part::Plain(" ok, "),
+            ];
+            push_message(all, &good)?;
+        } else {
+            all.push_str(" checked: ")?;
         }
-        write!(
-            all,
-            "{count} {files}: {good} ok, {own} at fault, {by_loads} by {whose} loads\n"
-        )
+        let faults = [
+            Part::Number(counts.own),
+            Part::Plain(" at fault, "),
+            Part::Number(counts.by_loads),
+            Part::Plain(whose),
+        ];
+        push_message(all, &faults)
     }
 }
 
@@ -303,7 +324,12 @@ impl<'a> Telling<'a> {
             entry.push(&mut all, alloc, files, self.form, failing.as_slice())?;
         }
         if self.more > 0 {
-            write!(all, "and {} more; --explain=all shows them\n\n", self.more)?;
+            let more = [
+                Part::Plain("and "),
+                Part::Number(self.more),
+                Part::Plain(" more; --explain=all shows them\n\n"),
+            ];
+            push_message(&mut all, &more)?;
         }
         ways.push_summary(&mut all)?;
         Ok(all)

@@ -1,7 +1,7 @@
 //! The pages of the codes of faults: their meaning, as `--explain-code` prints it and `docs/DIAGNOSTICS.md` has it.
 
 /// A code of a fault.
-#[derive(Clone, Copy, Debug, PartialEq, Eq)]
+#[derive(Clone, Copy)]
 pub struct Page {
     /// Its word in the report.
     pub code: &'static str,
@@ -203,5 +203,10 @@ pub const PAGES: [Page; 26] = [
 
 /// The page of a code.
 pub fn page_of(code: &str) -> Option<Page> {
-    PAGES.iter().find(|page| page.code == code).copied()
+    for page in &PAGES {
+        if page.code == code {
+            return Some(*page);
+        }
+    }
+    None
 }

@@ -3,7 +3,7 @@
 use std::alloc::AllocError;
 
 /// A colour of a part of a text.
-#[derive(Clone, Copy, Debug, PartialEq, Eq)]
+#[derive(Clone, Copy)]
 pub(crate) enum Color {
     Red,
     Blue,

@@ -2,10 +2,10 @@
 
 use crate::built_ins::{Wanted, count, methods, wanted_by};
 use crate::words::unquoted;
-use star_found::about::{About, Found, Misfit, Shown};
+use star_found::about::{About, Found, Misfit, Shown, Type};
 use star_meaning::fault::Code;
+use star_mistakes::message::{Part, message, push_message};
 use star_mistakes::near::did_you_mean;
-use star_mistakes::place::shown;
 use std::alloc::{AllocError, Global};
 
 /// How many parameters of a function are listed.
@@ -28,204 +28,367 @@ pub(crate) struct Saying<'a> {
     pub module: &'a str,
 }
 
-/// The name of a type with its article.
-fn with_article(type_name: &str) -> &str {
-    match type_name {
-        "int" => "an int",
-        "string" => "a string",
-        "list" => "a list",
-        "dict" => "a dict",
-        "tuple" => "a tuple",
-        "bool" => "a bool",
-        "range" => "a range",
-        "function" => "a function",
-        "NoneType" => "None",
-        "builtin_function_or_method" => "a built-in function",
-        _ => "a value",
+/// The name of the type of a value, with its article.
+fn with_article(value: &Shown) -> &'static str {
+    match value.of {
+        Type::Int => "an int",
+        Type::Text => "a string",
+        Type::List => "a list",
+        Type::Dict => "a dict",
+        Type::Tuple => "a tuple",
+        Type::Bool => "a bool",
+        Type::Range => "a range",
+        Type::Function => "a function",
+        Type::Nothing => "None",
+        Type::BuiltIn => "a built-in function",
+        Type::Other => "a value",
+    }
+}
+
+/// The text of a value, where one is told.
+fn told_text(value: &Shown) -> &str {
+    match value.of {
+        Type::Nothing => "",
+        _ => value.text.as_str(),
+    }
+}
+
+/// A colon before the text of a value, where one is told.
+fn colon(value: &Shown) -> &'static str {
+    if told_text(value).is_empty() {
+        ""
+    } else {
+        ": "
+    }
+}
+
+/// The type of a value, if there is one.
+fn type_of(value: Option<&Shown>) -> Option<Type> {
+    match value {
+        Some(value) => Some(value.of),
+        None => None,
+    }
+}
+
+/// A value that is not of the kind that is wanted.
+fn unmet<'v>(wanted: Wanted, value: Option<&'v Shown>) -> Option<&'v Shown> {
+    match value {
+        Some(value) if !wanted.is_met(value.of) => Some(value),
+        _ => None,
     }
 }
 
 impl<'a> Saying<'a> {
-    /// The text of a value as it is shown.
-    fn value(self, value: &Shown) -> Result<String, AllocError> {
-        shown(self.alloc, value.text.as_str())
+    /// A text of these parts.
+    fn text_of(self, parts: &[Part]) -> Result<Option<String>, AllocError> {
+        Ok(Some(message(self.alloc, parts)?))
     }
 
-    /// A colon and the text of a value, where it has a text.
-    fn tail(self, value: &Shown) -> Result<String, AllocError> {
-        if value.text.as_str().is_empty() || value.type_name() == "NoneType" {
-            return Ok(String::new(self.alloc));
-        }
-        format!(in self.alloc; ": {}", self.value(value)?)
+    /// A word between two texts.
+    fn with_word<'x>(
+        self,
+        front: &'x str,
+        word: &'x str,
+        end: &'x str,
+    ) -> Result<Option<String>, AllocError> {
+        self.text_of(&[Part::Plain(front), Part::Shown(word), Part::Plain(end)])
     }
 
-    /// A value with its type.
-    fn typed(self, value: &Shown) -> Result<String, AllocError> {
-        format!(in self.alloc; "{}{}", with_article(value.type_name()), self.tail(value)?)
+    /// A text, and after a colon the text of a value.
+    fn with_value<'x>(self, text: &'x str, value: &'x Shown) -> Result<Option<String>, AllocError> {
+        self.text_of(&[
+            Part::Plain(text),
+            Part::Plain(colon(value)),
+            Part::Shown(told_text(value)),
+        ])
     }
 
-    /// `left sign right` after a colon, where both have a text.
-    fn both(self, sign: &str, left: &Shown, right: &Shown) -> Result<String, AllocError> {
-        if left.text.as_str().is_empty() || right.text.as_str().is_empty() {
-            return Ok(String::new(self.alloc));
-        }
-        let (left, right) = (self.value(left)?, self.value(right)?);
-        format!(in self.alloc; ": {left} {sign} {right}")
+    /// The kind of a value, a text, and after a colon the text of the value.
+    fn of_kind<'x>(self, value: &'x Shown, text: &'x str) -> Result<Option<String>, AllocError> {
+        self.text_of(&[
+            Part::Plain(with_article(value)),
+            Part::Plain(text),
+            Part::Plain(colon(value)),
+            Part::Shown(told_text(value)),
+        ])
+    }
+
+    /// A text, and a value with its type.
+    fn with_typed<'x>(self, text: &'x str, value: &'x Shown) -> Result<Option<String>, AllocError> {
+        self.text_of(&[
+            Part::Plain(text),
+            Part::Plain(with_article(value)),
+            Part::Plain(colon(value)),
+            Part::Shown(told_text(value)),
+        ])
     }
 
     /// The text on a write to a value.
     fn written(self, value: &Shown) -> Result<Option<String>, AllocError> {
-        let text = with_article(value.type_name());
-        Ok(Some(match self.code {
-            Code::Frozen => {
-                format!(in self.alloc; "{text} of another file is frozen, and cannot be changed")?
-            }
-            Code::Iterating => {
-                format!(in self.alloc; "{text} cannot be changed while a loop goes over it")?
-            }
+        let text = match self.code {
+            Code::Frozen => " of another file is frozen, and cannot be changed",
+            Code::Iterating => " cannot be changed while a loop goes over it",
             _ => return Ok(None),
-        }))
+        };
+        self.text_of(&[Part::Plain(with_article(value)), Part::Plain(text)])
     }
 
     /// A value that cannot be a key.
-    fn no_key(self, key: &Shown) -> Result<String, AllocError> {
-        let kind = with_article(key.type_name());
-        format!(in self.alloc; "{kind} cannot be a key{}", self.tail(key)?)
+    fn no_key(self, key: &Shown) -> Result<Option<String>, AllocError> {
+        self.of_kind(key, " cannot be a key")
+    }
+
+    /// An index of a wrong type, or of a value that has no such items.
+    fn index_of_type<'x>(
+        self,
+        value: &'x Shown,
+        at: &'x Shown,
+    ) -> Result<Option<String>, AllocError> {
+        let has_items = matches!(value.of, Type::Tuple | Type::Text | Type::Range);
+        let has_index = has_items || value.of == Type::List;
+        if value.of == Type::Dict {
+            return self.no_key(at);
+        }
+        if has_index && at.of != Type::Int {
+            return self.text_of(&[
+                Part::Plain("the index of "),
+                Part::Plain(with_article(value)),
+                Part::Plain(" has to be an int, not "),
+                Part::Plain(with_article(at)),
+                Part::Plain(colon(at)),
+                Part::Shown(told_text(at)),
+            ]);
+        }
+        if has_items {
+            return self.text_of(&[
+                Part::Plain("the items of "),
+                Part::Plain(with_article(value)),
+                Part::Plain(" cannot be set"),
+            ]);
+        }
+        self.of_kind(value, " has no items")
     }
 
     /// `value[at]`
-    fn index(self, value: &Shown, at: &Shown, items: usize) -> Result<Option<String>, AllocError> {
-        let kind = with_article(value.type_name());
-        Ok(Some(match self.code {
-            Code::Key => format!(in self.alloc; "no such key{}", self.tail(at)?)?,
-            Code::Index => {
-                let noun = if items == 1 { "item" } else { "items" };
-                let at = self.value(at)?;
-                format!(in self.alloc; "index {at} of {kind} with {items} {noun}")?
-            }
-            Code::Cut => format!(in self.alloc;
-                "index {} cuts a character{}",
-                self.value(at)?,
-                self.tail(value)?
-            )?,
-            Code::BadType => match value.type_name() {
-                "dict" => self.no_key(at)?,
-                "list" | "tuple" | "string" | "range" if at.type_name() != "int" =>
-                    format!(in self.alloc;
-                        "the index of {kind} has to be an int, not {}",
-                        self.typed(at)?
-                    )?,
-                "tuple" | "string" | "range" => {
-                    format!(in self.alloc; "the items of {kind} cannot be set")?
-                }
-                _ => format!(in self.alloc; "{kind} has no items{}", self.tail(value)?)?,
-            },
-            _ => return self.written(value),
-        }))
+    fn index<'x>(
+        self,
+        value: &'x Shown,
+        at: &'x Shown,
+        items: usize,
+    ) -> Result<Option<String>, AllocError> {
+        match self.code {
+            Code::Key => self.with_value("no such key", at),
+            Code::Index => self.text_of(&[
+                Part::Plain("index "),
+                Part::Shown(at.text.as_str()),
+                Part::Plain(" of "),
+                Part::Plain(with_article(value)),
+                Part::Plain(" with "),
+                Part::Number(items),
+                Part::Plain(if items == 1 { " item" } else { " items" }),
+            ]),
+            Code::Cut => self.text_of(&[
+                Part::Plain("index "),
+                Part::Shown(at.text.as_str()),
+                Part::Plain(" cuts a character"),
+                Part::Plain(colon(value)),
+                Part::Shown(told_text(value)),
+            ]),
+            Code::BadType => self.index_of_type(value, at),
+            _ => self.written(value),
+        }
     }
 
     /// `value[start:stop:stride]`
     fn slice(self, value: &Shown) -> Result<Option<String>, AllocError> {
-        let kind = with_article(value.type_name());
-        Ok(Some(match self.code {
-            Code::BadValue => String::from_str(self.alloc, "the stride of a slice cannot be 0")?,
-            Code::Cut => {
-                format!(in self.alloc; "a slice cuts a character{}", self.tail(value)?)?
+        let has_slices = matches!(
+            value.of,
+            Type::List | Type::Tuple | Type::Text | Type::Range
+        );
+        match self.code {
+            Code::BadValue => self.text_of(&[Part::Plain("the stride of a slice cannot be 0")]),
+            Code::Cut => self.with_value("a slice cuts a character", value),
+            Code::BadType if has_slices => {
+                self.text_of(&[Part::Plain("the bounds of a slice have to be ints")])
             }
-            Code::BadType => match value.type_name() {
-                "list" | "tuple" | "string" | "range" => {
-                    String::from_str(self.alloc, "the bounds of a slice have to be ints")?
-                }
-                _ => format!(in self.alloc; "{kind} cannot be sliced{}", self.tail(value)?)?,
-            },
-            _ => return Ok(None),
-        }))
+            Code::BadType => self.of_kind(value, " cannot be sliced"),
+            _ => Ok(None),
+        }
+    }
+
+    /// A text, and `left sign right` after a colon, where both have a text.
+    fn with_both<'x>(
+        self,
+        text: &[Part],
+        sign: &'x str,
+        left: &'x Shown,
+        right: &'x Shown,
+    ) -> Result<Option<String>, AllocError> {
+        let (left, right) = (left.text.as_str(), right.text.as_str());
+        if left.is_empty() || right.is_empty() {
+            return self.text_of(text);
+        }
+        let both = [
+            Part::Plain(": "),
+            Part::Shown(left),
+            Part::Plain(" "),
+            Part::Plain(sign),
+            Part::Plain(" "),
+            Part::Shown(right),
+        ];
+        let mut all = message(self.alloc, text)?;
+        push_message(&mut all, &both)?;
+        Ok(Some(all))
     }
 
     /// `left sign right`
-    fn operands(
+    fn operands<'x>(
         self,
-        sign: &str,
-        left: &Shown,
-        right: &Shown,
+        sign: &'x str,
+        left: &'x Shown,
+        right: &'x Shown,
     ) -> Result<Option<String>, AllocError> {
-        let both = self.both(sign, left, right)?;
-        let (a, b) = (left.type_name(), right.type_name());
-        Ok(Some(match self.code {
-            Code::BadType if sign == "%" && a == "string" => {
-                format!(in self.alloc; "the values do not fit the format{both}")?
-            }
+        let of_string = left.of == Type::Text;
+        let text = match self.code {
+            Code::BadType if sign == "%" && of_string => "the values do not fit the format",
             Code::BadType => {
-                format!(in self.alloc; "`{sign}` has no meaning between {a} and {b}{both}")?
+                let text = [
+                    Part::Plain("`"),
+                    Part::Plain(sign),
+                    Part::Plain("` has no meaning between "),
+                    Part::Plain(left.type_name()),
+                    Part::Plain(" and "),
+                    Part::Plain(right.type_name()),
+                ];
+                return self.with_both(&text, sign, left, right);
             }
-            Code::Zero => format!(in self.alloc; "a division by zero{both}")?,
-            Code::Overflow => format!(in self.alloc; "an int outside of 64 bits{both}")?,
-            Code::BadValue if a == "string" => {
-                format!(in self.alloc; "the values do not fit the format{both}")?
-            }
-            Code::BadValue => format!(in self.alloc; "a shift by a negative number{both}")?,
+            Code::Zero => "a division by zero",
+            Code::Overflow => "an int outside of 64 bits",
+            Code::BadValue if of_string => "the values do not fit the format",
+            Code::BadValue => "a shift by a negative number",
             _ => return self.written(left),
-        }))
+        };
+        self.with_both(&[Part::Plain(text)], sign, left, right)
     }
 
     /// `sign value`
-    fn operand(self, sign: &str, value: &Shown) -> Result<Option<String>, AllocError> {
-        let value = self.typed(value)?;
-        Ok(Some(match (self.code, sign) {
+    fn operand<'x>(self, sign: &'x str, value: &'x Shown) -> Result<Option<String>, AllocError> {
+        match (self.code, sign) {
             (Code::BadType, "*") => {
-                format!(in self.alloc; "what stands after `*` has to be an iterable, not {value}")?
+                self.with_typed("what stands after `*` has to be an iterable, not ", value)
             }
-            (Code::BadType, "**") => format!(in self.alloc;
-                "what stands after `**` has to be a dict whose keys are strings, not {value}"
-            )?,
-            (Code::BadType, _) => {
-                format!(in self.alloc; "`{sign}` has no meaning before {value}")?
-            }
-            (Code::Overflow, _) => {
-                format!(in self.alloc; "an int outside of 64 bits: {sign} before {value}")?
-            }
-            _ => return Ok(None),
-        }))
+            (Code::BadType, "**") => self.with_typed(
+                "what stands after `**` has to be a dict whose keys are strings, not ",
+                value,
+            ),
+            (Code::BadType, _) => self.text_of(&[
+                Part::Plain("`"),
+                Part::Plain(sign),
+                Part::Plain("` has no meaning before "),
+                Part::Plain(with_article(value)),
+                Part::Plain(colon(value)),
+                Part::Shown(told_text(value)),
+            ]),
+            (Code::Overflow, _) => self.text_of(&[
+                Part::Plain("an int outside of 64 bits: "),
+                Part::Plain(sign),
+                Part::Plain(" before "),
+                Part::Plain(with_article(value)),
+                Part::Plain(colon(value)),
+                Part::Shown(told_text(value)),
+            ]),
+            _ => Ok(None),
+        }
+    }
+
+    /// A callee, a text, and a word that does not fit, in quotes.
+    fn misfit_of<'x>(
+        self,
+        callee: &'x Shown,
+        text: &'x str,
+        word: &'x str,
+        end: &'x str,
+    ) -> Result<Option<String>, AllocError> {
+        self.text_of(&[
+            Part::Plain("`"),
+            Part::Shown(callee.text.as_str()),
+            Part::Plain(text),
+            Part::Shown(word),
+            Part::Plain(end),
+        ])
     }
 
     /// A call of what a program defines, or of what may not be called.
     fn call(self, callee: &Shown, misfit: &Option<Misfit>) -> Result<Option<String>, AllocError> {
-        let name = self.value(callee)?;
-        Ok(Some(match misfit {
+        match misfit {
             Some(Misfit::Unknown(word)) => {
-                let word = shown(self.alloc, word.as_str())?;
-                format!(in self.alloc; "`{name}` has no parameter `{word}`")?
+                self.misfit_of(callee, "` has no parameter `", word.as_str(), "`")
             }
             Some(Misfit::Twice(word)) => {
-                let word = shown(self.alloc, word.as_str())?;
-                format!(in self.alloc; "`{name}` is given its parameter `{word}` twice")?
+                self.misfit_of(
+                    callee,
+                    "` is given its parameter `",
+                    word.as_str(),
+                    "` twice",
+                )
             }
             Some(Misfit::Missing(word)) => {
-                let word = shown(self.alloc, word.as_str())?;
-                format!(in self.alloc; "`{name}` is not given its parameter `{word}`")?
+                self.misfit_of(callee, "` is not given its parameter `", word.as_str(), "`")
             }
-            Some(Misfit::TooMany { given, most }) => format!(in self.alloc;
-                "`{name}` takes at most {most} by place, and is given {given}"
-            )?,
-            None if self.code == Code::Recursion => format!(in self.alloc;
-                "the function `{name}` is called while it runs: there is no recursion"
-            )?,
-            None => {
-                let kind = with_article(callee.type_name());
-                format!(in self.alloc; "{kind} cannot be called{}", self.tail(callee)?)?
-            }
-        }))
+            Some(Misfit::TooMany { given, most }) => self.text_of(&[
+                Part::Plain("`"),
+                Part::Shown(callee.text.as_str()),
+                Part::Plain("` takes at most "),
+                Part::Number(*most),
+                Part::Plain(" by place, and is given "),
+                Part::Number(*given),
+            ]),
+            None if self.code == Code::Recursion => self.with_word(
+                "the function `",
+                callee.text.as_str(),
+                "` is called while it runs: there is no recursion",
+            ),
+            None => self.of_kind(callee, " cannot be called"),
+        }
     }
 
     /// The text on an argument that a built-in function does not take.
-    fn argument(
+    fn argument<'x>(
         self,
-        name: &str,
+        name: &'x str,
         wanted: Wanted,
-        value: &Shown,
+        value: &'x Shown,
     ) -> Result<Option<String>, AllocError> {
-        let (wanted, value) = (wanted.text(), self.typed(value)?);
-        Ok(Some(format!(in self.alloc; "`{name}` takes {wanted}, not {value}")?))
+        self.text_of(&[
+            Part::Plain("`"),
+            Part::Plain(name),
+            Part::Plain("` takes "),
+            Part::Plain(wanted.text()),
+            Part::Plain(", not "),
+            Part::Plain(with_article(value)),
+            Part::Plain(colon(value)),
+            Part::Shown(told_text(value)),
+        ])
+    }
+
+    /// A built-in function, a text, and after a colon the text of a value.
+    fn of_built_in<'x>(
+        self,
+        name: &'x str,
+        text: &'x str,
+        value: Option<&'x Shown>,
+    ) -> Result<Option<String>, AllocError> {
+        let (colon, told) = match value {
+            Some(value) => (colon(value), told_text(value)),
+            None => ("", ""),
+        };
+        self.text_of(&[
+            Part::Plain("`"),
+            Part::Plain(name),
+            Part::Plain(text),
+            Part::Plain(colon),
+            Part::Shown(told),
+        ])
     }
 
     /// A wrong type in a call of a built-in function or of a method.
@@ -236,30 +399,31 @@ impl<'a> Saying<'a> {
         first: Option<&Shown>,
         second: Option<&Shown>,
     ) -> Result<Option<String>, AllocError> {
-        let (one, two) = wanted_by(name, receiver.map(|value| value.type_name()));
-        if let Some(value) = first.filter(|value| !one.is_met(value.type_name())) {
+        let (one, two) = wanted_by(name, type_of(receiver));
+        if let Some(value) = unmet(one, first) {
             return self.argument(name, one, value);
         }
-        if let Some(value) = second.filter(|value| !two.is_met(value.type_name())) {
+        if let Some(value) = unmet(two, second) {
             return self.argument(name, two, value);
         }
-        let Some(first) = first else {
+        if first.is_none() {
             return Ok(None);
+        }
+        let text = match name {
+            "join" => "` takes strings alone",
+            "dict" | "update" => "` takes a dict, or an iterable of pairs",
+            "sorted" | "max" | "min" => "` takes ints alone or strings alone",
+            _ => "` does not take this",
         };
-        let tail = self.tail(first)?;
-        Ok(Some(match name {
-            "join" => format!(in self.alloc; "`join` takes strings alone{tail}")?,
-            "dict" | "update" => {
-                format!(in self.alloc; "`{name}` takes a dict, or an iterable of pairs{tail}")?
-            }
-            "sorted" => {
-                format!(in self.alloc; "`sorted` takes ints alone or strings alone{tail}")?
-            }
-            "max" | "min" => {
-                format!(in self.alloc; "`{name}` takes ints alone or strings alone{tail}")?
-            }
-            _ => format!(in self.alloc; "`{name}` does not take this{tail}")?,
-        }))
+        self.of_built_in(name, text, first)
+    }
+
+    /// A text, and after a colon the text of a value if there is one.
+    fn with_first(self, text: &str, first: Option<&Shown>) -> Result<Option<String>, AllocError> {
+        match first {
+            Some(first) => self.with_value(text, first),
+            None => self.text_of(&[Part::Plain(text)]),
+        }
     }
 
     /// A value in a call of a built-in function or of a method that does not suit.
@@ -269,26 +433,19 @@ impl<'a> Saying<'a> {
         receiver: Option<&Shown>,
         first: Option<&Shown>,
     ) -> Result<Option<String>, AllocError> {
-        let tail = match first {
-            Some(first) => self.tail(first)?,
-            None => String::new(self.alloc),
-        };
-        Ok(Some(match name {
-            "int" => format!(in self.alloc; "`int` reads no number here{tail}")?,
-            "range" => String::from_str(self.alloc, "the step of a `range` cannot be 0")?,
-            "max" | "min" => format!(in self.alloc; "`{name}` of nothing{tail}")?,
-            "index" | "remove" => format!(in self.alloc; "no item of the list is equal{tail}")?,
-            "split" => String::from_str(self.alloc, "`split` by an empty string")?,
-            "replace" => String::from_str(self.alloc, "`replace` of an empty string")?,
-            "dict" | "update" => format!(in self.alloc; "each item has to be a pair{tail}")?,
-            "format" => match receiver {
-                Some(value) => {
-                    format!(in self.alloc; "a field of the format is wrong{}", self.tail(value)?)?
-                }
-                None => return Ok(None),
-            },
-            _ => return Ok(None),
-        }))
+        match name {
+            "int" => self.with_first("`int` reads no number here", first),
+            "range" => self.with_first("the step of a `range` cannot be 0", None),
+            "max" | "min" => self.of_built_in(name, "` of nothing", first),
+            "index" | "remove" => self.with_first("no item of the list is equal", first),
+            "split" => self.with_first("`split` by an empty string", None),
+            "replace" => self.with_first("`replace` of an empty string", None),
+            "dict" | "update" => self.with_first("each item has to be a pair", first),
+            "format" if receiver.is_some() => {
+                self.with_first("a field of the format is wrong", receiver)
+            }
+            _ => Ok(None),
+        }
     }
 
     /// A place or a key in a call of a method that is not there.
@@ -298,21 +455,42 @@ impl<'a> Saying<'a> {
         receiver: &Shown,
         first: Option<&Shown>,
     ) -> Result<Option<String>, AllocError> {
-        let kind = receiver.type_name();
-        Ok(Some(match (name, first) {
-            ("format", _) => format!(in self.alloc;
-                "a field of the format gets no value{}",
-                self.tail(receiver)?
-            )?,
-            ("pop", Some(first)) if kind == "dict" => {
-                format!(in self.alloc; "no such key{}", self.tail(first)?)?
-            }
-            ("pop", Some(first)) => {
-                format!(in self.alloc; "no item to pop at {}", self.value(first)?)?
-            }
-            (_, None) => format!(in self.alloc; "`{name}` of an empty {kind}")?,
-            _ => return Ok(None),
-        }))
+        match (name, first) {
+            ("format", _) => self.with_value("a field of the format gets no value", receiver),
+            ("pop", Some(first)) if receiver.of == Type::Dict => self.with_value(
+                "no such key",
+                first,
+            ),
+            ("pop", Some(first)) => self.text_of(&[
+                Part::Plain("no item to pop at "),
+                Part::Shown(first.text.as_str()),
+            ]),
+            (_, None) => self.text_of(&[
+                Part::Plain("`"),
+                Part::Plain(name),
+                Part::Plain("` of an empty "),
+                Part::Plain(receiver.type_name()),
+            ]),
+            _ => Ok(None),
+        }
+    }
+
+    /// A wrong number of arguments in a call of a built-in function, or of a method.
+    fn built_in_count(
+        self,
+        name: &str,
+        receiver: Option<&Shown>,
+        given: usize,
+    ) -> Result<Option<String>, AllocError> {
+        let count = count(name, type_of(receiver));
+        self.text_of(&[
+            Part::Plain("`"),
+            Part::Plain(name),
+            Part::Plain("` takes "),
+            Part::Plain(count),
+            Part::Plain(", and is given "),
+            Part::Number(given),
+        ])
     }
 
     /// A call of a built-in function, or of a method.
@@ -324,83 +502,98 @@ impl<'a> Saying<'a> {
         second: Option<&Shown>,
         given: usize,
     ) -> Result<Option<String>, AllocError> {
-        match self.code {
-            Code::Args => {
-                let count = count(name, receiver.map(|value| value.type_name()));
-                let text = format!(in self.alloc; "`{name}` takes {count}, and is given {given}")?;
-                Ok(Some(text))
+        match (self.code, receiver, first) {
+            (Code::Args, _, _) => self.built_in_count(name, receiver, given),
+            (Code::BadType, _, _) => self.built_in_type(name, receiver, first, second),
+            (Code::BadValue, _, _) => self.built_in_value(name, receiver, first),
+            (Code::Overflow, _, Some(first)) => self.with_value("an int outside of 64 bits", first),
+            (Code::Overflow, _, None) => Ok(None),
+            (Code::Index | Code::Key, Some(receiver), _) => {
+                self.built_in_lack(name, receiver, first)
             }
-            Code::BadType => self.built_in_type(name, receiver, first, second),
-            Code::BadValue => self.built_in_value(name, receiver, first),
-            Code::Overflow => match first {
-                Some(first) => {
-                    let tail = self.tail(first)?;
-                    Ok(Some(format!(in self.alloc; "an int outside of 64 bits{tail}")?))
-                }
-                None => Ok(None),
-            },
-            Code::Index | Code::Key => match receiver {
-                Some(receiver) => self.built_in_lack(name, receiver, first),
-                None => Ok(None),
-            },
-            _ => match receiver {
-                Some(receiver) => self.written(receiver),
-                None => Ok(None),
-            },
+            (Code::Index | Code::Key, None, _) => Ok(None),
+            (_, Some(receiver), _) => self.written(receiver),
+            _ => Ok(None),
         }
+    }
+
+    /// The text on a key, in a display or of a value that cannot be one.
+    fn key(self, key: &Shown) -> Result<Option<String>, AllocError> {
+        if self.code != Code::Key {
+            return self.no_key(key);
+        }
+        self.with_word("the key ", key.text.as_str(), " comes twice in this dict")
+    }
+
+    /// The text on a value that is unpacked to so many targets.
+    fn unpacked(
+        self,
+        value: &Shown,
+        items: usize,
+        targets: usize,
+    ) -> Result<Option<String>, AllocError> {
+        self.text_of(&[
+            Part::Number(items),
+            Part::Plain(if items == 1 {
+                " value for "
+            } else {
+                " values for "
+            }),
+            Part::Number(targets),
+            Part::Plain(" targets"),
+            Part::Plain(colon(value)),
+            Part::Shown(told_text(value)),
+        ])
+    }
+
+    /// The text on a name that the file of a load statement does not have.
+    fn no_global(self, name: &'a str) -> Result<Option<String>, AllocError> {
+        self.text_of(&[
+            Part::Plain("`"),
+            Part::Shown(self.module),
+            Part::Plain("` has no global `"),
+            Part::Shown(name),
+            Part::Plain("`"),
+        ])
     }
 
     /// The text on a fault.
     fn text(self) -> Result<Option<String>, AllocError> {
-        let alloc = self.alloc;
-        Ok(Some(match &self.found.about {
-            About::Name(name) => {
-                format!(in alloc; "`{}` has no value yet", shown(alloc, name.as_str())?)?
-            }
-            About::Loaded(name) => {
-                let (module, name) = (shown(alloc, self.module)?, shown(alloc, name.as_str())?);
-                format!(in alloc; "`{module}` has no global `{name}`")?
-            }
-            About::Attribute { name, value, .. } => {
-                let name = shown(alloc, name.as_str())?;
-                format!(in alloc; "{} has no method `{name}`", value.type_name())?
-            }
-            About::Index { value, at, items } => return self.index(value, at, *items),
-            About::Slice { value } => return self.slice(value),
-            About::Operands { sign, left, right } => return self.operands(
-                sign.as_str(),
-                left,
-                right,
-            ),
-            About::Operand { sign, value } => return self.operand(sign.as_str(), value),
-            About::Iterable { value } => {
-                let kind = with_article(value.type_name());
-                format!(in alloc; "{kind} cannot be gone over{}", self.tail(value)?)?
-            }
+        match &self.found.about {
+            About::Name(name) => self.with_word("`", name.as_str(), "` has no value yet"),
+            About::Loaded(name) => self.no_global(name.as_str()),
+            About::Attribute { name, value, .. } => self.text_of(&[
+                Part::Plain(value.type_name()),
+                Part::Plain(" has no method `"),
+                Part::Shown(name.as_str()),
+                Part::Plain("`"),
+            ]),
+            About::Index { value, at, items } => self.index(value, at, *items),
+            About::Slice { value } => self.slice(value),
+            About::Operands { sign, left, right } => self.operands(sign.as_str(), left, right),
+            About::Operand { sign, value } => self.operand(sign.as_str(), value),
+            About::Iterable { value } => self.of_kind(value, " cannot be gone over"),
             About::Unpacked {
                 value,
                 items,
                 targets,
-            } => {
-                let noun = if *items == 1 { "value" } else { "values" };
-                format!(in alloc; "{items} {noun} for {targets} targets{}", self.tail(value)?)?
-            }
-            About::Key { key } if self.code == Code::Key => {
-                format!(in alloc; "the key {} comes twice in this dict", self.value(key)?)?
-            }
-            About::Key { key } => self.no_key(key)?,
-            About::Call { callee, misfit, .. } => return self.call(callee, misfit),
+            } => self.unpacked(value, *items, *targets),
+            About::Key { key } => self.key(key),
+            About::Call { callee, misfit, .. } => self.call(callee, misfit),
             About::BuiltIn {
                 name,
                 receiver,
                 first,
                 second,
                 given,
-            } => {
-                let (receiver, first) = (receiver.as_ref(), first.as_ref());
-                return self.built_in(name.as_str(), receiver, first, second.as_ref(), *given);
-            }
-        }))
+            } => self.built_in(
+                name.as_str(),
+                receiver.as_ref(),
+                first.as_ref(),
+                second.as_ref(),
+                *given,
+            ),
+        }
     }
 
     /// The name that was probably meant for a word, of those that were found.
@@ -451,11 +644,11 @@ impl<'a> Saying<'a> {
         left: &Shown,
         right: &Shown,
     ) -> Result<Option<String>, AllocError> {
-        let types = (left.type_name(), right.type_name());
-        if self.code != Code::BadType
-            || !sign.starts_with('+')
-            || !matches!(types, ("string", "int") | ("int", "string"))
-        {
+        let are_mixed = matches!(
+            (left.of, right.of),
+            (Type::Text, Type::Int) | (Type::Int, Type::Text)
+        );
+        if self.code != Code::BadType || !sign.starts_with('+') || !are_mixed {
             return Ok(None);
         }
         let help = "`str(x)` makes a string of a value, `int(x)` an int of a string";
@@ -477,9 +670,9 @@ impl<'a> Saying<'a> {
         match &self.found.about {
             About::Loaded(name) => self.near(name.as_str()),
             About::Attribute { name, value, .. } => {
-                did_you_mean(self.alloc, name.as_str(), methods(value.type_name()))
+                did_you_mean(self.alloc, name.as_str(), methods(value.of))
             }
-            About::Index { at, .. } if self.code == Code::Key && at.type_name() == "string" => {
+            About::Index { at, .. } if self.code == Code::Key && at.of == Type::Text => {
                 match self.near(unquoted(at.text.as_str()))? {
                     Some(help) => Ok(Some(help)),
                     None => self.lacking(),

@@ -108,9 +108,12 @@ pub(crate) fn callers(
         if matches!(step, Step::Call { .. }) {
             is_left = true;
         }
-        let Some((file, line)) = statement(*step).filter(|_| is_left) else {
+        let Some((file, line)) = statement(*step) else {
             continue;
         };
+        if !is_left {
+            continue;
+        }
         is_left = false;
         count = count.saturating_add(1);
         if count > CALLS {

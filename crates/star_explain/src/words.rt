@@ -57,7 +57,10 @@ impl<'a> Words<'a> {
     }
 
     fn kind(self, at: usize) -> Kind {
-        self.tokens.get(at).map_or(Kind::End, |token| token.kind)
+        match self.tokens.get(at) {
+            Some(token) => token.kind,
+            None => Kind::End,
+        }
     }
 
     /// The token itself.

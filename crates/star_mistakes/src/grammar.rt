@@ -31,7 +31,7 @@ pub(crate) const LINE_END: &str = "the end of the line";
 const WANTS: usize = 20;
 
 /// What an expression is, as far as it matters for what may stand before `=`.
-#[derive(Clone, Copy, PartialEq, Eq)]
+#[derive(Clone, Copy)]
 enum Shape {
     Name,
     Index,
@@ -505,12 +505,12 @@ impl<'a> Reader<'a> {
         let Kind::Sign(sign) = self.kind() else {
             return Ok(());
         };
-        if sign == Sign::Assign && self.shape == Shape::Other {
+        if sign == Sign::Assign && matches!(self.shape, Shape::Other) {
             self.miss_at(from, "a name, an index or a row of these before `=`", false);
             return Ok(());
         }
         let is_short = is_augmenting(sign);
-        if is_short && self.shape != Shape::Name && self.shape != Shape::Index {
+        if is_short && !matches!(self.shape, Shape::Name | Shape::Index) {
             self.miss_at(from, "a name or an index before this sign", false);
             return Ok(());
         }
@@ -902,7 +902,7 @@ impl<'a> Reader<'a> {
     }
 
     fn targets_rest(&mut self, from: usize) -> Result<(), AllocError> {
-        if self.shape == Shape::Other {
+        if matches!(self.shape, Shape::Other) {
             self.miss_at(from, "a name, an index or a row of these", false);
             return Ok(());
         }
@@ -1105,9 +1105,13 @@ pub(crate) fn first_miss<'a>(
             return Ok(None);
         };
         reader.read(want)?;
-        if reader.miss.is_some() {
-            break;
+        if let Some(miss) = reader.miss {
+            return Ok(if miss.token < tokens.len() {
+                Some(miss)
+            } else {
+                None
+            });
         }
     }
-    Ok(reader.miss.filter(|miss| miss.token < tokens.len()))
+    Ok(None)
 }

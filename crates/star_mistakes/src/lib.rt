@@ -4,6 +4,7 @@
 //! has to keep more for it than it needs. Begin at `Sources::mistakes` in `statics.rt`.
 //!
 //! - `Mistake` is one fault: its `Mark` (a token of the text, or a part of a line), its code, its message, and help.
+//! - `message` joins a message from its parts.
 //! - `tokens` has texts that cannot be cut into tokens, and lines whose indentation fits no block.
 //! - `grammar` finds the first token that the grammar does not read, and the tokens that could be there; `syntax` has
 //!   the message.
@@ -15,11 +16,12 @@
 #![tactic(auto)]
 
 mod grammar;
+pub mod message;
 pub mod mistake;
 mod names;
 pub mod near;
 pub mod place;
-pub mod refused;
+mod refused;
 pub mod statics;
 mod syntax;
 mod tokens;

@@ -1,5 +1,6 @@
 //! `Mistake`: one thing that is wrong in a file: its place, the message, and help.
 
+use crate::message::{Part, message};
 use crate::place::Mark;
 use std::alloc::{AllocError, Global};
 
@@ -14,35 +15,25 @@ pub struct Mistake {
 }
 
 impl Mistake {
-    /// A mistake without help.
-    pub(crate) fn new(mark: Mark, code: &'static str, text: String) -> Mistake {
-        Mistake {
-            mark,
-            code,
-            text,
-            help: None,
-        }
-    }
-
-    /// The same with this help.
-    pub(crate) fn with(self, alloc: Global, help: &str) -> Result<Mistake, AllocError> {
-        let help = String::from_str(alloc, help)?;
-        Ok(self.or_with(Some(help)))
-    }
-
-    /// The same with this help, if there is some.
-    pub(crate) fn or_with(self, help: Option<String>) -> Mistake {
-        let Mistake {
-            mark,
-            code,
-            text,
-            ..
-        } = self;
-        Mistake {
+    /// A mistake with this message, and with this help if that has parts.
+    pub(crate) fn new(
+        alloc: Global,
+        mark: Mark,
+        code: &'static str,
+        text: &[Part],
+        help: &[Part],
+    ) -> Result<Mistake, AllocError> {
+        let text = message(alloc, text)?;
+        let help = if help.is_empty() {
+            None
+        } else {
+            Some(message(alloc, help)?)
+        };
+        Ok(Mistake {
             mark,
             code,
             text,
             help,
-        }
+        })
     }
 }

@@ -14,7 +14,7 @@ use star_scope::conflicts::block_conflict;
 use star_scope::error::{Refusal, ScopeFault};
 use star_scope::loads::find_loads;
 use star_scope::placement::misplaced;
-use star_scope::program::{Prelude, resolve};
+use star_scope::program::{Prelude, Program, resolve};
 use star_scope::spot::Spot;
 use star_tree::tree::Tree;
 use std::alloc::{AllocError, Global};
@@ -125,32 +125,43 @@ impl<'a> Source<'a> {
         Ok(all)
     }
 
+    /// Adds the names that the block of a file with this tree binds.
+    fn add_bound(self, tree: &'a Tree, names: &mut Vec<&'a str>) -> Result<(), AllocError> {
+        let bound = without_memory(Prelude::new(self.alloc, self.file, Some(tree)))?;
+        names.extend_from_slice(bound.names.as_slice())
+    }
+
     /// The names that the file's own block, its prelude and the outermost block bind.
     fn known(self) -> Result<Vec<&'a str>, AllocError> {
         let mut names = Vec::new(self.alloc);
-        let own = without_memory(Prelude::new(self.alloc, self.file, Some(self.tree)))?;
-        names.extend_from_slice(own.names.as_slice())?;
+        self.add_bound(self.tree, &mut names)?;
         if let Some(tree) = self.seen {
-            let seen = without_memory(Prelude::new(self.alloc, self.file, Some(tree)))?;
-            names.extend_from_slice(seen.names.as_slice())?;
+            self.add_bound(tree, &mut names)?;
         }
         names.extend_from_slice(&BUILT_INS)?;
         Ok(names)
+    }
+
+    /// The first fault of the file, if it sees this prelude.
+    fn first_fault_by(self, seen: Option<&Prelude<'a>>) -> Result<Option<ScopeFault>, AllocError>
+        requires { self.file < length self.files.now }
+    {
+        match resolve(self.alloc, self.files, self.file, self.tree, seen) {
+            Ok(_) => Ok(None),
+            Err(ScopeFault::Memory) => Err(AllocError),
+            Err(fault) => Ok(Some(fault)),
+        }
     }
 
     /// The first fault of the file, as the report has it.
     fn first_fault(self) -> Result<Option<ScopeFault>, AllocError>
         requires { self.file < length self.files.now }
     {
-        let seen = match self.prelude {
-            Some(number) => Some(without_memory(Prelude::new(self.alloc, number, self.seen))?),
-            None => None,
+        let Some(number) = self.prelude else {
+            return self.first_fault_by(None);
         };
-        match resolve(self.alloc, self.files, self.file, self.tree, seen.as_ref()) {
-            Ok(_) => Ok(None),
-            Err(ScopeFault::Memory) => Err(AllocError),
-            Err(fault) => Ok(Some(fault)),
-        }
+        let seen = without_memory(Prelude::new(self.alloc, number, self.seen))?;
+        self.first_fault_by(Some(&seen))
     }
 }
 
@@ -171,6 +182,16 @@ impl<'a> Found<'a> {
         Ok(())
     }
 
+    /// Whether a fault is among those that were found.
+    fn has(&self, fault: ScopeFault) -> bool {
+        for refusal in &self.faults {
+            if refusal.fault == fault {
+                return true;
+            }
+        }
+        false
+    }
+
     fn add_fault(&mut self, fault: Option<Refusal>) -> Result<(), AllocError> {
         if let Some(fault) = fault {
             self.faults.push(fault)?;
@@ -187,16 +208,26 @@ impl<'a> Source<'a> {
         requires { self.file < length self.files.now }
     {
         let text = self.bindings()?;
-        let Ok(tree) = parse(self.alloc, text.as_str()) else {
+        self.add_names_beside(text.as_str(), found)
+    }
+
+    /// The same by a prelude with this text, which binds all names of the file.
+    fn add_names_beside(self, text: &str, found: &mut Found<'a>) -> Result<(), AllocError>
+        requires { self.file < length self.files.now }
+    {
+        let Ok(tree) = parse(self.alloc, text) else {
             return Ok(());
         };
         // Any number but the file's own serves for a prelude that is not a file.
-        let number = self.files.len();
-        let all = without_memory(Prelude::new(self.alloc, number, Some(&tree)))?;
-        let seen = Some(&all);
-        let Ok(program) = resolve(self.alloc, self.files, self.file, self.tree, seen) else {
-            return Ok(());
-        };
+        let all = without_memory(Prelude::new(self.alloc, self.files.len(), Some(&tree)))?;
+        match resolve(self.alloc, self.files, self.file, self.tree, Some(&all)) {
+            Ok(program) => self.add_names_of(&program, found),
+            Err(_) => Ok(()),
+        }
+    }
+
+    /// The same by the spots of this program.
+    fn add_names_of(self, program: &Program, found: &mut Found<'a>) -> Result<(), AllocError> {
         let mut told = self.set_of(found.names.as_slice())?;
         for (at, token) in self.tokens.iter().enumerate() {
             let word = word_of(self.text, token);
@@ -242,6 +273,16 @@ impl<'a> Source<'a> {
         Ok(None)
     }
 
+    /// The first token on a line that can be the one of a fault, as far as its kind shows.
+    fn first_at(self, line: usize, fault: ScopeFault) -> Option<usize> {
+        for (at, token) in self.tokens.iter().enumerate() {
+            if token.line == line && may_stand_at(fault, token.kind) {
+                return Some(at);
+            }
+        }
+        None
+    }
+
     /// The token of a fault whose line alone is known.
     fn token_of(self, fault: ScopeFault) -> Result<usize, AllocError> {
         let line = line_of(fault);
@@ -250,40 +291,57 @@ impl<'a> Source<'a> {
                 return Ok(at);
             }
         }
-        let mut tokens = self.tokens.iter();
-        let found = tokens.position(|token| token.line == line && may_stand_at(fault, token.kind));
-        Ok(found.unwrap_or(0))
+        Ok(self.first_at(line, fault).unwrap_or(0))
     }
 
     /// The first load statement: the prelude may have none.
     fn load_in_prelude(self) -> Option<Refusal> {
-        let load = Kind::Keyword(Keyword::Load);
-        let at = self.tokens.iter().position(|token| token.kind == load)?;
-        let line = self.tokens.get(at)?.line;
-        Some(Refusal {
-            token: at,
-            fault: ScopeFault::BadPlace { line },
-        })
+        for (at, token) in self.tokens.iter().enumerate() {
+            if token.kind == Kind::Keyword(Keyword::Load) {
+                let fault = ScopeFault::BadPlace { line: token.line };
+                return Some(Refusal { token: at, fault });
+            }
+        }
+        None
     }
 
-    /// The first fault of each kind but undefined names.
-    fn firsts(self) -> Result<[Option<Refusal>; 3], AllocError>
+    /// The first misplaced statement.
+    fn first_misplaced(self) -> Option<Refusal> {
+        match misplaced(self.tree.statements.as_slice()) {
+            None if self.prelude == Some(self.file) => self.load_in_prelude(),
+            found => found,
+        }
+    }
+
+    /// The first bad load.
+    fn first_bad_load(self) -> Result<Option<Refusal>, AllocError>
         requires { self.file < length self.files.now }
     {
         let statements = self.tree.statements.as_slice();
-        let place = match misplaced(statements) {
-            None if self.prelude == Some(self.file) => self.load_in_prelude(),
-            found => found,
-        };
-        let loads = without_memory(find_loads(
-            self.alloc, self.files, self.file, None, statements,
-        ))?;
-        let conflict = without_memory(block_conflict(self.alloc, statements))?;
-        Ok([place, loads.first, conflict])
+        let loads = find_loads(self.alloc, self.files, self.file, None, statements);
+        Ok(without_memory(loads)?.first)
     }
 
-    /// The static faults of the file: the first one, as the report has it, the first one of each kind, and each
-    /// undefined name.
+    /// Adds these faults: the first one, as the report has it, the first one of each kind, and each undefined name.
+    fn add_faults(self, first: ScopeFault, found: &mut Found<'a>) -> Result<(), AllocError>
+        requires { self.file < length self.files.now }
+    {
+        self.add_names(found)?;
+        found.add_fault(self.first_misplaced())?;
+        found.add_fault(self.first_bad_load()?)?;
+        let statements = self.tree.statements.as_slice();
+        found.add_fault(without_memory(block_conflict(self.alloc, statements))?)?;
+        if !found.has(first) {
+            let token = self.token_of(first)?;
+            found.faults.push(Refusal {
+                token,
+                fault: first,
+            })?;
+        }
+        Ok(())
+    }
+
+    /// The static faults of the file.
     pub(crate) fn found(self) -> Result<Found<'a>, AllocError>
         requires { self.file < length self.files.now }
     {
@@ -291,21 +349,10 @@ impl<'a> Source<'a> {
             faults: Vec::new(self.alloc),
             names: self.known()?,
         };
-        let Some(first) = self.first_fault()? else {
-            return Ok(found);
-        };
-        self.add_names(&mut found)?;
-        for fault in self.firsts()? {
-            found.add_fault(fault)?;
+        if let Some(first) = self.first_fault()? {
+            self.add_faults(first, &mut found)?;
+            found.faults.sort_by_key(|refusal| refusal.token)?;
         }
-        if !found.faults.iter().any(|refusal| refusal.fault == first) {
-            let token = self.token_of(first)?;
-            found.add_fault(Some(Refusal {
-                token,
-                fault: first,
-            }))?;
-        }
-        found.faults.sort_by_key(|refusal| refusal.token)?;
         Ok(found)
     }
 }

@@ -1,5 +1,7 @@
-//! The name that was probably meant: the nearest one, by the number of edits between two words.
+//! The name that was probably meant: the nearest one, by the number of edits between two words. And the help for words
+//! that are known from elsewhere.
 
+use crate::message::{Part, message};
 use std::alloc::{AllocError, Global};
 use strsim::osa_distance;
 
@@ -44,7 +46,26 @@ pub fn did_you_mean(
     names: &[&str],
 ) -> Result<Option<String>, AllocError> {
     match nearest(alloc, word, names)? {
-        Some(name) => Ok(Some(format!(in alloc; "did you mean `{name}`?")?)),
+        Some(name) => Ok(Some(message(alloc, &meant(name))?)),
         None => Ok(None),
     }
+}
+
+/// ``did you mean `NAME`?``
+pub(crate) fn meant(name: &str) -> [Part<'_>; 3] {
+    [
+        Part::Plain("did you mean `"),
+        Part::Plain(name),
+        Part::Plain("`?"),
+    ]
+}
+
+/// The help that a table has for a word.
+pub(crate) fn help_of(table: &[(&'static str, &'static str)], word: &str) -> Option<&'static str> {
+    for (name, help) in table {
+        if *name == word {
+            return Some(*help);
+        }
+    }
+    None
 }

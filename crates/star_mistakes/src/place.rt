@@ -168,16 +168,21 @@ fn visible(c: char) -> char {
     }
 }
 
-/// A word of a text as it is shown: its first characters.
-pub fn shown(alloc: Global, word: &str) -> Result<String, AllocError> {
-    let mut all = String::new(alloc);
+/// Writes a word of a text as it is shown: its first characters.
+pub fn push_shown(all: &mut String, word: &str) -> Result<(), AllocError> {
     for (count, c) in word.chars().enumerate() {
         if count >= WORD {
-            all.push_str("..")?;
-            break;
+            return all.push_str("..");
         }
         all.push(visible(c))?;
     }
+    Ok(())
+}
+
+/// A word of a text as it is shown.
+pub fn shown(alloc: Global, word: &str) -> Result<String, AllocError> {
+    let mut all = String::new(alloc);
+    push_shown(&mut all, word)?;
     Ok(all)
 }
 

@@ -1,51 +1,59 @@
 //! The messages for misplaced statements, conflicts, bad loads and undefined names.
 
+use crate::message::Part::{Number, Plain, Shown};
+use crate::message::{Part, message};
 use crate::mistake::Mistake;
 use crate::names::Source;
-use crate::near::{did_you_mean, nearest};
-use crate::place::{label_of, mark_of, shown, word_of};
+use crate::near::{help_of, meant, nearest};
+use crate::place::{label_of, mark_of, word_of};
 use star_label::files::Files;
 use star_lex::token::Token;
 use star_scope::error::{Refusal, ScopeFault};
 use std::alloc::{AllocError, Global};
 
-/// The help for a name that other dialects have.
-fn of_undefined(word: &str) -> Option<&'static str> {
-    match word {
-        "none" | "null" | "nil" | "undefined" => Some("write `None`"),
-        "true" => Some("write `True`"),
-        "false" => Some("write `False`"),
-        "self" | "this" => Some("there are no classes: use a dict"),
-        "struct"
-        | "set"
-        | "float"
-        | "getattr"
-        | "hasattr"
-        | "dir"
-        | "hash"
-        | "ord"
-        | "chr"
-        | "json"
-        | "depset"
-        | "select"
-        | "map"
-        | "filter"
-        | "sum"
-        | "open"
-        | "round"
-        | "bytes"
-        | "input"
-        | "super"
-        | "isinstance"
-        | "native"
-        | "glob"
-        | "rule"
-        | "provider" => {
-            Some("it is built in elsewhere, and not here: write it in the prelude, or load it")
-        }
-        _ => None,
-    }
-}
+/// The help for names that other dialects have.
+const OF_DIALECTS: &[(&'static str, &'static str)] = &[
+    ("none", NONE),
+    ("null", NONE),
+    ("nil", NONE),
+    ("undefined", NONE),
+    ("true", "write `True`"),
+    ("false", "write `False`"),
+    ("self", NO_CLASSES),
+    ("this", NO_CLASSES),
+    ("struct", ELSEWHERE),
+    ("set", ELSEWHERE),
+    ("float", ELSEWHERE),
+    ("getattr", ELSEWHERE),
+    ("hasattr", ELSEWHERE),
+    ("dir", ELSEWHERE),
+    ("hash", ELSEWHERE),
+    ("ord", ELSEWHERE),
+    ("chr", ELSEWHERE),
+    ("json", ELSEWHERE),
+    ("depset", ELSEWHERE),
+    ("select", ELSEWHERE),
+    ("map", ELSEWHERE),
+    ("filter", ELSEWHERE),
+    ("sum", ELSEWHERE),
+    ("open", ELSEWHERE),
+    ("round", ELSEWHERE),
+    ("bytes", ELSEWHERE),
+    ("input", ELSEWHERE),
+    ("super", ELSEWHERE),
+    ("isinstance", ELSEWHERE),
+    ("native", ELSEWHERE),
+    ("glob", ELSEWHERE),
+    ("rule", ELSEWHERE),
+    ("provider", ELSEWHERE),
+];
+
+const NONE: &str = "write `None`";
+
+const NO_CLASSES: &str = "there are no classes: use a dict";
+
+const ELSEWHERE: &str =
+    "it is built in elsewhere, and not here: write it in the prelude, or load it";
 
 /// A label or a path without the signs that tell them apart: `//a/b:c.star` and `./a/b/c.star` as `a/b/c.star`.
 fn bare(alloc: Global, text: &str) -> Result<String, AllocError> {
@@ -70,8 +78,13 @@ fn bare_labels(alloc: Global, files: &Files) -> Result<Vec<String>, AllocError> 
 
 /// The number of the file with this path, with or without `.star`.
 fn file_with(paths: &[String], wanted: &str) -> Option<usize> {
-    paths.iter().position(|path| path.as_str() == wanted
-        || path.as_str().strip_suffix(".star") == Some(wanted))
+    for (n, path) in paths.iter().enumerate() {
+        let path = path.as_str();
+        if path == wanted || path.strip_suffix(".star") == Some(wanted) {
+            return Some(n);
+        }
+    }
+    None
 }
 
 /// The number of the file whose path is nearest to this one.
@@ -86,27 +99,37 @@ fn file_near(alloc: Global, paths: &[String], wanted: &str) -> Result<Option<usi
     }
 }
 
+/// The file of these two paths: of one of them, else the nearest one.
+fn file_of(
+    alloc: Global,
+    paths: &[String],
+    wanted: &str,
+    beside: &str,
+) -> Result<Option<usize>, AllocError> {
+    if let Some(found) = file_with(paths, wanted) {
+        return Ok(Some(found));
+    }
+    if let Some(found) = file_with(paths, beside) {
+        return Ok(Some(found));
+    }
+    match file_near(alloc, paths, wanted)? {
+        Some(found) => Ok(Some(found)),
+        None => file_near(alloc, paths, beside),
+    }
+}
+
 /// The file that a word most likely means in a file of this package: by its path, by its path beside that file, else by
 /// the least difference.
-pub fn file_meant(
+fn file_meant(
     alloc: Global,
     files: &Files,
     word: &str,
     package: &str,
 ) -> Result<Option<usize>, AllocError> {
-    let wanted = bare(alloc, word)?;
-    let beside = format!(in alloc; "{package}/{wanted}")?;
     let paths = bare_labels(alloc, files)?;
-    if let Some(found) = file_with(paths.as_slice(), wanted.as_str()) {
-        return Ok(Some(found));
-    }
-    if let Some(found) = file_with(paths.as_slice(), beside.as_str()) {
-        return Ok(Some(found));
-    }
-    if let Some(found) = file_near(alloc, paths.as_slice(), wanted.as_str())? {
-        return Ok(Some(found));
-    }
-    file_near(alloc, paths.as_slice(), beside.as_str())
+    let wanted = bare(alloc, word)?;
+    let beside = message(alloc, &[Plain(package), Plain("/"), Plain(wanted.as_str())])?;
+    file_of(alloc, paths.as_slice(), wanted.as_str(), beside.as_str())
 }
 
 /// The string without its quotes.
@@ -127,42 +150,42 @@ impl<'a> Spot<'a> {
         word_of(self.source.text, self.token)
     }
 
-    fn told(self, code: &'static str, text: String, help: Option<String>) -> Mistake {
-        Mistake::new(mark_of(self.source.file, self.token), code, text).or_with(help)
+    fn told(self, code: &'static str, text: &[Part], help: &[Part]) -> Result<Mistake, AllocError> {
+        let mark = mark_of(self.source.file, self.token);
+        Mistake::new(self.source.alloc, mark, code, text, help)
     }
 
     /// A name that differs from all of these.
     fn undefined(self, names: &[&str]) -> Result<Mistake, AllocError> {
-        let alloc = self.source.alloc;
         let word = self.word();
-        let shown = shown(alloc, word)?;
-        let text = format!(in alloc; "the name `{shown}` is not defined")?;
-        let near = did_you_mean(alloc, word, names)?;
-        let help = match of_undefined(word) {
-            Some(help) if near.is_none() => Some(String::from_str(alloc, help)?),
-            _ => near,
-        };
-        Ok(self.told("undefined", text, help))
+        let text = [Plain("the name `"), Shown(word), Plain("` is not defined")];
+        if let Some(name) = nearest(self.source.alloc, word, names)? {
+            return self.told("undefined", &text, &meant(name));
+        }
+        match help_of(OF_DIALECTS, word) {
+            Some(help) => self.told("undefined", &text, &[Plain(help)]),
+            None => self.told("undefined", &text, &[]),
+        }
+    }
+
+    /// What is wrong about a statement that begins with this word.
+    fn misplaced_by(self, word: &str) -> &'static str {
+        match word {
+            "return" => "` stands outside of a function",
+            "load" if self.source.prelude == Some(self.source.file) => "` stands in the prelude",
+            "load" => "` stands in a block",
+            _ => "` stands outside of a loop",
+        }
     }
 
     fn misplaced(self) -> Result<Mistake, AllocError> {
-        let alloc = self.source.alloc;
         let word = self.word();
-        let place = match word {
-            "return" => "stands outside of a function",
-            "load" if self.source.prelude == Some(self.source.file) => "stands in the prelude",
-            "load" => "stands in a block",
-            _ => "stands outside of a loop",
-        };
-        let help = match word {
-            "load" => Some(String::from_str(
-                alloc,
-                "load statements stand alone and unindented, and the prelude has none",
-            )?),
-            _ => None,
-        };
-        let text = format!(in alloc; "`{word}` {place}")?;
-        Ok(self.told("bad_place", text, help))
+        let text = [Plain("`"), Plain(word), Plain(self.misplaced_by(word))];
+        if word == "load" {
+            let help = "load statements stand alone and unindented, and the prelude has none";
+            return self.told("bad_place", &text, &[Plain(help)]);
+        }
+        self.told("bad_place", &text, &[])
     }
 
     /// The line of the first place of a name before this token.
@@ -179,64 +202,73 @@ impl<'a> Spot<'a> {
     }
 
     fn conflict(self) -> Result<Mistake, AllocError> {
-        let alloc = self.source.alloc;
-        let word = shown(alloc, unquoted(self.word()))?;
-        let text = match self.first_line() {
-            Some(line) => format!(in alloc; "`{word}` is bound already, on line {line}")?,
-            None => format!(in alloc; "`{word}` is bound already")?,
-        };
-        let help = String::from_str(
-            alloc,
+        let word = unquoted(self.word());
+        let help = [Plain(
             "a loaded name and a parameter are bound once: take another name, as by `load(.., other = \"name\")`",
-        )?;
-        Ok(self.told("conflict", text, Some(help)))
+        )];
+        let Some(line) = self.first_line() else {
+            let text = [Plain("`"), Shown(word), Plain("` is bound already")];
+            return self.told("conflict", &text, &help);
+        };
+        let text = [
+            Plain("`"),
+            Shown(word),
+            Plain("` is bound already, on line "),
+            Number(line),
+        ];
+        self.told("conflict", &text, &help)
     }
 
     fn private(self) -> Result<Mistake, AllocError> {
-        let alloc = self.source.alloc;
-        let word = shown(alloc, unquoted(self.word()))?;
-        let text = format!(in alloc; "`{word}` is private to its file")?;
-        let help = String::from_str(alloc, "names that begin with `_` are not loaded")?;
-        Ok(self.told("private", text, Some(help)))
+        let word = unquoted(self.word());
+        self.told(
+            "private",
+            &[Plain("`"), Shown(word), Plain("` is private to its file")],
+            &[Plain("names that begin with `_` are not loaded")],
+        )
+    }
+
+    /// The package of the file.
+    fn package(self) -> &'a str {
+        match label_of(self.source.files, self.source.file).split_once(':') {
+            Some((package, _)) => package.trim_start_matches('/'),
+            None => "",
+        }
     }
 
     /// The label of the file that the word may mean.
-    fn label_meant(self) -> Result<Option<String>, AllocError> {
+    fn label_meant(self) -> Result<Option<&'a str>, AllocError> {
         let (alloc, files) = (self.source.alloc, self.source.files);
-        let own = label_of(files, self.source.file);
-        let package = match own.split_once(':') {
-            Some((package, _)) => package.trim_start_matches('/'),
-            None => "",
-        };
-        match file_meant(alloc, files, unquoted(self.word()), package)? {
-            Some(n) => {
-                let label = label_of(files, n);
-                Ok(Some(format!(in alloc; "did you mean \"{label}\"?")?))
-            }
+        match file_meant(alloc, files, unquoted(self.word()), self.package())? {
+            Some(n) => Ok(Some(label_of(files, n))),
             None => Ok(None),
         }
     }
 
     fn no_file(self) -> Result<Mistake, AllocError> {
-        let alloc = self.source.alloc;
-        let word = shown(alloc, self.word())?;
-        let text = format!(in alloc; "there is no file {word}")?;
-        Ok(self.told("no_file", text, self.label_meant()?))
+        let text = [Plain("there is no file "), Shown(self.word())];
+        match self.label_meant()? {
+            Some(label) => self.told("no_file", &text, &meant_label(label)),
+            None => self.told("no_file", &text, &[]),
+        }
     }
 
     fn bad_label(self) -> Result<Mistake, AllocError> {
-        let alloc = self.source.alloc;
-        let word = shown(alloc, self.word())?;
-        let text = format!(in alloc; "{word} is no label")?;
-        let help = match self.label_meant()? {
-            Some(help) => help,
-            None => String::from_str(
-                alloc,
-                "a label is \"//folder/folder:file.star\", or \":file.star\" for a file beside this one",
-            )?,
-        };
-        Ok(self.told("bad_label", text, Some(help)))
+        let text = [Shown(self.word()), Plain(" is no label")];
+        match self.label_meant()? {
+            Some(label) => self.told("bad_label", &text, &meant_label(label)),
+            None => self.told("bad_label", &text, &[Plain(LABEL)]),
+        }
     }
+}
+
+/// The help for a text that is no label.
+const LABEL: &str =
+    "a label is \"//folder/folder:file.star\", or \":file.star\" for a file beside this one";
+
+/// `did you mean "LABEL"?`
+fn meant_label(label: &str) -> [Part<'_>; 3] {
+    [Plain("did you mean \""), Plain(label), Plain("\"?")]
 }
 
 /// The mistake that a refusal is; `None` if it has no token.

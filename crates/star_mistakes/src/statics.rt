@@ -2,8 +2,9 @@
 
 ghost use Rattle.std.specs.Prelude.{◌<◌, length};
 
+use crate::message::Part::Plain;
 use crate::mistake::Mistake;
-use crate::names::Source;
+use crate::names::{Found, Source};
 use crate::place::{Line, text_of};
 use crate::refused::told;
 use crate::syntax::bad_syntax;
@@ -27,11 +28,11 @@ pub struct Sources<'a> {
 /// The mistake of a text that is nested too deeply, by this line.
 fn nested(alloc: Global, file: usize, text: &str, line: usize) -> Result<Mistake, AllocError> {
     let mark = Line::numbered(text, line).mark(file);
-    let text = String::from_str(
-        alloc,
+    let text = [Plain(
         "nested too deeply: brackets, blocks and operators weigh more than 100 here",
-    )?;
-    Mistake::new(mark, "nested", text).with(alloc, "give the inner parts names of their own")
+    )];
+    let help = [Plain("give the inner parts names of their own")];
+    Mistake::new(alloc, mark, "nested", &text, &help)
 }
 
 /// The mistake of a text without a tree.
@@ -53,11 +54,8 @@ fn unread(
     }
 }
 
-/// The mistakes of a file whose text parses, without undefined names if some names may not be known.
-fn mistakes_of(source: Source, is_blind: bool) -> Result<Vec<Mistake>, AllocError>
-    requires { source.file < length source.files.now }
-{
-    let found = source.found()?;
+/// The mistakes for what was found in a file, without undefined names if some names may not be known.
+fn mistakes_for(source: Source, found: &Found, is_blind: bool) -> Result<Vec<Mistake>, AllocError> {
     let mut all = Vec::new(source.alloc);
     for refusal in &found.faults {
         let is_undefined = matches!(refusal.fault, ScopeFault::Undefined { .. });
@@ -71,8 +69,8 @@ fn mistakes_of(source: Source, is_blind: bool) -> Result<Vec<Mistake>, AllocErro
     Ok(all)
 }
 
-/// The mistakes of a file whose text parses, if its prelude has this tree.
-fn in_tree<'x>(
+/// The mistakes of a file with these tokens and this tree, if its prelude has this tree.
+fn mistakes_by<'x>(
     sources: Sources<'x>,
     file: usize,
     tokens: &'x [Token],
@@ -81,7 +79,6 @@ fn in_tree<'x>(
 ) -> Result<Vec<Mistake>, AllocError>
     requires { file < length sources.files.now }
 {
-    let is_blind = sources.prelude.is_some() && seen.is_none();
     let source = Source {
         alloc: sources.alloc,
         files: sources.files,
@@ -92,7 +89,9 @@ fn in_tree<'x>(
         prelude: sources.prelude,
         seen,
     };
-    mistakes_of(source, is_blind)
+    let found = source.found()?;
+    let is_blind = sources.prelude.is_some() && seen.is_none();
+    mistakes_for(source, &found, is_blind)
 }
 
 impl<'a> Sources<'a> {
@@ -113,23 +112,28 @@ impl<'a> Sources<'a> {
         Ok(self.prelude.is_some() && self.prelude_tree()?.is_none())
     }
 
+    /// The mistakes of a file with this tree.
+    fn mistakes_in(self, file: usize, tree: &Tree) -> Result<Vec<Mistake>, AllocError>
+        requires { file < length self.files.now }
+    {
+        let prelude = self.prelude_tree()?;
+        match lex(self.alloc, self.files.text(file)) {
+            Ok(tokens) => mistakes_by(self, file, tokens.as_slice(), tree, prelude.as_ref()),
+            Err(_) => Err(AllocError),
+        }
+    }
+
     /// The mistakes of a file that has static faults, in their order in the text: the first of each kind, and each
     /// undefined name. Names that may come from a prelude that does not parse are left out.
     pub fn mistakes(self, file: usize) -> Result<Vec<Mistake>, AllocError> {
-        let mut all = Vec::new(self.alloc);
         if file >= self.files.len() {
-            return Ok(all);
+            return Ok(Vec::new(self.alloc));
         }
         let text = self.files.text(file);
         match parse(self.alloc, text) {
-            Ok(tree) => match lex(self.alloc, text) {
-                Ok(tokens) => {
-                    let prelude = self.prelude_tree()?;
-                    in_tree(self, file, tokens.as_slice(), &tree, prelude.as_ref())
-                }
-                Err(_) => Err(AllocError),
-            },
+            Ok(tree) => self.mistakes_in(file, &tree),
             Err(fault) => {
+                let mut all = Vec::new(self.alloc);
                 all.push(unread(self.alloc, file, text, fault)?)?;
                 Ok(all)
             }

@@ -1,9 +1,11 @@
 //! The message for the first token that the grammar does not read.
 
 use crate::grammar::{LINE_END, Miss, first_miss};
+use crate::message::Part;
+use crate::message::Part::{Number, Plain, Shown};
 use crate::mistake::Mistake;
-use crate::near::did_you_mean;
-use crate::place::{Line, Mark, between, mark_of, shown, word_of};
+use crate::near::{help_of, meant, nearest};
+use crate::place::{Line, Mark, between, mark_of, word_of};
 use star_lex::token::{Keyword, Kind, Sign, Token};
 use std::alloc::{AllocError, Global};
 
@@ -28,38 +30,70 @@ struct Spot<'a> {
     after: Option<Token>,
 }
 
+/// A mistake, if the form fits.
 type Told = Result<Option<Mistake>, AllocError>;
 
-/// The help for a word that the language reserves and does not use.
-fn of_reserved(word: &str) -> &'static str {
-    match word {
-        "is" => "write `==`, and `!=` for `is not`",
-        "while" => "there are no unbounded loops: write `for _ in range(n):` with a `break`",
-        "class" => "there are no classes: use a dict, and functions that take it",
-        "import" | "from" => "write `load(\"//package:file.star\", \"name\")`",
-        "as" => "write `load(\"//package:file.star\", other = \"name\")`",
-        "try" | "except" | "finally" | "raise" => {
-            "there are no exceptions: ask before, as by `key in d` or `d.get(key)`; `fail(..)` ends the file's run"
-        }
-        "del" => "use `pop` or `remove`",
-        "assert" => "write `if not ..: fail(..)`",
-        "global" | "nonlocal" => "a function binds no names outside of it: return the value",
-        "yield" | "async" | "await" => "there are no generators: return a list",
-        _ => "no statement begins with it",
-    }
-}
+/// The help for words that the language reserves and does not use.
+const RESERVED: &[(&'static str, &'static str)] = &[
+    ("is", "write `==`, and `!=` for `is not`"),
+    (
+        "while",
+        "there are no unbounded loops: write `for _ in range(n):` with a `break`",
+    ),
+    (
+        "class",
+        "there are no classes: use a dict, and functions that take it",
+    ),
+    ("import", LOAD),
+    ("from", LOAD),
+    (
+        "as",
+        "write `load(\"//package:file.star\", other = \"name\")`",
+    ),
+    ("try", NO_EXCEPTIONS),
+    ("except", NO_EXCEPTIONS),
+    ("finally", NO_EXCEPTIONS),
+    ("raise", NO_EXCEPTIONS),
+    ("del", "use `pop` or `remove`"),
+    ("assert", "write `if not ..: fail(..)`"),
+    ("global", OWN_NAMES),
+    ("nonlocal", OWN_NAMES),
+    ("yield", NO_GENERATORS),
+    ("async", NO_GENERATORS),
+    ("await", NO_GENERATORS),
+];
+
+const LOAD: &str = "write `load(\"//package:file.star\", \"name\")`";
+
+const NO_EXCEPTIONS: &str =
+    "there are no exceptions: ask before, as by `key in d` or `d.get(key)`; `fail(..)` ends the file's run";
+
+const OWN_NAMES: &str = "a function binds no names outside of it: return the value";
+
+const NO_GENERATORS: &str = "there are no generators: return a list";
 
 /// The help for a name before a token that does not read.
-fn of_name(word: &str) -> Option<&'static str> {
-    match word {
-        "print" | "exec" => Some("it is a function: write `print(..)`"),
-        "elseif" | "elsif" => Some("write `elif`"),
-        "function" | "func" | "fn" => Some("write `def`"),
-        "let" | "var" | "const" => Some("a name is bound by `name = value`"),
-        "switch" | "match" | "case" => Some("write `if`, `elif` and `else`"),
-        _ => None,
-    }
-}
+const NAMES: &[(&'static str, &'static str)] = &[
+    ("print", CALL),
+    ("exec", CALL),
+    ("elseif", "write `elif`"),
+    ("elsif", "write `elif`"),
+    ("function", "write `def`"),
+    ("func", "write `def`"),
+    ("fn", "write `def`"),
+    ("let", BIND),
+    ("var", BIND),
+    ("const", BIND),
+    ("switch", CHOOSE),
+    ("match", CHOOSE),
+    ("case", CHOOSE),
+];
+
+const CALL: &str = "it is a function: write `print(..)`";
+
+const BIND: &str = "a name is bound by `name = value`";
+
+const CHOOSE: &str = "write `if`, `elif` and `else`";
 
 fn is_word(kind: Kind) -> bool {
     matches!(kind, Kind::Name | Kind::Int | Kind::Keyword(_))
@@ -105,6 +139,14 @@ fn has_kind(token: Option<Token>, kind: Kind) -> bool {
     }
 }
 
+/// The token, if it is of this kind.
+fn of_kind(token: Option<Token>, kind: Kind) -> Option<Token> {
+    match token {
+        Some(token) if token.kind == kind => Some(token),
+        _ => None,
+    }
+}
+
 /// The token with a number.
 fn token_at(tokens: &[Token], at: usize) -> Option<Token> {
     tokens.get(at).copied()
@@ -129,17 +171,13 @@ impl<'a> Spot<'a> {
         }
     }
 
-    /// The text of a mark as it is shown.
-    fn shown(self, mark: Mark) -> Result<String, AllocError> {
-        shown(self.alloc, between(self.text, mark.start, mark.end))
+    /// The text of a mark.
+    fn marked(self, mark: Mark) -> &'a str {
+        between(self.text, mark.start, mark.end)
     }
 
-    fn told(self, mark: Mark, text: String, help: &str) -> Told {
-        Ok(Some(Mistake::new(mark, CODE, text).with(self.alloc, help)?))
-    }
-
-    fn told_alone(self, mark: Mark, text: String) -> Told {
-        Ok(Some(Mistake::new(mark, CODE, text)))
+    fn told(self, mark: Mark, text: &[Part], help: &[Part]) -> Told {
+        Ok(Some(Mistake::new(self.alloc, mark, CODE, text, help)?))
     }
 
     fn begins_line(self) -> bool {
@@ -161,8 +199,12 @@ impl<'a> Spot<'a> {
             _ => return Ok(None),
         };
         let word = word_of(self.text, &token);
-        let text = format!(in self.alloc; "`{word}` is not in this language")?;
-        self.told(mark_of(self.file, &token), text, of_reserved(word))
+        let help = help_of(RESERVED, word).unwrap_or("no statement begins with it");
+        self.told(
+            mark_of(self.file, &token),
+            &[Plain("`"), Plain(word), Plain("` is not in this language")],
+            &[Plain(help)],
+        )
     }
 
     /// A string directly after a name.
@@ -176,20 +218,24 @@ impl<'a> Spot<'a> {
         }
         let prefix = word_of(self.text, &before);
         let mark = self.mark(before, self.token);
-        let shown = self.shown(mark)?;
         if prefix == "f" || prefix == "F" {
-            let text = format!(in self.alloc; "f-strings are not in this language: {shown}")?;
             return self.told(
                 mark,
-                text,
-                "write `\"..%s..\" % value` or `\"..{}..\".format(value)`",
+                &[
+                    Plain("f-strings are not in this language: "),
+                    Shown(self.marked(mark)),
+                ],
+                &[Plain("write `\"..%s..\" % value` or `\"..{}..\".format(value)`")],
             );
         }
-        let text = format!(in self.alloc; "strings have no prefix `{prefix}` in this language")?;
         self.told(
             mark,
-            text,
-            "the one prefix is `r`, for a string without escapes",
+            &[
+                Plain("strings have no prefix `"),
+                Plain(prefix),
+                Plain("` in this language"),
+            ],
+            &[Plain("the one prefix is `r`, for a string without escapes")],
         )
     }
 
@@ -204,42 +250,51 @@ impl<'a> Spot<'a> {
         let Some(sign) = token_at(self.tokens, dot) else {
             return Ok(None);
         };
-        let whole = token_before(self.tokens, dot).filter(|token| token.kind == Kind::Int);
-        let part = token_at(self.tokens, dot.saturating_add(1));
-        let part = part.filter(|token| token.kind == Kind::Int);
+        let whole = of_kind(token_before(self.tokens, dot), Kind::Int);
+        let part = of_kind(token_at(self.tokens, dot.saturating_add(1)), Kind::Int);
         if sign.kind != Kind::Sign(Sign::Dot) || (whole.is_none() && part.is_none()) {
             return Ok(None);
         }
         let mark = self.mark(whole.unwrap_or(sign), part.unwrap_or(sign));
-        let shown = self.shown(mark)?;
-        let text = format!(in self.alloc; "floats are not in this language: {shown}")?;
         self.told(
             mark,
-            text,
-            "count in a smaller unit with ints, or keep it as a string",
+            &[
+                Plain("floats are not in this language: "),
+                Shown(self.marked(mark)),
+            ],
+            &[Plain("count in a smaller unit with ints, or keep it as a string")],
         )
     }
 
     /// Something directly after a string, or a string after a string.
     fn after_string(self) -> Told {
-        let Some(before) = self.before.filter(|token| token.kind == Kind::Text) else {
+        let Some(before) = of_kind(self.before, Kind::Text) else {
             return Ok(None);
         };
-        let word = shown(self.alloc, self.word())?;
         let mark = mark_of(self.file, &self.token);
         if before.span.end == self.token.span.start && is_word(self.token.kind) {
-            let text = format!(in self.alloc; "`{word}` touches the string before it")?;
-            return self.told(mark, text, "a quote may be missing earlier on this line");
+            return self.told(
+                mark,
+                &[
+                    Plain("`"),
+                    Shown(self.word()),
+                    Plain("` touches the string before it"),
+                ],
+                &[Plain("a quote may be missing earlier on this line")],
+            );
         }
         if self.token.kind != Kind::Text {
             return Ok(None);
         }
-        let last = shown(self.alloc, word_of(self.text, &before))?;
-        let text = format!(in self.alloc; "two strings side by side: {last} {word}")?;
         self.told(
             mark,
-            text,
-            "put `,` or `+` between them: nothing joins them by itself",
+            &[
+                Plain("two strings side by side: "),
+                Shown(word_of(self.text, &before)),
+                Plain(" "),
+                Shown(self.word()),
+            ],
+            &[Plain("put `,` or `+` between them: nothing joins them by itself")],
         )
     }
 }
@@ -264,19 +319,36 @@ impl<'a> Spot<'a> {
         let Some(open) = self.miss.open else {
             return Ok(None);
         };
-        let Some(bracket) = token_at(self.tokens, open).filter(|token| self.is_past(*token)) else {
+        let Some(bracket) = token_at(self.tokens, open) else {
             return Ok(None);
         };
+        if !self.is_past(bracket) {
+            return Ok(None);
+        }
         let sign = word_of(self.text, &bracket);
-        let help = format!(in self.alloc; "close it by `{}`", closer(bracket.kind))?;
-        let text = if self.token.kind == Kind::End {
-            format!(in self.alloc; "this `{sign}` is not closed before the end of the file")?
-        } else {
-            let word = shown(self.alloc, self.word())?;
-            let line = self.token.line;
-            format!(in self.alloc; "this `{sign}` is not closed before `{word}` on line {line}")?
-        };
-        self.told(mark_of(self.file, &bracket), text, help.as_str())
+        let mark = mark_of(self.file, &bracket);
+        let help = [
+            Plain("close it by `"),
+            Plain(closer(bracket.kind)),
+            Plain("`"),
+        ];
+        if self.token.kind == Kind::End {
+            let text = [
+                Plain("this `"),
+                Plain(sign),
+                Plain("` is not closed before the end of the file"),
+            ];
+            return self.told(mark, &text, &help);
+        }
+        let text = [
+            Plain("this `"),
+            Plain(sign),
+            Plain("` is not closed before `"),
+            Shown(self.word()),
+            Plain("` on line "),
+            Number(self.token.line),
+        ];
+        self.told(mark, &text, &help)
     }
 
     /// A comma that is missing at the end of a line.
@@ -287,43 +359,56 @@ impl<'a> Spot<'a> {
         if !self.miss.in_list || !self.begins_line() {
             return Ok(None);
         }
-        let last = shown(self.alloc, word_of(self.text, &before))?;
-        let word = shown(self.alloc, self.word())?;
-        let wanted = self.miss.wanted;
-        let text = format!(in self.alloc; "expected {wanted} after `{last}`")?;
-        let help = format!(in self.alloc; "the next line goes on with `{word}`")?;
-        self.told(mark_of(self.file, &before), text, help.as_str())
+        self.told(
+            mark_of(self.file, &before),
+            &[
+                Plain("expected "),
+                Plain(self.miss.wanted),
+                Plain(" after `"),
+                Shown(word_of(self.text, &before)),
+                Plain("`"),
+            ],
+            &[
+                Plain("the next line goes on with `"),
+                Shown(self.word()),
+                Plain("`"),
+            ],
+        )
+    }
+
+    /// The place directly after the token before this one, and the text of that token.
+    fn end_before(self) -> (usize, &'a str) {
+        match self.before {
+            Some(before) => (before.span.end, word_of(self.text, &before)),
+            None => (self.token.span.start, ""),
+        }
     }
 
     /// A line or a file that ends too soon.
     fn line_end(self) -> Told {
-        if self.token.kind != Kind::Newline && self.token.kind != Kind::End {
-            return Ok(None);
-        }
-        let start = match self.before {
-            Some(before) => before.span.end,
-            None => self.token.span.start,
+        let place = match self.token.kind {
+            Kind::Newline => LINE_END,
+            Kind::End => "the end of the file",
+            _ => return Ok(None),
         };
+        let (start, last) = self.end_before();
         let mark = Mark {
             file: self.file,
             start,
             end: start.saturating_add(1),
         };
-        let last = match self.before {
-            Some(before) => shown(self.alloc, word_of(self.text, &before))?,
-            None => String::new(self.alloc),
-        };
-        let wanted = self.miss.wanted;
-        let place = if self.token.kind == Kind::End {
-            "the end of the file"
-        } else {
-            LINE_END
-        };
-        let text = format!(in self.alloc; "expected {wanted} after `{last}`, at {place}")?;
-        if last.as_str() == "+" || last.as_str() == "-" {
-            return self.told(mark, text, "write `x += 1` or `x -= 1`");
+        let text = [
+            Plain("expected "),
+            Plain(self.miss.wanted),
+            Plain(" after `"),
+            Shown(last),
+            Plain("`, at "),
+            Plain(place),
+        ];
+        if last == "+" || last == "-" {
+            return self.told(mark, &text, &[Plain("write `x += 1` or `x -= 1`")]);
         }
-        self.told_alone(mark, text)
+        self.told(mark, &text, &[])
     }
 
     /// A line that is indented and may not be, or is not and must be.
@@ -332,8 +417,7 @@ impl<'a> Spot<'a> {
             return Ok(None);
         }
         let mark = Line::at(self.text, self.token.span.start).mark(self.file);
-        let text = format!(in self.alloc; "expected {}", self.miss.wanted)?;
-        self.told_alone(mark, text)
+        self.told(mark, &[Plain("expected "), Plain(self.miss.wanted)], &[])
     }
 }
 
@@ -375,25 +459,20 @@ impl<'a> Spot<'a> {
     }
 
     /// The help for a token that has no form of its own.
-    fn help(self) -> Result<Option<String>, AllocError> {
-        let name = self.name_before();
-        if let Some(help) = of_name(name) {
-            return Ok(Some(String::from_str(self.alloc, help)?));
-        }
-        if self.miss.wanted == LINE_END {
-            if let Some(help) = did_you_mean(self.alloc, name, KEYWORDS)? {
-                return Ok(Some(help));
-            }
-        }
-        let found = match self.token.kind {
+    fn help(self) -> Option<&'static str> {
+        match self.token.kind {
             Kind::Sign(sign) => self.of_sign(sign),
             Kind::Keyword(Keyword::If) if self.follows_else() => Some("write `elif`"),
             _ => None,
-        };
-        match found {
-            Some(help) => Ok(Some(String::from_str(self.alloc, help)?)),
-            None => Ok(None),
         }
+    }
+
+    /// The keyword that was probably meant by a name before the place where a line should end.
+    fn keyword_meant(self, name: &str) -> Result<Option<&'static str>, AllocError> {
+        if self.miss.wanted == LINE_END {
+            return nearest(self.alloc, name, KEYWORDS);
+        }
+        Ok(None)
     }
 
     /// Whether this comes after the `else` of a statement.
@@ -401,13 +480,32 @@ impl<'a> Spot<'a> {
         has_kind(self.before, Kind::Keyword(Keyword::Else)) && self.miss.wanted == "`:`"
     }
 
-    /// The expected token, and the one that was found.
+    /// The expected token, and the one that was found, with this help.
+    fn expected(self, help: &[Part]) -> Result<Mistake, AllocError> {
+        let text = [
+            Plain("expected "),
+            Plain(self.miss.wanted),
+            Plain(", found `"),
+            Shown(self.word()),
+            Plain("`"),
+        ];
+        let mark = mark_of(self.file, &self.token);
+        Mistake::new(self.alloc, mark, CODE, &text, help)
+    }
+
+    /// A token that has no form of its own.
     fn other(self) -> Result<Mistake, AllocError> {
-        let word = shown(self.alloc, self.word())?;
-        let wanted = self.miss.wanted;
-        let text = format!(in self.alloc; "expected {wanted}, found `{word}`")?;
-        let mistake = Mistake::new(mark_of(self.file, &self.token), CODE, text);
-        Ok(mistake.or_with(self.help()?))
+        let name = self.name_before();
+        if let Some(help) = help_of(NAMES, name) {
+            return self.expected(&[Plain(help)]);
+        }
+        if let Some(word) = self.keyword_meant(name)? {
+            return self.expected(&meant(word));
+        }
+        match self.help() {
+            Some(help) => self.expected(&[Plain(help)]),
+            None => self.expected(&[]),
+        }
     }
 
     /// The first form that fits.
@@ -444,18 +542,18 @@ pub(crate) fn bad_syntax(
     text: &str,
     tokens: &[Token],
 ) -> Result<Mistake, AllocError> {
-    let found = first_miss(alloc, text, tokens)?;
-    let spot = found.and_then(|miss| spot_of(alloc, file, text, tokens, miss));
-    match spot {
-        Some(spot) => match spot.form()? {
-            Some(mistake) => Ok(mistake),
-            None => spot.other(),
-        },
-        None => {
-            let mark = Line::numbered(text, 1).mark(file);
-            let text = String::from_str(alloc, "this file is not in the grammar")?;
-            Ok(Mistake::new(mark, CODE, text))
-        }
+    let spot = match first_miss(alloc, text, tokens)? {
+        Some(miss) => spot_of(alloc, file, text, tokens, miss),
+        None => None,
+    };
+    let Some(spot) = spot else {
+        let mark = Line::numbered(text, 1).mark(file);
+        let text = [Plain("this file is not in the grammar")];
+        return Mistake::new(alloc, mark, CODE, &text, &[]);
+    };
+    match spot.form()? {
+        Some(mistake) => Ok(mistake),
+        None => spot.other(),
     }
 }
 

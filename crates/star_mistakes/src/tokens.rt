@@ -1,11 +1,19 @@
 //! Texts that cannot be cut into tokens, and lines whose indentation fits no block.
 
+use crate::message::Part;
+use crate::message::Part::{Number, Plain, Shown};
 use crate::mistake::Mistake;
-use crate::place::{Line, Mark, between, shown};
+use crate::place::{Line, Mark, between};
 use star_lex::cut::{Cut, Piece, pieces};
 use std::alloc::{AllocError, Global};
 
 const CODE: &str = "bad_token";
+
+const INDENT: &str = "bad_indent";
+
+/// The help for a string with an escape that is none.
+const ESCAPES: &str =
+    "escapes are \\n \\t \\r \\\\ \\' \\\" \\a \\b \\f \\v, \\ooo, \\xhh up to \\x7f, \\uhhhh and \\Uhhhhhhhh; r\"..\" has none";
 
 /// A byte that fits nothing: its place, and the text around it.
 #[derive(Clone, Copy)]
@@ -18,23 +26,30 @@ struct Spot<'a> {
     at: usize,
 }
 
-/// The beginning of the part that fits nothing: the first bad piece, else the first joint of this line, which comes
-/// before all of its tokens.
+/// The beginning of the part that fits nothing: the first bad piece, or the first joint of this line, which comes before
+/// all of its tokens.
 fn first_bad(cuts: &[Cut], line: usize) -> Option<usize> {
-    let bad = cuts.iter().find(|cut| matches!(cut.piece, Piece::Bad));
-    let joint = cuts.iter().find(|cut| matches!(cut.piece, Piece::Joint) && cut.line == line);
-    match (joint, bad) {
-        (Some(joint), Some(bad)) if bad.line <= line => Some(bad.span.start.min(joint.span.start)),
-        (Some(joint), _) => Some(joint.span.start),
-        (None, Some(bad)) => Some(bad.span.start),
-        (None, None) => None,
+    for cut in cuts {
+        let fits_nothing = match cut.piece {
+            Piece::Bad => true,
+            Piece::Joint => cut.line == line,
+            _ => false,
+        };
+        if fits_nothing {
+            return Some(cut.span.start);
+        }
     }
+    None
 }
 
 /// How many bytes of a text belong to the words at its front.
 fn word_size(text: &str) -> usize {
-    let end = text.find(|c: char| !c.is_ascii_alphanumeric() && c != '_');
-    end.unwrap_or(text.len())
+    for (at, c) in text.char_indices() {
+        if !c.is_ascii_alphanumeric() && c != '_' {
+            return at;
+        }
+    }
+    text.len()
 }
 
 /// The quotes at the front of a text: none, one or three.
@@ -64,83 +79,114 @@ impl<'a> Spot<'a> {
         }
     }
 
-    /// The first `size` bytes from here on, as they are shown.
-    fn shown(self, size: usize) -> Result<String, AllocError> {
-        shown(self.alloc, self.rest().get(..size).unwrap_or(""))
+    /// The first `size` bytes from here on.
+    fn front(self, size: usize) -> &'a str {
+        self.rest().get(..size).unwrap_or("")
     }
 
-    /// A mistake in these bytes.
-    fn told(self, size: usize, text: &str, help: &str) -> Result<Mistake, AllocError> {
-        let text = String::from_str(self.alloc, text)?;
-        Mistake::new(self.mark(size), CODE, text).with(self.alloc, help)
+    /// A mistake in the first `size` bytes.
+    fn told(self, size: usize, text: &[Part], help: &[Part]) -> Result<Mistake, AllocError> {
+        Mistake::new(self.alloc, self.mark(size), CODE, text, help)
     }
 
-    /// A string whose quotes end at this byte: it is not closed, or it has an escape that is none.
-    fn string(self, quotes: &str) -> Result<Mistake, AllocError> {
-        let rest = self.rest();
+    /// The text that a string with these quotes may have: to the end of its line, or of the file.
+    fn inside(self, quotes: &str) -> &'a str {
         let front = self.at.saturating_add(quotes.len());
         let end = if quotes.len() < 3 {
             self.line.end()
         } else {
             self.text.len()
         };
-        let inside = between(self.text, front, end);
-        let text = self.shown(rest.len())?;
+        between(self.text, front, end)
+    }
+
+    /// A string whose quotes end at this byte: it is not closed, or it has an escape that is none.
+    fn string(self, quotes: &str) -> Result<Mistake, AllocError> {
+        let rest = self.rest();
+        let inside = self.inside(quotes);
         if inside.contains(quotes) && inside.contains('\\') {
-            let text = format!(in self.alloc; "this string has an escape that is none: {text}")?;
             return self.told(
                 rest.len(),
-                text.as_str(),
-                "escapes are \\n \\t \\r \\\\ \\' \\\" \\a \\b \\f \\v, \\ooo, \\xhh up to \\x7f, \\uhhhh and \\Uhhhhhhhh; r\"..\" has none",
+                &[
+                    Plain("this string has an escape that is none: "),
+                    Shown(rest),
+                ],
+                &[Plain(ESCAPES)],
             );
         }
-        let text = format!(in self.alloc; "this string is not closed: {text}")?;
-        let help = format!(in self.alloc;
-            "put {quotes} at its end; a string of several lines has three quotes at each end"
-        )?;
-        self.told(rest.len(), text.as_str(), help.as_str())
+        self.told(
+            rest.len(),
+            &[Plain("this string is not closed: "), Shown(rest)],
+            &[
+                Plain("put "),
+                Plain(quotes),
+                Plain(" at its end; a string of several lines has three quotes at each end"),
+            ],
+        )
     }
 
     /// A number that is none, or that touches a string.
     fn number(self) -> Result<Mistake, AllocError> {
         let size = word_size(self.rest());
-        let text = self.shown(size)?;
+        let word = self.front(size);
         let before = between(self.text, self.line.start, self.at);
         if before.ends_with('"') || before.ends_with('\'') {
-            let text = format!(in self.alloc; "`{text}` touches the string before it")?;
             return self.told(
                 size,
-                text.as_str(),
-                "a quote may be missing earlier on this line",
+                &[
+                    Plain("`"),
+                    Shown(word),
+                    Plain("` touches the string before it"),
+                ],
+                &[Plain("a quote may be missing earlier on this line")],
             );
         }
-        let text = format!(in self.alloc; "no such number: `{text}`")?;
         self.told(
             size,
-            text.as_str(),
-            "ints are at most 9223372036854775807, and written as 42, 0x2a or 0o52; there are no floats",
+            &[Plain("no such number: `"), Shown(word), Plain("`")],
+            &[Plain(
+                "ints are at most 9223372036854775807, and written as 42, 0x2a or 0o52; there are no floats",
+            )],
         )
     }
 
     /// A sign that is none.
     fn sign(self, c: char) -> Result<Mistake, AllocError> {
         let size = c.len_utf8();
-        let text = self.shown(size)?;
-        let text = format!(in self.alloc; "`{text}` is not in this language")?;
-        let help = match c {
-            '/' => "`//` divides ints; there are no floats",
-            '!' => "write `not`",
-            '@' => "there are no decorators",
-            '?' => "write `a if condition else b`",
-            '$' => "names have ASCII letters, digits and `_`",
-            '\\' =>
-                "outside of a string it joins two lines: it stands at a line's end, after a token",
-            _ if c.is_control() => "a control character stands here; only a tab or a line end may",
-            _ => {
-                "names have ASCII letters, digits and `_`; look for a pasted quote or a blank that is none"
-            }
-        };
-        self.told(size, text.as_str(), help)
+        self.told(
+            size,
+            &[
+                Plain("`"),
+                Shown(self.front(size)),
+                Plain("` is not in this language"),
+            ],
+            &[Plain(of_sign(c))],
+        )
+    }
+}
+
+/// The help for a character that begins no token.
+fn of_sign(c: char) -> &'static str {
+    match c {
+        '/' => "`//` divides ints; there are no floats",
+        '!' => "write `not`",
+        '@' => "there are no decorators",
+        '?' => "write `a if condition else b`",
+        '$' => "names have ASCII letters, digits and `_`",
+        '\\' => "outside of a string it joins two lines: it stands at a line's end, after a token",
+        _ if c.is_control() => "a control character stands here; only a tab or a line end may",
+        _ => {
+            "names have ASCII letters, digits and `_`; look for a pasted quote or a blank that is none"
+        }
+    }
+}
+
+/// Where the part that fits nothing begins: at this line at the latest.
+fn bad_start(alloc: Global, text: &str, line: usize) -> Result<usize, AllocError> {
+    let cuts = pieces(alloc, text.as_bytes())?;
+    match first_bad(cuts.as_slice(), line) {
+        Some(at) => Ok(at),
+        None => Ok(Line::numbered(text, line).start),
     }
 }
 
@@ -151,11 +197,7 @@ pub(crate) fn bad_token(
     text: &str,
     line: usize,
 ) -> Result<Mistake, AllocError> {
-    let cuts = pieces(alloc, text.as_bytes())?;
-    let at = match first_bad(cuts.as_slice(), line) {
-        Some(at) => at,
-        None => Line::numbered(text, line).start,
-    };
+    let at = bad_start(alloc, text, line)?;
     let spot = Spot {
         alloc,
         file,
@@ -192,15 +234,16 @@ pub(crate) fn bad_indent(
     };
     let blanks = line.text.get(..width).unwrap_or("");
     if blanks.contains('\t') {
-        let text = String::from_str(alloc, "a tab in the indentation of a line")?;
-        return Mistake::new(mark, "bad_indent", text).with(alloc, "indent with spaces");
+        let text = [Plain("a tab in the indentation of a line")];
+        return Mistake::new(alloc, mark, INDENT, &text, &[Plain("indent with spaces")]);
     }
-    let text = format!(in alloc;
-        "this line is indented by {width}, and no block that is open here is"
-    )?;
-    let mistake = Mistake::new(mark, "bad_indent", text);
-    mistake.with(
-        alloc,
+    let text = [
+        Plain("this line is indented by "),
+        Number(width),
+        Plain(", and no block that is open here is"),
+    ];
+    let help = [Plain(
         "indent it as the other lines of its block, or as the line that begins the block",
-    )
+    )];
+    Mistake::new(alloc, mark, INDENT, &text, &help)
 }
