@@ -1,13 +1,12 @@
-//! Tests of all that reads files: texts, labels, bundles and folders, the words of the command line, the lexer, the
-//! parser and the resolver.
+//! Tests of all that reads files: texts, labels, folders, the words of the command line, the lexer, the parser and the
+//! resolver.
 //!
 //! Tests are crates of their own, so that no crate is proved once more for its tests. They call public functions only.
 //! Most tests go through a table: a row has a text and the result that it must have. Begin at `tokens.rt` and
-//! `rows.rt`, or at `programs.rt` for the resolver.
+//! `rows.rt`, or at `names.rt` for the resolver. What a report shows is in `tests/cases` instead, static faults among
+//! it; bundles, and files on demand, are in `serve_tests`; folders of the disk in `tests/folders`.
 #![tactic(auto)]
 
-#[cfg(test)]
-mod bundle;
 #[cfg(test)]
 mod checks;
 #[cfg(test)]
@@ -17,13 +16,7 @@ mod labels;
 #[cfg(test)]
 mod names;
 #[cfg(test)]
-mod programs;
-#[cfg(test)]
-mod repo;
-#[cfg(test)]
 mod rows;
-#[cfg(test)]
-mod static_faults;
 #[cfg(test)]
 mod text;
 #[cfg(test)]

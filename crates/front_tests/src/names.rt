@@ -8,6 +8,7 @@ use star_scope::error::ScopeFault;
 use star_scope::law::spots_lead;
 use star_scope::program::{Prelude, Program, resolve};
 use star_scope::spot::Spot;
+use star_tree::tree::Tree;
 use std::alloc::{AllocError, Global};
 use std::collections::BTreeMap;
 use std::process::Abort;
@@ -68,13 +69,23 @@ fn shown(alloc: Global, answer: &Result<Program<'_>, ScopeFault>) -> Result<Stri
     Ok(out)
 }
 
-/// Whether the names of a row's text are placed as the row says.
+/// The spots of the names of a file with this tree that sees this prelude.
+fn shown_by<'t>(
+    rt: &impl Abort,
+    alloc: Global,
+    tree: &'t Tree,
+    seen: Option<&Prelude<'t>>,
+) -> Result<String, Fail> {
+    let files = two(alloc)?;
+    assert!(rt; 0 < files.len());
+    Ok(shown(alloc, &resolve(alloc, &files, 0, tree, seen))?)
+}
+
+/// Asserts that the names of a row's text are placed as the row says.
 fn check(rt: &impl Abort, alloc: Global, cells: &[&str]) -> Result<(), Fail> {
     let [text, outside, wanted] = cells else {
         return Ok(());
     };
-    let files = two(alloc)?;
-    assert!(rt; 0 < files.len());
     let trees = [parse(alloc, outside)?, parse(alloc, text)?];
     let [first, tree] = &trees;
     let prelude = Prelude::new(alloc, 1, Some(first))?;
@@ -83,8 +94,7 @@ fn check(rt: &impl Abort, alloc: Global, cells: &[&str]) -> Result<(), Fail> {
     } else {
         Some(&prelude)
     };
-    let answer = resolve(alloc, &files, 0, tree, seen);
-    let found = shown(alloc, &answer)?;
+    let found = shown_by(rt, alloc, tree, seen)?;
     answers(rt, text, found.as_str(), *wanted);
     Ok(())
 }
@@ -99,27 +109,5 @@ fn places_names(rt: HostRuntime) -> Result<(), Fail> {
         rows = u32::saturating_add(rows, 1);
     }
     holds!(&rt; rows == 16);
-    Ok(())
-}
-
-/// So many functions, each in the one before.
-fn nested_functions(alloc: Global, count: usize) -> Result<String, AllocError> {
-    let mut text = String::from_str(alloc, "f = ")?;
-    for _ in 0..count {
-        text.push_str("lambda: ")?;
-    }
-    text.push_str("f")?;
-    Ok(text)
-}
-
-#[test]
-fn a_name_is_found_many_blocks_up(rt: HostRuntime) -> Result<(), Fail> {
-    let alloc = rt.alloc();
-    let files = two(alloc)?;
-    assert!(rt; 0 < files.len());
-    let text = nested_functions(alloc, 99)?;
-    let tree = parse(alloc, text.as_str())?;
-    let program = resolve(alloc, &files, 0, &tree, None)?;
-    holds!(&rt; program.spot(200) == Some(Spot::Frame { up: 99, slot: 0 }));
     Ok(())
 }

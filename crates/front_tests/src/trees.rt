@@ -1,13 +1,8 @@
-//! Tests of the parser: texts with their trees or their fault.
+//! Tests of the parser: which texts have a tree, and the faults of the others.
 
-use crate::checks::{answers, hold, holds, reads};
-use star_lex::lex;
+use crate::checks::{answers, holds, reads};
 use star_lex::token::SyntaxFault;
-use star_parser::nest::too_nested;
 use star_parser::parse;
-use star_syntax::leaf::{Word, leaves};
-use star_syntax::name::is_name;
-use star_tree::tree::{BinaryOperator, Expression, Form, Position, Target, Tree};
 use std::alloc::{AllocError, Global};
 
 /// A letter for the answer of `parse` for a text, and the line of a fault that has one: a tree, or a bad token,
@@ -145,118 +140,6 @@ fn rules_of_the_grammar(rt: HostRuntime) -> Result<(), AllocError> {
     Ok(())
 }
 
-fn is_int(expression: &Expression, wanted: i64) -> bool {
-    match expression {
-        Expression::Int(value) => *value == wanted,
-        _ => false,
-    }
-}
-
-fn is_difference(expression: &Expression, left: i64, right: i64) -> bool {
-    match expression {
-        Expression::Binary {
-            operator: BinaryOperator::Subtract,
-            left: one,
-            right: other,
-        } => is_int(one.get(), left) && is_int(other.get(), right),
-        _ => false,
-    }
-}
-
-/// `(1 - 2) - 3`.
-fn groups_left(expression: &Expression) -> bool {
-    match expression {
-        Expression::Binary {
-            operator: BinaryOperator::Subtract,
-            left,
-            right,
-        } => is_difference(left.get(), 1, 2) && is_int(right.get(), 3),
-        _ => false,
-    }
-}
-
-fn is_name_at(target: &Target, text: &str, position: Position) -> bool {
-    match target {
-        Target::Name(name) => name.text.as_str() == text && name.position == position,
-        _ => false,
-    }
-}
-
-fn assigns_difference(tree: &Tree) -> bool {
-    let Some(statement) = tree.statements.get(1) else {
-        return false;
-    };
-    let position = Position { line: 2, token: 2 };
-    match &statement.form {
-        Form::Assign { target, value } => {
-            statement.position == position
-                && is_name_at(target, "x", position)
-                && groups_left(value)
-        }
-        _ => false,
-    }
-}
-
-#[test]
-fn minus_groups_to_the_left(rt: HostRuntime) {
-    let answer = parse(rt.alloc(), "pass\nx = 1 - 2 - 3\n");
-    holds!(&rt; matches!(&answer, Ok(tree) if assigns_difference(tree)));
-}
-
-fn is_one_tuple(tree: &Tree) -> bool {
-    match tree.statements.get(0) {
-        Some(statement) => match &statement.form {
-            Form::Expression(Expression::Tuple(items)) => items.len() == 1,
-            _ => false,
-        },
-        None => false,
-    }
-}
-
-#[test]
-fn a_trailing_comma_makes_a_tuple(rt: HostRuntime) {
-    let answer = parse(rt.alloc(), "(1,)\n");
-    holds!(&rt; matches!(&answer, Ok(tree) if is_one_tuple(tree)));
-    let answer = parse(rt.alloc(), "(1)\n");
-    holds!(&rt; matches!(&answer, Ok(tree) if !is_one_tuple(tree)));
-}
-
-/// Whether `parse` has an answer for a text, and not only for want of memory.
-fn settles(alloc: Global, text: &str) -> bool {
-    let answer = parse(alloc, text);
-    !matches!(&answer, Err(SyntaxFault::Memory))
-}
-
-fn every_prefix_settles(alloc: Global, text: &str) -> bool {
-    for size in 0..text.len() {
-        if let Some(prefix) = text.get(..size) {
-            if !settles(alloc, prefix) {
-                return false;
-            }
-        }
-    }
-    true
-}
-
-#[test]
-fn every_prefix(rt: HostRuntime) {
-    let texts = [
-        "def f(x, *y, z = 1, **w):\n    return x // 2 << 3\n",
-        "if a:\n  if b:\n    c\n  elif d: e\n  else:\n    f\ng",
-        "x = {'a': [1, 0x2F, 0o17], \"b\": (r'\\d+',)}\r\n",
-        "s = '''a\n'b'\\\n''' \\\n + \"\\u00e9\\x41\"",
-        "load(\":a.star\", b = \"c\")\nx += b != 1 # end\n",
-        "for i, j in range(10)[1:2]:\n  pass; break\n",
-        "f(1, a = lambda x, *y: x, *b, **c).d[::2]",
-        "[x for x in y if not x <= 3]; z >>= ~4 ^ 5 | 6 & 7\n",
-        "{k: v if k else w for k, v in x or y and z}\n",
-        "x = -1 not in (2, 3,), 'é'\n",
-    ];
-    for text in &texts {
-        hold(&rt, every_prefix_settles(rt.alloc(), text), text);
-    }
-}
-
 fn push_times(text: &mut String, sign: &str, count: usize) -> Result<(), AllocError> {
     for _ in 0..count {
         text.push_str(sign)?;
@@ -285,56 +168,4 @@ fn nesting(rt: HostRuntime) -> Result<(), AllocError> {
         reads(&rt, found.as_str(), wanted);
     }
     Ok(())
-}
-
-/// The answer of `too_nested`, or 0 for a text that has no tokens.
-fn weighed(alloc: Global, text: &str) -> Result<Option<usize>, AllocError> {
-    match lex(alloc, text) {
-        Ok(tokens) => too_nested(alloc, &tokens),
-        Err(_) => Ok(Some(0)),
-    }
-}
-
-#[test]
-fn weights(rt: HostRuntime) -> Result<(), AllocError> {
-    let alloc = rt.alloc();
-    holds!(&rt; weighed(alloc, "x = 1\n")? == None);
-    let text = brackets(alloc, 101, 0)?;
-    holds!(&rt; weighed(alloc, text.as_str())? == Some(1));
-    Ok(())
-}
-
-/// Whether the third leaf of a text is a string with a value, at a position.
-fn third_is_text(
-    alloc: Global,
-    text: &str,
-    value: &str,
-    position: Position,
-) -> Result<bool, AllocError> {
-    let tokens = match lex(alloc, text) {
-        Ok(tokens) => tokens,
-        Err(_) => return Ok(false),
-    };
-    let leaves = leaves(alloc, text, &tokens)?;
-    Ok(match leaves.get(2) {
-        Some(leaf) => matches!(&leaf.word, Word::Text(found) if found.as_str() == value)
-            && leaf.position == position
-            && leaves.len() == 5,
-        None => false,
-    })
-}
-
-#[test]
-fn leaves_of_a_text(rt: HostRuntime) -> Result<(), AllocError> {
-    let position = Position { line: 2, token: 2 };
-    holds!(&rt; third_is_text(rt.alloc(), "x\n'\\u00e9'", "é", position)?);
-    Ok(())
-}
-
-#[test]
-fn names(rt: HostRuntime) {
-    holds!(&rt; is_name(b"a1_"));
-    holds!(&rt; !is_name(b"1a"));
-    holds!(&rt; !is_name(b""));
-    holds!(&rt; !is_name(b"load"));
 }

@@ -1,8 +1,9 @@
-//! Tests of the evaluator and of the run of a whole file, over the texts of files.
+//! Tests of the evaluator, and of values and their operations, over the texts of files.
 //!
-//! They check what a report does not show: the steps that are paid, the levels that are opened, frames and trails of
-//! faults. What a text prints and defines is in `tests/cases`. Begin at `programs.rt`; `samples.rt` runs a program of a
-//! few lines.
+//! They call each operation, built-in function and method (`values.rt`), and check what a report does not show: the
+//! steps that are paid and the levels that are opened (`programs.rt`). What else a text prints and defines is in
+//! `tests/cases`, and what a fault leaves on its way out in `tests/explain.d`. `samples.rt` runs a program of a few
+//! lines.
 #![tactic(auto)]
 
 #[cfg(test)]
@@ -10,14 +11,10 @@ mod checks;
 #[cfg(test)]
 mod clauses;
 #[cfg(test)]
-mod modules;
-#[cfg(test)]
 mod parameters;
 #[cfg(test)]
 mod programs;
 #[cfg(test)]
 mod samples;
 #[cfg(test)]
-mod trails;
-#[cfg(test)]
-mod variables;
+mod values;

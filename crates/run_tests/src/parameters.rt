@@ -4,7 +4,7 @@ ghost use Rattle.star_call.specs.Callees.{IsDefined, IsFound};
 ghost use Rattle.star_meaning.specs.Programs.{IsOfFile};
 
 use crate::checks::{hold, holds};
-use crate::variables::two;
+use crate::samples::two;
 use star_call::callee::{Called, Callee};
 use star_call::passed::{Passed, given};
 use star_enter::calls::callee_of;

@@ -3,27 +3,44 @@
 ghost use Rattle.star_meaning.specs.Programs.{IsOfFile};
 
 use crate::checks::hold;
-use crate::variables::{published, two};
 use star_eval::evaluate::evaluate;
 use star_eval::execute::{execute, execute_each};
 use star_label::files::Files as Labels;
+use star_label::label::Label;
 use star_machine::fault::{Stop, faulted};
 use star_machine::machine::Machine;
 use star_meaning::fault::Code;
 use star_meaning::place::Place;
 use star_parser::parse;
 use star_scope::program::Program;
-use star_store::arena::Homes;
+use star_store::arena::{Arena, Frozen, Homes, freeze};
 use star_store::values::Value;
 use star_text::Text;
 use star_tree::tree::{Form, Statement, Tree};
 use star_world::files::{Files, program_of};
 use star_world::variables::new_frame;
 use star_world::world::World;
-use std::alloc::Global;
+use std::alloc::{AllocError, Global};
+use std::collections::BTreeMap;
 use std::mem::ManuallyDrop;
 use std::process::Abort;
 use std::test::Fail;
+
+/// The labels of `//:a.star` and of the module `//:p.star`.
+pub(crate) fn two(alloc: Global) -> Result<Labels, Fail> {
+    let mut labels = BTreeMap::new(alloc);
+    for name in ["//:a.star", "//:p.star"] {
+        labels.insert(Label::read(alloc, name, "")?, String::new(alloc))?;
+    }
+    Ok(Labels::new(alloc, labels)?)
+}
+
+/// The published module `//:p.star`: `k` is 5.
+fn published(alloc: Global) -> Result<Frozen, AllocError> {
+    let mut globals = Vec::new(alloc);
+    globals.push((String::from_str(alloc, "k")?, Value::Int(5)))?;
+    Ok(freeze(Arena::new(alloc, 1), globals))
+}
 
 /// A program of `//:a.star`, the steps and levels that it has, and its result: the text of its last value, which is
 /// empty if its last statement is not an expression, or why it stops.
@@ -143,110 +160,69 @@ fn sample_is_as_wanted_of(
 }
 
 /// Asserts the result of a program.
-fn sample_is_as_wanted(
-    rt: &impl Abort,
-    alloc: Global,
-    labels: &Labels,
-    sample: Sample<'_>,
-) -> Result<(), Fail> {
+fn sample_is_as_wanted(rt: &impl Abort, alloc: Global, sample: Sample<'_>) -> Result<(), Fail> {
+    let labels = two(alloc)?;
     let tree = ManuallyDrop::new(parse(alloc, sample.source)?);
-    sample_is_as_wanted_of(rt, alloc, labels, &*tree, sample)
+    sample_is_as_wanted_of(rt, alloc, &labels, &*tree, sample)
 }
 
-/// Asserts the text of the last value of each program.
-pub(crate) fn give(rt: &impl Abort, alloc: Global, samples: &[(&str, &str)]) -> Result<(), Fail> {
-    let labels = two(alloc)?;
-    for (source, want) in samples {
-        let sample = Sample {
-            source: *source,
-            steps: 10_000,
-            levels: 400,
-            want: Ok(*want),
-        };
-        sample_is_as_wanted(rt, alloc, &labels, sample)?;
-    }
-    Ok(())
-}
-
-/// Asserts the fault of each program, and its line.
-pub(crate) fn fault(
+/// Asserts the result of a program with this many steps.
+pub(crate) fn gives(
     rt: &impl Abort,
     alloc: Global,
-    samples: &[(&str, Code, usize)],
+    steps: u32,
+    source: &str,
+    want: Result<&str, Stop>,
 ) -> Result<(), Fail> {
-    let labels = two(alloc)?;
-    for (source, code, line) in samples {
-        let sample = Sample {
-            source: *source,
-            steps: 10_000,
-            levels: 400,
-            want: Err(faulted(*code, *line)),
-        };
-        sample_is_as_wanted(rt, alloc, &labels, sample)?;
-    }
-    Ok(())
+    let sample = Sample {
+        source,
+        steps,
+        levels: 400,
+        want,
+    };
+    sample_is_as_wanted(rt, alloc, sample)
 }
 
-/// Asserts the result of a program if it has enough steps and levels, and if one is missing.
-fn needs(
-    rt: &impl Abort,
-    alloc: Global,
-    labels: &Labels,
-    enough: Sample<'_>,
-    short: Sample<'_>,
-) -> Result<(), Fail> {
-    sample_is_as_wanted(rt, alloc, labels, enough)?;
-    sample_is_as_wanted(rt, alloc, labels, short)
+/// What a program needs a number of.
+#[derive(Clone, Copy)]
+pub(crate) enum Need {
+    Steps,
+    Levels,
 }
 
-/// Asserts the least number of steps with which each program, whose last statement is not an expression, ends well.
-/// With one step less it ends in a line.
-pub(crate) fn cost(
-    rt: &impl Abort,
-    alloc: Global,
-    samples: &[(&str, u32, usize)],
-) -> Result<(), Fail> {
-    let labels = two(alloc)?;
-    for (source, steps, line) in samples {
-        let enough = Sample {
-            source: *source,
-            steps: *steps,
-            levels: 400,
-            want: Ok(""),
+impl Need {
+    /// A program, whose last statement is not an expression, with this number.
+    fn sample<'s>(self, source: &'s str, number: u32, want: Result<&'s str, Stop>) -> Sample<'s> {
+        let (steps, levels) = match self {
+            Need::Steps => (number, 400),
+            Need::Levels => (10_000, number),
         };
-        let short = Sample {
-            source: *source,
-            steps: steps.saturating_sub(1),
-            levels: 400,
-            want: Err(faulted(Code::Steps, *line)),
-        };
-        needs(rt, alloc, &labels, enough, short)?;
+        Sample {
+            source,
+            steps,
+            levels,
+            want,
+        }
     }
-    Ok(())
+
+    /// How a program stops at a line if one is missing.
+    fn stop(self, line: usize) -> Stop {
+        match self {
+            Need::Steps => faulted(Code::Steps, line),
+            Need::Levels => faulted(Code::Deep, line),
+        }
+    }
 }
 
-/// Asserts the least number of levels with which each program, whose last statement is not an expression, ends well.
-/// With one level less it ends in a line.
-pub(crate) fn open(
+/// Asserts the least number with which a program, whose last statement is not an expression, ends well. With one less it
+/// ends in a line.
+pub(crate) fn takes(
     rt: &impl Abort,
     alloc: Global,
-    samples: &[(&str, u32, usize)],
+    need: Need,
+    (source, number, line): (&str, u32, usize),
 ) -> Result<(), Fail> {
-    let labels = two(alloc)?;
-    for (source, levels, line) in samples {
-        let enough = Sample {
-            source: *source,
-            steps: 10_000,
-            levels: *levels,
-            want: Ok(""),
-        };
-        let short = Sample {
-            source: *source,
-            steps: 10_000,
-            levels: levels.saturating_sub(1),
-            want: Err(faulted(Code::Deep, *line)),
-        };
-        needs(rt, alloc, &labels, enough, short)?;
-    }
-    Ok(())
+    sample_is_as_wanted(rt, alloc, need.sample(source, number, Ok("")))?;
+    let less = number.saturating_sub(1);
+    sample_is_as_wanted(rt, alloc, need.sample(source, less, Err(need.stop(line))))
 }

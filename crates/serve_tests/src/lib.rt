@@ -1,4 +1,4 @@
-//! Tests of the whole way from bytes to bytes: bundles and folders in, reports, refusals and traces out.
+//! Tests of the whole way from bytes to bytes: bundles, folders and requests in, reports, refusals and traces out.
 //!
 //! The streams are scripted, and say their bytes to contracts; folders are in memory, and say what they hold. So the
 //! contracts of `serve`, `serve_dir` and `serve_repo` speak of real bytes here. Tables of files and reports are in
@@ -15,5 +15,7 @@ mod ondemand;
 mod outputs;
 #[cfg(test)]
 mod progress;
+#[cfg(test)]
+mod requests;
 #[cfg(test)]
 mod tests;

@@ -1,4 +1,4 @@
-//! What is written in place of the report: a global of each root, or the graph of loads.
+//! What is written in place of the report: a global of each root, the graph of loads, or a check of the files.
 
 use crate::checks::{hold, writes};
 use crate::tests::{NEVER, options_of, scripted, writer_of};
@@ -65,6 +65,29 @@ fn the_graph_is_written(rt: HostRuntime) -> Result<(), Fail> {
         ),
     ] {
         let (ok, text, line) = written(&rt, alloc, root, Output::Graph)?;
+        hold(&rt, ok == all_ok, root);
+        writes(&rt, text.as_slice(), want);
+        writes(&rt, line.as_slice(), "");
+    }
+    Ok(())
+}
+
+#[test]
+fn a_check_says_which_files_fail_by_their_loads(rt: HostRuntime) -> Result<(), Fail> {
+    let alloc = rt.alloc();
+    for (root, all_ok, want) in [
+        (
+            "//:a.star",
+            true,
+            "{\"begun\":0,\"modules\":[{\"label\":\"//:a.star\",\"lines\":[],\"status\":\"unrun\"}]}\n",
+        ),
+        (
+            "//:c.star",
+            false,
+            "{\"begun\":0,\"modules\":[{\"cycle\":[\"//:c.star\",\"//:d.star\"],\"label\":\"//:c.star\",\"line\":1,\"lines\":[],\"status\":\"load\"},{\"cycle\":[\"//:d.star\",\"//:c.star\"],\"label\":\"//:d.star\",\"line\":1,\"lines\":[],\"status\":\"load\"}]}\n",
+        ),
+    ] {
+        let (ok, text, line) = written(&rt, alloc, root, Output::Check { only_roots: true })?;
         hold(&rt, ok == all_ok, root);
         writes(&rt, text.as_slice(), want);
         writes(&rt, line.as_slice(), "");

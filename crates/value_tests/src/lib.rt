@@ -1,23 +1,12 @@
-//! Tests of values and their operations: stores, operators, built-in functions, methods, arguments.
+//! Tests of stores: cells and their writes, keys, equality, order, texts, frames, and the indexes of dictionaries.
 //!
-//! Each public function that allocates is called once here on its happy path, since a body that always gives up for
-//! want of memory would meet its contract. Whatever a file's text can show is in `tests/cases` instead. Begin at
-//! `calls.rt`; `samples.rt` makes values.
+//! They call an arena as no text of a file can, by its public functions. Operations on values are called in `run_tests`.
+//! Begin at `stores.rt`.
 #![tactic(auto)]
 
-#[cfg(test)]
-mod arguments;
-#[cfg(test)]
-mod callees;
-#[cfg(test)]
-mod calls;
 #[cfg(test)]
 mod checks;
 #[cfg(test)]
 mod indexes;
-#[cfg(test)]
-mod operations;
-#[cfg(test)]
-mod samples;
 #[cfg(test)]
 mod stores;
