@@ -1,5 +1,6 @@
 -- Entries gathered for a new dictionary: the places that their contents tell, and how these follow each put.
-use Rattle.std.proofs.Common.{◌≡◌, ℕ, nat_eq, Bool, true, false, List, [], ◌∷◌, ◌++◌, map, Option, Some, None, IfSome, slice_get, slice_set, if◌then◌else◌, refl, ap, sym, subst, ◌∙◌}
+use Rattle.std.proofs.Common.{◌≡◌, ℕ, nat_eq, Bool, true, false, List, [], ◌∷◌, ◌++◌, map, Option, Some, None, IfSome, position, slice_get, slice_set, if◌then◌else◌, refl, ap, sym, subst, ◌∙◌}
+use Rattle.std.specs.Cmp.Lexicographic.{pointwise}
 use Rattle.std.specs.Option.{option_map}
 use Rattle.std.proofs.lemmas.List.{map-append}
 use Rattle.std.proofs.lemmas.Option.{get_or_from_slice_get}
@@ -10,21 +11,53 @@ use Rattle.star_store.specs.declared.values.Cell.{Cell}
 use Rattle.star_store.specs.declared.values.Cell.TheVariants as cell
 use Rattle.star_store.specs.declared.values.Counted.{Counted}
 use Rattle.star_store.specs.declared.content.Atom.{Atom}
-use Rattle.star_store.specs.Content.{KeepsKeys, content}
-use Rattle.star_store.specs.Index.{contents_of, place_by}
-use Rattle.star_store.specs.Key.{key_levels}
+use Rattle.star_store.specs.Content.{KeepsKeys, content, same_atom, same_content}
+use Rattle.star_store.specs.Index.{place_by}
+use Rattle.star_store.specs.Key.{key_levels, same_key}
 use Rattle.star_store.specs.Store.{Store, look, published_cells}
-use Rattle.star_store.proofs.Indexes.{place_found, stays_indexed}
+use Rattle.star_store.proofs.Contents.{contents_stay, same_keys}
+use Rattle.star_store.proofs.Indexes.{alike}
 use Rattle.star_meaning.specs.Laws.{KeepsKind}
 use Rattle.star_meaning.specs.Program.{Setting}
 use Rattle.star_meaning.specs.Run.{State, Action, Done}
 use Rattle.star_meaning.specs.Values.{place_in}
 use Rattle.star_meaning.proofs.Stays.{Keeps, Preserved, Stays}
-use Rattle.star_machine.specs.Gathered.{Gathering, IsGathered}
+use Rattle.star_machine.specs.Gathered.{Gathering, IsGathered, contents_of}
+
+-- the tests of a key against keys are those of its content against theirs
+key_tests : (see : Value → Option Cell) (n : ℕ) (key : Value) (es : List (Value × Value)) → map (λ e. same_key see n key e.0) es ≡ map (same_content (content see n key)) (map (λ e. content see n e.0) es)
+key_tests see n key [] = refl
+key_tests see n key (e ∷ es) = ap (λ (b : Bool). b ∷ map (λ d. same_key see n key d.0) es) (same_keys see n key e.0) ∙ ap (λ (bs : List Bool). same_content (content see n key) (content see n e.0) ∷ bs) (key_tests see n key es)
+
+content_tests : (atoms : List Atom) (contents : List (List Atom)) → map (same_content (Some atoms)) (map Some contents) ≡ map (pointwise same_atom atoms) contents
+content_tests atoms [] = refl
+content_tests atoms (k ∷ contents) = ap (λ (bs : List Bool). pointwise same_atom atoms k ∷ bs) (content_tests atoms contents)
+
+tests_at : (see : Value → Option Cell) (n : ℕ) (key : Value) (atoms : List Atom) (es : List (Value × Value)) (contents : List (List Atom)) → content see n key ≡ Some atoms → map (λ e. content see n e.0) es ≡ map Some contents → map (pointwise same_atom atoms) contents ≡ map (λ e. same_key see n key e.0) es
+tests_at see n key atoms es contents h k =
+    sym (content_tests atoms contents)
+    ∙ ap (map (same_content (Some atoms))) (sym k)
+    ∙ ap (λ (o : Option (List Atom)). map (same_content o) (map (λ e. content see n e.0) es)) (sym h)
+    ∙ sym (key_tests see n key es)
+
+found_at : (see : Value → Option Cell) (n : ℕ) (key : Value) (atoms : List Atom) (es : List (Value × Value)) (contents : List (List Atom)) → content see n key ≡ Some atoms → map (λ e. content see n e.0) es ≡ map Some contents → position (pointwise same_atom atoms) contents ≡ position (λ e. same_key see n key e.0) es
+found_at see n key atoms es contents h k = alike (pointwise same_atom atoms) (λ e. same_key see n key e.0) contents es (tests_at see n key atoms es contents h k)
+
+-- contents stay where no string and no tuple changes
+each_stays : (see later : Value → Option Cell) (n : ℕ) → KeepsKeys see later → (es : List (Value × Value)) (contents : List (List Atom)) → map (λ e. content see n e.0) es ≡ map Some contents → map (λ e. content later n e.0) es ≡ map Some contents
+each_stays see later n k [] [] h = refl
+each_stays see later n k [] (a ∷ contents) h = cc
+each_stays see later n k (e ∷ es) [] h = cc
+each_stays see later n k (e ∷ es) (a ∷ contents) h =
+    let first : content see n e.0 ≡ Some a = cc in
+    let rest : map (λ d. content see n d.0) es ≡ map Some contents = cc in
+    let one : content later n e.0 ≡ Some a = contents_stay see later n e.0 a k first in
+    let all : map (λ d. content later n d.0) es ≡ map Some contents = each_stays see later n k es contents rest in
+    cc
 
 -- the place of a content is the place of its key
 pub placed_at : (w : Setting) (s : State) (es : List (Value × Value)) (contents : List (List Atom)) (key : Value) (atoms : List Atom) → contents_of (look s.store w.shelf) es ≡ map Some contents → content (look s.store w.shelf) key_levels key ≡ Some atoms → place_by atoms contents ≡ place_in w s key es
-placed_at w s es contents key atoms h k = place_found (look s.store w.shelf) key atoms (Some (cell.Dict es)) contents k h es refl
+placed_at w s es contents key atoms h k = found_at (look s.store w.shelf) key_levels key atoms es contents k h
 
 -- another value leaves the contents of the keys
 replaced : (see : Value → Option Cell) (es : List (Value × Value)) (at : ℕ) (e : Value × Value) (v : Value) (contents : List (List Atom)) → slice_get es at ≡ Some e → contents_of see es ≡ map Some contents → contents_of see (slice_set es at (e.0, v)) ≡ map Some contents
@@ -81,7 +114,7 @@ keys_stay w s t k = record {
 }
 
 stays_if : (w : Setting) (s t : State) (es : List (Value × Value)) (contents : Option (List (List Atom))) → Stays s t → IfSome contents (λ ks. contents_of (look s.store w.shelf) es ≡ map Some ks) → IfSome contents (λ ks. contents_of (look t.store w.shelf) es ≡ map Some ks)
-stays_if w s t es (Some ks) k h = stays_indexed (look s.store w.shelf) (look t.store w.shelf) (Some (cell.Dict es)) ks (keys_stay w s t k) h
+stays_if w s t es (Some ks) k h = each_stays (look s.store w.shelf) (look t.store w.shelf) key_levels (keys_stay w s t k) es ks h
 stays_if w s t es None k h = tt
 
 stays_gathered : (w : Setting) (s t : State) (g : Gathering) → Stays s t → IsGathered w s.store g → IsGathered w t.store g

@@ -5,13 +5,13 @@
 ghost use Rattle.std.specs.Prelude.{◌≡◌, ◌++◌, ◌∷◌, [], None, Some, map, is_some, not, true, if◌then◌else◌, IfOk, IfSome, OnErr, OnOk};
 ghost use Rattle.std.specs.Bool.{OnTrue};
 ghost use Rattle.star_store.specs.Content.{content as content_of};
-ghost use Rattle.star_store.specs.Index.{contents_of, place_by};
+ghost use Rattle.star_store.specs.Index.{place_by};
 ghost use Rattle.star_store.specs.Key.{key_levels};
 ghost use Rattle.star_store.specs.Store.{Store, look};
 ghost use Rattle.star_meaning.specs.Operators.{with_entry};
 ghost use Rattle.star_meaning.specs.Program.{Setting as GivenSetting};
 ghost use Rattle.star_meaning.specs.Values.{place_in};
-ghost use Rattle.star_machine.specs.Gathered.{IsGathered};
+ghost use Rattle.star_machine.specs.Gathered.{IsGathered, contents_of};
 
 use crate::machine::Machine;
 use crate::setting::Setting;

@@ -2,11 +2,10 @@
 use Rattle.std.proofs.Common.{◌≡◌, Bor, ℕ, zero, suc, ◌+◌, ◌<◌, ◌≤◌, Bool, true, false, not, cond, nat_eq, nat_lt, List, [], ◌∷◌, ◌++◌, length, map, get_or, take, drop, set, if◌then◌else◌, Option, Some, None, slice_get, slice_set, position, option_and_then, IfSome, Result, Ok, Err, refl, ap, sym, subst, ◌∙◌, ◌⊎◌, ⊎_elim, inl, inr, max, length-append, ◌-◌, arith}
 use Rattle.std.specs.List.{remove, prefix_len}
 use Rattle.std.specs.Option.{option_copied, option_flatten, option_map}
-use Rattle.std.specs.Cmp.Lexicographic.{pointwise}
 use Rattle.std.specs.Global.{Box}
 use Rattle.std.proofs.lemmas.Bool.{eq-eqb, eqb-true, eqb-false, ne_eqb}
 use Rattle.std.proofs.lemmas.List.{map-append, take-map, drop-map, length-map, length-set}
-use Rattle.std.proofs.lemmas.Option.{get_or_from_slice_get, slice_get-map}
+use Rattle.std.proofs.lemmas.Option.{get_or_from_slice_get}
 use Rattle.std.proofs.Math.Seq.{map-set_same}
 use Rattle.star_store.specs.declared.values.Value.{Value}
 use Rattle.star_store.specs.declared.values.Value.TheVariants as value
@@ -14,13 +13,14 @@ use Rattle.star_store.specs.declared.values.Cell.{Cell}
 use Rattle.star_store.specs.declared.values.Cell.TheVariants as cell
 use Rattle.star_store.specs.declared.values.Counted.{Counted}
 use Rattle.star_store.specs.declared.content.Atom.{Atom}
+use Rattle.star_store.specs.declared.content.Atom.TheVariants as atom
 use Rattle.star_store.specs.declared.arena.write.Change.{Change}
 use Rattle.star_store.specs.declared.arena.write.Change.TheVariants as change
 use Rattle.star_store.specs.declared.fault.StoreFault.{StoreFault}
 use Rattle.star_store.specs.declared.fault.StoreFault.TheVariants.{BadType, Key}
-use Rattle.star_store.specs.Content.{KeepsKeys, content, same_atom, same_content}
+use Rattle.star_store.specs.Content.{KeepsKeys, content, same_content}
 use Rattle.star_store.specs.Equal.{same_entry, same_found, same_pairs}
-use Rattle.star_store.specs.Index.{AreChanged, AreIndexed, Indexes, IsIndexed, Places, PlacesAt, alone, beside, entries_of, index_after, index_at, place_by, value_at}
+use Rattle.star_store.specs.Index.{AreChanged, AreIndexed, Indexes, IsIndexed, IsKnown, Places, PlacesAt, Shows, alone, beside, entries_of, index_after, index_at, key_entry, value_at}
 use Rattle.star_store.specs.Key.{find_in, is_key, key_levels, place_of, same_key, value_of}
 use Rattle.star_store.specs.Spend.{Spend, answer}
 use Rattle.star_store.specs.Store.{Published, Shelf, Store, bound_cell, changed_at, closed_in, is_container, look, opened_in, published_cells}
@@ -50,28 +50,6 @@ map_removed f xs i =
     ∙ ap (λ l. l ++ map f (drop (suc i) xs)) (sym (take-map f i xs))
     ∙ ap (λ l. take i (map f xs) ++ l) (sym (drop-map f (suc i) xs))
 
-key_tests : (look : Value → Option Cell) (n : ℕ) (key : Value) (es : List (Value × Value)) → map (λ e. same_key look n key e.0) es ≡ map (same_content (content look n key)) (map (λ e. content look n e.0) es)
-key_tests look n key [] = refl
-key_tests look n key (e ∷ es) = ap (λ (b : Bool). b ∷ map (λ d. same_key look n key d.0) es) (same_keys look n key e.0) ∙ ap (λ (bs : List Bool). same_content (content look n key) (content look n e.0) ∷ bs) (key_tests look n key es)
-
-content_tests : (atoms : List Atom) (index : List (List Atom)) → map (same_content (Some atoms)) (map Some index) ≡ map (pointwise same_atom atoms) index
-content_tests atoms [] = refl
-content_tests atoms (k ∷ index) = ap (λ (bs : List Bool). pointwise same_atom atoms k ∷ bs) (content_tests atoms index)
-
-tests_at : (look : Value → Option Cell) (n : ℕ) (key : Value) (atoms : List Atom) (es : List (Value × Value)) (index : List (List Atom)) → content look n key ≡ Some atoms → map (λ e. content look n e.0) es ≡ map Some index → map (pointwise same_atom atoms) index ≡ map (λ e. same_key look n key e.0) es
-tests_at look n key atoms es index h k =
-    sym (content_tests atoms index)
-    ∙ ap (map (same_content (Some atoms))) (sym k)
-    ∙ ap (λ (o : Option (List Atom)). map (same_content o) (map (λ e. content look n e.0) es)) (sym h)
-    ∙ sym (key_tests look n key es)
-
-found_at : (look : Value → Option Cell) (n : ℕ) (key : Value) (atoms : List Atom) (es : List (Value × Value)) (index : List (List Atom)) → content look n key ≡ Some atoms → map (λ e. content look n e.0) es ≡ map Some index → position (pointwise same_atom atoms) index ≡ position (λ e. same_key look n key e.0) es
-found_at look n key atoms es index h k = alike (pointwise same_atom atoms) (λ e. same_key look n key e.0) index es (tests_at look n key atoms es index h k)
-
--- a content is at the place in an index that its key has among the entries
-pub place_found : (look : Value → Option Cell) (key : Value) (atoms : List Atom) (c : Option Cell) (index : List (List Atom)) → content look key_levels key ≡ Some atoms → IsIndexed look c index → Places look key c (place_by atoms index)
-place_found look key atoms c index h k es e = found_at look key_levels key atoms es index h (subst (λ (d : Option Cell). IsIndexed look d index) e k)
-
 none_passes : (bs : List Bool) → prefix_len not (map (λ b. false) bs) ≡ length (map (λ b. false) bs)
 none_passes [] = refl
 none_passes (b ∷ bs) = ap (λ (n : ℕ). 1 + n) (none_passes bs) ∙ omega arith
@@ -96,52 +74,7 @@ none_found look key c h es k = sym (none_at key_levels h)
         ∙ past (prefix_len not (map (λ d. same_key look n key d.0) es)) (length (map (λ d. same_key look n key d.0) es))
         (subst (λ (bs : List Bool). prefix_len not bs ≡ length bs) (sym (none_tests look n key es e)) (none_passes (map (λ d. same_key look n key d.0) es)))
 
--- the content of a key, if it has one, is at the place in an index that its key has among the entries
-pub content_found : (look : Value → Option Cell) (key : Value) (c : Option Cell) (index : List (List Atom)) (o : Option (List Atom)) → content look key_levels key ≡ o → IsIndexed look c index → Places look key c (option_and_then (λ atoms. place_by atoms index) o)
-content_found look key c index (Some atoms) h k = place_found look key atoms c index h k
-content_found look key c index None h k = none_found look key c h
-
-pub content_places : (look : Value → Option Cell) (key : Value) (c : Option Cell) (index : List (List Atom)) (found : Option (Option ℕ)) → IfSome found (λ place. place ≡ option_and_then (λ atoms. place_by atoms index) (content look key_levels key)) → IsIndexed look c index → IfSome found (Places look key c)
-content_places look key c index (Some place) h k = subst (Places look key c) (sym h) (content_found look key c index (content look key_levels key) refl k)
-content_places look key c index None h k = tt
-
--- contents in other stores
-
-each_stays : (look later : Value → Option Cell) (n : ℕ) → KeepsKeys look later → (es : List (Value × Value)) (index : List (List Atom)) → map (λ e. content look n e.0) es ≡ map Some index → map (λ e. content later n e.0) es ≡ map Some index
-each_stays look later n k [] [] h = refl
-each_stays look later n k [] (a ∷ index) h = cc
-each_stays look later n k (e ∷ es) [] h = cc
-each_stays look later n k (e ∷ es) (a ∷ index) h =
-    let first : content look n e.0 ≡ Some a = cc in
-    let rest : map (λ d. content look n d.0) es ≡ map Some index = cc in
-    let one : content later n e.0 ≡ Some a = contents_stay look later n e.0 a k first in
-    let all : map (λ d. content later n d.0) es ≡ map Some index = each_stays look later n k es index rest in
-    cc
-
-pub stays_indexed : (look later : Value → Option Cell) (c : Option Cell) (index : List (List Atom)) → KeepsKeys look later → IsIndexed look c index → IsIndexed later c index
-stays_indexed look later (Some (cell.Dict es)) index k h = each_stays look later key_levels k es index h
-stays_indexed look later (Some (cell.Text t)) index k h = tt
-stays_indexed look later (Some (cell.Range r)) index k h = tt
-stays_indexed look later (Some (cell.Tuple xs)) index k h = tt
-stays_indexed look later (Some (cell.List xs)) index k h = tt
-stays_indexed look later (Some (cell.Func f)) index k h = tt
-stays_indexed look later (Some (cell.Frame f)) index k h = tt
-stays_indexed look later (Some (cell.Bound m v)) index k h = tt
-stays_indexed look later None index k h = tt
-
-in_more : (b : Bool) (cells more : List Counted) (at : ℕ) (c : Cell) → option_map (λ e. e.cell) (slice_get (if b then cells else []) at) ≡ Some c → option_map (λ e. e.cell) (slice_get (if b then cells else more) at) ≡ Some c
-in_more true cells more at c h = h
-in_more false cells more at c h = cc
-
-in_whole : (s : Store) (shelf : Shelf) (v : Value) (c : Cell) → alone s v ≡ Some c → look s shelf v ≡ Some c
-in_whole s shelf (value.Ref home at) c h = in_more (nat_eq home s.home) s.cells (published_cells (slice_get shelf home)) at c h
-in_whole s shelf value.NoneValue c h = cc
-in_whole s shelf (value.Bool b) c h = cc
-in_whole s shelf (value.Int n) c h = cc
-in_whole s shelf (value.Builtin b) c h = cc
-
-pub whole_keeps : (s : Store) (shelf : Shelf) → KeepsKeys (alone s) (look s shelf)
-whole_keeps s shelf = record { texts = λ v t h. in_whole s shelf v (cell.Text t) h; tuples = λ v xs h. in_whole s shelf v (cell.Tuple xs) h }
+-- an index beside other stores
 
 look_own : (s : Store) (shelf : Shelf) (home at : ℕ) → nat_eq home s.home ≡ true → look s shelf (value.Ref home at) ≡ cell_at s.cells at
 look_own s shelf home at own = ap (λ (b : Bool). option_map (λ (e : Counted). e.cell) (slice_get (if b then s.cells else published_cells (slice_get shelf home)) at)) own
@@ -152,49 +85,58 @@ look_far s shelf home at p far h =
     ∙ ap (λ (o : Option (Option Published)). option_map (λ (e : Counted). e.cell) (slice_get (published_cells o) at)) h
 
 -- an index of a store's own dictionary is one beside published stores
-pub own_indexed : (s : Store) (shelf : Shelf) (rows : Indexes) (v : Value) (home at : ℕ) (index : List (List Atom)) → v ≡ value.Ref home at → AreIndexed s rows → nat_eq home s.home ≡ true → index_at rows at ≡ Some index → IsIndexed (look s shelf) (look s shelf v) index
-own_indexed s shelf rows v home at index e h own k =
-    subst (λ (u : Value). IsIndexed (look s shelf) (look s shelf u) index) (sym e)
-    (subst (λ (c : Option Cell). IsIndexed (look s shelf) c index) (sym (look_own s shelf home at own))
-    (stays_indexed (alone s) (look s shelf) (cell_at s.cells at) index (whole_keeps s shelf) (h.each at index k)))
+own_indexed : (s : Store) (shelf : Shelf) (rows : Indexes) (v : Value) (home at : ℕ) (index : List (List Atom)) → v ≡ value.Ref home at → AreIndexed s rows → nat_eq home s.home ≡ true → index_at rows at ≡ Some index → IsKnown (look s shelf) (look s shelf v) index
+own_indexed s shelf rows v home at index e h own k = record {
+  of = s;
+  shows = λ i. look_own s shelf s.home i (eq-eqb s.home s.home refl);
+  indexed = subst (λ (c : Option Cell). IsIndexed s c index) (sym (ap (look s shelf) e ∙ look_own s shelf home at own)) (h.each at index k);
+}
 
-published : (home : ℕ) (p : Published) → Store
-published home p = record { home = home; cells = p.cells }
+store : ℕ → List Counted → Store
+store home cells = record { home = home; cells = cells }
 
-in_far : (s : Store) (shelf : Shelf) (home : ℕ) (p : Published) → nat_eq home s.home ≡ false → slice_get shelf home ≡ Some (Some p) → (v : Value) (c : Cell) → alone (published home p) v ≡ Some c → look s shelf v ≡ Some c
-unfolding published
-in_far s shelf home p far h (value.Ref k at) c e = by (nat_eq k home) refl e
-  where
-    by : (b : Bool) → nat_eq k home ≡ b → option_map (λ e. e.cell) (slice_get (if b then p.cells else []) at) ≡ Some c → look s shelf (value.Ref k at) ≡ Some c
-    by true q e' = subst (λ (n : ℕ). look s shelf (value.Ref n at) ≡ Some c) (sym (eqb-true k home q)) (look_far s shelf home at p far h ∙ e')
-    by false q e' = cc
-in_far s shelf home p far h value.NoneValue c e = cc
-in_far s shelf home p far h (value.Bool b) c e = cc
-in_far s shelf home p far h (value.Int n) c e = cc
-in_far s shelf home p far h (value.Builtin b) c e = cc
+-- the cells of a published store are shown under its number
+pub far_shown : (s : Store) (shelf : Shelf) (home : ℕ) (p : Published) → nat_eq home s.home ≡ false → slice_get shelf home ≡ Some (Some p) → Shows (look s shelf) home p.cells
+far_shown s shelf home p far h = λ i. look_far s shelf home i p far h
 
 -- an index of a published dictionary is one beside a store that reaches it
-pub far_indexed : (s : Store) (shelf : Shelf) (v : Value) (home at : ℕ) (p : Published) (index : List (List Atom)) → v ≡ value.Ref home at → nat_eq home s.home ≡ false → slice_get shelf home ≡ Some (Some p) → IsIndexed (alone (record { home = home; cells = p.cells })) (cell_at p.cells at) index → IsIndexed (look s shelf) (look s shelf v) index
-unfolding published
-far_indexed s shelf v home at p index e far h k =
-    subst (λ (u : Value). IsIndexed (look s shelf) (look s shelf u) index) (sym e)
-    (subst (λ (c : Option Cell). IsIndexed (look s shelf) c index) (sym (look_far s shelf home at p far h))
-    (stays_indexed (alone (published home p)) (look s shelf) (cell_at p.cells at) index (record { texts = λ u t q. in_far s shelf home p far h u (cell.Text t) q; tuples = λ u xs q. in_far s shelf home p far h u (cell.Tuple xs) q }) k))
+far_indexed : (s : Store) (shelf : Shelf) (v : Value) (home at : ℕ) (p : Published) (index : List (List Atom)) → v ≡ value.Ref home at → nat_eq home s.home ≡ false → slice_get shelf home ≡ Some (Some p) → IsIndexed (record { home = home; cells = p.cells }) (cell_at p.cells at) index → IsKnown (look s shelf) (look s shelf v) index
+unfolding store
+far_indexed s shelf v home at p index e far h k = record {
+  of = store home p.cells;
+  shows = far_shown s shelf home p far h;
+  indexed = subst (λ (c : Option Cell). IsIndexed (store home p.cells) c index) (sym (ap (look s shelf) e ∙ look_far s shelf home at p far h)) k;
+}
 
 -- facts of an index of a dictionary of the store's own
-pub told_own : (own : ℕ) (cells : List Counted) (s : Store) (shelf : Shelf) (rows : Indexes) (v : Value) (home at : ℕ) (r : Option (Bor (List (List Atom)))) → record { home = own; cells = cells } ≡ s → AreIndexed (record { home = own; cells = cells }) rows → v ≡ value.Ref home at → home ≡ own → option_copied r ≡ index_at rows at → IfSome r (λ b. IsIndexed (look s shelf) (look s shelf v) b.now)
+pub told_own : (own : ℕ) (cells : List Counted) (s : Store) (shelf : Shelf) (rows : Indexes) (v : Value) (home at : ℕ) (r : Option (Bor (List (List Atom)))) → record { home = own; cells = cells } ≡ s → AreIndexed (record { home = own; cells = cells }) rows → v ≡ value.Ref home at → home ≡ own → option_copied r ≡ index_at rows at → IfSome r (λ b. IsKnown (look s shelf) (look s shelf v) b.now)
 told_own own cells s shelf rows v home at None es h e q k = tt
 told_own own cells s shelf rows v home at (Some b) es h e q k =
-    subst (λ (t : Store). IsIndexed (look t shelf) (look t shelf v) b.now) es (own_indexed (record { home = own; cells = cells }) shelf rows v home at b.now e h (eq-eqb home own q) (sym k))
+    subst (λ (t : Store). IsKnown (look t shelf) (look t shelf v) b.now) es (own_indexed (record { home = own; cells = cells }) shelf rows v home at b.now e h (eq-eqb home own q) (sym k))
+
+there : (p : Published) (o : Option (Option Published)) → Some p ≡ option_flatten o → o ≡ Some (Some p)
+there p (Some o) q = ap Some (sym q)
+there p None q = cc
+
+-- a store that is found under another number is shown under it
+pub told_shown : (own : ℕ) (cells : List Counted) (s : Store) (shelf : Shelf) (home : ℕ) (p : Published) → record { home = own; cells = cells } ≡ s → (home ≡ own → ⊥) → Some p ≡ option_flatten (slice_get shelf home) → Shows (look s shelf) home p.cells
+told_shown own cells s shelf home p es n h = far_shown s shelf home p (subst (λ (t : Store). nat_eq home t.home ≡ false) es (ne_eqb home own n)) (there p (slice_get shelf home) h)
 
 -- and of a published one
-pub told_far : (own : ℕ) (cells : List Counted) (s : Store) (shelf : Shelf) (v : Value) (home at : ℕ) (p : Published) (r : Option (Bor (List (List Atom)))) → record { home = own; cells = cells } ≡ s → v ≡ value.Ref home at → (home ≡ own → ⊥) → Some p ≡ option_flatten (slice_get shelf home) → IfSome r (λ b. IsIndexed (alone (record { home = home; cells = p.cells })) (cell_at p.cells at) b.now) → IfSome r (λ b. IsIndexed (look s shelf) (look s shelf v) b.now)
+pub told_far : (own : ℕ) (cells : List Counted) (s : Store) (shelf : Shelf) (v : Value) (home at : ℕ) (p : Published) (r : Option (Bor (List (List Atom)))) → record { home = own; cells = cells } ≡ s → v ≡ value.Ref home at → (home ≡ own → ⊥) → Some p ≡ option_flatten (slice_get shelf home) → IfSome r (λ b. IsIndexed (record { home = home; cells = p.cells }) (cell_at p.cells at) b.now) → IfSome r (λ b. IsKnown (look s shelf) (look s shelf v) b.now)
 told_far own cells s shelf v home at p None es e n h k = tt
-told_far own cells s shelf v home at p (Some b) es e n h k = far_indexed s shelf v home at p b.now e (subst (λ (t : Store). nat_eq home t.home ≡ false) es (ne_eqb home own n)) (there (slice_get shelf home) h) k
+told_far own cells s shelf v home at p (Some b) es e n h k = far_indexed s shelf v home at p b.now e (subst (λ (t : Store). nat_eq home t.home ≡ false) es (ne_eqb home own n)) (there p (slice_get shelf home) h) k
+
+-- without a store nothing is found under a number
+pub none_shown : (own : ℕ) (cells : List Counted) (s : Store) (shelf : Shelf) (home : ℕ) → record { home = own; cells = cells } ≡ s → (home ≡ own → ⊥) → option_flatten (slice_get shelf home) ≡ None → Shows (look s shelf) home []
+none_shown own cells s shelf home es n h = λ at. by (slice_get shelf home) h at (nat_eq home s.home) (subst (λ (t : Store). nat_eq home t.home ≡ false) es (ne_eqb home own n))
   where
-    there : (o : Option (Option Published)) → Some p ≡ option_flatten o → o ≡ Some (Some p)
-    there (Some o) q = ap Some (sym q)
-    there None q = cc
+    by : (o : Option (Option Published)) → option_flatten o ≡ None → (at : ℕ) (b : Bool) → b ≡ false → option_map (λ e. e.cell) (slice_get (if b then s.cells else published_cells o) at) ≡ cell_at [] at
+    by None q at true e = cc
+    by None q at false e = refl
+    by (Some None) q at true e = cc
+    by (Some None) q at false e = refl
+    by (Some (Some p)) q at b e = cc
 
 -- a store that changes
 
@@ -227,8 +169,44 @@ alone_tuples s t k (value.Bool b) xs h = cc
 alone_tuples s t k (value.Int n) xs h = cc
 alone_tuples s t k (value.Builtin b) xs h = cc
 
-pub alone_stays : (s t : Store) → Stays s t → KeepsKeys (alone s) (alone t)
+alone_stays : (s t : Store) → Stays s t → KeepsKeys (alone s) (alone t)
 alone_stays s t k = record { texts = alone_texts s t k; tuples = alone_tuples s t k }
+
+-- what an index has for a key stays
+entry_stays : (s t : Store) → Stays s t → (v : Value) (a : List Atom) → key_entry s v ≡ Some a → key_entry t v ≡ Some a
+entry_stays s t k (value.Ref home at) a h =
+    ap (λ (n : ℕ). if nat_eq home n then content (alone t) key_levels (value.Ref home at) else Some (atom.Far home at ∷ [])) k.home
+    ∙ by (nat_eq home s.home) h
+  where
+    by : (b : Bool) → (if b then content (alone s) key_levels (value.Ref home at) else Some (atom.Far home at ∷ [])) ≡ Some a → (if b then content (alone t) key_levels (value.Ref home at) else Some (atom.Far home at ∷ [])) ≡ Some a
+    by true g = contents_stay (alone s) (alone t) key_levels (value.Ref home at) a (alone_stays s t k) g
+    by false g = g
+entry_stays s t k value.NoneValue a h = contents_stay (alone s) (alone t) key_levels value.NoneValue a (alone_stays s t k) h
+entry_stays s t k (value.Bool b) a h = contents_stay (alone s) (alone t) key_levels (value.Bool b) a (alone_stays s t k) h
+entry_stays s t k (value.Int n) a h = contents_stay (alone s) (alone t) key_levels (value.Int n) a (alone_stays s t k) h
+entry_stays s t k (value.Builtin b) a h = contents_stay (alone s) (alone t) key_levels (value.Builtin b) a (alone_stays s t k) h
+
+each_stays : (s t : Store) → Stays s t → (es : List (Value × Value)) (index : List (List Atom)) → map (λ e. key_entry s e.0) es ≡ map Some index → map (λ e. key_entry t e.0) es ≡ map Some index
+each_stays s t k [] [] h = refl
+each_stays s t k [] (a ∷ index) h = cc
+each_stays s t k (e ∷ es) [] h = cc
+each_stays s t k (e ∷ es) (a ∷ index) h =
+    let first : key_entry s e.0 ≡ Some a = cc in
+    let rest : map (λ d. key_entry s d.0) es ≡ map Some index = cc in
+    let one : key_entry t e.0 ≡ Some a = entry_stays s t k e.0 a first in
+    let all : map (λ d. key_entry t d.0) es ≡ map Some index = each_stays s t k es index rest in
+    cc
+
+stays_indexed : (s t : Store) (c : Option Cell) (index : List (List Atom)) → Stays s t → IsIndexed s c index → IsIndexed t c index
+stays_indexed s t (Some (cell.Dict es)) index k h = each_stays s t k es index h
+stays_indexed s t (Some (cell.Text x)) index k h = tt
+stays_indexed s t (Some (cell.Range r)) index k h = tt
+stays_indexed s t (Some (cell.Tuple xs)) index k h = tt
+stays_indexed s t (Some (cell.List xs)) index k h = tt
+stays_indexed s t (Some (cell.Func f)) index k h = tt
+stays_indexed s t (Some (cell.Frame f)) index k h = tt
+stays_indexed s t (Some (cell.Bound m v)) index k h = tt
+stays_indexed s t None index k h = tt
 
 within_rows : (rows : Indexes) (at : ℕ) (index : List (List Atom)) → index_at rows at ≡ Some index → at < length rows
 within_rows [] at index h = cc
@@ -239,12 +217,12 @@ within_rows (r ∷ rows) (suc at) index h = let k : at < length rows = within_ro
 pub still_indexed : (s t : Store) (rows : Indexes) → AreIndexed s rows → Stays s t → ((at : ℕ) (es : List (Value × Value)) → at < length s.cells → cell_at t.cells at ≡ Some (cell.Dict es) → cell_at s.cells at ≡ Some (cell.Dict es)) → length s.cells ≤ length t.cells → AreIndexed t rows
 still_indexed s t rows h k d l = record { each = λ at index q. each at index q (cell_at t.cells at) refl; within = let w : length rows ≤ length s.cells = h.within in omega arith }
   where
-    each : (at : ℕ) (index : List (List Atom)) → index_at rows at ≡ Some index → (c : Option Cell) → cell_at t.cells at ≡ c → IsIndexed (alone t) c index
+    each : (at : ℕ) (index : List (List Atom)) → index_at rows at ≡ Some index → (c : Option Cell) → cell_at t.cells at ≡ c → IsIndexed t c index
     each at index q (Some (cell.Dict es)) e =
         let r : at < length rows = within_rows rows at index q in
         let w : length rows ≤ length s.cells = h.within in
-        stays_indexed (alone s) (alone t) (Some (cell.Dict es)) index (alone_stays s t k)
-        (subst (λ (c : Option Cell). IsIndexed (alone s) c index) (d at es (omega arith) e) (h.each at index q))
+        stays_indexed s t (Some (cell.Dict es)) index k
+        (subst (λ (c : Option Cell). IsIndexed s c index) (d at es (omega arith) e) (h.each at index q))
     each at index q (Some (cell.Text t)) e = tt
     each at index q (Some (cell.Range r)) e = tt
     each at index q (Some (cell.Tuple xs)) e = tt
@@ -263,9 +241,6 @@ cell_within : (cells : List Counted) (at : ℕ) (c : Cell) → cell_at cells at 
 cell_within [] at c h = cc
 cell_within (e ∷ cells) zero c h = omega arith
 cell_within (e ∷ cells) (suc at) c h = let k : at < length cells = cell_within cells at c h in omega arith
-
-store : ℕ → List Counted → Store
-store home cells = record { home = home; cells = cells }
 
 -- a new cell has an address without an index
 pub made_indexed : (home : ℕ) (cells : List Counted) (e : Counted) (rows : Indexes) → AreIndexed (record { home = home; cells = cells }) rows → AreIndexed (record { home = home; cells = cells ++ e ∷ [] }) rows
@@ -395,29 +370,29 @@ entries_follow f (change.Insert i v) at atoms es before index x after h w q r = 
 entries_follow f (change.RemoveAt i) at atoms es before index x after h w q r = cc
 entries_follow f change.Clear at atoms es before index x after h w q r = cc
 
-cell_follows : (look : Value → Option Cell) (c : Change) (at : Option ℕ) (atoms : Option (List Atom)) (o : Option Cell) (before index : List (List Atom)) (x : Option Value) (d : Cell) → IsIndexed look o before → change_cell c at o ≡ Ok (x, d) → index_after c at atoms before ≡ Some index → IfSome atoms (λ a. option_and_then (content look key_levels) (key_of c) ≡ Some a) → IsIndexed look (Some d) index
-cell_follows seen c at atoms (Some (cell.Dict es)) before index x d h w q r = by (change_entries c at es) refl w
+cell_follows : (s : Store) (c : Change) (at : Option ℕ) (atoms : Option (List Atom)) (o : Option Cell) (before index : List (List Atom)) (x : Option Value) (d : Cell) → IsIndexed s o before → change_cell c at o ≡ Ok (x, d) → index_after c at atoms before ≡ Some index → IfSome atoms (λ a. option_and_then (key_entry s) (key_of c) ≡ Some a) → IsIndexed s (Some d) index
+cell_follows s c at atoms (Some (cell.Dict es)) before index x d h w q r = by (change_entries c at es) refl w
   where
-    by : (o : Result (Option Value × List (Value × Value)) StoreFault) → change_entries c at es ≡ o → in_cell cell.Dict o ≡ Ok (x, d) → IsIndexed seen (Some d) index
-    by (Err f) s p = cc
-    by (Ok y) s p =
+    by : (o : Result (Option Value × List (Value × Value)) StoreFault) → change_entries c at es ≡ o → in_cell cell.Dict o ≡ Ok (x, d) → IsIndexed s (Some d) index
+    by (Err f) z p = cc
+    by (Ok y) z p =
         let shape : cell.Dict y.1 ≡ d = second y.0 x (cell.Dict y.1) d (cc) in
-        let done : change_entries c at es ≡ Ok (y.0, y.1) = s in
-        subst (λ (e : Cell). IsIndexed seen (Some e) index) shape (entries_follow (content seen key_levels) c at atoms es before index y.0 y.1 h done q r)
-cell_follows seen c at atoms (Some (cell.List xs)) before index x d h w q r = by (change_items c xs) w
+        let done : change_entries c at es ≡ Ok (y.0, y.1) = z in
+        subst (λ (e : Cell). IsIndexed s (Some e) index) shape (entries_follow (key_entry s) c at atoms es before index y.0 y.1 h done q r)
+cell_follows s c at atoms (Some (cell.List xs)) before index x d h w q r = by (change_items c xs) w
   where
-    by : (o : Result (Option Value × List Value) StoreFault) → in_cell cell.List o ≡ Ok (x, d) → IsIndexed seen (Some d) index
+    by : (o : Result (Option Value × List Value) StoreFault) → in_cell cell.List o ≡ Ok (x, d) → IsIndexed s (Some d) index
     by (Err f) p = cc
     by (Ok y) p =
         let shape : cell.List y.1 ≡ d = second y.0 x (cell.List y.1) d (cc) in
-        subst (λ (e : Cell). IsIndexed seen (Some e) index) shape tt
-cell_follows seen c at atoms (Some (cell.Text t)) before index x d h w q r = cc
-cell_follows seen c at atoms (Some (cell.Range t)) before index x d h w q r = cc
-cell_follows seen c at atoms (Some (cell.Tuple t)) before index x d h w q r = cc
-cell_follows seen c at atoms (Some (cell.Func t)) before index x d h w q r = cc
-cell_follows seen c at atoms (Some (cell.Frame t)) before index x d h w q r = cc
-cell_follows seen c at atoms (Some (cell.Bound m v)) before index x d h w q r = cc
-cell_follows seen c at atoms None before index x d h w q r = cc
+        subst (λ (e : Cell). IsIndexed s (Some e) index) shape tt
+cell_follows s c at atoms (Some (cell.Text t)) before index x d h w q r = cc
+cell_follows s c at atoms (Some (cell.Range t)) before index x d h w q r = cc
+cell_follows s c at atoms (Some (cell.Tuple t)) before index x d h w q r = cc
+cell_follows s c at atoms (Some (cell.Func t)) before index x d h w q r = cc
+cell_follows s c at atoms (Some (cell.Frame t)) before index x d h w q r = cc
+cell_follows s c at atoms (Some (cell.Bound m v)) before index x d h w q r = cc
+cell_follows s c at atoms None before index x d h w q r = cc
 
 changed_other : (f : Counted → Counted) (cells : List Counted) (at i : ℕ) → (i ≡ at → ⊥) → cell_at (changed_at f cells at) i ≡ cell_at cells i
 changed_other f [] at i n = refl
@@ -446,7 +421,7 @@ module _ (c : Change) (place : Option ℕ) (x : Option Value) (d : Cell) where
   some_cell (Some b) w = (b, refl)
   some_cell None w = cc
 
-put_indexed : (home : ℕ) (cells : List Counted) (rows new : Indexes) (at : ℕ) (c : Change) (place : Option ℕ) (atoms : Option (List Atom)) (x : Option Value) (d : Cell) → AreIndexed (record { home = home; cells = cells }) rows → AreChanged at c place atoms rows new → IfSome atoms (λ a. option_and_then (content (alone (record { home = home; cells = cells })) key_levels) (key_of c) ≡ Some a) → change_cell c place (cell_at cells at) ≡ Ok (x, d) → AreIndexed (record { home = home; cells = changed_at (λ e. record e { cell = d }) cells at }) new
+put_indexed : (home : ℕ) (cells : List Counted) (rows new : Indexes) (at : ℕ) (c : Change) (place : Option ℕ) (atoms : Option (List Atom)) (x : Option Value) (d : Cell) → AreIndexed (record { home = home; cells = cells }) rows → AreChanged at c place atoms rows new → IfSome atoms (λ a. option_and_then (key_entry (record { home = home; cells = cells })) (key_of c) ≡ Some a) → change_cell c place (cell_at cells at) ≡ Ok (x, d) → AreIndexed (record { home = home; cells = changed_at (λ e. record e { cell = d }) cells at }) new
 unfolding store put_in
 put_indexed home cells rows new at c place atoms x d h k r w = record {
   each = λ i index q. by i index q (nat_eq i at) refl;
@@ -462,30 +437,30 @@ put_indexed home cells rows new at c place atoms x d h k r w = record {
     kept : (b : Cell) → (cell_at cells at ≡ Some b → ⊥) → (i : ℕ) → cell_at cells i ≡ Some b → cell_at (changed_at (put_in d) cells at) i ≡ Some b
     kept b n i q = changed_other (put_in d) cells at i (λ e. n (subst (λ (j : ℕ). cell_at cells j ≡ Some b) e q)) ∙ q
 
-    keeps : KeepsKeys (alone (store home cells)) (alone (store home (changed_at (put_in d) cells at)))
-    keeps = alone_stays (store home cells) (store home (changed_at (put_in d) cells at)) (record {
+    keeps : Stays (store home cells) (store home (changed_at (put_in d) cells at))
+    keeps = record {
       home = refl;
       texts = λ i y q. kept (cell.Text y) (no_text c place x d (cell_at cells at) y w) i q;
       tuples = λ i ys q. kept (cell.Tuple ys) (no_tuple c place x d (cell_at cells at) ys w) i q;
-    })
+    }
 
-    by : (i : ℕ) (index : List (List Atom)) → index_at new i ≡ Some index → (b : Bool) → nat_eq i at ≡ b → IsIndexed (alone (store home (changed_at (put_in d) cells at))) (cell_at (changed_at (put_in d) cells at) i) index
+    by : (i : ℕ) (index : List (List Atom)) → index_at new i ≡ Some index → (b : Bool) → nat_eq i at ≡ b → IsIndexed (store home (changed_at (put_in d) cells at)) (cell_at (changed_at (put_in d) cells at) i) index
     by i index q true e =
         let here : i ≡ at = eqb-true i at e in
         let was = k.here index (subst (λ (j : ℕ). index_at new j ≡ Some index) here q) in
         let one = some_cell c place x d (cell_at cells at) w in
-        subst (λ (j : ℕ). IsIndexed (alone (store home (changed_at (put_in d) cells at))) (cell_at (changed_at (put_in d) cells at) j) index) (sym here)
-        (subst (λ (o : Option Cell). IsIndexed (alone (store home (changed_at (put_in d) cells at))) o index) (sym (changed_here d cells at one.0 one.1))
-        (stays_indexed (alone (store home cells)) (alone (store home (changed_at (put_in d) cells at))) (Some d) index keeps
-        (cell_follows (alone (store home cells)) c place atoms (cell_at cells at) was.0 index x d (h.each at was.0 was.1) w was.2 r)))
+        subst (λ (j : ℕ). IsIndexed (store home (changed_at (put_in d) cells at)) (cell_at (changed_at (put_in d) cells at) j) index) (sym here)
+        (subst (λ (o : Option Cell). IsIndexed (store home (changed_at (put_in d) cells at)) o index) (sym (changed_here d cells at one.0 one.1))
+        (stays_indexed (store home cells) (store home (changed_at (put_in d) cells at)) (Some d) index keeps
+        (cell_follows (store home cells) c place atoms (cell_at cells at) was.0 index x d (h.each at was.0 was.1) w was.2 r)))
     by i index q false e =
         let off : i ≡ at → ⊥ = eqb-false i at e in
-        subst (λ (o : Option Cell). IsIndexed (alone (store home (changed_at (put_in d) cells at))) o index) (sym (changed_other (put_in d) cells at i off))
-        (stays_indexed (alone (store home cells)) (alone (store home (changed_at (put_in d) cells at))) (cell_at cells i) index keeps
+        subst (λ (o : Option Cell). IsIndexed (store home (changed_at (put_in d) cells at)) o index) (sym (changed_other (put_in d) cells at i off))
+        (stays_indexed (store home cells) (store home (changed_at (put_in d) cells at)) (cell_at cells i) index keeps
         (h.each i index (sym (k.others i off) ∙ q)))
 
 -- a change of a cell among the others, and of its index among theirs
-pub written_indexed : (home : ℕ) (cells : List Counted) (rows new : Indexes) (at : ℕ) (c : Change) (place : Option ℕ) (atoms : Option (List Atom)) (x : Option Value) (later : List Counted) → AreIndexed (record { home = home; cells = cells }) rows → AreChanged at c place atoms rows new → IfSome atoms (λ a. option_and_then (content (alone (record { home = home; cells = cells })) key_levels) (key_of c) ≡ Some a) → in_cells cells at (change_cell c place (cell_at cells at)) ≡ Ok (x, later) → AreIndexed (record { home = home; cells = later }) new
+pub written_indexed : (home : ℕ) (cells : List Counted) (rows new : Indexes) (at : ℕ) (c : Change) (place : Option ℕ) (atoms : Option (List Atom)) (x : Option Value) (later : List Counted) → AreIndexed (record { home = home; cells = cells }) rows → AreChanged at c place atoms rows new → IfSome atoms (λ a. option_and_then (key_entry (record { home = home; cells = cells })) (key_of c) ≡ Some a) → in_cells cells at (change_cell c place (cell_at cells at)) ≡ Ok (x, later) → AreIndexed (record { home = home; cells = later }) new
 written_indexed home cells rows new at c place atoms x later h k r w = by (change_cell c place (cell_at cells at)) refl w
   where
     by : (o : Result (Option Value × Cell) StoreFault) → change_cell c place (cell_at cells at) ≡ o → in_cells cells at o ≡ Ok (x, later) → AreIndexed (record { home = home; cells = later }) new
@@ -494,12 +469,12 @@ written_indexed home cells rows new at c place atoms x later h k r w = by (chang
         let shape : changed_at (λ d. record d { cell = y.1 }) cells at ≡ later = second y.0 x (changed_at (λ d. record d { cell = y.1 }) cells at) later (cc) in
         subst (λ (cs : List Counted). AreIndexed (record { home = home; cells = cs }) new) shape (put_indexed home cells rows new at c place atoms y.0 y.1 h k r e)
 
-content_told : (s t : Store) (key : Option Value) (r : Option (List Atom)) → s ≡ t → IfSome r (λ a. option_and_then (content (alone t) key_levels) key ≡ Some a) → IfSome r (λ a. option_and_then (content (alone s) key_levels) key ≡ Some a)
+content_told : (s t : Store) (key : Option Value) (r : Option (List Atom)) → s ≡ t → IfSome r (λ a. option_and_then (key_entry t) key ≡ Some a) → IfSome r (λ a. option_and_then (key_entry s) key ≡ Some a)
 content_told s t key None e h = tt
-content_told s t key (Some a) e h = ap (λ (u : Store). option_and_then (content (alone u) key_levels) key) e ∙ h
+content_told s t key (Some a) e h = ap (λ (u : Store). option_and_then (key_entry u) key) e ∙ h
 
 -- the same, if the store and its indexes are given by their parts
-pub write_indexed : (own : ℕ) (cells mid later : List Counted) (rows middle new : Indexes) (s : Store) (at : ℕ) (c : Change) (place : Option ℕ) (r : Option (List Atom)) (x : Option Value) → record { home = own; cells = cells } ≡ s → AreIndexed (record { home = own; cells = cells }) rows → mid ≡ cells → middle ≡ rows → AreChanged at c place r middle new → IfSome r (λ a. option_and_then (content (alone s) key_levels) (key_of c) ≡ Some a) → in_cells mid at (change_cell c place (cell_at mid at)) ≡ Ok (x, later) → AreIndexed (record { home = own; cells = later }) new
+pub write_indexed : (own : ℕ) (cells mid later : List Counted) (rows middle new : Indexes) (s : Store) (at : ℕ) (c : Change) (place : Option ℕ) (r : Option (List Atom)) (x : Option Value) → record { home = own; cells = cells } ≡ s → AreIndexed (record { home = own; cells = cells }) rows → mid ≡ cells → middle ≡ rows → AreChanged at c place r middle new → IfSome r (λ a. option_and_then (key_entry s) (key_of c) ≡ Some a) → in_cells mid at (change_cell c place (cell_at mid at)) ≡ Ok (x, later) → AreIndexed (record { home = own; cells = later }) new
 unfolding store
 write_indexed own cells mid later rows middle new s at c place r x es h em er k t w =
     written_indexed own cells rows new at c place r x later h
@@ -560,9 +535,9 @@ row_put rows at b l i found h = by (nat_eq i at) refl
     by false e = inl (sym (row_other rows at i (Some b) (eqb-false i at e)) ∙ h)
 
 -- a right index at an address keeps all of them right
-pub put_right : (s : Store) (rows new : Indexes) (at : ℕ) (index : List (List Atom)) → AreIndexed s rows → ((i : ℕ) (found : List (List Atom)) → index_at new i ≡ Some found → (index_at rows i ≡ Some found) ⊎ ((i ≡ at) × (found ≡ index))) → length new ≤ max (length rows) (at + 1) → at + 1 ≤ length s.cells → IsIndexed (alone s) (cell_at s.cells at) index → AreIndexed s new
+pub put_right : (s : Store) (rows new : Indexes) (at : ℕ) (index : List (List Atom)) → AreIndexed s rows → ((i : ℕ) (found : List (List Atom)) → index_at new i ≡ Some found → (index_at rows i ≡ Some found) ⊎ ((i ≡ at) × (found ≡ index))) → length new ≤ max (length rows) (at + 1) → at + 1 ≤ length s.cells → IsIndexed s (cell_at s.cells at) index → AreIndexed s new
 put_right s rows new at index h k l m q = record {
-  each = λ i found e. ⊎_elim (λ p. h.each i found p) (λ p. subst (λ (j : ℕ). IsIndexed (alone s) (cell_at s.cells j) found) (sym p.0) (subst (IsIndexed (alone s) (cell_at s.cells at)) (sym p.1) q)) (k i found e);
+  each = λ i found e. ⊎_elim (λ p. h.each i found p) (λ p. subst (λ (j : ℕ). IsIndexed s (cell_at s.cells j) found) (sym p.0) (subst (IsIndexed s (cell_at s.cells at)) (sym p.1) q)) (k i found e);
   within = let w : length rows ≤ length s.cells = h.within in omega arith;
 }
 
@@ -603,27 +578,6 @@ abbrev pub compared : (Value → Value → Spend Bool) → Option (Value × Opti
 compared f (Some p) = same_found f p.0 p.1
 compared f None = answer true
 
--- the content at a place of an index is that of the key there
-content_at : (seen : Value → Option Cell) (c : Option Cell) (index : List (List Atom)) (at : ℕ) (e : Value × Value) (a : List Atom) → IsIndexed seen c index → slice_get (entries_of c) at ≡ Some e → slice_get index at ≡ Some a → content seen key_levels e.0 ≡ Some a
-content_at seen (Some (cell.Dict es)) index at e a h p q =
-    let one : slice_get (map (λ d. content seen key_levels d.0) es) at ≡ slice_get (map Some index) at = ap (λ (os : List (Option (List Atom))). slice_get os at) h in
-    let left : slice_get (map (λ d. content seen key_levels d.0) es) at ≡ Some (content seen key_levels e.0) = slice_get-map (λ (d : Value × Value). content seen key_levels d.0) es at ∙ ap (option_map (λ (d : Value × Value). content seen key_levels d.0)) p in
-    let right : slice_get (map Some index) at ≡ Some (Some a) = slice_get-map Some index at ∙ ap (option_map Some) q in
-    let both : Some (content seen key_levels e.0) ≡ Some (Some a) = sym left ∙ one ∙ right in
-    cc
-content_at seen (Some (cell.Text t)) index at e a h p q = cc
-content_at seen (Some (cell.Range t)) index at e a h p q = cc
-content_at seen (Some (cell.Tuple t)) index at e a h p q = cc
-content_at seen (Some (cell.List t)) index at e a h p q = cc
-content_at seen (Some (cell.Func t)) index at e a h p q = cc
-content_at seen (Some (cell.Frame t)) index at e a h p q = cc
-content_at seen (Some (cell.Bound m v)) index at e a h p q = cc
-content_at seen None index at e a h p q = cc
-
--- a content of one dictionary's index is at the place in another's that its key has among the entries
-pub beside_found : (seen : Value → Option Cell) (c other : Option Cell) (left right : List (List Atom)) (at : ℕ) (a : List Atom) → IsIndexed seen c left → IsIndexed seen other right → slice_get left at ≡ Some a → PlacesAt seen c at other (place_by a right)
-beside_found seen c other left right at a h k q e p = place_found seen e.0 a other right (content_at seen c left at e a h p q) k
-
 -- the value at the place of a key is the key's
 pub value_found : (seen : Value → Option Cell) (key : Value) (c : Option Cell) (place : Option ℕ) → Places seen key c place → value_at (entries_of c) place ≡ value_of seen key (entries_of c)
 value_found seen key (Some (cell.Dict es)) place h = ap (value_at es) (h es refl)
@@ -639,6 +593,9 @@ value_found seen key None place h = nothing seen key place
 -- a pair of a value and the value that another dictionary has for its key
 pub beside_told : (seen : Value → Option Cell) (c other : Option Cell) (at : ℕ) (e : Value × Value) (place : Option ℕ) (v : Option Value) → Some e ≡ slice_get (entries_of c) at → PlacesAt seen c at other place → v ≡ value_at (entries_of other) place → Some (e.1, v) ≡ option_map (beside seen other) (slice_get (entries_of c) at)
 beside_told seen c other at e place v h k q = ap (λ (o : Option Value). Some (e.1, o)) (q ∙ value_found seen e.0 other place (k e (sym h))) ∙ ap (option_map (beside seen other)) h
+
+pub beside_key : (seen : Value → Option Cell) (c other : Option Cell) (at : ℕ) (e : Value × Value) (place : Option ℕ) (v : Option Value) → Some e ≡ slice_get (entries_of c) at → Places seen e.0 other place → v ≡ value_at (entries_of other) place → Some (e.1, v) ≡ option_map (beside seen other) (slice_get (entries_of c) at)
+beside_key seen c other at e place v h k q = ap (λ (o : Option Value). Some (e.1, o)) (q ∙ value_found seen e.0 other place k) ∙ ap (option_map (beside seen other)) h
 
 -- equality compares the value beside an entry
 pub same_beside : (seen : Value → Option Cell) (f : Value → Value → Spend Bool) (xs : List (Value × Value)) (other : Option Cell) (i : ℕ) (r : Option (Value × Option Value)) → r ≡ option_map (beside seen other) (slice_get xs i) → same_entry seen f xs (entries_of other) i ≡ compared f r

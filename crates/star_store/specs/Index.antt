@@ -1,28 +1,41 @@
 -- Indexes of dictionaries: the contents of the keys, in order, which tell the place of a key at once.
-use Rattle.std.specs.Prelude.{◌≡◌, ℕ, ◌≤◌, List, [], ◌∷◌, ◌++◌, length, map, Option, Some, None, slice_get, position, option_and_then}
-use Rattle.std.specs.List.{remove}
+use Rattle.std.specs.Prelude.{◌≡◌, ℕ, nat_eq, ◌≤◌, if◌then◌else◌, Bool, true, false, ◌||◌, List, [], ◌∷◌, ◌++◌, length, map, Option, Some, None, slice_get, position, option_and_then}
+use Rattle.std.specs.List.{list_all, list_any, remove}
 use Rattle.std.specs.Option.{option_map, option_flatten}
 use Rattle.std.specs.Cmp.Lexicographic.{pointwise}
 use Rattle.std.specs.Global.{Box}
 use Rattle.star_store.specs.declared.values.Value.{Value}
+use Rattle.star_store.specs.declared.values.Value.TheVariants as value
 use Rattle.star_store.specs.declared.values.Cell.{Cell}
 use Rattle.star_store.specs.declared.values.Cell.TheVariants as cell
+use Rattle.star_store.specs.declared.values.Counted.{Counted}
 use Rattle.star_store.specs.declared.content.Atom.{Atom}
+use Rattle.star_store.specs.declared.content.Atom.TheVariants as atom
 use Rattle.star_store.specs.declared.arena.write.Change.{Change}
 use Rattle.star_store.specs.declared.arena.write.Change.TheVariants as change
-use Rattle.star_store.specs.Content.{content, same_atom}
+use Rattle.star_store.specs.Content.{content, same_atom, same_content}
 use Rattle.star_store.specs.Key.{key_levels, place_of, value_of}
 use Rattle.star_store.specs.Store.{Store, look}
 use Rattle.star_store.specs.Write.{cell_at}
 
--- the contents of the keys of entries, in order
-abbrev pub contents_of : (Value → Option Cell) → List (Value × Value) → List (Option (List Atom))
-contents_of look es = map (λ e. content look key_levels e.0) es
+-- the cell that a value leads to in a store, if no published one is reached
+abbrev pub alone : Store → Value → Option Cell
+alone s = look s []
 
--- An index of a dictionary has the contents of its keys, in order. A cell that is not a dictionary needs none.
-abbrev pub IsIndexed : (Value → Option Cell) → Option Cell → List (List Atom) → Type 0
-IsIndexed look (Some (cell.Dict es)) index = contents_of look es ≡ map Some index
-IsIndexed look _ index = Unit {0}
+-- What an index has for a key: for a value that another file made the value's number, else the key's content, if it has
+-- one where no published store is reached.
+abbrev pub key_entry : Store → Value → Option (List Atom)
+key_entry s (value.Ref home at) =
+    if nat_eq home s.home then content (alone s) key_levels (value.Ref home at) else Some (atom.Far home at ∷ [])
+key_entry s v = content (alone s) key_levels v
+
+abbrev pub entries_by : Store → List (Value × Value) → List (Option (List Atom))
+entries_by s es = map (λ e. key_entry s e.0) es
+
+-- An index of a dictionary has its keys' contents or numbers, in order. A cell that is not a dictionary needs none.
+abbrev pub IsIndexed : Store → Option Cell → List (List Atom) → Type 0
+IsIndexed s (Some (cell.Dict es)) index = entries_by s es ≡ map Some index
+IsIndexed s _ index = Unit {0}
 
 -- the place of a content in an index
 abbrev pub place_by : List Atom → List (List Atom) → Option ℕ
@@ -32,6 +45,38 @@ place_by atoms index = position (pointwise same_atom atoms) index
 abbrev pub Places : (Value → Option Cell) → Value → Option Cell → Option ℕ → Type 0
 Places look key c place = (es : List (Value × Value)) → c ≡ Some (cell.Dict es) → place ≡ place_of look key es
 
+-- whether an index has, under the number of a value, a key of this content
+abbrev pub is_far : (Value → Option Cell) → List Atom → List Atom → Bool
+is_far look atoms (atom.Far home at ∷ []) = same_content (Some atoms) (content look key_levels (value.Ref home at))
+is_far look atoms _ = false
+
+-- the place of a content in an index, which has some keys under their numbers
+abbrev pub place_told : (Value → Option Cell) → List Atom → List (List Atom) → Option ℕ
+place_told look atoms index = position (λ k. pointwise same_atom atoms k || is_far look atoms k) index
+
+-- a file's values lead to these cells
+abbrev pub Shows : (Value → Option Cell) → ℕ → List Counted → Type 0
+Shows look home cells = (at : ℕ) → look (value.Ref home at) ≡ cell_at cells at
+
+-- an index is one of a dictionary, beside other stores
+pub record IsKnown (look : Value → Option Cell) (c : Option Cell) (index : List (List Atom)) : Type 0 where
+  pub of : Store
+  pub shows : Shows look of.home of.cells
+  pub indexed : IsIndexed of c index
+
+-- the file that made a value, if an index has the value's number
+abbrev pub far_home : List Atom → Option ℕ
+far_home (atom.Far home at ∷ []) = Some home
+far_home _ = None
+
+abbrev pub is_within : List ℕ → Option ℕ → Bool
+is_within homes None = true
+is_within homes (Some home) = list_any (λ h. nat_eq h home) homes
+
+-- the numbers in an index are of values that these files made
+abbrev pub Covers : List ℕ → List (List Atom) → Type 0
+Covers homes index = list_all (λ k. is_within homes (far_home k)) index ≡ true
+
 -- the indexes of a store's dictionaries, each at the address of its dictionary
 abbrev pub Indexes : Type 0
 Indexes = List (Option (Box (List (List Atom))))
@@ -40,14 +85,10 @@ Indexes = List (Option (Box (List (List Atom))))
 abbrev pub index_at : Indexes → ℕ → Option (List (List Atom))
 index_at rows at = option_map (λ b. b.value) (option_flatten (slice_get rows at))
 
--- the cell that a value leads to in a store, if no published one is reached
-abbrev pub alone : Store → Value → Option Cell
-alone s = look s []
-
 -- each index of a store is one of the dictionary at its address
 pub record AreIndexed (s : Store) (rows : Indexes) : Type 0 where
   pub each : (at : ℕ) (index : List (List Atom)) → index_at rows at ≡ Some index
-      → IsIndexed (alone s) (cell_at s.cells at) index
+      → IsIndexed s (cell_at s.cells at) index
   pub within : length rows ≤ length s.cells
 
 -- the entries of a dictionary, and none of another cell

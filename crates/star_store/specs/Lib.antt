@@ -13,6 +13,7 @@ pub mod Scalars
 pub mod Slots
 pub mod Spend
 pub mod Store
+pub mod Table
 pub mod Text
 pub mod Truth
 pub mod Write

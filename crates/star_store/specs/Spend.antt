@@ -1,7 +1,7 @@
 -- Operations that cost steps: an answer or a refusal, with the steps that are left.
 use Rattle.std.specs.Prelude.{◌≡◌, ℕ, ◌+◌, ◌-◌, nat_lt, Bool, true, false, Result, Ok, Err, if◌then◌else◌, zero, suc}
 use Rattle.star_store.specs.declared.fault.StoreFault.{StoreFault}
-use Rattle.star_store.specs.declared.fault.StoreFault.TheVariants.{Steps, Memory}
+use Rattle.star_store.specs.declared.fault.StoreFault.TheVariants.{Steps}
 
 -- an answer or a refusal, with the steps left
 pub data Spent (A : Type 0) : Type 0 where

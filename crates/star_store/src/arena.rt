@@ -10,11 +10,13 @@ ghost use Rattle.star_store.specs.declared.fault.StoreFault.TheVariants.{Memory}
 
 mod places;
 mod rows;
+mod tables;
 pub mod write;
 
 use crate::fault::StoreFault;
 use crate::globals::{ascend, global_among, global_in};
-use crate::index::Index;
+use crate::key_index::KeyIndex;
+use crate::table::TableSlot;
 use crate::values::{Cell, Counted, Value};
 use std::alloc::{AllocError, Global};
 use std::marker::Model;
@@ -26,7 +28,7 @@ pub struct Arena {
     alloc: Global,
     home: u32,
     cells: Vec<Counted>,
-    rows: Vec<Option<Box<Index>>>,
+    rows: Vec<Option<Box<KeyIndex>>>,
 }
 
 impl Model for Arena {
@@ -41,18 +43,19 @@ impl Model for Arena {
 }
 
 /// The store of a published module: its cells and its globals, which nothing changes any more. The values of a module
-/// with this number lead to its cells.
+/// with this number lead to its cells. Dictionaries of other modules that have its values for keys ask its table.
 #[derive(Drop)]
 pub struct Frozen {
     home: u32,
     cells: Vec<Counted>,
-    rows: Vec<Option<Box<Index>>>,
+    rows: Vec<Option<Box<KeyIndex>>>,
+    table: Option<TableSlot>,
     globals: Vec<(String, Value)>,
     is_ordered: bool,
 }
 
 impl Model for Frozen {
-    ghost use Rattle.std.specs.Prelude.{◌≡◌, map, string_bytes, true};
+    ghost use Rattle.std.specs.Prelude.{◌≡◌, IfSome, map, string_bytes, true};
     ghost use Rattle.star_store.specs.Index.{AreIndexed};
     ghost use Rattle.star_store.specs.Store.{Published, ascend};
 
@@ -63,6 +66,7 @@ impl Model for Frozen {
     ghost invariant = { λ f. record {
       ordered : f.is_ordered ≡ true → ascend (map (λ g. string_bytes g.0) f.globals.items);
       indexed : AreIndexed (record { home = f.home; cells = f.cells.items }) f.rows.items;
+      table : IfSome f.table (λ slot. slot ≡ f.cells.items);
     } };
 }
 
@@ -296,11 +300,13 @@ pub fn freeze(arena: Arena, globals: Vec<(String, Value)>) -> Frozen
     // Nothing is added any more.
     cells.shrink_to_fit();
     rows.shrink_to_fit();
+    let table = TableSlot::new(&cells);
     let is_ordered = ascend(&globals);
     Frozen {
         home,
         cells,
         rows,
+        table,
         globals,
         is_ordered,
     }

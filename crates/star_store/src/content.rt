@@ -13,6 +13,7 @@ ghost use Rattle.std.specs.Hash as fed;
 ghost use Rattle.std.specs.Option.{option_map};
 ghost use Rattle.std.proofs.Common.{rules};
 ghost use Rattle.star_store.specs.Content.{ContentsStay, KeysHaveContents, SameKeysHaveOneContent, after, content, content_row, only_atom, same_atom};
+ghost use Rattle.star_store.specs.Index.{far_home};
 ghost use Rattle.star_store.specs.Key.{key_levels};
 ghost use Rattle.star_store.specs.Scalars.{content_hashed, contents_alike, hashed, hashed_alike, hashed_as_equal, is_of, is_only, of_alike, scalar_atom};
 ghost use Rattle.star_store.specs.Store.{look};
@@ -29,6 +30,7 @@ use std::marker::Model;
 use std::slice;
 
 /// A part of a key's content: None, a bool, an int, a string, or how many items a tuple has, whose contents follow.
+/// `Far` is in no content: an index has it for a key that another file made, by the number of its value.
 #[derive(PartialEq, Eq, Hash, Drop)]
 pub enum Atom {
     Nothing,
@@ -36,6 +38,7 @@ pub enum Atom {
     Int(i64),
     Text(Text),
     Row(usize),
+    Far { home: u32, at: u32 },
 }
 
 /// The content of a key, which may be hashed and compared with no store beside it.
@@ -68,6 +71,25 @@ impl KeyContent {
     {
         KeyContent {
             atoms: Atoms::One(Atom::Row(count)),
+        }
+    }
+
+    /// What an index has for a key that another file made.
+    pub(crate) fn far(home: u32, at: u32) -> KeyContent
+        ensures { result ≡ atom.Far home at ∷ [] }
+    {
+        KeyContent {
+            atoms: Atoms::One(Atom::Far { home, at }),
+        }
+    }
+
+    /// The file that made the key, if this is the number of a value.
+    pub(crate) fn far_home(&self) -> Option<u32>
+        ensures { result ≡ far_home self.now }
+    {
+        match self.as_slice() {
+            [Atom::Far { home, .. }] => Some(*home),
+            _ => None,
         }
     }
 

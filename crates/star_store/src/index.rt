@@ -1,4 +1,4 @@
-//! The index of a dictionary: from the content of a key to the place of its entry, in constant time.
+//! From the content of a key to its place, in constant time: for the index of a dictionary, and for tables.
 //!
 //! If the key of an entry that has gone comes again, its old content is replaced by one that no key has.
 
@@ -13,8 +13,8 @@ use indexmap::IndexSet;
 use std::alloc::{AllocError, Global};
 use std::marker::Model;
 
-/// An index of a dictionary: the contents of its keys, in order. The first `gone` of them are of entries that were
-/// taken out: to take out the first entry, `gone` grows and nothing moves.
+/// Contents of keys, in order, none twice. The first `gone` of them were taken out: to take out the first, `gone` grows
+/// and nothing moves.
 #[derive(Drop)]
 pub struct Index {
     contents: IndexSet<KeyContent>,
@@ -41,6 +41,13 @@ impl Index {
             contents: IndexSet::with_capacity(alloc, capacity)?,
             gone: 0,
         })
+    }
+
+    /// How many contents there are.
+    pub fn len(&self) -> usize
+        ensures { result ≡ length self.now }
+    {
+        self.contents.as_slice()[self.gone..].len()
     }
 
     /// The content at a place.

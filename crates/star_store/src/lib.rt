@@ -8,9 +8,10 @@
 //!   module can reach, by file number.
 //! - A visit is a step of a walk over values. `equal`, `order`, `key`, `text` and `truth` are such walks: each visit
 //!   pays a step from a `Budget` and opens a level, so values that contain themselves are no danger.
-//! - A dictionary is a list of `Entries` in the order of insertion. If it is large, the arena has an `Index` for it:
-//!   from the content of a key (the hashable value, with no references left) to the place of its entry. Without an
-//!   index a look-up is a walk, with the same answer.
+//! - A dictionary is a list of `Entries` in the order of insertion. If it is large, the arena has a `KeyIndex` for it:
+//!   from the content of a key (the hashable value, with no references left) to the place of its entry. A key that
+//!   another file made is there under the number of its value, and the `Table` of that file's store says which values
+//!   have a content. Without an index a look-up is a walk, with the same answer.
 //! - `arithmetic` has the operations on ints of 64 bits, `slots` the variables of a frame, `roomy` vectors with free
 //!   places at their front.
 //!
@@ -34,11 +35,13 @@ pub mod fault;
 mod globals;
 mod index;
 pub mod key;
+mod key_index;
 pub mod names;
 pub mod order;
 pub mod range;
 mod roomy;
 pub mod slots;
+mod table;
 pub mod text;
 pub mod truth;
 pub mod values;

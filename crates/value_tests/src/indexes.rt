@@ -148,6 +148,71 @@ fn published_entries_are_found(rt: HostRuntime) -> Result<(), Fail> {
     published_entries_are_found_in(&rt, alloc, &mut Arena::new(alloc, 2), &homes, dict, far)
 }
 
+/// Tuples of an int and 1, for the ints below a number.
+fn pairs(
+    alloc: Global,
+    rt: &impl Abort,
+    arena: &mut Arena,
+    count: i64,
+) -> Result<Vec<Value>, Fail> {
+    let mut pairs = Vec::new(alloc);
+    for n in 0..count {
+        pairs.push(tuple(alloc, rt, arena, &[Value::Int(n), Value::Int(1)])?)?;
+    }
+    Ok(pairs)
+}
+
+/// Asserts that the n-th of some keys is found with n.
+fn are_found(rt: &impl Abort, arena: &Arena, homes: &Homes, dict: Value, keys: &[Value]) {
+    let mut n: i64 = 0;
+    for key in keys {
+        finds(rt, arena, homes, dict, *key, Some(n));
+        n = n.wrapping_add(1);
+    }
+}
+
+/// Keys that another file made, as many as let its store make a table of them.
+fn many_published_keys_are_found_in(
+    rt: &impl Abort,
+    alloc: Global,
+    arena: &mut Arena,
+    homes: &Homes,
+    far: &[Value],
+) -> Result<(), Fail> {
+    let dict = stores::dict(alloc, rt, arena)?;
+    let mut n: i64 = 0;
+    for key in far {
+        writes(
+            rt,
+            arena,
+            homes,
+            dict,
+            Change::Put(*key, Value::Int(n)),
+            Ok(None),
+        );
+        n = n.wrapping_add(1);
+    }
+    let near = pairs(alloc, rt, arena, 60)?;
+    are_found(rt, arena, homes, dict, far);
+    are_found(rt, arena, homes, dict, near.as_slice());
+    let other = tuple(alloc, rt, arena, &[Value::Int(60), Value::Int(1)])?;
+    finds(rt, arena, homes, dict, other, None);
+    Ok(())
+}
+
+#[test]
+fn many_published_keys_are_found(rt: HostRuntime) -> Result<(), Fail> {
+    let alloc = rt.alloc();
+    let none = Homes::new(alloc);
+    let mut first = Arena::new(alloc, 1);
+    let far = pairs(alloc, &rt, &mut first, 60)?;
+    let store = freeze(first, Vec::new(alloc));
+    let mut homes = Homes::new(alloc);
+    homes.add(1, &store)?;
+    let mut arena = Arena::new(alloc, 2);
+    many_published_keys_are_found_in(&rt, alloc, &mut arena, &homes, far.as_slice())
+}
+
 #[test]
 fn a_store_under_another_number_is_searched_by_a_walk(rt: HostRuntime) -> Result<(), Fail> {
     let alloc = rt.alloc();

@@ -2,12 +2,13 @@
 //!
 //! A walk compares a key that is not a tuple with each key in place (`place_of_scalar`), a tuple by the definition's
 //! recursion. A look-up in a published dictionary uses its index only under the file number of its store, which
-//! `Frozen` keeps; else it walks.
+//! `Frozen` keeps; else it walks. If an index has keys of other files, a look-up asks the tables of their stores
+//! (`tables.rt`).
 
 ghost use Rattle.std.specs.Prelude.{◌≡◌, IfSome, Some, length, option_and_then, slice_get};
 ghost use Rattle.std.specs.Option.{option_copied, option_map};
 ghost use Rattle.star_store.specs.Content.{content};
-ghost use Rattle.star_store.specs.Index.{IsIndexed, Places, PlacesAt, alone, beside, entries_of, index_at, place_by, value_at};
+ghost use Rattle.star_store.specs.Index.{IsIndexed, IsKnown, Places, PlacesAt, beside, entries_of, index_at, place_by, place_told, value_at};
 ghost use Rattle.star_store.specs.Key.{key_levels, place_of, value_of};
 ghost use Rattle.star_store.specs.Store.{look};
 ghost use Rattle.star_store.specs.declared.values.Cell.TheVariants as cell;
@@ -17,6 +18,7 @@ use crate::arena::{Arena, Frozen, Homes};
 use crate::content::{content, scalar_key};
 use crate::index::Index;
 use crate::key::{place_of, value_of};
+use crate::key_index::{FEW_FAR, KeyIndex};
 use crate::values::{Cell, Entries, Value};
 
 impl Arena {
@@ -66,9 +68,29 @@ impl Arena {
         ensures { IfSome result (Places (look self.now homes.now) key (look self.now homes.now dict)) }
     {
         let index = self.index(homes, dict)?;
+        if !index.is_near() {
+            return self.far_place(homes, index, key);
+        }
         match scalar_key(self, homes, key) {
-            Some(scalar) => Some(index.place_of_scalar(scalar)),
-            None => place_of_content(self, homes, index, key),
+            Some(scalar) => Some(index.keys().place_of_scalar(scalar)),
+            None => place_of_content(self, homes, index.keys(), key),
+        }
+    }
+
+    /// The place of a key in an index with keys of other files, if it can be told; the inner one is `None` if the value
+    /// is not a key.
+    fn far_place(&self, homes: &Homes, index: &KeyIndex, key: Value) -> Option<Option<usize>>
+        ensures { IfSome result (λ place. place ≡ option_and_then
+            (λ atoms. place_told (look self.now homes.now) atoms index.now)
+            (content (look self.now homes.now) key_levels key)) }
+    {
+        if index.keys().len() < FEW_FAR {
+            return None;
+        }
+        match content(self.alloc, self, homes, key) {
+            Ok(Some(content)) => self.place_told(homes, index, &content),
+            Ok(None) => Some(None),
+            Err(_) => None,
         }
     }
 
@@ -107,7 +129,10 @@ impl Arena {
         if let Some(place) = self.indexed_beside(homes, dict, at, other) {
             return Some((value, self.entry_value(homes, other, place)));
         }
-        Some((value, self.walked_value(homes, other, key)))
+        match self.indexed_place(homes, other, key) {
+            Some(place) => Some((value, self.entry_value(homes, other, place))),
+            None => Some((value, self.walked_value(homes, other, key))),
+        }
     }
 
     /// The value of the entry of a dictionary at a place, if there is one.
@@ -133,8 +158,8 @@ impl Arena {
         }
     }
 
-    /// One dictionary's place for the key of another's entry, if both have an index: by the content in the other's
-    /// index, so that no memory is taken.
+    /// One dictionary's place for the key of another's entry, if both have an index with no key of another file: by the
+    /// content in the other's index, so that no memory is taken.
     fn indexed_beside(
         &self,
         homes: &Homes,
@@ -145,14 +170,17 @@ impl Arena {
         ensures { IfSome result (PlacesAt (look self.now homes.now) (look self.now homes.now dict) at
             (look self.now homes.now other)) }
     {
-        let content = self.index(homes, dict)?.get(at)?;
-        let index = self.index(homes, other)?;
-        Some(index.place(content))
+        let left = self.index(homes, dict)?;
+        let right = self.index(homes, other)?;
+        if !left.is_near() || !right.is_near() {
+            return None;
+        }
+        Some(right.keys().place(left.keys().get(at)?))
     }
 
     /// The index of a dictionary.
-    fn index<'a>(&'a self, homes: &'a Homes, dict: Value) -> Option<&'a Index>
-        ensures { IfSome result (λ index. IsIndexed (look self.now homes.now)
+    fn index<'a>(&'a self, homes: &'a Homes, dict: Value) -> Option<&'a KeyIndex>
+        ensures { IfSome result (λ index. IsKnown (look self.now homes.now)
             (look self.now homes.now dict) index.now) }
     {
         let Value::Ref { home, at } = dict else {
@@ -184,8 +212,8 @@ fn place_of_content(
 
 impl Frozen {
     /// The index of the dictionary at an address, if values of this number lead to this module's cells.
-    fn index(&self, home: u32, at: u32) -> Option<&Index>
-        ensures { IfSome result (λ index. IsIndexed (alone (record { home = home; cells = self.now.cells }))
+    fn index(&self, home: u32, at: u32) -> Option<&KeyIndex>
+        ensures { IfSome result (λ index. IsIndexed (record { home = home; cells = self.now.cells })
             (cell_at self.now.cells at) index.now) }
     {
         if self.home != home {
@@ -195,7 +223,7 @@ impl Frozen {
     }
 }
 
-fn index_in(rows: &[Option<Box<Index>>], at: u32) -> Option<&Index>
+fn index_in(rows: &[Option<Box<KeyIndex>>], at: u32) -> Option<&KeyIndex>
     ensures { option_copied result ≡ index_at rows.now at }
 {
     match rows.get(at as usize) {

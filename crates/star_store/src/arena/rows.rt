@@ -3,19 +3,17 @@
 //! An index is tried when a cell is made, and when the number of entries is a power of two, so failed attempts cost at
 //! most twice the entries.
 
-ghost use Rattle.std.specs.Prelude.{◌≡◌, ◌≤◌, ◌+◌, ℕ, List, Some, None, map, max, length, IfSome, OnOk, ◌⊎◌, option_and_then};
+ghost use Rattle.std.specs.Prelude.{◌≡◌, ◌≤◌, ◌+◌, ℕ, List, [], Some, None, map, max, length, IfSome, OnOk, ◌⊎◌, option_and_then};
 ghost use Rattle.std.specs.Bool.{OnTrue};
-ghost use Rattle.star_store.specs.Content.{content};
-ghost use Rattle.star_store.specs.Index.{AreChanged, IsIndexed, alone, contents_of, index_after, index_at};
-ghost use Rattle.star_store.specs.Key.{key_levels};
+ghost use Rattle.star_store.specs.Index.{AreChanged, IsIndexed, entries_by, index_after, index_at, key_entry};
 ghost use Rattle.star_store.specs.Write.{cell_at, key_of};
 ghost use Rattle.star_store.specs.declared.content.Atom.{Atom as AnyAtom};
 
 use crate::arena::write::Change;
 use crate::arena::{Arena, Homes};
 use crate::content::{KeyContent, content};
-use crate::index::Index;
-use crate::values::{Cell, Entries};
+use crate::key_index::{FEW_FAR, KeyIndex};
+use crate::values::{Cell, Entries, Value};
 use std::alloc::AllocError;
 
 /// A dictionary that grows to this many entries gets an index: among fewer a walk is as fast.
@@ -61,8 +59,8 @@ impl Arena {
         }
     }
 
-    /// Makes an index of the dictionary at an address, if all keys have their content in this store, and memory
-    /// suffices. No value changes.
+    /// Makes an index of the dictionary at an address, if each key of this file has its content in this store, and
+    /// memory suffices. No value changes.
     #[inline(never)]
     pub(crate) fn add_index(&mut self, at: u32)
         ensures { self.new ≡ self.old }
@@ -73,8 +71,8 @@ impl Arena {
         }
     }
 
-    fn made_index(&self, at: u32) -> Option<Box<Index>>
-        ensures found { IfSome result (λ index. IsIndexed (alone self.now) (cell_at self.now.cells at) index.value) }
+    fn made_index(&self, at: u32) -> Option<Box<KeyIndex>>
+        ensures found { IfSome result (λ index. IsIndexed self.now (cell_at self.now.cells at) index.value) }
         ensures within { IfSome result (λ index. at + 1 ≤ length self.now.cells) }
     {
         let Cell::Dict(entries) = &self.cells.get(at as usize)?.cell else {
@@ -84,37 +82,56 @@ impl Arena {
         Box::new(self.alloc, index).ok()
     }
 
-    /// The content of the key that a change adds to a dictionary with an index.
+    /// What the index of a dictionary gets for the key that a change adds, if there is an index.
     pub(crate) fn new_content(
         &self,
         at: u32,
         change: Change,
         place: Option<usize>,
     ) -> Option<KeyContent>
-        ensures { IfSome result (λ c. option_and_then (content (alone self.now) key_levels) (key_of change) ≡ Some c) }
+        ensures { IfSome result (λ c. option_and_then (key_entry self.now) (key_of change) ≡ Some c) }
     {
         if place.is_some() || !self.has_index(at) {
             return None;
         }
-        let homes = Homes::new(self.alloc);
-        match content(self.alloc, self, &homes, change.key()?) {
-            Ok(content) => content,
-            Err(_) => None,
+        self.key_entry(&Homes::new(self.alloc), change.key()?)
+    }
+
+    /// What an index has for a key: the number of the value if another file made it, else its content, which needs no
+    /// published store.
+    fn key_entry(&self, nowhere: &Homes, key: Value) -> Option<KeyContent>
+        requires { nowhere.now ≡ [] }
+        ensures { IfSome result (λ c. key_entry self.now key ≡ Some c) }
+    {
+        match key {
+            Value::Ref { home, at } if home != self.home => Some(KeyContent::far(home, at)),
+            _ => content(self.alloc, self, nowhere, key).ok()?,
         }
+    }
+
+    /// The same for a new index; none for a key that another file made, if the keys are few.
+    fn early_entry(&self, nowhere: &Homes, key: Value, are_few: bool) -> Option<KeyContent>
+        requires { nowhere.now ≡ [] }
+        ensures { IfSome result (λ c. key_entry self.now key ≡ Some c) }
+    {
+        let entry = self.key_entry(nowhere, key)?;
+        if are_few && entry.far_home().is_some() {
+            return None;
+        }
+        Some(entry)
     }
 }
 
-/// The index of entries, if each key has its content in this store, and no content occurs twice.
-fn index_of(arena: &Arena, entries: &Entries) -> Option<Index>
-    ensures { IfSome result (λ index. contents_of (alone arena.now) entries.now ≡ map Some index) }
+/// The index of entries, if each key of this file has its content in this store, and nothing occurs twice. None if keys
+/// of other files are among few.
+fn index_of(arena: &Arena, entries: &Entries) -> Option<KeyIndex>
+    ensures { IfSome result (λ index. entries_by arena.now entries.now ≡ map Some index) }
 {
     let homes = Homes::new(arena.alloc);
-    let mut index = Index::with_capacity(arena.alloc, entries.len()).ok()?;
+    let mut index = KeyIndex::with_capacity(arena.alloc, entries.len()).ok()?;
+    let are_few = entries.len() < FEW_FAR;
     for entry in entries.as_slice() {
-        let Ok(Some(content)) = content(arena.alloc, arena, &homes, entry.0) else {
-            return None;
-        };
-        if !index.push(content) {
+        if !index.push(arena.early_entry(&homes, entry.0, are_few)?) {
             return None;
         }
     }
@@ -122,7 +139,11 @@ fn index_of(arena: &Arena, entries: &Entries) -> Option<Index>
 }
 
 /// Puts an index at an address.
-fn put_row(rows: &mut Vec<Option<Box<Index>>>, at: u32, index: Box<Index>) -> Result<(), AllocError>
+fn put_row(
+    rows: &mut Vec<Option<Box<KeyIndex>>>,
+    at: u32,
+    index: Box<KeyIndex>,
+) -> Result<(), AllocError>
     ensures each { (i : ℕ) (found : List (List AnyAtom)) → index_at rows.new.items i ≡ Some found
         → (index_at rows.old.items i ≡ Some found) ⊎ ((i ≡ at) × (found ≡ index.value)) }
     ensures within { length rows.new.items ≤ max (length rows.old.items) (at + 1) }
@@ -134,7 +155,7 @@ fn put_row(rows: &mut Vec<Option<Box<Index>>>, at: u32, index: Box<Index>) -> Re
 
 #[tactic(auto, using(crate::proofs::Indexes::row_grown))]
 /// Adds places with no index up to an address.
-fn widen(rows: &mut Vec<Option<Box<Index>>>, at: u32) -> Result<(), AllocError>
+fn widen(rows: &mut Vec<Option<Box<KeyIndex>>>, at: u32) -> Result<(), AllocError>
     ensures same { (i : ℕ) → index_at rows.new.items i ≡ index_at rows.old.items i }
     ensures within { length rows.new.items ≤ max (length rows.old.items) (at + 1) }
     ensures wide { OnOk result (at + 1 ≤ length rows.new.items) }
@@ -147,7 +168,7 @@ fn widen(rows: &mut Vec<Option<Box<Index>>>, at: u32) -> Result<(), AllocError>
 
 /// Changes the index at an address as its dictionary was changed.
 pub(crate) fn change_row(
-    rows: &mut [Option<Box<Index>>],
+    rows: &mut [Option<Box<KeyIndex>>],
     at: u32,
     change: Change,
     place: Option<usize>,
@@ -161,7 +182,7 @@ pub(crate) fn change_row(
 }
 
 fn change_index(
-    row: &mut Option<Box<Index>>,
+    row: &mut Option<Box<KeyIndex>>,
     change: Change,
     place: Option<usize>,
     content: Option<KeyContent>,
@@ -180,7 +201,7 @@ fn change_index(
 
 /// Changes an index as its dictionary was changed, and says whether that could be done.
 fn follow(
-    index: &mut Index,
+    index: &mut KeyIndex,
     change: Change,
     place: Option<usize>,
     content: Option<KeyContent>,
