@@ -43,14 +43,31 @@ fn number_from(digits: &[u8]) -> u128
     number
 }
 
+/// Bytes without leading zeros, taken off eight at a time; fewer than eight may be left. A program may ask for the int
+/// of a long string of zeros again and again, and pays one step each time.
+fn without_zeros(bytes: &[u8]) -> &[u8]
+    ensures digits { list_all spec.is_digit result.now ≡ list_all spec.is_digit bytes.now }
+    ensures number { spec.number_from 0 result.now ≡ spec.number_from 0 bytes.now }
+{
+    let mut rest = bytes;
+    while let [b'0', b'0', b'0', b'0', b'0', b'0', b'0', b'0', more @ ..] = rest {
+        rest = more;
+    }
+    rest
+}
+
 /// The number that decimal digits write, or 2^64 if it is not below; `None` for no digits, and for other bytes.
 fn decimal_of(bytes: &[u8]) -> Option<u128>
     ensures { result ≡ option_map capped (spec.decimal_of bytes.now) }
 {
-    if bytes.is_empty() || !are_digits(bytes) {
+    if bytes.is_empty() {
         return None;
     }
-    Some(number_from(bytes))
+    let digits = without_zeros(bytes);
+    if !are_digits(digits) {
+        return None;
+    }
+    Some(number_from(digits))
 }
 
 /// The int above 0 that digits write. `Overflow` outside 64 bits; `None` for other bytes.

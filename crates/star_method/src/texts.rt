@@ -225,7 +225,8 @@ fn are_texts(machine: &Machine, setting: &Setting, values: &[Value]) -> bool
     true
 }
 
-/// Whether a string begins or ends with one of some strings.
+/// Whether a string begins or ends with one of some strings. Of the same value in a row only the first is compared,
+/// since a long tuple may have one long string at each place.
 fn one_at_edge(
     machine: &Machine,
     setting: &Setting,
@@ -236,10 +237,12 @@ fn one_at_edge(
     ensures { result ≡ list_any (at_edge edge (bytes_of (content setting.now machine.now text)))
         (bytes_each setting.now machine.now parts.now) }
 {
+    let mut before = None;
     for part in parts {
-        if part_at_edge(machine, setting, edge, text, *part) {
+        if before != Some(*part) && part_at_edge(machine, setting, edge, text, *part) {
             return true;
         }
+        before = Some(*part);
     }
     false
 }
