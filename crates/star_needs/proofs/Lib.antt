@@ -1,0 +1,14 @@
+pub mod Outlines
+pub mod Sight
+pub mod Same
+pub mod SeenParts
+pub mod SeenCalls
+pub mod SeenNodes
+pub mod SeenRuns
+pub mod Rows
+pub mod Needs
+pub mod Portions
+pub mod Among
+pub mod Moves
+pub mod Bodies
+pub mod Ends

@@ -1,0 +1,123 @@
+-- Operations on values ask for no outlines.
+use Rattle.std.proofs.Common.{◌≡◌, ℕ, List, [], Option, Some, refl, ap, ◌∙◌}
+use Rattle.star_store.specs.declared.values.Cell.TheVariants as cell
+use Rattle.star_tree.specs.declared.tree.BinaryOperator.TheVariants as binary
+use Rattle.star_meaning.specs.declared.given.NamedValue.{NamedValue}
+use Rattle.star_meaning.specs.Run.{Action, ◌>>=◌, give}
+use Rattle.star_store.specs.declared.values.Value.{Value}
+use Rattle.star_store.specs.declared.names.BuiltIn.{BuiltIn}
+use Rattle.star_store.specs.declared.names.Method.{Method}
+use Rattle.star_store.specs.declared.arena.write.Change.{Change}
+use Rattle.star_tree.specs.declared.tree.BinaryOperator.{BinaryOperator}
+use Rattle.star_tree.specs.declared.tree.UnaryOperator.{UnaryOperator}
+use Rattle.star_tree.specs.declared.tree.Comparator.{Comparator}
+use Rattle.star_scope.specs.Outlines.{Outline}
+use Rattle.star_meaning.specs.declared.given.Given.{Given}
+use Rattle.star_meaning.specs.Arguments.{Passed}
+use Rattle.star_meaning.specs.Program.{Setting}
+use Rattle.star_needs.proofs.Outlines.{with_outlines}
+use Rattle.star_meaning.specs.Arguments.{given, name_key}
+use Rattle.star_meaning.specs.BuiltIns.{call_built_in}
+use Rattle.star_meaning.specs.Expressions.{fresh_entries}
+use Rattle.star_meaning.specs.ListMethods.{extend}
+use Rattle.star_meaning.specs.Methods.{attribute, call_method}
+use Rattle.star_meaning.specs.Operators.{compared, operate, prefix}
+use Rattle.star_meaning.specs.Pairs.{dict_of, pairs_of, put_pairs, update_with}
+use Rattle.star_meaning.specs.Statements.{augment_content, augmented}
+use Rattle.star_meaning.specs.Subscript.{index, put_entry, set_index, slice}
+use Rattle.star_meaning.specs.Values.{Content, Held, change, check_key, compare, count_of, equal, guard, is_true, iterate, repr, str, take_all, take_item, with_content}
+
+pub same-given : (os : List (Option Outline)) (w : Setting) (line : ℕ) (ps : List Passed) → given (with_outlines os w) line ps ≡ given w line ps
+unfolding given name_key count_of take_item
+same-given os w line ps = refl
+
+pub same-call_built_in : (os : List (Option Outline)) (w : Setting) (levels line : ℕ) (b : BuiltIn) (g : Given) → call_built_in (with_outlines os w) levels line b g ≡ call_built_in w levels line b g
+unfolding call_built_in operate prefix compared pairs_of put_pairs dict_of update_with index put_entry set_index slice count_of take_item iterate is_true equal compare check_key repr str guard change extend name_key
+same-call_built_in os w levels line b g = refl
+
+pub same-call_method : (os : List (Option Outline)) (w : Setting) (levels line : ℕ) (b : Method) (x : Value) (g : Given) → call_method (with_outlines os w) levels line b x g ≡ call_method w levels line b x g
+unfolding call_method call_built_in attribute operate prefix compared pairs_of put_pairs dict_of update_with index put_entry set_index slice count_of take_item iterate is_true equal compare check_key repr str guard change extend name_key
+same-call_method os w levels line b x g = refl
+
+pub same-attribute : (os : List (Option Outline)) (w : Setting) (line : ℕ) (x : Value) (name : List ℕ) → attribute (with_outlines os w) line x name ≡ attribute w line x name
+unfolding attribute
+same-attribute os w line x name = refl
+
+pub same-operate : (os : List (Option Outline)) (w : Setting) (levels line : ℕ) (op : BinaryOperator) (x y : Value) → operate (with_outlines os w) levels line op x y ≡ operate w levels line op x y
+unfolding operate equal compare check_key repr str is_true count_of take_item guard change iterate
+same-operate os w levels line op x y = refl
+
+pub same-prefix : (os : List (Option Outline)) (w : Setting) (line : ℕ) (op : UnaryOperator) (v : Value) → prefix (with_outlines os w) line op v ≡ prefix w line op v
+unfolding prefix is_true
+same-prefix os w line op v = refl
+
+pub same-compared : (os : List (Option Outline)) (w : Setting) (levels line : ℕ) (c : Comparator) (x y : Value) → compared (with_outlines os w) levels line c x y ≡ compared w levels line c x y
+unfolding compared equal compare check_key
+same-compared os w levels line c x y = refl
+
+pub same-index : (os : List (Option Outline)) (w : Setting) (levels line : ℕ) (x i : Value) → index (with_outlines os w) levels line x i ≡ index w levels line x i
+unfolding index check_key
+same-index os w levels line x i = refl
+
+pub same-put_entry : (os : List (Option Outline)) (w : Setting) (line : ℕ) (d k v : Value) → put_entry (with_outlines os w) line d k v ≡ put_entry w line d k v
+unfolding put_entry guard change
+same-put_entry os w line d k v = refl
+
+pub same-set_index : (os : List (Option Outline)) (w : Setting) (levels line : ℕ) (x i v : Value) → set_index (with_outlines os w) levels line x i v ≡ set_index w levels line x i v
+unfolding set_index put_entry guard change check_key
+same-set_index os w levels line x i v = refl
+
+pub same-slice : (os : List (Option Outline)) (w : Setting) (line : ℕ) (x : Value) (a b c : Option Value) → slice (with_outlines os w) line x a b c ≡ slice w line x a b c
+unfolding slice
+same-slice os w line x a b c = refl
+
+pub same-take_item : (os : List (Option Outline)) (w : Setting) (line : ℕ) (v : Value) (i : ℕ) → take_item (with_outlines os w) line v i ≡ take_item w line v i
+unfolding take_item count_of
+same-take_item os w line v i = refl
+
+pub same-take_all : (os : List (Option Outline)) (w : Setting) (line : ℕ) (v : Value) → take_all (with_outlines os w) line v ≡ take_all w line v
+unfolding take_item count_of
+same-take_all os w line v = refl
+
+pub same-is_true : (os : List (Option Outline)) (w : Setting) (v : Value) → is_true (with_outlines os w) v ≡ is_true w v
+unfolding is_true
+same-is_true os w v = refl
+
+pub same-iterate : (os : List (Option Outline)) (w : Setting) (line : ℕ) (v : Value) → iterate (with_outlines os w) line v ≡ iterate w line v
+unfolding iterate count_of
+same-iterate os w line v = refl
+
+pub same-change : (os : List (Option Outline)) (w : Setting) (line : ℕ) (v : Value) (c : Change) → change (with_outlines os w) line v c ≡ change w line v c
+unfolding change guard
+same-change os w line v c = refl
+
+pub same-check_key : (os : List (Option Outline)) (w : Setting) (levels line : ℕ) (k : Value) → check_key (with_outlines os w) levels line k ≡ check_key w levels line k
+unfolding check_key
+same-check_key os w levels line k = refl
+
+ext : {A B : Type 0} (f g : A → B) → ((x : A) → f x ≡ g x) → f ≡ g
+ext f g h = λ i x. h x i
+
+same-extend : (os : List (Option Outline)) (w : Setting) (line : ℕ) (x y : Value) → extend (with_outlines os w) line x y ≡ extend w line x y
+unfolding extend count_of take_item guard change
+same-extend os w line x y = refl
+
+same-guard : (os : List (Option Outline)) (w : Setting) (line : ℕ) (x : Value) → guard (with_outlines os w) line x ≡ guard w line x
+unfolding guard
+same-guard os w line x = refl
+
+same-update_with : (os : List (Option Outline)) (w : Setting) (levels line : ℕ) (x : Value) (o : Option Value) (ns : List NamedValue) (a : Action (Unit {0})) → update_with (with_outlines os w) levels line x o ns a ≡ update_with w levels line x o ns a
+unfolding update_with put_pairs pairs_of put_entry check_key count_of take_item guard change name_key
+same-update_with os w levels line x o ns a = refl
+
+augments : (os : List (Option Outline)) (w : Setting) (levels line : ℕ) (op : BinaryOperator) (x y : Value) (c : Content) → augment_content (with_outlines os w) levels line op x y c ≡ augment_content w levels line op x y c
+augments os w levels line binary.Add x y (Held (cell.List xs)) = ap (λ a. a >>= λ _. give x) (same-extend os w line x y)
+augments os w levels line binary.BitOr x y (Held (cell.Dict es)) = ap (λ a. a >>= λ _. give x) (same-update_with os w levels line x (Some y) [] (guard (with_outlines os w) line x) ∙ ap (update_with w levels line x (Some y) []) (same-guard os w line x))
+augments os w levels line op x y c = same-operate os w levels line op x y
+
+pub same-augmented : (os : List (Option Outline)) (w : Setting) (levels line : ℕ) (op : BinaryOperator) (x y : Value) → augmented (with_outlines os w) levels line op x y ≡ augmented w levels line op x y
+same-augmented os w levels line op x y = ap (λ f. with_content w x f) (ext _ _ (augments os w levels line op x y))
+
+pub same-fresh_entries : (os : List (Option Outline)) (w : Setting) (levels line : ℕ) (es xs : List (Value × Value)) → fresh_entries (with_outlines os w) levels line es xs ≡ fresh_entries w levels line es xs
+unfolding equal check_key
+same-fresh_entries os w levels line es xs = refl

@@ -1,0 +1,5 @@
+use Rattle.star_needs.proofs.Ends as lemmas
+use Rattle.star_needs.proofs.law.bodies_stay.Goals as goal
+
+pub returns : goal.returns
+returns c = lemmas.bodies_stay

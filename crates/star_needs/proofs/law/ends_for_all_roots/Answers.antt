@@ -1,0 +1,5 @@
+use Rattle.star_needs.proofs.Ends as lemmas
+use Rattle.star_needs.proofs.law.ends_for_all_roots.Goals as goal
+
+pub returns : goal.returns
+returns c = lemmas.ends_for_all_roots
