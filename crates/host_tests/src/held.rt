@@ -112,7 +112,15 @@ fn read_while_held<R: Threads + Wait + Sync>(
     let reads = read_files(rt, alloc, files, &trees, roots, None, 2)?;
     let programs = programs(alloc, &reads)?;
     let common = Common::new(
-        alloc, files, &reads, &programs, &shelf, roots, None, 100_000,
+        alloc,
+        files,
+        &reads,
+        &programs,
+        &shelf,
+        &[],
+        roots,
+        None,
+        100_000,
     );
     read_and_load::<Brand, R>(rt, &common, gate, roots, Blank::new(2))
 }

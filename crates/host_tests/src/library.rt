@@ -84,7 +84,15 @@ fn load_label<R: Threads + Wait + Sync>(
     let reads = read_files(rt, alloc, files, &trees, &roots, None, 2)?;
     let programs = programs(alloc, &reads)?;
     let common = Common::new(
-        alloc, files, &reads, &programs, &shelf, &roots, None, 100_000,
+        alloc,
+        files,
+        &reads,
+        &programs,
+        &shelf,
+        &[],
+        &roots,
+        None,
+        100_000,
     );
     load_first::<Brand, R>(rt, &common, &roots, Blank::new(2))
 }

@@ -132,7 +132,15 @@ fn run_over<'s, 'r, 't>(
 {
     let programs = programs(alloc, reads)?;
     let common = Common::new(
-        alloc, files, reads, &programs, modules, roots, prelude, steps,
+        alloc,
+        files,
+        reads,
+        &programs,
+        modules,
+        &[],
+        roots,
+        prelude,
+        steps,
     );
     run_named::<Brand>(&common, roots)
 }

@@ -6,3 +6,4 @@ pub mod NextLoads
 pub mod Settled
 pub mod Sharing
 pub mod Fewer
+pub mod Shared

@@ -28,6 +28,7 @@ use Rattle.star_outcome.specs.declared.naming.Naming
 use Rattle.star_reading.proofs.Closures.{tuple_sync}
 use Rattle.star_reading.proofs.Crossing.{program_sync, statement_sync}
 use Rattle.star_reading.proofs.code.StaticFault.TheSendSync as of_fault
+use Rattle.star_outcome.proofs.good_end.GoodEnd.TheSendSync as of_end
 use Rattle.star_outcome.proofs.module.Module.TheSendSync as of_module
 use Rattle.star_outcome.proofs.shelf.Shelf.TheSendSync as of_shelf
 use Rattle.star_outcome.proofs.told.Told.TheSendSync as of_told
@@ -50,6 +51,7 @@ common_sync κ ν μ ξ =
     let r = read_sync ξ in
     let f = files_sync ν ξ in
     let l = of_labels.the_sync in
+    let e = of_end.the_sync in
     let s = of_shelf.the_sync _ of_module.the_send of_module.the_sync in
     search (sendable, crosses) depth 40
 

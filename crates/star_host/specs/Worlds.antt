@@ -1,6 +1,8 @@
 -- The data that loaders share: `IsWorld` says that it is right for a plan; and the facts at a turn of a file whose
 -- loads are being asked for.
+use Rattle.std.specs.Arc.{arc_value}
 use Rattle.std.specs.Prelude.{◌≡◌, ◌+◌, ◌^◌, ◌<◌, ◌≤◌, ℕ, List, IfSome, Some, length, slice_get}
+use Rattle.std.specs.declared.sync.Arc.{Arc}
 use Rattle.star_cache.specs.State.{Loads}
 use Rattle.star_cache.specs.Walk.{IsOnCycle}
 use Rattle.star_label.specs.Files.{File}
@@ -10,13 +12,16 @@ use Rattle.star_plan.specs.Reading.{IsPlanOf}
 use Rattle.star_plan.specs.Runs.{ArePlaced}
 use Rattle.star_reading.specs.Readings.{readings, table_of}
 use Rattle.star_outcome.specs.Fits.{IsAsked}
+use Rattle.star_outcome.specs.GoodEnds.{AreGoodEnds}
 use Rattle.star_outcome.specs.Refusals.{IsRefusal}
+use Rattle.star_outcome.specs.declared.good_end.GoodEnd.{GoodEnd}
+use Rattle.star_outcome.specs.declared.module.Body.{Body}
 use Rattle.star_host.specs.declared.common.Common.{Common}
 use Rattle.star_host.specs.declared.loading.Turn.{Turn}
 use Rattle.star_host.specs.declared.loading.Turn.TheVariants.{Again, Enter, Ended}
 
 -- the data that loaders share is right for the cache: its files, the read files, their programs, its shelf, the
--- prelude's file and the steps; and the read files are the plan of the files
+-- prelude's file and the steps; the read files are the plan of the files, and the ends that are known are good there
 pub record IsWorld (files : List File) (plan : Plan) (shelf : List ℕ) (c : Common) : Type 0 where
   pub files_are : c.files.now ≡ files
   pub row_is : readings c.reads.now ≡ plan.reads
@@ -29,10 +34,15 @@ pub record IsWorld (files : List File) (plan : Plan) (shelf : List ℕ) (c : Com
   pub steps_fit : (1 ≤ c.steps) × (c.steps ≤ 100000000)
   pub planned : IsPlanOf files plan
   pub placed : ArePlaced files plan c.programs.now
+  pub ends_are : AreGoodEnds plan c.ends.now
 
 -- the plan of loaders that load these roots and share this data
 abbrev pub plan_in : List ℕ → Common → Plan
 plan_in roots c = record { roots = roots; prelude = c.prelude; steps = c.steps; reads = readings c.reads.now }
+
+-- the end of the file n is known, and has this body
+abbrev pub HasBody : {Z : Type 0} → Common → ℕ → Arc Body Z → Type 0
+HasBody c n b = (e : GoodEnd) × (slice_get c.ends.now n ≡ Some (Some e)) × (arc_value b ≡ arc_value e.body)
 
 abbrev pub IsTurn : List File → Plan → Turn → Type 0
 IsTurn files plan Again = Unit {0}

@@ -1,22 +1,26 @@
 //! The data that all loaders share.
 
-ghost use Rattle.std.specs.Prelude.{◌≡◌, ◌+◌, ◌^◌, ◌<◌, ◌≤◌, All, IfSome, length, slice_get};
+ghost use Rattle.std.specs.Prelude.{◌≡◌, ◌+◌, ◌^◌, ◌<◌, ◌≤◌, All, IfOk, IfSome, length, slice_get};
 ghost use Rattle.star_outcome.specs.Fits.{IsAsked, IsWithin};
-ghost use Rattle.star_host.specs.Worlds.{IsWorld, plan_in};
+ghost use Rattle.star_outcome.specs.GoodEnds.{AreGoodEndsOf};
+ghost use Rattle.star_host.specs.Worlds.{HasBody, IsWorld, plan_in};
 ghost use Rattle.star_reading.specs.Found.{IsReadOf};
 ghost use Rattle.star_reading.specs.Readings.{loads_at, table_of};
 
 use crate::table::loads_in;
 use star_label::files::Files as Labels;
-use star_outcome::module::Module;
+use star_outcome::good_end::GoodEnd;
+use star_outcome::module::{Body, Module};
 use star_outcome::shelf::Shelf;
 use star_reading::reading::{Read, Reads};
 use star_scope::loads::Load;
 use star_world::files::Files;
-use std::alloc::Global;
+use std::alloc::{AllocError, Global};
+use std::sync::Arc;
 
 /// The data that all loaders share: the read files, the programs of all files, a shelf for the module of each file, the
-/// prelude's file, and the steps that a body may take. These are 1 to 100,000,000.
+/// good ends that are known before the run, by the numbers of their files, the prelude's file, and the steps that a body
+/// may take. These are 1 to 100,000,000.
 #[derive(Drop)]
 pub struct Common<'s, 'r, 'p, 't> {
     pub alloc: Global,
@@ -24,6 +28,7 @@ pub struct Common<'s, 'r, 'p, 't> {
     pub reads: &'r [Option<Read<'t>>],
     pub programs: &'p Files<'r, 't>,
     pub modules: &'s Shelf<Module>,
+    pub ends: &'s [Option<GoodEnd>],
     pub prelude: Option<usize>,
     pub steps: u32,
 }
@@ -38,13 +43,14 @@ pub(crate) fn file_number(files: &Labels, n: usize) -> u32
 }
 
 impl<'s, 'r, 'p, 't> Common<'s, 'r, 'p, 't> {
-    /// The shared data for loading these roots: all that `load` needs.
+    /// The shared data for loading these roots: all that `load` needs. A file whose good end is among `ends` is not run.
     pub fn new(
         alloc: Global,
         files: &'s Labels,
         reads: &'r Reads<'t>,
         programs: &'p Files<'r, 't>,
         modules: &'s Shelf<Module>,
+        ends: &'s [Option<GoodEnd>],
         roots: &[usize],
         prelude: Option<usize>,
         steps: u32,
@@ -54,6 +60,7 @@ impl<'s, 'r, 'p, 't> Common<'s, 'r, 'p, 't> {
         requires cells { length modules.now ≡ length files.now }
         requires prelude { IfSome prelude (λ p. p < length files.now) }
         requires steps { (1 ≤ steps) × (steps ≤ 100000000) }
+        requires ends { AreGoodEndsOf files.now roots.now prelude steps ends.now }
         ensures world { IsWorld result.files.now (plan_in roots.now result) result.modules.now result }
         ensures within { IsWithin result.files.now (plan_in roots.now result) }
         ensures roots { All (IsAsked result.files.now (plan_in roots.now result)) roots.now }
@@ -68,8 +75,19 @@ impl<'s, 'r, 'p, 't> Common<'s, 'r, 'p, 't> {
             reads: reads.all.as_slice(),
             programs,
             modules,
+            ends,
             prelude,
             steps,
+        }
+    }
+
+    /// The body of a file whose good end is known, shared with it. The error: an allocation failed.
+    pub(crate) fn body(&self, n: usize) -> Result<Option<Arc<Body>>, AllocError>
+        ensures { IfOk result (λ r. IfSome r (HasBody self.now n)) }
+    {
+        match self.ends.get(n) {
+            Some(Some(end)) => Ok(Some(Arc::try_clone(&end.body)?)),
+            _ => Ok(None),
         }
     }
 

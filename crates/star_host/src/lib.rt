@@ -32,6 +32,7 @@ mod work;
 pub use common::Common;
 pub use loading::{LoadError, load};
 pub use running::{RunError, run, run_in};
+pub use star_outcome::good_end::GoodEnd;
 pub use star_outcome::naming::Naming;
 pub use star_outcome::outcome::Run;
 pub use star_outcome::shelf::Shelf;

@@ -10,7 +10,7 @@ ghost use Rattle.star_outcome.specs.Views.{IsEnd, IsModule, IsTold};
 use crate::common::Common;
 use crate::gate::Gate;
 use crate::table::{fault_at, program_at};
-use crate::work::run;
+use crate::work::body_end;
 use star_cache::{LoadCache, Reply, Seat};
 use star_outcome::frame::Frame;
 use star_outcome::module::{Ended, Module};
@@ -74,7 +74,7 @@ pub fn ended<'s, 'r, 'p, 't, J: Naming, G: Gate>(
                 line: load.line,
             })
         }
-        None => run::<J, G>(common, gate, loader, n, program, frame.modules()),
+        None => body_end::<J, G>(common, gate, loader, n, program, frame.modules()),
     }
 }
 

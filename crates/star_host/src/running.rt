@@ -2,6 +2,7 @@
 
 ghost use Rattle.std.specs.Prelude.{◌≡◌, ◌<◌, ◌≤◌, ◌⊎◌, ℕ, All, None, Some, count_by, is_some, length, map, max, sum, vec_len, IfOk, IfSome};
 ghost use Rattle.star_outcome.specs.Fits.{IsAsked, IsWithin};
+ghost use Rattle.star_outcome.specs.GoodEnds.{AreGoodEndsOf};
 ghost use Rattle.star_reading.specs.Found.{IsReadOf, Within};
 ghost use Rattle.star_host.specs.Counts.{AreCounts};
 ghost use Rattle.star_host.specs.Worlds.{IsWorld};
@@ -22,6 +23,7 @@ use crate::table::{is_read, programs, read_count};
 use star_cache::{Book, LoadCache, Seat};
 use star_flow::{Flow, Graph};
 use star_label::files::Files as Labels;
+use star_outcome::good_end::GoodEnd;
 use star_outcome::module::Module;
 use star_outcome::naming::Naming;
 use star_outcome::outcome::{Kept, Run};
@@ -315,6 +317,7 @@ fn run_over<'s, 'r, 't, R: Threads + Wait + Sync, G: Gate + Sync>(
     files: &'s Labels,
     reads: &'r Reads<'t>,
     modules: &'s Shelf<Module>,
+    ends: &'s [Option<GoodEnd>],
     roots: &[usize],
     prelude: Option<usize>,
     loaders: usize,
@@ -327,6 +330,7 @@ fn run_over<'s, 'r, 't, R: Threads + Wait + Sync, G: Gate + Sync>(
     requires cells { length modules.now ≡ length files.now }
     requires read { IsReadOf files.now roots.now prelude reads.now.all.items }
     requires placeable { All IsPlaceable reads.now.all.items }
+    requires ends { AreGoodEndsOf files.now roots.now prelude steps ends.now }
     ensures kept { IfOk result (λ c. AllKept modules.now c.kept.items) }
     ensures modules { IfOk result (λ c. AreModulesOf files.now roots.now prelude steps c.kept.items) }
     ensures begun { IfOk result (λ c. c.begun ≡ vec_len c.kept) }
@@ -336,7 +340,7 @@ fn run_over<'s, 'r, 't, R: Threads + Wait + Sync, G: Gate + Sync>(
 {
     let programs = programs(alloc, reads)?;
     let common = Common::new(
-        alloc, files, reads, &programs, modules, roots, prelude, steps,
+        alloc, files, reads, &programs, modules, ends, roots, prelude, steps,
     );
     let blank = Blank::new(loaders as u64);
     run_named::<Brand, R, G>(rt, &common, gate, roots, loaders, blank)
@@ -375,6 +379,7 @@ pub fn run<R: Threads + Wait + Sync, G: Gate + Sync>(
         files,
         &trees,
         parses.as_slice(),
+        &[],
         &mut reads,
         roots,
         prelude,
@@ -395,15 +400,17 @@ fn enough(loaders: usize, reads: &Reads) -> usize
     loaders.min(read_count(reads)).max(1)
 }
 
-/// As `run`, with the first files parsed already: their texts are not parsed again. The trees and the read files stay
-/// with the caller, who may leave them to the end of the process: to free them takes a tenth of the time of a run of
-/// many small files. The errors are those of `run`.
+/// As `run`, with the first files parsed already: their texts are not parsed again; and with good ends that are known
+/// already, by the numbers of their files: these files are not run again, but loaded and published as ever. The trees
+/// and the read files stay with the caller, who may leave them to the end of the process: to free them takes a tenth of
+/// the time of a run of many small files. The errors are those of `run`.
 pub fn run_in<'t, R: Threads + Wait + Sync, G: Gate + Sync>(
     rt: &R,
     alloc: Global,
     files: &Labels,
     trees: &'t Trees,
     parses: &[Parsed<'t>],
+    ends: &[Option<GoodEnd>],
     reads: &mut Reads<'t>,
     roots: &[usize],
     prelude: Option<usize>,
@@ -412,6 +419,7 @@ pub fn run_in<'t, R: Threads + Wait + Sync, G: Gate + Sync>(
     gate: &G,
 ) -> Result<Run, RunError>
     requires parses { AreParsesOf files.now parses.now }
+    requires ends { AreGoodEndsOf files.now roots.now prelude steps ends.now }
     requires roots { Within files.now roots.now }
     requires prelude { IfSome prelude (λ n. n < length files.now) }
     requires loaders { (1 ≤ loaders) × (loaders ≤ 64) }
@@ -434,7 +442,7 @@ pub fn run_in<'t, R: Threads + Wait + Sync, G: Gate + Sync>(
         per_loader,
         refused,
     } = run_over(
-        rt, alloc, files, reads, &modules, roots, prelude, loaders, steps, gate,
+        rt, alloc, files, reads, &modules, ends, roots, prelude, loaders, steps, gate,
     )?;
     Ok(Run::new(modules, kept, begun, per_loader, refused))
 }

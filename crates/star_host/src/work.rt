@@ -1,4 +1,4 @@
-//! The run of one file: its body, over the stores of all files that it needs, and the publication of its module.
+//! The run of one file: its body, over the stores of all files that it needs; or its end, if that is known already.
 
 ghost use Rattle.std.specs.Prelude.{◌≡◌, ◌<◌, ◌≤◌, Some, IfOk, ℕ, Contains, length, map};
 ghost use Rattle.star_meaning.specs.Module.{local};
@@ -7,6 +7,7 @@ ghost use Rattle.star_module.specs.Outcomes.{AreReady, IsOutcome, meant, run_by_
 ghost use Rattle.star_plan.specs.Plan.{loads_of};
 ghost use Rattle.star_plan.specs.Shelves.{Needs};
 ghost use Rattle.star_host.specs.Worlds.{IsWorld};
+ghost use Rattle.star_outcome.specs.Fits.{IsAsked};
 ghost use Rattle.star_outcome.specs.Gathered.{AreNeeded};
 ghost use Rattle.star_host.specs.Bodies.{IsRan, world_over};
 ghost use Rattle.star_outcome.specs.Reaches.{row_of};
@@ -29,6 +30,7 @@ use star_store::arena::{Frozen, Homes};
 use star_world::files::Files;
 use star_world::world::World;
 use std::alloc::{AllocError, Global};
+use std::sync::Arc;
 
 /// Runs the body of a file over these stores, with `steps` steps.
 fn outcome_in(
@@ -122,12 +124,14 @@ fn ended_of<J: Naming>(
             left,
         } => {
             let stores = stores_of::<J>(alloc, home, frozen, reaches)?;
-            Ok(Ended::Good(Body {
+            let body = Body {
                 stores,
                 shown,
                 lines,
                 paid: steps.saturating_sub(left),
-            }))
+            };
+            let body = Arc::new(alloc, body)?;
+            Ok(Ended::Good(body))
         }
         Outcome::Fault {
             code,
@@ -148,7 +152,7 @@ fn ended_of<J: Naming>(
 
 /// Runs the body of a file over the modules of its loads, which are all good, between the two hooks of the gate. Answers
 /// the end of the file.
-pub(crate) fn run<'s, 'r, 'p, 't, J: Naming, G: Gate>(
+fn run<'s, 'r, 'p, 't, J: Naming, G: Gate>(
     common: &Common<'s, 'r, 'p, 't>,
     gate: &G,
     loader: usize,
@@ -188,4 +192,26 @@ pub(crate) fn run<'s, 'r, 'p, 't, J: Naming, G: Gate>(
         prelude,
     );
     ended_of::<J>(common.alloc, home, outcome, common.steps, reaches, found)
+}
+
+/// The end of a file whose loads are all good: the one that is known already, or else that of its run. The gate is called
+/// only for a run.
+pub(crate) fn body_end<'s, 'r, 'p, 't, J: Naming, G: Gate>(
+    common: &Common<'s, 'r, 'p, 't>,
+    gate: &G,
+    loader: usize,
+    n: usize,
+    program: &'r Program<'t>,
+    modules: &[&'s Module],
+) -> Result<Ended, AllocError>
+    requires world { IsWorld J.files J.plan J.shelf common.now }
+    requires asked { IsAsked J.files J.plan n }
+    requires read { read_at common.now.reads.now n ≡ Some (read.Program program.now) }
+    requires loads { AreGoodLoads J.plan n (length (loads_of J.plan n)) (map (λ m. m.now) modules.now) }
+    ensures { IfOk result (IsEnd J.plan n) }
+{
+    match common.body(n)? {
+        Some(body) => Ok(Ended::Good(body)),
+        None => run::<J, G>(common, gate, loader, n, program, modules),
+    }
 }

@@ -4,3 +4,4 @@ pub mod Stores
 pub mod RefusedLoads
 pub mod Blocks
 pub mod Lent
+pub mod GoodEnds

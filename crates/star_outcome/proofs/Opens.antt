@@ -1,6 +1,7 @@
 -- Files whose loads are told.
 use Rattle.std.proofs.Common.{◌≡◌, ◌+◌, ◌<◌, ◌≤◌, ◌⊎◌, inl, inr, ℕ, zero, suc, true, false, List, [], ◌∷◌, ◌++◌, map, length, Option, Some, None, refl, ap, sym, ◌∙◌, subst, arith, length-append}
 use denote.Ref.{Bor}
+use Rattle.std.specs.Arc.{arc_value}
 use Rattle.std.specs.Prelude.{is_some, slice_get}
 use Rattle.std.proofs.lemmas.List.{map-append}
 use Rattle.std.proofs.lemmas.Bool.{cases_order}
@@ -25,7 +26,7 @@ end_good : (plan : Plan) (n : ℕ) (e : Ended) → IsEnd plan n e → ended_well
 end_good plan n (Static f) is well = absurd (let no : ⊥ = cc in no)
 end_good plan n (Unloaded index line) is well = absurd (let no : ⊥ = cc in no)
 end_good plan n (Stopped code line lines left) is well = absurd (let no : ⊥ = cc in no)
-end_good plan n (Good b) is well = to_good plan n (Ran (WentWell is.shelf is.globals (shown_texts b.shown.items) b.lines.items)) is.outcome refl
+end_good plan n (Good b) is well = to_good plan n (Ran (WentWell is.shelf is.globals (shown_texts (arc_value b).shown.items) (arc_value b).lines.items)) is.outcome refl
 
 end_bad : (plan : Plan) (n : ℕ) (e : Ended) → IsEnd plan n e → ended_well e ≡ false → IsGood plan n → ⊥
 end_bad plan n (Static f) is ill g = let both : false ≡ true = from_good plan n (StaticOutcome (fault_of f)) is g in let no : ⊥ = cc in no

@@ -1,8 +1,11 @@
 -- Stores that are gathered for a file.
 use Rattle.std.proofs.Common.{◌≡◌, ◌+◌, ◌<◌, ◌⊎◌, inl, inr, ℕ, zero, suc, true, false, List, [], ◌∷◌, ◌++◌, map, length, get_or, Option, Some, None, Result, Ok, Err, refl, ap, sym, ◌∙◌, subst, arith}
 use denote.Ref.{Bor}
+use Rattle.std.specs.Arc.{arc_value}
 use Rattle.std.specs.Prelude.{All, Contains, IfOk, OnOk, is_some, slice_get}
 use Rattle.std.specs.declared.alloc.AllocError.{AllocError}
+use Rattle.std.specs.declared.alloc.Global.{Global}
+use Rattle.std.specs.declared.sync.Arc.{Arc}
 use Rattle.std.specs.Option.{option_copied, option_flatten, option_map}
 use Rattle.std.proofs.lemmas.List.{get_or-append-add, get_or-map, get_or_append_left, get_or_default, length-append, length-map, map-append}
 use Rattle.std.proofs.lemmas.List.Elements.{All-append, All-nil, Contains-append_left, Contains-append_right}
@@ -205,8 +208,8 @@ more_there shelf rs i it is inside before here k d less = by_cases (same_or_not 
     (λ e. subst (λ j. HasStore shelf (get_or rs j d).number) (sym e) (subst (λ (x : ReachView). HasStore shelf x.number) (is ∙ get_or_default rs i it d inside) here))
     (λ ne. before k d (omega (arith, less, ne)))
 
-pub good_stores : (plan : Plan) (n : ℕ) (m : Module) (b : Body) → m.ended ≡ Good b → IsModule plan n m → AreStores plan n (row_of b.stores)
-good_stores plan n m b e is = (subst (IsEnd plan n) e is.ended).stores
+pub good_stores : (plan : Plan) (n : ℕ) (m : Module) (b : Arc Body Global) (body : Body) → m.ended ≡ Good b → body ≡ arc_value b → IsModule plan n m → AreStores plan n (row_of body.stores)
+good_stores plan n m b body e same is = subst (λ (x : Body). AreStores plan n (row_of x.stores)) (sym same) (subst (IsEnd plan n) e is.ended).stores
 
 pub on_ok : {T E A B : Type 0} (r : Result T E) → (A → B) → OnOk r A → OnOk r B
 on_ok (Ok x) f a = f a

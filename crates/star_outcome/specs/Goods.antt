@@ -1,4 +1,5 @@
 -- The end of a file tells whether the file is good.
+use Rattle.std.specs.Arc.{arc_value}
 use Rattle.std.specs.Prelude.{◌≡◌, ◌↔◌, ℕ, true, List}
 use Rattle.std.proofs.Common.{◌∙◌, sym}
 use Rattle.star_label.specs.Files.{File}
@@ -19,7 +20,8 @@ end_good plan n (Unloaded index line) is = good plan n (UnloadedOutcome index) _
 end_good plan n (Stopped code line lines left) is =
     good plan n (Ran (HadFault (record { code = code; line = line }) lines.items)) _ refl is
 end_good plan n (Good b) is =
-    good plan n (Ran (WentWell is.shelf is.globals (shown_texts b.shown.items) b.lines.items)) _ refl is.outcome
+    let body = arc_value b in
+    good plan n (Ran (WentWell is.shelf is.globals (shown_texts body.shown.items) body.lines.items)) _ refl is.outcome
 
 -- the product of a file tells whether the file is good
 pub told_good : (files : List File) (plan : Plan) (n : ℕ) (t : ToldView) → IsTold files plan n t

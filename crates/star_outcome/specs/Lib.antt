@@ -8,4 +8,5 @@ pub mod Refusals
 pub mod Frames
 pub mod Kept
 pub mod Goods
+pub mod GoodEnds
 pub mod Homes

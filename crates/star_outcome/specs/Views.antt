@@ -1,4 +1,5 @@
 -- Modules and products of the code, as contracts see them: the outcome of a file.
+use Rattle.std.specs.Arc.{arc_value}
 use Rattle.std.specs.Prelude.{◌≡◌, ◌<◌, ℕ, Bool, true, false, List, Option, Some, All, Contains, String, length, map, slice_get, string_bytes}
 use Rattle.star_cache.specs.State.{Loads}
 use Rattle.star_cache.specs.Walk.{LeadsTo}
@@ -51,7 +52,7 @@ IsEnd plan n (Unloaded index line) =
     × (l.line ≡ line))
 IsEnd plan n (Stopped code line lines left) =
     IsOutcome plan n (Ran (HadFault (record { code = code; line = line }) lines.items))
-IsEnd plan n (Good body) = IsBody plan n body
+IsEnd plan n (Good body) = IsBody plan n (arc_value body)
 
 -- a module of the file n, with the files that it loads
 pub record IsModule (plan : Plan) (n : ℕ) (m : Module) : Type 0 where

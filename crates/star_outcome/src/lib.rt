@@ -10,7 +10,7 @@
 //! - `Frame` is a file whose loads are being asked for, on the stack of a loader. It is not a frame of variables.
 //!   `Given` and `StoreRow` collect the stores that its body may read.
 //! - `Trace` has the refused loads; each is on a cycle. `Run` is the result of a run: the modules of all reached files,
-//!   by number.
+//!   by number. `GoodEnd` is the end of a file whose run went well; a caller may keep it, and give it to a later run.
 //! - `Naming`, called `J` in signatures, is the identity of one run: its files, their plan, its shelf. Only contracts
 //!   see it; it keeps the notes of two runs apart.
 //!
@@ -20,6 +20,7 @@
 
 pub mod frame;
 pub mod given;
+pub mod good_end;
 pub mod homes;
 pub mod module;
 pub mod naming;

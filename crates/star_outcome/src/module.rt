@@ -9,6 +9,7 @@ use star_meaning::fault::Code;
 use star_meaning::story::Step;
 use star_reading::code::StaticFault;
 use star_text::Text;
+use std::sync::Arc;
 
 /// The result of a good run.
 #[derive(Drop)]
@@ -49,7 +50,7 @@ pub enum Ended {
         left: Left,
     },
     /// Its run went well.
-    Good(Body),
+    Good(Arc<Body>),
 }
 
 /// The result of a file: its number, the files that it loads, and how it ended.

@@ -1,5 +1,6 @@
 -- The files by which files fail, as they are found among the modules of a run.
 use Rattle.std.proofs.Common.{arith, ◌≡◌, ◌<◌, ◌≤◌, ◌+◌, ◌↔◌, ◌⊎◌, inl, inr, ℕ, zero, suc, List, [], map, length, replicate, get_or, Option, Some, None, refl, ap, sym, subst, ◌∙◌}
+use Rattle.std.specs.Arc.{arc_value}
 use Rattle.std.specs.Prelude.{All, Contains, IfSome, slice_get, slice_index_or, slice_set}
 use Rattle.std.proofs.lemmas.Bool.{cases_eq, cases_lt}
 use Rattle.std.proofs.lemmas.List.{get_or-map, length-map}
@@ -29,7 +30,7 @@ no_load : (plan : Plan) (n m : ℕ) (e : Ended) → IsEnd plan n e → ((index l
 no_load plan n m (Static f) is other fails = stops plan n m (inl (fault_of f, is)) fails
 no_load plan n m (Unloaded index line) is other fails = other index line refl
 no_load plan n m (Stopped code line lines trail) is other fails = stops plan n m (inr (record { code = code; line = line }, lines.items, is)) fails
-no_load plan n m (Good body) is other fails = no_bad plan is.outcome.0 n (WentWell is.shelf is.globals (shown_texts body.shown.items) body.lines.items) fails.0 is.outcome.1 fails.1
+no_load plan n m (Good body) is other fails = no_bad plan is.outcome.0 n (WentWell is.shelf is.globals (shown_texts (arc_value body).shown.items) (arc_value body).lines.items) fails.0 is.outcome.1 fails.1
 
 -- a module that ended otherwise fails by no file
 pub fails_not : (it : Module) → ((index line : ℕ) → it.ended ≡ Unloaded index line → ⊥) → (plan : Plan) (n m : ℕ) → IsModule plan n it → (None ≡ Some m) ↔ FailsBy plan n m

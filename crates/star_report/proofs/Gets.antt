@@ -1,6 +1,7 @@
 -- The globals of roots as data.
 use Rattle.std.proofs.Common.{arith, ◌≡◌, ◌<◌, ◌+◌, ℕ, zero, suc, List, [], ◌∷◌, ◌++◌, length, take, drop, get_or, Option, Some, None, Result, Ok, Err, Vec, refl, ap, sym, subst, ◌∙◌, append_assoc}
 use denote.Ref.{Bor}
+use Rattle.std.specs.Arc.{arc_value}
 use Rattle.std.specs.Prelude.{Contains, slice_get}
 use Rattle.std.specs.Option.{option_flatten}
 use Rattle.std.proofs.lemmas.List.{flat_map_more, take_all, take_more}
@@ -47,7 +48,8 @@ ended_has files plan n (Static f) name planned is = (StaticOutcome (fault_of f),
 ended_has files plan n (Unloaded index line) name planned is = (UnloadedOutcome index, is.0, refl)
 ended_has files plan n (Stopped code line lines story) name planned is = (Ran (HadFault (record { code = code; line = line }) lines.items), is, refl)
 ended_has files plan n (Good b) name planned is =
-    (Ran (WentWell is.shelf is.globals (shown_texts b.shown.items) b.lines.items), is.outcome, sym (stored_is files plan n b planned is name))
+    let body = arc_value b in
+    (Ran (WentWell is.shelf is.globals (shown_texts body.shown.items) body.lines.items), is.outcome, sym (stored_is files plan n body planned is name))
 
 -- a module has what its file has for a name
 pub module_has : (files : List File) (plan : Plan) (n : ℕ) (m : Module) (name : List ℕ) → IsPlanOf files plan → IsModule plan n m → HasGot plan name n (got_in (length files) m.number m.ended name)

@@ -2,8 +2,11 @@
 use Rattle.std.proofs.Common.{◌≡◌, ℕ, Bool, true, false, ◌||◌, List, [], ◌∷◌, ◌++◌, Option, Some, None, Vec, codes, refl, ap, sym, subst, ◌∙◌, append-nil, append_assoc, if◌then◌else◌}
 use denote.Ref.{Bor}
 use Rattle.std.specs.Prelude.{MatchOption, filter, is_some, map}
+use Rattle.std.specs.Arc.{arc_value}
+use Rattle.std.specs.declared.alloc.Global.{Global}
 use Rattle.std.specs.declared.cmp.Ordering.{Ordering}
 use Rattle.std.specs.declared.cmp.Ordering.TheVariants.{Less, Equal, Greater}
+use Rattle.std.specs.declared.sync.Arc.{Arc}
 use Rattle.std.specs.Ordering.{match_ordering, nat_cmp}
 use Rattle.std.specs.Cmp.Lexicographic.{slice_cmp}
 use Rattle.std.specs.BTreeMap.{insert_entry}
@@ -20,10 +23,10 @@ use Rattle.star_outcome.specs.Views.{shown_texts}
 use Rattle.star_outcome.specs.declared.module.Body.{Body}
 use Rattle.star_outcome.specs.declared.module.Ended.{Ended}
 use Rattle.star_outcome.specs.declared.module.Ended.TheVariants.{Static, Load as Unloaded, Stopped, Good}
-use Rattle.star_report.specs.Shelf.{loads_part, steps_part, values_in}
+use Rattle.star_report.specs.Shelf.{loads_part, names_of, steps_part, stored_data, values_in}
 use Rattle.star_report.specs.declared.wanted.Wanted.{Wanted}
 use Rattle.star_report.specs.Texts.{AreTexts, EndsIn, IsTextFor, Texts, and_last, joined_members}
-use Rattle.star_report.specs.Values.{put_some}
+use Rattle.star_report.specs.Values.{put_some, value_members_by}
 use Rattle.star_report.specs.Wanted.{added, followed, load_member, put_in}
 
 -- ---- one more
@@ -182,21 +185,26 @@ added_three l s v d = added_followed l (followed s v) d ∙ added_followed s v (
 pub no_values : (b : Bool) (ms : Members) → b ≡ false → (if b then ms else no_members) ≡ no_members
 no_values b ms e = ap (λ c. if c then ms else no_members) e
 
-pub no_body : (b : Bool) (files n : ℕ) (e : Ended) → ((body : Body) → e ≡ Good body → ⊥) → (if b then values_in files n e else no_members) ≡ no_members
+pub no_body : (b : Bool) (files n : ℕ) (e : Ended) → ((body : Arc Body Global) → e ≡ Good body → ⊥) → (if b then values_in files n e else no_members) ≡ no_members
 no_body true files n (Static f) h = refl
 no_body true files n (Unloaded index line) h = refl
 no_body true files n (Stopped code line lines trail) h = refl
 no_body true files n (Good body) h = absurd (h body refl)
 no_body false files n e h = refl
 
+pub values_there : (b : Bool) (files n : ℕ) (e : Ended) (good : Arc Body Global) (body : Body) → b ≡ true → e ≡ Good good → body ≡ arc_value good → (if b then values_in files n e else no_members) ≡ value_members_by (stored_data files n body) (names_of body)
+values_there b files n e good body wanted is same =
+    ap (λ x. if x then values_in files n e else no_members) wanted
+    ∙ (ap (values_in files n) is ∙ ap (λ x. value_members_by (stored_data files n x) (names_of x)) (sym same))
+
 -- the text of data is that of the same data
 pub same_text : (d e : Data) (t : List ℕ) → e ≡ d → (has_float d ≡ false → t ≡ compact_text d) → has_float e ≡ false → t ≡ compact_text e
 same_text d e t same h none = h (ap has_float (sym same) ∙ none) ∙ ap compact_text (sym same)
 
 -- what shows a file that is ok ends before its values
-pub shown_ends : (wanted : Wanted) (files : List File) (loads : List Load) (e : Ended) (body : Body) (label : List ℕ) (d shown : Data) → e ≡ Good body → shown ≡ well_data label (shown_texts body.shown.items) body.lines.items
+pub shown_ends : (wanted : Wanted) (files : List File) (loads : List Load) (e : Ended) (b : Arc Body Global) (label : List ℕ) (d shown : Data) → e ≡ Good b → shown ≡ well_data label (shown_texts (arc_value b).shown.items) (arc_value b).lines.items
     → EndsIn (codes "values") (put_in (codes "opaque") d (added (steps_part wanted e) (added (loads_part wanted files loads) shown)))
-shown_ends wanted files loads e body label d shown is well =
+shown_ends wanted files loads e b label d shown is well =
     subst (λ x. EndsIn (codes "values") (put_in (codes "opaque") d (added (steps_part wanted x) (added (loads_part wanted files loads) shown)))) (sym is)
-    (subst (λ x. EndsIn (codes "values") (put_in (codes "opaque") d (added (steps_part wanted (Good body)) (added (loads_part wanted files loads) x)))) (sym well)
-    (good_ends wanted.loads wanted.steps label (shown_texts body.shown.items) body.lines.items (array (items_of (map (load_member files) (filter (λ (l : Load). is_some l.token) loads)))) (number (unsigned body.paid)) d))
+    (subst (λ x. EndsIn (codes "values") (put_in (codes "opaque") d (added (steps_part wanted (Good b)) (added (loads_part wanted files loads) x)))) (sym well)
+    (good_ends wanted.loads wanted.steps label (shown_texts (arc_value b).shown.items) (arc_value b).lines.items (array (items_of (map (load_member files) (filter (λ (l : Load). is_some l.token) loads)))) (number (unsigned (arc_value b).paid)) d))

@@ -1,5 +1,6 @@
 -- The values that show modules, and the report of them.
 use Rattle.std.proofs.Common.{arith, ◌≡◌, ◌<◌, ◌+◌, ℕ, Bool, List, [], ◌∷◌, ◌++◌, map, take, length, get_or, Some, None, refl, ap, sym, subst, ◌∙◌}
+use Rattle.std.specs.Arc.{arc_value}
 use Rattle.std.specs.Prelude.{All, Contains, slice_index_or}
 use Rattle.serde_json.specs.Data.{Data, Members, no_members}
 use Rattle.std.specs.List.Sorted.{IsStrictlyIncreasing}
@@ -46,7 +47,7 @@ one_shown files plan nexts n (Static f) v planned are reached is shown = (HadSta
 one_shown files plan nexts n (Unloaded index line) v planned are reached is shown =
     (HadLoad shown.0 line, (shown.1 files plan planned are reached (bad_load plan n index is.0), (index, is.1.0, is.0, is.1.1, is.1.2)), shown.2, refl)
 one_shown files plan nexts n (Stopped code line lines trail) v planned are reached is shown = (HadFault (record { code = code; line = line }) lines.items, is, shown, refl)
-one_shown files plan nexts n (Good body) v planned are reached is shown = (WentWell (shown_texts body.shown.items) body.lines.items, (is.shelf, is.globals, is.outcome), shown, refl)
+one_shown files plan nexts n (Good body) v planned are reached is shown = (WentWell (shown_texts (arc_value body).shown.items) (arc_value body).lines.items, (is.shelf, is.globals, is.outcome), shown, refl)
 
 -- ---- the modules that are kept
 

@@ -1,5 +1,6 @@
 -- The shelf of a module's stores has what the module's own has.
 use Rattle.std.proofs.Common.{arith, ◌≡◌, ◌<◌, ℕ, zero, suc, Bool, true, false, nat_eq, List, [], ◌∷◌, fold, map, length, Option, Some, None, refl, ap, sym, subst, ◌∙◌, ◌⊎◌, inl, inr, if◌then◌else◌, eqb-true}
+use Rattle.std.specs.Arc.{arc_value}
 use Rattle.std.specs.Prelude.{String, codes, filter, is_some, not, ◌&&◌, option_and_then, slice_get, slice_index_or, string_bytes}
 use Rattle.serde_json.specs.Data.{Data, Members, array, member, no_members, object, string}
 use Rattle.serde_json.specs.View.{items_of}
@@ -295,11 +296,12 @@ values_has files plan n (Static f) planned is = (StaticOutcome (fault_of f), is,
 values_has files plan n (Unloaded index line) planned is = (UnloadedOutcome index, is.0, refl)
 values_has files plan n (Stopped code line lines trail) planned is = (Ran (HadFault (record { code = code; line = line }) lines.items), is, refl)
 values_has files plan n (Well b) planned is =
-    let f = stored_data (length files) n b in
+    let body = arc_value b in
+    let f = stored_data (length files) n body in
     let g = global_data (on_shelf is.shelf) is.globals in (
-      Ran (Good is.shelf is.globals (shown_texts b.shown.items) b.lines.items),
+      Ran (Good is.shelf is.globals (shown_texts body.shown.items) body.lines.items),
       is.outcome,
-      same_members f g (stored_is files plan n b planned is) (names_of b) ∙ ap (value_members_by g) (names_are b.shown.items),
+      same_members f g (stored_is files plan n body planned is) (names_of body) ∙ ap (value_members_by g) (names_are body.shown.items),
     )
 
 if_wanted : (b : Bool) (P : Members → Type 0) (ms : Members) → P ms → AreWanted b P (if b then ms else no_members)
@@ -310,7 +312,7 @@ steps_has : (plan : Plan) (n : ℕ) (x : Ended) → IsEnd plan n x → HasSteps 
 steps_has plan n (Static f) is = (StaticOutcome (fault_of f), is, refl)
 steps_has plan n (Unloaded index line) is = (UnloadedOutcome index, is.0, refl)
 steps_has plan n (Stopped code line lines trail) is = (Ran (HadFault (record { code = code; line = line }) lines.items), is, refl)
-steps_has plan n (Well b) is = (Ran (Good is.shelf is.globals (shown_texts b.shown.items) b.lines.items), is.outcome, (b.paid, is.paid, refl))
+steps_has plan n (Well b) is = (Ran (Good is.shelf is.globals (shown_texts (arc_value b).shown.items) (arc_value b).lines.items), is.outcome, ((arc_value b).paid, is.paid, refl))
 
 -- what is wanted more of a module, by what was read and by its stores, is that of its file
 pub more_is : (wanted : Wanted) (files : List File) (row : Row) (plan : Plan) (n : ℕ) (m : Module) (loads : List Load) → IsPlanOf files plan → readings row ≡ plan.reads → loads ≡ loads_at row m.number → IsModule plan n m → AreMore wanted files plan n (more_of wanted files loads m)

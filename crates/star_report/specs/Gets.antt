@@ -1,4 +1,5 @@
 -- The globals of roots as they are found among the stores of their modules.
+use Rattle.std.specs.Arc.{arc_value}
 use Rattle.std.specs.Prelude.{◌≡◌, ℕ, List, [], Result, Ok, Err, Vec, Contains, length, slice_get}
 use Rattle.std.specs.Option.{option_flatten}
 use Rattle.serde_json.specs.Data.{Data}
@@ -35,7 +36,7 @@ abbrev pub got_stored : ℕ → ℕ → Body → List ℕ → Result Data Lack
 got_stored files n b name = got_among (record { home = files; cells = [] }) (shelf_in b) n name
 
 abbrev pub got_in : ℕ → ℕ → Ended → List ℕ → Result Data Lack
-got_in files n (Good b) name = got_stored files n b name
+got_in files n (Good b) name = got_stored files n (arc_value b) name
 got_in files n e name = Err NotOk
 
 -- so it is in each plan of so many files whose modules these are

@@ -1,4 +1,5 @@
 -- The globals of a module, found in its stores.
+use Rattle.std.specs.Arc.{arc_value}
 use Rattle.std.specs.Prelude.{ℕ, ◌<◌, Bool, List, [], ◌∷◌, All, Option, Some, None, codes, fold, length, map, slice_get, string_bytes, if◌then◌else◌}
 use Rattle.std.specs.Option.{option_flatten}
 use Rattle.serde_json.specs.Data.{Data, Members, member, no_members, number, unsigned}
@@ -43,11 +44,11 @@ abbrev pub stored_data : ℕ → ℕ → Body → List ℕ → Option Data
 stored_data files n b = among_data (record { home = files; cells = [] }) (shelf_in b) n
 
 abbrev pub values_in : ℕ → ℕ → Ended → Members
-values_in files n (Good b) = value_members_by (stored_data files n b) (names_of b)
+values_in files n (Good b) = value_members_by (stored_data files n (arc_value b)) (names_of (arc_value b))
 values_in files n e = no_members
 
 abbrev pub steps_in : Ended → Members
-steps_in (Good b) = member (codes "steps") (number (unsigned b.paid)) no_members
+steps_in (Good b) = member (codes "steps") (number (unsigned (arc_value b).paid)) no_members
 steps_in e = no_members
 
 abbrev pub loads_part : Wanted → List File → List Load → Members

@@ -1,4 +1,5 @@
 -- Modules of the code, as the report shows them.
+use Rattle.std.specs.Arc.{arc_value}
 use Rattle.std.specs.Prelude.{◌≡◌, ℕ, Bool, List, [], map, codes, Option}
 use Rattle.std.specs.List.{All}
 use Rattle.serde_json.specs.Data.{Data, string}
@@ -34,7 +35,7 @@ IsShown files nexts n (Unloaded index line) v = IsLoadShown files nexts n line v
 IsShown files nexts n (Stopped code line lines trail) v =
     view v ≡ ill_data (codes "fault") (string (code_word code)) (label_at files n) line lines.items (codes "fault")
 IsShown files nexts n (Good body) v =
-    view v ≡ well_data (label_at files n) (shown_texts body.shown.items) body.lines.items
+    view v ≡ well_data (label_at files n) (shown_texts (arc_value body).shown.items) (arc_value body).lines.items
 
 -- these data are the modules of a plan of these files, each as it ended, with what is wanted more of it, and whether it
 -- is shown: of the files of these notes, in their order

@@ -1,5 +1,6 @@
-use Rattle.std.proofs.Common.{◌∙◌, ℕ, sym, subst}
+use Rattle.std.proofs.Common.{◌∙◌, ℕ, IfOk, sym, subst}
 use Rattle.star_cache.specs.Seats.{AreAll}
+use Rattle.star_host.specs.Counts.{AreCounts}
 use Rattle.star_host.proofs.Settled.{seats_all}
 use Rattle.star_host.proofs.running.run_named.Goals as goal
 
@@ -11,3 +12,6 @@ closed-requires-clause-seats g c =
 
 pub returns-clause-kept : goal.returns-clause-kept
 returns-clause-kept g c = rw c.requires.world.cells_are c.closed_of.ensures.kept
+
+pub returns-clause-counts : goal.returns-clause-counts
+returns-clause-counts g c = subst (λ n. IfOk c.closed_of.result (λ x. AreCounts n x.begun x.per_loader)) (sym c.requires.parts.0 ∙ c.requires.parts.1) c.closed_of.ensures.counts

@@ -13,6 +13,7 @@ returns-clause-world c =
     let same : row ≡ c.args.reads.now.all.items = c.as_slice.ensures.value in
     let is : IsReadOf c.args.files.now c.args.roots.now c.args.prelude row = subst (IsReadOf c.args.files.now c.args.roots.now c.args.prelude) (sym same) c.requires.read in
     let plan : Plan = record { roots = c.args.roots.now; prelude = c.args.prelude; steps = c.args.steps; reads = readings row } in
+    let planned = planned_so c.args.files.now is.0 row plan refl is.1 is.2 in
     record {
       files_are = refl;
       row_is = refl;
@@ -23,8 +24,9 @@ returns-clause-world c =
       prelude_fits = c.requires.prelude;
       steps_are = refl;
       steps_fit = c.requires.steps;
-      planned = planned_so c.args.files.now is.0 row plan refl is.1 is.2;
+      planned = planned;
       placed = subst (ArePlaced c.args.files.now plan) (sym (subst (λ r. c.args.programs.now ≡ table_of r) (sym same) c.requires.programs)) (placed_so c.args.files.now c.args.roots.now is.0 row plan refl is.1 is.2);
+      ends_are = c.requires.ends plan planned refl refl refl;
     }
 
 pub returns-clause-within : goal.returns-clause-within

@@ -1,0 +1,76 @@
+-- The ends of files whose runs went well, as a caller may keep them after a run.
+use Rattle.std.specs.Arc.{arc_value}
+use Rattle.std.specs.Prelude.{◌≡◌, ◌⊎◌, ℕ, true, false, List, Option, Some, None, Any, slice_get, slice_set}
+use Rattle.star_label.specs.Files.{File, IsOrdered}
+use Rattle.star_plan.specs.Plan.{Plan, loaded}
+use Rattle.star_plan.specs.Reached.{IsReached}
+use Rattle.star_plan.specs.Reading.{IsPlanOf}
+use Rattle.star_outcome.specs.Kept.{AreModules, AreModulesOf, KeptView}
+use Rattle.star_outcome.specs.Views.{IsBody, ended_well}
+use Rattle.star_outcome.specs.declared.good_end.GoodEnd.{GoodEnd}
+use Rattle.star_outcome.specs.declared.module.Body.{Body}
+use Rattle.star_outcome.specs.declared.module.Ended.{Ended}
+use Rattle.star_outcome.specs.declared.module.Ended.TheVariants.{Static, Load as Unloaded, Stopped, Good}
+use Rattle.star_outcome.specs.declared.module.Module.{Module}
+
+-- the good end of the file n: the files that it loads, and its body
+pub record IsGoodEnd (plan : Plan) (n : ℕ) (e : GoodEnd) : Type 0 where
+  pub loads : e.loads.items ≡ loaded plan n
+  pub body : IsBody plan n (arc_value e.body)
+
+-- each of these, at the number of its file, is the good end of the file, if that is reached
+abbrev pub AreGoodEnds : Plan → List (Option GoodEnd) → Type 0
+AreGoodEnds plan es = (n : ℕ) (e : GoodEnd) → slice_get es n ≡ Some (Some e) → IsReached plan n → IsGoodEnd plan n e
+
+-- each of these, at the number of its file, is the good end of a reached file
+abbrev pub AreReachedEnds : Plan → List (Option GoodEnd) → Type 0
+AreReachedEnds plan es =
+    (n : ℕ) (e : GoodEnd) → slice_get es n ≡ Some (Some e) → IsReached plan n × IsGoodEnd plan n e
+
+-- they are good ends in the plan with these files, roots, prelude and steps
+abbrev pub AreGoodEndsOf : List File → List ℕ → Option ℕ → ℕ → List (Option GoodEnd) → Type 0
+AreGoodEndsOf files roots prelude steps es =
+    (plan : Plan) → IsPlanOf files plan → plan.roots ≡ roots → plan.prelude ≡ prelude → plan.steps ≡ steps
+    → AreGoodEnds plan es
+
+-- the body of a file whose run went well
+abbrev pub body_in : Ended → Option Body
+body_in (Static f) = None
+body_in (Unloaded index line) = None
+body_in (Stopped code line lines left) = None
+body_in (Good body) = Some (arc_value body)
+
+-- this is the end of the module
+pub record IsEndOf (m : Module) (e : GoodEnd) : Type 0 where
+  pub loads : e.loads.items ≡ m.loads.items
+  pub body : body_in m.ended ≡ Some (arc_value e.body)
+
+-- the end of the module is put at its number, if its run went well
+abbrev pub IsPut : Module → List (Option GoodEnd) → List (Option GoodEnd) → Type 0
+IsPut m before after =
+    ((ended_well m.ended ≡ false) × (after ≡ before))
+    ⊎ ((e : GoodEnd) × IsEndOf m e × (after ≡ slice_set before m.number (Some e)))
+
+-- the note knows a module of the file n with this end
+abbrev pub KnowsEnd : ℕ → GoodEnd → KeptView → Type 0
+KnowsEnd n e k = (m : Module) × (k.known ≡ Some m) × (m.number ≡ n) × IsEndOf m e
+
+-- each of these, at the number of its file, is the end of a module that one of the notes knows
+abbrev pub AreEndsAmong : List KeptView → List (Option GoodEnd) → Type 0
+AreEndsAmong ks es = (n : ℕ) (e : GoodEnd) → slice_get es n ≡ Some (Some e) → Any (KnowsEnd n e) ks
+
+-- these have the end of the module that the note knows, if its run went well
+abbrev pub HaveEnd : List (Option GoodEnd) → KeptView → Type 0
+HaveEnd es k =
+    (m : Module) → k.known ≡ Some m → ended_well m.ended ≡ true → (e : GoodEnd)
+    × (slice_get es m.number ≡ Some (Some e))
+
+-- so these are good ends of reached files in each plan whose modules the notes know
+abbrev pub AreEndsInPlans : List KeptView → List (Option GoodEnd) → Type 0
+AreEndsInPlans ks es = (plan : Plan) → AreModules plan ks → AreReachedEnds plan es
+
+-- and they are those of the files, with the roots, the prelude and the steps
+abbrev pub AreEndsAgain : List KeptView → List (Option GoodEnd) → Type 0
+AreEndsAgain ks es =
+    (files : List File) (roots : List ℕ) (prelude : Option ℕ) (steps : ℕ) → IsOrdered files
+    → AreModulesOf files roots prelude steps ks → AreGoodEndsOf files roots prelude steps es
