@@ -1,11 +1,12 @@
 -- Texts that were parsed, by label.
-use Rattle.std.specs.Prelude.{ℕ, ◌*◌, ◌<◌, List, length, take, drop, Result, IfOk, Vec, String, string_bytes, slice_index_or}
+use Rattle.std.specs.Prelude.{ℕ, ◌*◌, ◌<◌, List, length, take, drop, Option, IfSome, Result, IfOk, Vec, String, string_bytes, slice_index_or}
 use Rattle.std.specs.List.{AllZip}
 use Rattle.std.specs.declared.alloc.AllocError.{AllocError}
 use Rattle.std.specs.declared.alloc.Global.{Global}
 use Rattle.star_label.specs.declared.label.Label.{Label}
 use Rattle.star_label.specs.Files.{File}
-use Rattle.star_reading.specs.Parsed.{IsParsed, ParsedView}
+use Rattle.star_reading.specs.Parsed.{AreParsesOf, IsParsed, ParsedView}
+use Rattle.star_repo.specs.declared.known.Known.{Known}
 
 -- labels with texts, each beside the result of parsing its text
 abbrev pub AreParsed : List (Label × String Global) → List ParsedView → Type 0
@@ -20,3 +21,7 @@ abbrev pub ArePartsParsed : List (Label × String Global) → ℕ → List (Resu
 ArePartsParsed files size parts =
     (n : ℕ) (d : Result (Vec ParsedView Global) AllocError) → n < length parts
     → IfOk (slice_index_or parts n d) (λ parses. AreParsed (take size (drop (n * size) files)) parses.items)
+
+-- of some files, if any are given, the texts of the first were parsed so
+abbrev pub AreKnown : Option Known → Type 0
+AreKnown known = IfSome known (λ k. AreParsesOf k.files.now k.parses.now)

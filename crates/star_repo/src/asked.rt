@@ -2,10 +2,11 @@
 
 ghost use Rattle.std.specs.Prelude.{◌≡◌, ◌+◌, IfOk, IfErr, option_map, string_bytes};
 ghost use Rattle.star_repo.specs.Asked.{AreFilesFor, IsUnread, finds_failed};
-ghost use Rattle.star_repo.specs.Parsed.{AreFilesParsed};
+ghost use Rattle.star_repo.specs.Parsed.{AreFilesParsed, AreKnown};
 ghost use Rattle.star_words.specs.Named.{AreLabels, texts_of};
 
 use crate::error::{ReadError, RepoError};
+use crate::known::Known;
 use crate::reach::{Reached, read_reached};
 use crate::repo::Repo;
 use star_bundle::error::ServeError;
@@ -22,10 +23,12 @@ pub fn read_asked<'t, R: Threads + Wait + Sync, F: Repo>(
     alloc: Global,
     folder: &mut F,
     trees: &'t boxcar::Vec<Tree>,
+    known: Option<Known<'_, 't>>,
     roots: &[String],
     prelude: Option<&String>,
     threads: usize,
 ) -> Result<Reached<'t>, RepoError>
+    requires known { AreKnown known }
     ensures files { IfOk result (λ r. AreFilesFor (F.says folder.old) (texts_of roots.now)
         (option_map (λ p. string_bytes p.now) prelude.entry) r.files) }
     ensures labels { IfOk result (λ _. AreLabels (texts_of roots.now)
@@ -39,7 +42,7 @@ pub fn read_asked<'t, R: Threads + Wait + Sync, F: Repo>(
         Ok(labels) => labels,
         Err(error) => return Err(RepoError::Run { error }),
     };
-    match read_reached(rt, alloc, folder, trees, labels, threads) {
+    match read_reached(rt, alloc, folder, trees, known, labels, threads) {
         Ok(reached) => Ok(reached),
         Err(ReadError::Refused { label, error }) => Err(RepoError::File { label, error }),
         Err(ReadError::Memory) => Err(RepoError::Run {

@@ -1,6 +1,6 @@
 //! A `Repo` on the disk: each file is found by its label.
 
-ghost use Rattle.std.specs.Prelude.{◌≡◌, ◌≤◌, IfOk, IfSome, string_bytes, take, vec_len};
+ghost use Rattle.std.specs.Prelude.{◌≡◌, ◌≤◌, ⊤, IfOk, IfSome, string_bytes, take, vec_len};
 ghost use Rattle.star_label.specs.View.{text_of};
 ghost use Rattle.star_folder.specs.Disk.{file_at};
 ghost use Rattle.star_repo.specs.Held.{unmarked, unsaid};
@@ -24,6 +24,18 @@ pub struct DiskRepo<'a, R> {
     rt: &'a R,
     top: &'a str,
     failed: u64,
+}
+
+impl<'a, R> Copy for DiskRepo<'a, R> {}
+
+impl<'a, R> Clone for DiskRepo<'a, R> {
+    ghost is_clone = { λ x y. y ≡ x };
+
+    ghost is_infallible = { λ _. ⊤ };
+
+    fn clone(&self) -> Result<Self, AllocError> {
+        Ok(*self)
+    }
 }
 
 impl<'a, R> DiskRepo<'a, R> {

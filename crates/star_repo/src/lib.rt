@@ -6,6 +6,7 @@
 //! - `reach::read_reached` goes in rounds (`round`): it looks up the labels of a round in byte order (`read`), parses
 //!   their texts side by side (`parse`), and takes the labels that these load as the next round. `Reached` is the
 //!   result: the numbered files, with their parsed trees.
+//! - `known` has texts that were parsed before, which are not parsed again.
 //! - `asked::read_asked` begins with the words of the command line.
 //! - `RepoError` is a refusal with its label; `wanting` finds the load statement to name beside it.
 //!
@@ -18,8 +19,9 @@ pub mod asked;
 pub mod disk;
 pub mod error;
 mod found;
+pub mod known;
 mod law;
-mod mark;
+pub mod mark;
 pub mod memory;
 pub mod parse;
 pub mod reach;

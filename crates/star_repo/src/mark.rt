@@ -23,7 +23,7 @@ pub(crate) fn unmarked(bytes: &[u8]) -> &[u8]
 }
 
 /// The first 1,048,577 bytes of a text.
-pub(crate) fn front_of(alloc: Global, text: &[u8]) -> Result<Vec<u8>, AllocError>
+pub fn front_of(alloc: Global, text: &[u8]) -> Result<Vec<u8>, AllocError>
     ensures { IfOk result (λ front. front.items ≡ take 1048577 text.now) }
 {
     let front = Vec::from_slice(alloc, &text[..text.len().min(FRONT)])?;

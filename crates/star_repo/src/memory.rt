@@ -19,7 +19,7 @@ pub struct FileAt<'a> {
 }
 
 /// A folder with just these files. It says all that it holds, and no read of it fails.
-#[derive(Drop)]
+#[derive(Clone, Copy)]
 pub struct MemoryRepo<'a> {
     files: &'a [FileAt<'a>],
 }

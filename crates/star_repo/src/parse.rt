@@ -1,10 +1,12 @@
 //! Parsing several texts side by side.
 
-ghost use Rattle.std.specs.Prelude.{◌≡◌, ◌*◌, ◌<◌, ℕ, List, IfOk, String, length, take};
+ghost use Rattle.std.specs.Prelude.{◌≡◌, ◌*◌, ◌<◌, ℕ, List, IfOk, String, length, string_bytes, take};
 ghost use Rattle.std.specs.declared.alloc.Global.{Global as GlobalView};
 ghost use Rattle.star_label.specs.declared.label.Label.{Label as LabelView};
-ghost use Rattle.star_repo.specs.Parsed.{AreParsed, ArePartsParsed};
+ghost use Rattle.star_reading.specs.Parsed.{AreParsesOf, IsParsed};
+ghost use Rattle.star_repo.specs.Parsed.{AreKnown, AreParsed, ArePartsParsed};
 
+use crate::known::Known;
 use star_label::label::Label;
 use star_reading::parses::{Parsed, parsed};
 use star_tree::tree::Tree;
@@ -27,6 +29,42 @@ fn parsed_each<'t, R: Wait>(
     let mut parses = Vec::new(alloc);
     for file in files {
         parses.push(parsed(rt, alloc, trees, file.1.as_str())?)?;
+    }
+    Ok(parses)
+}
+
+/// The result of parsing the text of a file, which is not parsed again if it is known.
+fn parse_of<'t, R: Wait>(
+    rt: &R,
+    alloc: Global,
+    trees: &'t boxcar::Vec<Tree>,
+    known: &Known<'_, 't>,
+    file: &(Label, String),
+) -> Result<Parsed<'t>, AllocError>
+    requires { AreParsesOf known.now.files.now known.now.parses.now }
+    ensures { IfOk result (IsParsed (string_bytes file.now.1)) }
+{
+    let text = file.1.as_str();
+    match known.parse_of(&file.0, text) {
+        Some(parse) => Ok(parse),
+        None => parsed(rt, alloc, trees, text),
+    }
+}
+
+/// Parses one text after another, but for those that are known.
+fn parsed_again<'t, R: Wait>(
+    rt: &R,
+    alloc: Global,
+    trees: &'t boxcar::Vec<Tree>,
+    known: &Known<'_, 't>,
+    files: &[(Label, String)],
+) -> Result<Vec<Parsed<'t>>, AllocError>
+    requires { AreParsesOf known.now.files.now known.now.parses.now }
+    ensures { IfOk result (λ parses. AreParsed files.now parses.items) }
+{
+    let mut parses = Vec::new(alloc);
+    for file in files {
+        parses.push(parse_of(rt, alloc, trees, known, file)?)?;
     }
     Ok(parses)
 }
@@ -70,16 +108,21 @@ fn parsed_parts<'t, R: Threads + Wait + Sync>(
     joined(alloc, parts)
 }
 
-/// Parses texts by at most `threads` threads.
+/// Parses texts by at most `threads` threads; if some are known, by one, which does not parse these again.
 pub(crate) fn parsed_all<'t, R: Threads + Wait + Sync>(
     rt: &R,
     alloc: Global,
     trees: &'t boxcar::Vec<Tree>,
+    known: Option<Known<'_, 't>>,
     files: &[(Label, String)],
     threads: usize,
 ) -> Result<Vec<Parsed<'t>>, AllocError>
+    requires { AreKnown known }
     ensures { IfOk result (λ parses. AreParsed files.now parses.items) }
 {
+    if let Some(known) = known {
+        return parsed_again(rt, alloc, trees, &known, files);
+    }
     let threads = threads.min(files.len() / SHARE + 1);
     if threads < 2 {
         return parsed_each(rt, alloc, trees, files);

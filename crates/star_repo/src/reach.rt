@@ -3,7 +3,7 @@
 ghost use Rattle.std.specs.Prelude.{◌≡◌, ◌+◌, ◌↔◌, ℕ, List, [], None, Some, IfOk, IfErr, OnOk, map};
 ghost use Rattle.star_label.specs.Files.{IsOrdered, file_of, limit_passed};
 ghost use Rattle.star_repo.specs.Held.{Fits, Held, Said};
-ghost use Rattle.star_repo.specs.Parsed.{AreFilesParsed, AreParsed};
+ghost use Rattle.star_repo.specs.Parsed.{AreFilesParsed, AreKnown, AreParsed};
 ghost use Rattle.star_repo.specs.Reach.{AreReachedFiles, Words};
 ghost use Rattle.star_repo.specs.Refusal.{Pass};
 ghost use Rattle.star_words.specs.Rows.{IsIn};
@@ -12,6 +12,7 @@ ghost use Rattle.star_repo.specs.Views.{AllRead, IsAfter, IsEnded, IsKept, IsOnW
 
 use crate::error::ReadError;
 use crate::found::{Found, ReadFile};
+use crate::known::Known;
 use crate::parse::parsed_all;
 use crate::repo::Repo;
 use crate::round::{read_round, settled};
@@ -130,15 +131,17 @@ fn turned<'t, R: Threads + Wait + Sync>(
     rt: &R,
     alloc: Global,
     trees: &'t boxcar::Vec<Tree>,
+    known: Option<Known<'_, 't>>,
     found: Found<'t>,
     threads: usize,
 ) -> Result<Turn<'t>, AllocError>
+    requires known { AreKnown known }
     ensures { IfOk result (λ turn. AllRead found.entry.looked → Turns found.entry turn) }
 {
     if found.fresh.is_empty() {
         return Ok(Turn::End(found));
     }
-    let parses = parsed_all(rt, alloc, trees, found.fresh.as_slice(), threads)?;
+    let parses = parsed_all(rt, alloc, trees, known, found.fresh.as_slice(), threads)?;
     let (found, waiting) = settled(alloc, found, parses)?;
     Ok(Turn::Next(Round { found, waiting }))
 }
@@ -149,9 +152,11 @@ fn next_turn<'t, R: Threads + Wait + Sync, F: Repo>(
     alloc: Global,
     folder: &mut F,
     trees: &'t boxcar::Vec<Tree>,
+    known: Option<Known<'_, 't>>,
     round: Round<'t>,
     threads: usize,
 ) -> Result<Turn<'t>, ReadError>
+    requires known { AreKnown known }
     ensures turns { IfOk result (λ turn. (words : Words) (d : ℕ)
         → IsOnWay (F.says folder.old) words d round.entry.found (labels_of round.entry.waiting.keys)
         → AllRead round.entry.found.looked → round.entry.found.fresh.items ≡ []
@@ -164,7 +169,7 @@ fn next_turn<'t, R: Threads + Wait + Sync, F: Repo>(
 {
     let Round { found, waiting } = round;
     match read_round(alloc, folder, found, waiting) {
-        Ok(found) => match turned(rt, alloc, trees, found, threads) {
+        Ok(found) => match turned(rt, alloc, trees, known, found, threads) {
             Ok(turn) => Ok(turn),
             Err(_) => Err(ReadError::Memory),
         },
@@ -174,7 +179,8 @@ fn next_turn<'t, R: Threads + Wait + Sync, F: Repo>(
 
 /// The files that these labels reach in a folder. Each label is looked up once, when it is met: first these, and in
 /// each further round those that the files of the round before load; in a round in the order of the labels. The texts
-/// of a round are then parsed by at most `threads` threads, and their trees are kept with the others.
+/// of a round are then parsed by at most `threads` threads, and their trees are kept with the others. If there are
+/// `known` texts, one thread parses the others.
 ///
 /// It stops at the first label, by its round and its bytes, whose file does not pass: `BadFile`, it cannot be read;
 /// `TooMany`, it is the 10,001st; `TooLong`, it has more than 1,048,576 bytes; `NotText`, it is not UTF-8; `TooBig`,
@@ -184,9 +190,11 @@ pub fn read_reached<'t, R: Threads + Wait + Sync, F: Repo>(
     alloc: Global,
     folder: &mut F,
     trees: &'t boxcar::Vec<Tree>,
+    known: Option<Known<'_, 't>>,
     words: BTreeSet<Label>,
     threads: usize,
 ) -> Result<Reached<'t>, ReadError>
+    requires known { AreKnown known }
     ensures files { IfOk result (λ r. (held : Held) × Fits (F.says folder.old) held
         × AreReachedFiles held (words_of words.keys) r.files × Pass r.files) }
     ensures parsed { IfOk result (λ r. AreFilesParsed r.files r.parses.items) }
@@ -196,7 +204,7 @@ pub fn read_reached<'t, R: Threads + Wait + Sync, F: Repo>(
 {
     let mut round = begun(alloc, words);
     'rounds: loop {
-        match next_turn(rt, alloc, folder, trees, round, threads) {
+        match next_turn(rt, alloc, folder, trees, known, round, threads) {
             Ok(Turn::Next(next)) => round = next,
             Ok(Turn::End(found)) => return Ok(ended(alloc, found)?),
             Err(error) => return Err(error),
