@@ -2,16 +2,18 @@
 
 use crate::checks::writes;
 use crate::tests::{NEVER, scripted, writer_of};
+use star_repo::memory::{FileAt, MemoryRepo};
 use star_serve::serve::Wanted;
-use star_session::request::Defaults;
+use star_session::request::{Defaults, Origin};
 use star_session::session::{Settings, serve_requests};
 use std::test::Fail;
 
-/// A file that comes, changes, and is taken out while it is the root; and half a line.
+/// A file that comes, changes, and is taken out while it is the root; an unknown member; and half a line.
 const LINES: &str = "{\"id\":1,\"files\":{\"//:a.star\":\"x = 1\"},\"roots\":[\"//:a.star\"]}\n\
 {\"files\":{\"//:a.star\":\"x = 2\"},\"roots\":[\"//:a.star\"]}\n\
 {\"id\":3,\"files\":{\"//:a.star\":null},\"roots\":[\"//:a.star\"]}\n\
 {\"id\":4,\"roots\":[\"//:a.star\"]}\n\
+{\"id\":5,\"roots\":[],\"root\":[]}\n\
 [";
 
 /// The answers, a line each.
@@ -20,6 +22,7 @@ const ANSWERS: &str =
 {\"id\":null,\"report\":{\"begun\":1,\"modules\":[{\"globals\":{\"x\":\"2\"},\"label\":\"//:a.star\",\"lines\":[],\"status\":\"ok\"}]}}\n\
 {\"id\":3,\"refused\":\"no such root\"}\n\
 {\"id\":4,\"report\":{\"begun\":1,\"modules\":[{\"globals\":{\"x\":\"2\"},\"label\":\"//:a.star\",\"lines\":[],\"status\":\"ok\"}]}}\n\
+{\"id\":5,\"refused\":\"no such member: root\"}\n\
 {\"id\":null,\"refused\":\"not a JSON object\"}\n";
 
 #[test]
@@ -31,14 +34,68 @@ fn each_line_is_answered_by_the_files_as_they_then_are(rt: HostRuntime) -> Resul
         loaders: 2,
         keep: 1_000_000,
         defaults: Defaults {
+            origin: Origin::Sent,
             prelude: None,
             steps: 10_000,
             wanted: Wanted::NOTHING,
         },
     };
-    if serve_requests(&rt, alloc, &mut reader, &mut writer, &settings).is_err() {
+    let folder = MemoryRepo::new(&[]);
+    if serve_requests(&rt, alloc, &folder, &mut reader, &mut writer, &settings).is_err() {
         return Err(Fail::from("the requests end early"));
     }
     writes(&rt, writer.bytes.as_slice(), ANSWERS);
+    Ok(())
+}
+
+/// A file that is looked at, one that has changed, one that is not text, and files that are sent.
+const FOLDER_LINES: &str = "{\"id\":1,\"roots\":[\"//:a.star\"]}\n\
+{\"id\":2,\"changed\":[\"b.star\",\"../c\"],\"roots\":[\"//:a.star\"],\"with\":[\"only-roots\"]}\n\
+{\"id\":3,\"roots\":[\"//:c.star\"]}\n\
+{\"id\":4,\"files\":{},\"roots\":[]}\n";
+
+/// The answers, a line each.
+const FOLDER_ANSWERS: &str =
+    "{\"id\":1,\"report\":{\"begun\":2,\"modules\":[{\"globals\":{\"y\":\"1\"},\"label\":\"//:a.star\",\"lines\":[],\"status\":\"ok\"},{\"globals\":{\"x\":\"1\"},\"label\":\"//:b.star\",\"lines\":[],\"status\":\"ok\"}]}}\n\
+{\"id\":2,\"report\":{\"begun\":2,\"modules\":[{\"globals\":{\"y\":\"1\"},\"label\":\"//:a.star\",\"lines\":[],\"status\":\"ok\"}]}}\n\
+{\"id\":3,\"refused\":\"a file is not text: //:c.star\"}\n\
+{\"id\":4,\"refused\":\"`files` does not go with `--repo`\"}\n";
+
+/// The files of a folder.
+const FILES: &[FileAt<'static>] = &[
+    FileAt {
+        label: "//:a.star",
+        bytes: b"load(':b.star', 'x')\ny = x",
+    },
+    FileAt {
+        label: "//:b.star",
+        bytes: b"x = 1",
+    },
+    FileAt {
+        label: "//:c.star",
+        bytes: b"\xff",
+    },
+];
+
+#[test]
+fn each_line_is_answered_by_the_files_of_a_folder(rt: HostRuntime) -> Result<(), Fail> {
+    let alloc = rt.alloc();
+    let mut reader = scripted(FOLDER_LINES.as_bytes(), 100, NEVER);
+    let mut writer = writer_of(alloc, NEVER);
+    let settings = Settings {
+        loaders: 2,
+        keep: 1_000_000,
+        defaults: Defaults {
+            origin: Origin::Folder,
+            prelude: None,
+            steps: 10_000,
+            wanted: Wanted::NOTHING,
+        },
+    };
+    let folder = MemoryRepo::new(FILES);
+    if serve_requests(&rt, alloc, &folder, &mut reader, &mut writer, &settings).is_err() {
+        return Err(Fail::from("the requests end early"));
+    }
+    writes(&rt, writer.bytes.as_slice(), FOLDER_ANSWERS);
     Ok(())
 }

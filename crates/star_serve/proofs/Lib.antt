@@ -8,3 +8,4 @@ pub mod Zipped
 pub mod WrittenTexts
 pub mod Checked
 pub mod Shown
+pub mod GoodEnds

@@ -136,6 +136,7 @@ pub fn serve_repo<H: Threads + Wait + Sync, F: Repo, W: Sink, E: Sink>(
         alloc,
         folder,
         &trees.all,
+        None,
         options.roots.as_slice(),
         options.prelude.as_ref(),
         options.loaders,

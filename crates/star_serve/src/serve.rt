@@ -4,6 +4,8 @@ ghost use Rattle.std.specs.Prelude.{true, false, ◌≡◌, ◌+◌, ◌<◌, �
 ghost use Rattle.star_bundle.specs.Bundle as bundle;
 ghost use Rattle.star_bundle.specs.View.{asked_view};
 ghost use Rattle.star_bundle.specs.Refusal.{reads_failed, writes_failed};
+ghost use Rattle.star_outcome.specs.GoodEnds.{AreGoodEndsOf, AreReachedEnds};
+ghost use Rattle.star_outcome.specs.Kept.{AreModulesOf};
 ghost use Rattle.star_outcome.specs.Refusals.{AreRefusalsOf};
 ghost use Rattle.star_reading.specs.Parsed.{AreParsesOf};
 ghost use Rattle.star_report.specs.Output.{InPlanOf, IsOutput, IsSaid};
@@ -25,7 +27,7 @@ use star_check::check::{Checked, check};
 use star_check::verdict::Judged;
 pub use star_explain::explain::Form;
 use star_explain::explain::{explain, explain_check};
-use star_host::{Parsed, Reads, Run, RunError, Trees, read_parsed, run_in};
+use star_host::{GoodEnd, Parsed, Reads, Run, RunError, Trees, read_parsed, run_in};
 pub use star_report::wanted::{Output, Wanted};
 use std::alloc::{AllocError, Global};
 use std::mem;
@@ -107,10 +109,12 @@ fn answered<'t, H: Threads + Wait + Sync>(
     asked: &AskedFor,
     trees: &'t Trees,
     parses: &[Parsed<'t>],
+    ends: &[Option<GoodEnd>],
     reads: &mut Reads<'t>,
     options: &Options,
 ) -> Result<Answer, ServeError>
     requires parses { AreParsesOf asked.now.files parses.now }
+    requires ends { AreGoodEndsOf asked.now.files asked.now.roots.items asked.now.prelude options.now.steps ends.now }
     requires roots { All (λ n. n < length asked.now.files) asked.now.roots.items }
     requires prelude { IfSome asked.now.prelude (λ n. n < length asked.now.files) }
     requires loaders { (1 ≤ options.now.loaders) × (options.now.loaders ≤ 64) }
@@ -122,6 +126,9 @@ fn answered<'t, H: Threads + Wait + Sync>(
         (λ plan. IsSaid options.now.output asked.now.files plan a.written.all_ok (string_bytes a.written.said))) }
     ensures refused { IfOk result (λ a. AreRefusalsOf asked.now.files asked.now.roots.items asked.now.prelude
         options.now.steps a.run.refused) }
+    ensures cells { IfOk result (λ a. length a.run.cells ≡ length asked.now.files) }
+    ensures modules { IfOk result (λ a. AreModulesOf asked.now.files asked.now.roots.items asked.now.prelude
+        options.now.steps a.run.kept) }
 {
     let files = &asked.files;
     let roots = asked.roots.as_slice();
@@ -138,6 +145,7 @@ fn answered<'t, H: Threads + Wait + Sync>(
         files,
         trees,
         parses,
+        ends,
         reads,
         roots,
         asked.prelude,
@@ -195,38 +203,73 @@ fn check_over<'t, H: Threads + Wait + Sync>(
     }
 }
 
-/// Runs what is asked for, frees the run, and answers what there is to write of it; for a check nothing is run. The texts
-/// of the first files were parsed before. `Memory`, or `Unpublished` where a module was not published.
+/// What there is to write of a run, the good ends of the files that it reached, by the numbers of the files, and the
+/// numbers of all files that it reached. A check leaves neither.
+#[derive(Drop)]
+pub struct Finished {
+    pub written: Written,
+    pub ends: Vec<Option<GoodEnd>>,
+    pub reached: Vec<usize>,
+}
+
+/// The numbers of the files that were read. The error: an allocation failed.
+fn read_numbers(alloc: Global, reads: &Reads) -> Result<Vec<usize>, AllocError> {
+    let mut numbers = Vec::with_capacity(alloc, reads.all.len())?;
+    for n in 0..reads.all.len() {
+        if reads.all[n].is_some() {
+            numbers.push(n)?;
+        }
+    }
+    Ok(numbers)
+}
+
+/// Runs what is asked for, frees the run, and answers what there is to write of it, with its good ends; for a check
+/// nothing is run. The texts of the first files were parsed before, and a file whose good end is among `ends` is not run.
+/// `Memory`, or `Unpublished` where a module was not published.
 pub fn written_over<'t, H: Threads + Wait + Sync>(
     rt: &H,
     alloc: Global,
     asked: &AskedFor,
     trees: &'t Trees,
     parses: &[Parsed<'t>],
+    ends: &[Option<GoodEnd>],
     options: &Options,
-) -> Result<Written, ServeError>
+) -> Result<Finished, ServeError>
     requires parses { AreParsesOf asked.now.files parses.now }
+    requires ends { AreGoodEndsOf asked.now.files asked.now.roots.items asked.now.prelude options.now.steps ends.now }
     requires roots { All (λ n. n < length asked.now.files) asked.now.roots.items }
     requires prelude { IfSome asked.now.prelude (λ n. n < length asked.now.files) }
     requires loaders { (1 ≤ options.now.loaders) × (options.now.loaders ≤ 64) }
     requires steps { (1 ≤ options.now.steps) × (options.now.steps ≤ 100000000) }
     ensures kinds { IfErr result (λ e. (e ≡ ServeError.Memory) ⊎ (e ≡ ServeError.Unpublished)) }
-    ensures text { IfOk result (λ w. InPlanOf asked.now.files asked.now.roots.items asked.now.prelude options.now.steps
-        (λ plan. IsOutput options.now.output asked.now.files plan w.text.items w.all_ok)) }
+    ensures text { IfOk result (λ f. InPlanOf asked.now.files asked.now.roots.items asked.now.prelude options.now.steps
+        (λ plan. IsOutput options.now.output asked.now.files plan f.written.text.items f.written.all_ok)) }
+    ensures ends { IfOk result (λ f. InPlanOf asked.now.files asked.now.roots.items asked.now.prelude options.now.steps
+        (λ plan. AreReachedEnds plan f.ends.items)) }
 {
     if let Output::Check { only_roots } = options.output {
-        return check_over(rt, alloc, asked, trees, parses, options, only_roots);
+        let written = check_over(rt, alloc, asked, trees, parses, options, only_roots)?;
+        return Ok(Finished {
+            written,
+            ends: Vec::new(alloc),
+            reached: Vec::new(alloc),
+        });
     }
     let mut reads = Reads::new(alloc);
-    match answered(rt, alloc, asked, trees, parses, &mut reads, options) {
-        Ok(answer) => Ok(answer.written),
-        Err(error) => Err(error),
-    }
-}
-
-/// Frees trees that are not used any more.
-pub fn free_trees(trees: Trees) {
-    drop(trees);
+    let Answer { run, written } = match answered(
+        rt, alloc, asked, trees, parses, ends, &mut reads, options,
+    ) {
+        Ok(answer) => answer,
+        Err(error) => return Err(error),
+    };
+    let mut run = run;
+    let ends = run.good_ends(alloc, asked.files.len())?;
+    let reached = read_numbers(alloc, &reads)?;
+    Ok(Finished {
+        written,
+        ends,
+        reached,
+    })
 }
 
 /// Writes the text for a person on a run by one write, if it is wanted. If it gets no memory, nothing is written.
@@ -360,7 +403,14 @@ pub(crate) fn reported_over<'t, H: Threads + Wait + Sync, W: Sink, E: Sink>(
     }
     let mut reads = Reads::new(alloc);
     let Answer { run, written } = match answered(
-        rt, alloc, asked, trees, parses, &mut reads, options,
+        rt,
+        alloc,
+        asked,
+        trees,
+        parses,
+        &[],
+        &mut reads,
+        options,
     ) {
         Ok(answer) => answer,
         Err(error) => return Err(error),

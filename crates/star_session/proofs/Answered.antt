@@ -1,6 +1,6 @@
 -- The answer to a line.
-use Rattle.std.proofs.Common.{◌≡◌, ◌≢◌, ◌≤◌, ◌<◌, ℕ, List, Bool, true, false, Option, None, Some, Result, Ok, Err, inl, inr, refl, ap, sym, ◌∙◌, subst, length}
-use Rattle.std.specs.Prelude.{◌⊎◌, IfOk, codes, if◌then◌else◌, nat_lt, option_map, unwrap_or}
+use Rattle.std.proofs.Common.{◌≡◌, ◌≢◌, ◌≤◌, ◌<◌, ℕ, List, Some, Result, Ok, Err, inl, inr, refl, ap, sym, ◌∙◌, subst, length}
+use Rattle.std.specs.Prelude.{IfErr, IfOk, codes}
 use Rattle.std.proofs.lemmas.Bool.{le-ltb, lt-ltb}
 use Rattle.serde_json.specs.Data.{Data, null, string}
 use Rattle.serde_json.specs.Written.{compact_text}
@@ -11,103 +11,186 @@ use Rattle.star_label.specs.Files.{File}
 use Rattle.star_session.specs.Answers.{IsAnswered, IsRefusal, IsRefusalOf, IsReported, answer_line, no_memory_line}
 use Rattle.star_session.specs.Lines.{IsPiece, line_limit}
 use Rattle.star_session.specs.declared.lines.Line.TheVariants as line
-use Rattle.star_session.specs.Requests.{Asking, IsIdText, asking_in, asking_of, id_in, id_of}
+use Rattle.star_session.specs.Requests.{◌>>=◌, Asking, IsIdText, IsWhy, asking_in, asking_of, id_in, id_of, id_within, line_too_long, not_object, there_or, value_of}
+use Rattle.star_session.specs.Requests as spec
+use Rattle.star_repo.specs.Held.{Said}
+use Rattle.star_session.specs.Folders.{IsAnsweredAs, IsAnsweredBy, IsAnsweredFrom, IsKnown}
+use Rattle.star_session.specs.declared.lines.Line.{Line}
 use Rattle.star_session.specs.declared.request.Defaults.{Defaults}
+use Rattle.star_session.specs.declared.request.Origin.{Origin}
+use Rattle.star_session.specs.declared.request.Origin.TheVariants as origin
 use Rattle.star_session.specs.declared.request.RequestError.{RequestError}
-use Rattle.star_session.specs.declared.request.RequestError.TheVariants as why
+use Rattle.star_session.specs.declared.request.RequestError.TheVariants as reason
 
-asks_for : (d : Defaults) (line : List ℕ) (v : Data) (o : Option Asking) → length line ≤ line_limit → json_of line ≡ Some v → asking_in d v ≡ o → asking_of d line ≡ o
-unfolding asking_of
-asks_for d line v o low j h = rw (le-ltb line_limit (length line) low, j) h
+value_is : (line : List ℕ) (v : Data) → length line ≤ line_limit → json_of line ≡ Some v → value_of line ≡ Ok v
+unfolding value_of
+value_is line v low j = rw (le-ltb line_limit (length line) low, j) refl
 
-id_is : (line : List ℕ) (v : Data) → json_of line ≡ Some v → id_in v ≡ id_of line
-id_is line v j = ap (λ o. unwrap_or (option_map id_in o) null) (sym j)
+no_value : (line why : List ℕ) → length line ≤ line_limit → there_or not_object (json_of line) ≡ Err why → value_of line ≡ Err why
+unfolding value_of
+no_value line why low j = rw (le-ltb line_limit (length line) low) j
 
-both : {A : Type 0} (b : Bool) (x : A) → (if b then x else x) ≡ x
-both true x = refl
-both false x = refl
+no_room : (line : List ℕ) → line_limit < length line → value_of line ≡ Err line_too_long
+unfolding value_of
+no_room line long = rw (lt-ltb line_limit (length line) long) refl
 
-no_value : (d : Defaults) (line : List ℕ) → json_of line ≡ None → asking_of d line ≡ None
-unfolding asking_of
-no_value d line j = rw j (both (nat_lt line_limit (length line)) None)
+asks_for : (d : Defaults) (line : List ℕ) (v : Data) (r : Result Asking (List ℕ)) → value_of line ≡ Ok v → asking_in d v ≡ r → asking_of d line ≡ r
+asks_for d line v r j h = ap (λ x. x >>= asking_in d) j ∙ h
 
-no_room : (d : Defaults) (line : List ℕ) → line_limit < length line → asking_of d line ≡ None
-unfolding asking_of
-no_room d line long = rw (lt-ltb line_limit (length line) long) refl
+id_is : (line : List ℕ) (r : Result Data (List ℕ)) → value_of line ≡ r → id_within r ≡ id_of line
+id_is line r j = ap id_within (sym j)
 
 -- a request is answered by a report
 pub reported : (d : Defaults) (before : List File) (line : List ℕ) (v : Data) (a : Asking) (after : List File) (answer : List ℕ)
-    → length line ≤ line_limit → json_of line ≡ Some v → asking_in d v ≡ Some a → IsReported before (id_in v) a after answer → IsAnswered d before line after answer
-reported d before line v a after answer low j h is =
-    inl (a, asks_for d line v (Some a) low j h, subst (λ id. IsReported before id a after answer) (id_is line v j) is)
+    → value_of line ≡ Ok v → asking_in d v ≡ Ok a → IsReported before (id_in v) a after answer → IsAnswered d before line after answer
+reported d before line v a after answer j h is =
+    inl (a, asks_for d line v (Ok a) j h, subst (λ id. IsReported before id a after answer) (id_is line (Ok v) j) is)
 
 -- or is refused
 pub refused : (d : Defaults) (before : List File) (line : List ℕ) (v : Data) (a : Asking) (e : ServeError) (after : List File) (answer : List ℕ)
-    → length line ≤ line_limit → json_of line ≡ Some v → asking_in d v ≡ Some a → after ≡ before → IsRefusalOf before a e → IsRefusal (id_in v) (text_of e) answer → IsAnswered d before line after answer
-refused d before line v a e after answer low j h same is says =
-    inr (same, inr (inr (a, asks_for d line v (Some a) low j h, e, is, subst (λ id. IsRefusal id (text_of e) answer) (id_is line v j) says)))
+    → value_of line ≡ Ok v → asking_in d v ≡ Ok a → after ≡ before → IsRefusalOf before a e → IsRefusal (id_in v) (text_of e) answer → IsAnswered d before line after answer
+refused d before line v a e after answer j h same is says =
+    inr (same, inr (inr (a, asks_for d line v (Ok a) j h, e, is, subst (λ id. IsRefusal id (text_of e) answer) (id_is line (Ok v) j) says)))
 
 -- a value is no request
-pub misread : (d : Defaults) (before : List File) (line : List ℕ) (v : Data) (text : List ℕ) (after : List File) (answer : List ℕ)
-    → length line ≤ line_limit → json_of line ≡ Some v → asking_in d v ≡ None → after ≡ before → IsRefusal (id_in v) text answer → IsAnswered d before line after answer
-misread d before line v text after answer low j h same says =
-    inr (same, inr (inl (asks_for d line v None low j h, id_in v, inl (id_is line v j), text, says)))
+pub misread : (d : Defaults) (before : List File) (line : List ℕ) (v : Data) (why : List ℕ) (after : List File) (answer : List ℕ)
+    → value_of line ≡ Ok v → asking_in d v ≡ Err why → after ≡ before → IsRefusal (id_in v) why answer → IsAnswered d before line after answer
+misread d before line v why after answer j h same says =
+    inr (same, inr (inl (why, asks_for d line v (Err why) j h, subst (λ id. IsRefusal id why answer) (id_is line (Ok v) j) says)))
 
--- a line is no JSON
-pub no_json : (d : Defaults) (before : List File) (line text : List ℕ) (after : List File) (answer : List ℕ)
-    → json_of line ≡ None → after ≡ before → IsRefusal null text answer → IsAnswered d before line after answer
-no_json d before line text after answer j same says = inr (same, inr (inl (no_value d line j, null, inr refl, text, says)))
-
--- a line is too long
-pub too_long : (d : Defaults) (before : List File) (line text : List ℕ) (after : List File) (answer : List ℕ)
-    → line_limit < length line → after ≡ before → IsRefusal null text answer → IsAnswered d before line after answer
-too_long d before line text after answer long same says = inr (same, inr (inl (no_room d line long, null, inr refl, text, says)))
+-- a line is no value
+pub unreadable : (d : Defaults) (before : List File) (line why : List ℕ) (after : List File) (answer : List ℕ)
+    → value_of line ≡ Err why → after ≡ before → IsRefusal null why answer → IsAnswered d before line after answer
+unreadable d before line why after answer j same says =
+    inr (same, inr (inl (why, ap (λ x. x >>= asking_in d) j, subst (λ id. IsRefusal id why answer) (id_is line (Err why) j) says)))
 
 -- there is no memory for an answer
 pub no_memory : (d : Defaults) (before : List File) (line : List ℕ) (after : List File) → after ≡ before → IsAnswered d before line after no_memory_line
 no_memory d before line after same = inr (same, inl refl)
 
+-- the same, wherever the files come from
+pub misread_as : (o : Origin) (said : Said) (d : Defaults) (before : List File) (line : List ℕ) (v : Data) (why : List ℕ) (after : List File) (answer : List ℕ)
+    → value_of line ≡ Ok v → asking_in d v ≡ Err why → after ≡ before → IsRefusal (id_in v) why answer → IsAnsweredAs o said d before line after answer
+misread_as origin.Sent said d before line v why after answer j h same says = misread d before line v why after answer j h same says
+misread_as origin.Folder said d before line v why after answer j h same says =
+    inr (inl (same, why, asks_for d line v (Err why) j h, subst (λ id. IsRefusal id why answer) (id_is line (Ok v) j) says))
+
+pub unreadable_as : (o : Origin) (said : Said) (d : Defaults) (before : List File) (line why : List ℕ) (after : List File) (answer : List ℕ)
+    → value_of line ≡ Err why → after ≡ before → IsRefusal null why answer → IsAnsweredAs o said d before line after answer
+unreadable_as origin.Sent said d before line why after answer j same says = unreadable d before line why after answer j same says
+unreadable_as origin.Folder said d before line why after answer j same says =
+    inr (inl (same, why, ap (λ x. x >>= asking_in d) j, subst (λ id. IsRefusal id why answer) (id_is line (Err why) j) says))
+
+pub lost_as : (o : Origin) (said : Said) (d : Defaults) (before : List File) (line : List ℕ) (after : List File) → after ≡ before → IsAnsweredAs o said d before line after no_memory_line
+lost_as origin.Sent said d before line after same = no_memory d before line after same
+lost_as origin.Folder said d before line after same = inr (inr (refl, inl same))
+
+pub lost_from : (said : Said) (d : Defaults) (before : List File) (line : List ℕ) (v : Data) (a : Asking) (after : List File) → value_of line ≡ Ok v → asking_in d v ≡ Ok a → IsKnown said before a after → IsAnsweredFrom said d before line after no_memory_line
+lost_from said d before line v a after j h known = inr (inr (refl, inr (a, asks_for d line v (Ok a) j h, known)))
+
+pub answered_from : (said : Said) (d : Defaults) (before : List File) (line : List ℕ) (v : Data) (a : Asking) (after : List File) (answer : List ℕ)
+    → value_of line ≡ Ok v → asking_in d v ≡ Ok a → IsAnsweredBy said before (id_in v) a after answer → IsAnsweredFrom said d before line after answer
+answered_from said d before line v a after answer j h is =
+    inl (a, asks_for d line v (Ok a) j h, subst (λ id. IsAnsweredBy said before id a after answer) (id_is line (Ok v) j) is)
+
 -- what is answered to a value that is no request
-pub misreads : {V E : Type 0} (r : Result V E) (items : V → List ℕ) (d : Defaults) (before after : List File) (v : Data) (id : List ℕ) (e : RequestError)
-    → IsIdText (id_in v) id → after ≡ before → (e ≡ why.Memory) ⊎ (asking_in d v ≡ None) → IfOk r (λ _. e ≢ why.Memory)
-    → IfOk r (λ l. (text : List ℕ) × (items l ≡ answer_line id (codes "refused") (compact_text (string text))))
-    → IfOk r (λ l. (line : List ℕ) → length line ≤ line_limit → json_of line ≡ Some v → IsAnswered d before line after (items l))
-misreads (Err x) items d before after v id e is same cause known says = tt
-misreads (Ok l) items d before after v id e is same (inl m) known says = absurd (known m)
-misreads (Ok l) items d before after v id e is same (inr none) known (text, says) = λ line low j. misread d before line v text after (items l) low j none same (id, is, says)
+pub misreads : {V E : Type 0} (r : Result V E) (items : V → List ℕ) (o : Origin) (said : Said) (d : Defaults) (before after : List File) (v : Data) (id : List ℕ) (e : RequestError)
+    → IsIdText (id_in v) id → after ≡ before → IsWhy e (asking_in d v) → IfOk r (λ _. e ≢ reason.Memory)
+    → IfOk r (λ l. items l ≡ answer_line id (codes "refused") (compact_text (string (spec.text_of e))))
+    → IfOk r (λ l. (line : List ℕ) → value_of line ≡ Ok v → IsAnsweredAs o said d before line after (items l))
+misreads (Err x) items o said d before after v id e is same cause known says = tt
+misreads (Ok l) items o said d before after v id e is same (inl m) known says = absurd (known m)
+misreads (Ok l) items o said d before after v id e is same (inr bad) known says = λ line j. misread_as o said d before line v (spec.text_of e) after (items l) j bad same (id, is, says)
 
 -- what is answered to a request that is refused
-pub refuses : {V E : Type 0} (r : Result V E) (items : V → List ℕ) (d : Defaults) (before after : List File) (v : Data) (id : List ℕ) (a : Asking) (e : ServeError) (text : List ℕ)
-    → IsIdText (id_in v) id → after ≡ before → asking_in d v ≡ Some a → IsRefusalOf before a e → text ≡ text_of e
+pub refuses : {V E : Type 0} (r : Result V E) (items : V → List ℕ) (d : Defaults) (before after : List File) (id : List ℕ) (a : Asking) (e : ServeError) (text : List ℕ)
+    → after ≡ before → IsRefusalOf before a e → text ≡ text_of e
     → IfOk r (λ l. items l ≡ answer_line id (codes "refused") (compact_text (string text)))
-    → IfOk r (λ l. (line : List ℕ) → length line ≤ line_limit → json_of line ≡ Some v → IsAnswered d before line after (items l))
-refuses (Err x) items d before after v id a e text is same asks of named says = tt
-refuses (Ok l) items d before after v id a e text is same asks of named says =
-    λ line low j. refused d before line v a e after (items l) low j asks same of
+    → IfOk r (λ l. (line : List ℕ) (v : Data) → IsIdText (id_in v) id → asking_in d v ≡ Ok a → value_of line ≡ Ok v → IsAnswered d before line after (items l))
+refuses (Err x) items d before after id a e text same of named says = tt
+refuses (Ok l) items d before after id a e text same of named says =
+    λ line v is asks j. refused d before line v a e after (items l) j asks same of
     (id, is, says ∙ ap (λ t. answer_line id (codes "refused") (compact_text (string t))) named)
 
 -- the bytes of a line, all of which are there
-pub ready : {V E : Type 0} (r : Result V E) (items : V → List ℕ) (d : Defaults) (before after : List File) (bytes : List ℕ) (v : Data) → json_of bytes ≡ Some v
-    → IfOk r (λ l. (line : List ℕ) → length line ≤ line_limit → json_of line ≡ Some v → IsAnswered d before line after (items l))
-    → IfOk r (λ l. (whole : List ℕ) → IsPiece line.Ready bytes whole → IsAnswered d before whole after (items l))
-ready (Err x) items d before after bytes v j h = tt
-ready (Ok l) items d before after bytes v j h = λ whole piece. h whole piece.1 (ap json_of (sym piece.0) ∙ j)
+pub ready : {V E : Type 0} (r : Result V E) (items : V → List ℕ) (o : Origin) (said : Said) (d : Defaults) (before after : List File) (bytes : List ℕ) (v : Data) → json_of bytes ≡ Some v
+    → IfOk r (λ l. (line : List ℕ) → value_of line ≡ Ok v → IsAnsweredAs o said d before line after (items l))
+    → IfOk r (λ l. (whole : List ℕ) → IsPiece line.Ready bytes whole → IsAnsweredAs o said d before whole after (items l))
+ready (Err x) items o said d before after bytes v j h = tt
+ready (Ok l) items o said d before after bytes v j h = λ whole piece. h whole (value_is whole v piece.1 (ap json_of (sym piece.0) ∙ j))
 
-pub unread : {V E : Type 0} (r : Result V E) (items : V → List ℕ) (d : Defaults) (before after : List File) (bytes : List ℕ) (e : RequestError) → after ≡ before
-    → (e ≡ why.Memory) ⊎ (json_of bytes ≡ None) → IfOk r (λ _. e ≢ why.Memory) → IfOk r (λ l. (text : List ℕ) × IsRefusal null text (items l))
-    → IfOk r (λ l. (whole : List ℕ) → IsPiece line.Ready bytes whole → IsAnswered d before whole after (items l))
-unread (Err x) items d before after bytes e same cause known says = tt
-unread (Ok l) items d before after bytes e same (inl m) known says = absurd (known m)
-unread (Ok l) items d before after bytes e same (inr none) known (text, says) = λ whole piece. no_json d before whole text after (items l) (ap json_of (sym piece.0) ∙ none) same says
+pub unread : {V E : Type 0} (r : Result V E) (items : V → List ℕ) (o : Origin) (said : Said) (d : Defaults) (before after : List File) (bytes : List ℕ) (e : RequestError) → after ≡ before
+    → IsWhy e (there_or not_object (json_of bytes)) → IfOk r (λ _. e ≢ reason.Memory) → IfOk r (λ l. IsRefusal null (spec.text_of e) (items l))
+    → IfOk r (λ l. (whole : List ℕ) → IsPiece line.Ready bytes whole → IsAnsweredAs o said d before whole after (items l))
+unread (Err x) items o said d before after bytes e same cause known says = tt
+unread (Ok l) items o said d before after bytes e same (inl m) known says = absurd (known m)
+unread (Ok l) items o said d before after bytes e same (inr bad) known says = λ whole piece.
+    unreadable_as o said d before whole (spec.text_of e) after (items l) (no_value whole (spec.text_of e) piece.1 (ap (λ t. there_or not_object (json_of t)) (sym piece.0) ∙ bad)) same says
 
-pub long : {V E : Type 0} (r : Result V E) (items : V → List ℕ) (d : Defaults) (before after : List File) (bytes text : List ℕ) → after ≡ before
-    → IfOk r (λ l. IsRefusal null text (items l))
-    → IfOk r (λ l. (whole : List ℕ) → IsPiece line.TooLong bytes whole → IsAnswered d before whole after (items l))
-long (Err x) items d before after bytes text same says = tt
-long (Ok l) items d before after bytes text same says = λ whole piece. too_long d before whole text after (items l) piece same says
+pub long : {V E : Type 0} (r : Result V E) (items : V → List ℕ) (o : Origin) (said : Said) (d : Defaults) (before after : List File) (bytes : List ℕ) → after ≡ before
+    → IfOk r (λ l. IsRefusal null line_too_long (items l))
+    → IfOk r (λ l. (whole : List ℕ) → IsPiece line.TooLong bytes whole → IsAnsweredAs o said d before whole after (items l))
+long (Err x) items o said d before after bytes same says = tt
+long (Ok l) items o said d before after bytes same says = λ whole piece. unreadable_as o said d before whole line_too_long after (items l) (no_room whole piece) same says
 
 -- a refusal of what has no id
-pub null_refusal : {V E : Type 0} (r : Result V E) (items : V → List ℕ) (id : List ℕ) → IsIdText null id
-    → IfOk r (λ l. (text : List ℕ) × (items l ≡ answer_line id (codes "refused") (compact_text (string text)))) → IfOk r (λ l. (text : List ℕ) × IsRefusal null text (items l))
-null_refusal (Err x) items id is says = tt
-null_refusal (Ok l) items id is (text, says) = (text, (id, is, says))
+pub null_refusal : {V E : Type 0} (r : Result V E) (items : V → List ℕ) (id text : List ℕ) → IsIdText null id
+    → IfOk r (λ l. items l ≡ answer_line id (codes "refused") (compact_text (string text))) → IfOk r (λ l. IsRefusal null text (items l))
+null_refusal (Err x) items id text is says = tt
+null_refusal (Ok l) items id text is says = (id, is, says)
+
+-- the same, where memory ran out
+pub lost_misreads : {V E : Type 0} (r : Result V E) (o : Origin) (said : Said) (d : Defaults) (before after : List File) (v : Data) → after ≡ before
+    → IfErr r (λ _. (line : List ℕ) → value_of line ≡ Ok v → IsAnsweredAs o said d before line after no_memory_line)
+lost_misreads (Ok l) o said d before after v same = tt
+lost_misreads (Err x) o said d before after v same = λ line j. lost_as o said d before line after same
+
+pub lost_ready : {V E : Type 0} (r : Result V E) (o : Origin) (said : Said) (d : Defaults) (before after : List File) (bytes : List ℕ) (v : Data) → json_of bytes ≡ Some v
+    → IfErr r (λ _. (line : List ℕ) → value_of line ≡ Ok v → IsAnsweredAs o said d before line after no_memory_line)
+    → IfErr r (λ _. (whole : List ℕ) → IsPiece line.Ready bytes whole → IsAnsweredAs o said d before whole after no_memory_line)
+lost_ready (Ok l) o said d before after bytes v j h = tt
+lost_ready (Err x) o said d before after bytes v j h = λ whole piece. h whole (value_is whole v piece.1 (ap json_of (sym piece.0) ∙ j))
+
+pub lost_line : {V E : Type 0} (r : Result V E) (o : Origin) (said : Said) (d : Defaults) (before after : List File) (kind : Line) (bytes : List ℕ) → after ≡ before
+    → IfErr r (λ _. (whole : List ℕ) → IsPiece kind bytes whole → IsAnsweredAs o said d before whole after no_memory_line)
+lost_line (Ok l) o said d before after kind bytes same = tt
+lost_line (Err x) o said d before after kind bytes same = λ whole piece. lost_as o said d before whole after same
+
+-- what is answered to a request, by where the files come from
+pub by_sent : {V E : Type 0} (r : Result V E) (items : V → List ℕ) (o : Origin) (said : Said) (d : Defaults) (before after : List File) (id : List ℕ) (a : Asking) → o ≡ origin.Sent
+    → IfOk r (λ l. (line : List ℕ) (v : Data) → IsIdText (id_in v) id → asking_in d v ≡ Ok a → value_of line ≡ Ok v → IsAnswered d before line after (items l))
+    → IfOk r (λ l. (line : List ℕ) (v : Data) → IsIdText (id_in v) id → asking_in d v ≡ Ok a → value_of line ≡ Ok v → IsAnsweredAs o said d before line after (items l))
+by_sent (Err x) items o said d before after id a is h = tt
+by_sent (Ok l) items o said d before after id a is h = λ line v text asks j.
+    subst (λ p. IsAnsweredAs p said d before line after (items l)) (sym is) (h line v text asks j)
+
+pub lost_sent : {V E : Type 0} (r : Result V E) (o : Origin) (said : Said) (d : Defaults) (before after : List File) (a : Asking)
+    → IfErr r (λ _. after ≡ before)
+    → IfErr r (λ _. (line : List ℕ) (v : Data) → asking_in d v ≡ Ok a → value_of line ≡ Ok v → IsAnsweredAs o said d before line after no_memory_line)
+lost_sent (Ok l) o said d before after a h = tt
+lost_sent (Err x) o said d before after a h = λ line v asks j. lost_as o said d before line after h
+
+pub by_folder : {V E : Type 0} (r : Result V E) (items : V → List ℕ) (o : Origin) (said : Said) (d : Defaults) (before after : List File) (id : List ℕ) (a : Asking) → o ≡ origin.Folder
+    → IfOk r (λ l. (i : Data) → IsIdText i id → IsAnsweredBy said before i a after (items l))
+    → IfOk r (λ l. (line : List ℕ) (v : Data) → IsIdText (id_in v) id → asking_in d v ≡ Ok a → value_of line ≡ Ok v → IsAnsweredAs o said d before line after (items l))
+by_folder (Err x) items o said d before after id a is h = tt
+by_folder (Ok l) items o said d before after id a is h = λ line v text asks j.
+    subst (λ p. IsAnsweredAs p said d before line after (items l)) (sym is) (answered_from said d before line v a after (items l) j asks (h (id_in v) text))
+
+pub lost_folder : {V E : Type 0} (r : Result V E) (o : Origin) (said : Said) (d : Defaults) (before after : List File) (a : Asking) → o ≡ origin.Folder
+    → IfErr r (λ _. IsKnown said before a after)
+    → IfErr r (λ _. (line : List ℕ) (v : Data) → asking_in d v ≡ Ok a → value_of line ≡ Ok v → IsAnsweredAs o said d before line after no_memory_line)
+lost_folder (Ok l) o said d before after a is h = tt
+lost_folder (Err x) o said d before after a is h = λ line v asks j.
+    subst (λ p. IsAnsweredAs p said d before line after no_memory_line) (sym is) (lost_from said d before line v a after j asks h)
+
+-- what is answered to a request is answered to its value
+pub of_request : {V E : Type 0} (r : Result V E) (P : V → List ℕ → Type 0) (Id : Data → Type 0) (v : Data) (asks : Data → Type 0) → Id v → asks v
+    → IfOk r (λ l. (line : List ℕ) (u : Data) → Id u → asks u → value_of line ≡ Ok u → P l line) → IfOk r (λ l. (line : List ℕ) → value_of line ≡ Ok v → P l line)
+of_request (Err x) P Id v asks id a h = tt
+of_request (Ok l) P Id v asks id a h = λ line j. h line v id a j
+
+pub lost_request : {V E : Type 0} (r : Result V E) (P : List ℕ → Type 0) (v : Data) (asks : Data → Type 0) → asks v
+    → IfErr r (λ _. (line : List ℕ) (u : Data) → asks u → value_of line ≡ Ok u → P line) → IfErr r (λ _. (line : List ℕ) → value_of line ≡ Ok v → P line)
+lost_request (Ok l) P v asks a h = tt
+lost_request (Err x) P v asks a h = λ line j. h line v a j

@@ -1,6 +1,6 @@
 -- What a request asks for, member by member.
-use Rattle.std.proofs.Common.{◌≡◌, ℕ, ◌<◌, List, [], ◌∷◌, ◌++◌, Bool, true, false, Option, Some, None, length, inl, inr, refl, ap, sym, ◌∙◌, append_assoc, arith}
-use Rattle.std.specs.Prelude.{◌⊎◌, option_map}
+use Rattle.std.proofs.Common.{◌≡◌, ℕ, ◌<◌, List, [], ◌∷◌, ◌++◌, Bool, true, false, Option, Some, None, Result, Ok, Err, length, inl, inr, refl, ap, sym, ◌∙◌, append_assoc, arith}
+use Rattle.std.specs.Prelude.{option_map}
 use Rattle.std.proofs.lemmas.List.{append-nil}
 use Rattle.serde_json.specs.Data.{Data, Items, item, no_items, Members, member, no_members}
 use Rattle.serde_json.specs.Find.{as_str}
@@ -10,90 +10,112 @@ use Rattle.star_label.specs.View.{text_of}
 use Rattle.star_label.specs.declared.label.Label.{Label}
 use Rattle.star_report.specs.declared.wanted.Wanted.{Wanted}
 use Rattle.star_session.specs.Changes.{Change}
+use Rattle.star_session.specs.declared.request.Origin.{Origin}
+use Rattle.star_words.specs.Words.{label_of_path}
 use Rattle.star_session.specs.declared.request.RequestError.{RequestError}
-use Rattle.star_session.specs.declared.request.RequestError.TheVariants.{Memory}
-use Rattle.star_session.specs.Requests.{Asking, changes_of, text_or_null, texts_in, with_member, with_members, with_word, with_words}
+use Rattle.star_session.specs.Requests.{◌>>=◌, Asking, IsWhy, bad_changed, bad_files, bad_label, bad_roots, bad_with, changes_of, gone_at, gone_in, text_or_null, texts_in, with_member, with_members, with_word, with_words}
 
--- rows after a front, one more of which is known
-onto : {A : Type 0} (front : List A) (x : A) (o : Option (List A)) → option_map (λ xs. front ++ xs) (option_map (λ xs. x ∷ xs) o) ≡ option_map (λ xs. (front ++ x ∷ []) ++ xs) o
-onto front x None = refl
-onto front x (Some xs) = ap Some (sym (append_assoc front (x ∷ []) xs))
+-- rows after a front
+abbrev pub after : {A : Type 0} → List A → Result (List A) (List ℕ) → Result (List A) (List ℕ)
+after front r = r >>= λ xs. Ok (front ++ xs)
+
+-- .. one more of which is known
+onto : {A : Type 0} (front : List A) (x : A) (r : Result (List A) (List ℕ)) → after front (r >>= λ xs. Ok (x ∷ xs)) ≡ after (front ++ x ∷ []) r
+onto front x (Err why) = refl
+onto front x (Ok xs) = ap Ok (sym (append_assoc front (x ∷ []) xs))
+
+pub at_front : {A : Type 0} (r : Result (List A) (List ℕ)) → r ≡ after [] r
+at_front (Err why) = refl
+at_front (Ok xs) = refl
 
 -- a change, and the members after it
 pub changes_next : (front : List Change) (k : List ℕ) (t : Option (List ℕ)) (d : Data) (ms : Members) → text_or_null d ≡ Some t → is_label k ≡ true
-    → option_map (λ cs. front ++ cs) (changes_of (member k d ms)) ≡ option_map (λ cs. (front ++ (k, t) ∷ []) ++ cs) (changes_of ms)
+    → after front (changes_of (member k d ms)) ≡ after (front ++ (k, t) ∷ []) (changes_of ms)
 unfolding changes_of
 changes_next front k t d ms h l = rw (h, l) (onto front (k, t) (changes_of ms))
 
-pub no_text : (k : List ℕ) (d : Data) (ms : Members) → text_or_null d ≡ None → changes_of (member k d ms) ≡ None
+pub no_text : (k : List ℕ) (d : Data) (ms : Members) → text_or_null d ≡ None → changes_of (member k d ms) ≡ Err bad_files
 unfolding changes_of
 no_text k d ms h = rw h refl
 
-pub no_label : (k : List ℕ) (t : Option (List ℕ)) (d : Data) (ms : Members) → text_or_null d ≡ Some t → is_label k ≡ false → changes_of (member k d ms) ≡ None
+pub no_label : (k : List ℕ) (t : Option (List ℕ)) (d : Data) (ms : Members) → text_or_null d ≡ Some t → is_label k ≡ false → changes_of (member k d ms) ≡ Err (bad_label k)
 unfolding changes_of
 no_label k t d ms h l = rw (h, l) refl
 
-pub changes_done : (front : List Change) → option_map (λ cs. front ++ cs) (changes_of no_members) ≡ Some front
+pub changes_done : (front : List Change) → after front (changes_of no_members) ≡ Ok front
 unfolding changes_of
-changes_done front = ap Some (append-nil front)
+changes_done front = ap Ok (append-nil front)
 
-pub changes_first : (ms : Members) → changes_of ms ≡ option_map (λ cs. [] ++ cs) (changes_of ms)
-changes_first ms = by (changes_of ms)
-  where
-    by : (o : Option (List Change)) → o ≡ option_map (λ cs. [] ++ cs) o
-    by None = refl
-    by (Some cs) = refl
+pub changes_first : (ms : Members) → changes_of ms ≡ after [] (changes_of ms)
+changes_first ms = at_front (changes_of ms)
+
+-- a path, and the items after it
+onto_all : (front more : List Change) (r : Result (List Change) (List ℕ)) → after front (r >>= λ cs. Ok (more ++ cs)) ≡ after (front ++ more) r
+onto_all front more (Err why) = refl
+onto_all front more (Ok cs) = ap Ok (sym (append_assoc front more cs))
+
+pub gone_next : (front : List Change) (path : List ℕ) (d : Data) (ds : Items) → as_str d ≡ Some path
+    → after front (gone_in (item d ds)) ≡ after (front ++ gone_at (label_of_path [] path)) (gone_in ds)
+unfolding gone_in
+gone_next front path d ds h = rw h (onto_all front (gone_at (label_of_path [] path)) (gone_in ds))
+
+pub gone_stop : (d : Data) (ds : Items) → as_str d ≡ None → gone_in (item d ds) ≡ Err bad_changed
+unfolding gone_in
+gone_stop d ds h = rw h refl
+
+pub gone_done : (front : List Change) → after front (gone_in no_items) ≡ Ok front
+unfolding gone_in
+gone_done front = ap Ok (append-nil front)
+
+pub gone_first : (ds : Items) → gone_in ds ≡ after [] (gone_in ds)
+gone_first ds = at_front (gone_in ds)
 
 -- a text, and the items after it
 pub texts_next : (front : List (List ℕ)) (t : List ℕ) (d : Data) (ds : Items) → as_str d ≡ Some t
-    → option_map (λ ts. front ++ ts) (texts_in (item d ds)) ≡ option_map (λ ts. (front ++ t ∷ []) ++ ts) (texts_in ds)
+    → after front (texts_in (item d ds)) ≡ after (front ++ t ∷ []) (texts_in ds)
 unfolding texts_in
 texts_next front t d ds h = rw h (onto front t (texts_in ds))
 
-pub texts_stop : (d : Data) (ds : Items) → as_str d ≡ None → texts_in (item d ds) ≡ None
+pub texts_stop : (d : Data) (ds : Items) → as_str d ≡ None → texts_in (item d ds) ≡ Err bad_roots
 unfolding texts_in
 texts_stop d ds h = rw h refl
 
-pub texts_done : (front : List (List ℕ)) → option_map (λ ts. front ++ ts) (texts_in no_items) ≡ Some front
+pub texts_done : (front : List (List ℕ)) → after front (texts_in no_items) ≡ Ok front
 unfolding texts_in
-texts_done front = ap Some (append-nil front)
+texts_done front = ap Ok (append-nil front)
 
-pub texts_first : (ds : Items) → texts_in ds ≡ option_map (λ ts. [] ++ ts) (texts_in ds)
-texts_first ds = by (texts_in ds)
-  where
-    by : (o : Option (List (List ℕ))) → o ≡ option_map (λ ts. [] ++ ts) o
-    by None = refl
-    by (Some ts) = refl
+pub texts_first : (ds : Items) → texts_in ds ≡ after [] (texts_in ds)
+texts_first ds = at_front (texts_in ds)
 
 -- a word, and the items after it
-pub words_next : (w more : Wanted) (word : List ℕ) (d : Data) (ds : Items) → as_str d ≡ Some word → with_word w word ≡ Some more → with_words w (item d ds) ≡ with_words more ds
+pub words_next : (w more : Wanted) (word : List ℕ) (d : Data) (ds : Items) → as_str d ≡ Some word → with_word w word ≡ Ok more → with_words w (item d ds) ≡ with_words more ds
 unfolding with_words
 words_next w more word d ds h k = rw (h, k) refl
 
-pub words_stop : (w : Wanted) (d : Data) (ds : Items) → as_str d ≡ None → with_words w (item d ds) ≡ None
+pub words_stop : (w : Wanted) (d : Data) (ds : Items) → as_str d ≡ None → with_words w (item d ds) ≡ Err bad_with
 unfolding with_words
 words_stop w d ds h = rw h refl
 
-pub words_unknown : (w : Wanted) (word : List ℕ) (d : Data) (ds : Items) → as_str d ≡ Some word → with_word w word ≡ None → with_words w (item d ds) ≡ None
+pub words_unknown : (w : Wanted) (word : List ℕ) (d : Data) (ds : Items) → as_str d ≡ Some word → with_word w word ≡ Err bad_with → with_words w (item d ds) ≡ Err bad_with
 unfolding with_words
 words_unknown w word d ds h k = rw (h, k) refl
 
-pub words_done : (w : Wanted) → with_words w no_items ≡ Some w
+pub words_done : (w : Wanted) → with_words w no_items ≡ Ok w
 unfolding with_words
 words_done w = refl
 
 -- a member, and those after it
-pub members_next : (a more : Asking) (k : List ℕ) (d : Data) (ms : Members) → with_member a k d ≡ Some more → with_members a (member k d ms) ≡ with_members more ms
+pub members_next : (o : Origin) (a more : Asking) (k : List ℕ) (d : Data) (ms : Members) → with_member o a k d ≡ Ok more → with_members o a (member k d ms) ≡ with_members o more ms
 unfolding with_members
-members_next a more k d ms h = rw h refl
+members_next o a more k d ms h = rw h refl
 
-pub members_stop : (a : Asking) (k : List ℕ) (d : Data) (ms : Members) → with_member a k d ≡ None → with_members a (member k d ms) ≡ None
+pub members_stop : (o : Origin) (a : Asking) (k : List ℕ) (d : Data) (ms : Members) (why : List ℕ) → with_member o a k d ≡ Err why → with_members o a (member k d ms) ≡ Err why
 unfolding with_members
-members_stop a k d ms h = rw h refl
+members_stop o a k d ms why h = rw h refl
 
-pub members_done : (a : Asking) → with_members a no_members ≡ Some a
+pub members_done : (o : Origin) (a : Asking) → with_members o a no_members ≡ Ok a
 unfolding with_members
-members_done a = refl
+members_done o a = refl
 
 pub nothing_left : {A : Type 0} (es : List A) → (0 < length es → false ≡ true) → es ≡ []
 nothing_left [] h = refl
@@ -114,7 +136,7 @@ label_not t o h e = from (is_label t) refl
     from false i = i
     from true i = let wrong : None ≡ Some t = rw i at (ap (option_map text_of) (sym e) ∙ h) in cc
 
-pub members_refused : (a now : Asking) (all : Members) (k : List ℕ) (d : Data) (ms : Members) (e : RequestError) → with_members a all ≡ with_members now (member k d ms)
-    → (e ≡ Memory) ⊎ (with_member now k d ≡ None) → (e ≡ Memory) ⊎ (with_members a all ≡ None)
-members_refused a now all k d ms e same (inl h) = inl h
-members_refused a now all k d ms e same (inr h) = inr (same ∙ members_stop now k d ms h)
+pub members_refused : (o : Origin) (a now : Asking) (all : Members) (k : List ℕ) (d : Data) (ms : Members) (e : RequestError) → with_members o a all ≡ with_members o now (member k d ms)
+    → IsWhy e (with_member o now k d) → IsWhy e (with_members o a all)
+members_refused o a now all k d ms e same (inl h) = inl h
+members_refused o a now all k d ms e same (inr h) = inr (same ∙ members_stop o now k d ms _ h)

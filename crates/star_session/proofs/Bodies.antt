@@ -1,4 +1,4 @@
--- The text of a report without its line end.
+-- The text of a report without its line end, and the outcomes that its run leaves.
 use Rattle.std.proofs.Common.{◌≡◌, ◌-◌, ◌+◌, ℕ, List, [], ◌∷◌, ◌++◌, Bool, Option, length, take, refl, ap, sym, ◌∙◌, subst, length-append, arith}
 use Rattle.std.proofs.Math.Seq.{take-append_seam}
 use Rattle.std.specs.List.{filter}
@@ -8,7 +8,11 @@ use Rattle.serde_json.specs.Data.{Data, array, member, no_members, number, objec
 use Rattle.serde_json.specs.View.{items_of}
 use Rattle.serde_json.specs.Written.{compact_text}
 use Rattle.star_report.specs.Wanted.{Full, full_data, is_shown}
-use Rattle.star_label.specs.Files.{File}
+use Rattle.star_label.specs.Files.{File, IsOrdered}
+use Rattle.star_outcome.specs.GoodEnds.{AreReachedEnds}
+use Rattle.star_outcome.specs.declared.good_end.GoodEnd.{GoodEnd}
+use Rattle.star_memo.specs.Outcomes.{AreOutcomes}
+use Rattle.star_memo.proofs.Staying.{left_by}
 use Rattle.star_plan.specs.Plan.{Plan}
 use Rattle.star_report.specs.Output.{InPlanOf, IsOutput}
 use Rattle.star_report.specs.Wanted.{IsFullText, full_text}
@@ -46,3 +50,9 @@ pub body_of : (wanted : Wanted) (files : List File) (roots : List ℕ) (prelude 
 body_of wanted files roots prelude steps text body n ok size is (plan, planned, of_roots, of_prelude, of_steps, both) =
     let same : body ++ 10 ∷ [] ≡ text = ap (λ b. b ++ 10 ∷ []) (is ∙ ap (λ m. take (m - 1) text) size) ∙ ends wanted files plan text both.0 in
     (plan, planned, of_roots, of_prelude, of_steps, (subst (IsFullText wanted files plan) (sym same) both.0, both.1))
+
+-- the good ends that a run leaves are outcomes of its files
+pub left_in : (files : List File) (roots : List ℕ) (prelude : Option ℕ) (steps : ℕ) (es : List (Option GoodEnd)) → IsOrdered files → InPlanOf files roots prelude steps (λ plan. AreReachedEnds plan es) → AreOutcomes files prelude steps es
+left_in files roots prelude steps es ordered (plan, planned, of_roots, of_prelude, of_steps, are) =
+    subst (λ n. AreOutcomes files prelude n es) of_steps
+    (subst (λ p. AreOutcomes files p plan.steps es) of_prelude (left_by files plan es ordered planned are))

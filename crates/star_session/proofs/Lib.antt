@@ -6,4 +6,6 @@ pub mod OfLines
 pub mod Bodies
 pub mod Limits
 pub mod Answered
+pub mod Named
+pub mod Seen
 pub mod Parts

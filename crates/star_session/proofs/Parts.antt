@@ -8,16 +8,14 @@ use Rattle.std.proofs.lemmas.List.Folds.{concat-append}
 use Rattle.star_label.specs.Files.{File}
 use Rattle.star_serve.specs.Stream.{Adds, Gives, GivesAll, Said}
 use Rattle.star_serve.proofs.Streams.{Adds-more, Gives-more}
-use Rattle.star_session.specs.Answers.{AreAnswered, IsAnswered, no_memory_line}
+use Rattle.star_session.specs.Answers.{Answering, AreAnswered, no_memory_line}
 use Rattle.star_session.specs.Lines.{IsOneLine, IsPiece, IsTaken, Takes, TakesAll, lines_of}
 use Rattle.star_session.specs.Session.{IsPart, IsRest, IsSession, IsStep, ended}
 use Rattle.star_session.specs.declared.lines.Line.{Line}
-use Rattle.star_session.specs.declared.request.Defaults.{Defaults}
-use Rattle.star_session.proofs.Answered.{no_memory}
 use Rattle.star_session.proofs.Takings.{Adds-none, Gives-none}
 use Rattle.star_session.proofs.OfLines.{first_lines, last_line, no_line}
 
-pub then_answered : (d : Defaults) (a b c : List File) (ls ms : List (List ℕ)) (xs ys : List (List ℕ)) → AreAnswered d a ls b xs → AreAnswered d b ms c ys → AreAnswered d a (ls ++ ms) c (xs ++ ys)
+pub then_answered : (d : Answering) (a b c : List File) (ls ms : List (List ℕ)) (xs ys : List (List ℕ)) → AreAnswered d a ls b xs → AreAnswered d b ms c ys → AreAnswered d a (ls ++ ms) c (xs ++ ys)
 then_answered d a b c [] ms [] ys h k = subst (λ f. AreAnswered d f ms c ys) h k
 then_answered d a b c [] ms (x ∷ xs) ys h k = absurd h
 then_answered d a b c (l ∷ ls) ms [] ys h k = absurd h
@@ -37,7 +35,7 @@ split_on ahead g1 first mid g2 more left h k =
 concat_ended : (ls ms : List (List ℕ)) → concat (map ended (ls ++ ms)) ≡ concat (map ended ls) ++ concat (map ended ms)
 concat_ended ls ms = ap concat (map-append ended ls ms) ∙ concat-append (map ended ls) (map ended ms)
 
-pub part_then_part : (d : Defaults) (s0 s1 s2 : Said) (h0 h1 h2 : List ℕ) (t0 t1 t2 : Option (List ℕ)) (f0 f1 f2 : List File)
+pub part_then_part : (d : Answering) (s0 s1 s2 : Said) (h0 h1 h2 : List ℕ) (t0 t1 t2 : Option (List ℕ)) (f0 f1 f2 : List File)
     → IsPart d s0 s1 h0 h1 t0 t1 f0 f1 → IsPart d s1 s2 h1 h2 t1 t2 f1 f2 → IsPart d s0 s2 h0 h2 t0 t2 f0 f2
 part_then_part d s0 s1 s2 h0 h1 h2 t0 t1 t2 f0 f1 f2 p q = record {
   given = p.given ++ q.given;
@@ -52,7 +50,7 @@ part_then_part d s0 s1 s2 h0 h1 h2 t0 t1 t2 f0 f1 f2 p q = record {
   answered = then_answered d f0 f1 f2 p.lines q.lines p.answers q.answers p.answered q.answered;
 }
 
-pub part_then_rest : (d : Defaults) (s0 s1 s2 : Said) (h0 h1 : List ℕ) (t0 t1 t2 : Option (List ℕ)) (f0 f1 : List File)
+pub part_then_rest : (d : Answering) (s0 s1 s2 : Said) (h0 h1 : List ℕ) (t0 t1 t2 : Option (List ℕ)) (f0 f1 : List File)
     → IsPart d s0 s1 h0 h1 t0 t1 f0 f1 → IsRest d s1 s2 h1 t1 t2 f1 → IsRest d s0 s2 h0 t0 t2 f0
 part_then_rest d s0 s1 s2 h0 h1 t0 t1 t2 f0 f1 p q =
     let text : h0 ++ (p.given ++ q.given) ≡ concat (map ended p.lines) ++ (h1 ++ q.given) =
@@ -69,7 +67,7 @@ part_then_rest d s0 s1 s2 h0 h1 t0 t1 t2 f0 f1 p q =
     }
 
 -- nothing yet
-pub no_part : (d : Defaults) (s : Said) (h : List ℕ) (t : Option (List ℕ)) (f : List File) → IsPart d s s h h t t f f
+pub no_part : (d : Answering) (s : Said) (h : List ℕ) (t : Option (List ℕ)) (f : List File) → IsPart d s s h h t t f f
 no_part d s h t f = record {
   given = [];
   gives = Gives-none s;
@@ -82,8 +80,8 @@ no_part d s h t f = record {
 }
 
 -- a line was taken and answered
-pub one_part : (d : Defaults) (s0 s1 : Said) (h0 h1 line : List ℕ) (t0 t1 : Option (List ℕ)) (f0 f1 : List File) (answer : List ℕ)
-    → Takes s0 s1 h0 h1 line → IsOneLine line → Adds t0 t1 answer → IsAnswered d f0 line f1 answer → IsPart d s0 s1 h0 h1 t0 t1 f0 f1
+pub one_part : (d : Answering) (s0 s1 : Said) (h0 h1 line : List ℕ) (t0 t1 : Option (List ℕ)) (f0 f1 : List File) (answer : List ℕ)
+    → Takes s0 s1 h0 h1 line → IsOneLine line → Adds t0 t1 answer → d f0 line f1 answer → IsPart d s0 s1 h0 h1 t0 t1 f0 f1
 one_part d s0 s1 h0 h1 line t0 t1 f0 f1 answer took one wrote is = record {
   given = took.given;
   gives = took.gives;
@@ -96,8 +94,8 @@ one_part d s0 s1 h0 h1 line t0 t1 f0 f1 answer took one wrote is = record {
 }
 
 -- the last line was
-pub last_part : (d : Defaults) (s0 s1 : Said) (h0 line : List ℕ) (t0 t1 : Option (List ℕ)) (f0 f1 : List File) (answer : List ℕ)
-    → TakesAll s0 s1 h0 line → IsOneLine line → line ≢ [] → Adds t0 t1 answer → IsAnswered d f0 line f1 answer → IsRest d s0 s1 h0 t0 t1 f0
+pub last_part : (d : Answering) (s0 s1 : Said) (h0 line : List ℕ) (t0 t1 : Option (List ℕ)) (f0 f1 : List File) (answer : List ℕ)
+    → TakesAll s0 s1 h0 line → IsOneLine line → line ≢ [] → Adds t0 t1 answer → d f0 line f1 answer → IsRest d s0 s1 h0 t0 t1 f0
 last_part d s0 s1 h0 line t0 t1 f0 f1 answer took one some wrote is = record {
   given = took.given;
   all_read = took.all_read;
@@ -108,7 +106,7 @@ last_part d s0 s1 h0 line t0 t1 f0 f1 answer took one some wrote is = record {
 }
 
 -- no line was left
-pub no_rest : (d : Defaults) (s0 s1 : Said) (h0 : List ℕ) (t : Option (List ℕ)) (f : List File) → TakesAll s0 s1 h0 [] → IsRest d s0 s1 h0 t t f
+pub no_rest : (d : Answering) (s0 s1 : Said) (h0 : List ℕ) (t : Option (List ℕ)) (f : List File) → TakesAll s0 s1 h0 [] → IsRest d s0 s1 h0 t t f
 no_rest d s0 s1 h0 t f took = record {
   given = took.given;
   all_read = took.all_read;
@@ -119,7 +117,7 @@ no_rest d s0 s1 h0 t f took = record {
 }
 
 -- what was read from the start, of files that were none
-pub session : (d : Defaults) (s0 s1 : Said) (t0 t1 : Option (List ℕ)) → IsRest d s0 s1 [] t0 t1 [] → IsSession d s0 s1 t0 t1
+pub session : (d : Answering) (s0 s1 : Said) (t0 t1 : Option (List ℕ)) → IsRest d s0 s1 [] t0 t1 [] → IsSession d s0 s1 t0 t1
 session d s0 s1 t0 t1 r = record {
   input = r.given;
   all_read = r.all_read;
@@ -130,19 +128,24 @@ session d s0 s1 t0 t1 r = record {
 }
 
 -- the next line was taken, and answered
-pub step : (d : Defaults) (s0 s1 : Said) (h0 h1 line : List ℕ) (t0 t1 : Option (List ℕ)) (f0 f1 : List File) (answer : List ℕ) (last : Bool)
-    → IsTaken s0 s1 h0 h1 line last → IsOneLine line → Adds t0 t1 answer → IsAnswered d f0 line f1 answer → IsStep d s0 s1 h0 h1 t0 t1 f0 f1 (not last)
+pub step : (d : Answering) (s0 s1 : Said) (h0 h1 line : List ℕ) (t0 t1 : Option (List ℕ)) (f0 f1 : List File) (answer : List ℕ) (last : Bool)
+    → IsTaken s0 s1 h0 h1 line last → IsOneLine line → Adds t0 t1 answer → d f0 line f1 answer → IsStep d s0 s1 h0 h1 t0 t1 f0 f1 (not last)
 step d s0 s1 h0 h1 line t0 t1 f0 f1 answer false took one wrote is = one_part d s0 s1 h0 h1 line t0 t1 f0 f1 answer took one wrote is
 step d s0 s1 h0 h1 line t0 t1 f0 f1 answer true took one wrote is = last_part d s0 s1 h0 line t0 t1 f0 f1 answer took.0 one took.1 wrote is
 
 -- the answer to bytes is that to the line of which they are
-pub of_piece : {V E : Type 0} (r : Result V E) (items : V → List ℕ) (d : Defaults) (before after : List File) (kind : Line) (bytes line : List ℕ) → IsPiece kind bytes line
-    → IfOk r (λ v. (whole : List ℕ) → IsPiece kind bytes whole → IsAnswered d before whole after (items v)) → IfOk r (λ v. IsAnswered d before line after (items v))
+pub of_piece : {V E : Type 0} (r : Result V E) (items : V → List ℕ) (d : Answering) (before after : List File) (kind : Line) (bytes line : List ℕ) → IsPiece kind bytes line
+    → IfOk r (λ v. (whole : List ℕ) → IsPiece kind bytes whole → d before whole after (items v)) → IfOk r (λ v. d before line after (items v))
 of_piece (Ok v) items d before after kind bytes line piece h = h line piece
 of_piece (Err e) items d before after kind bytes line piece h = tt
 
 -- the bytes that are written where there may be no memory for an answer
-pub said_answered : {V E : Type 0} (r : Result V E) (items : V → List ℕ) (d : Defaults) (before after : List File) (line said : List ℕ)
-    → IfOk r (λ v. IsAnswered d before line after (items v)) → IfErr r (λ _. after ≡ before) → MatchResult r (λ v. said ≡ items v) (λ _. said ≡ no_memory_line) → IsAnswered d before line after said
-said_answered (Ok v) items d before after line said ok err is = subst (IsAnswered d before line after) (sym is) ok
-said_answered (Err e) items d before after line said ok err is = subst (IsAnswered d before line after) (sym is) (no_memory d before line after err)
+pub said_answered : {V E : Type 0} (r : Result V E) (items : V → List ℕ) (d : Answering) (before after : List File) (line said : List ℕ)
+    → IfOk r (λ v. d before line after (items v)) → IfErr r (λ _. d before line after no_memory_line) → MatchResult r (λ v. said ≡ items v) (λ _. said ≡ no_memory_line) → d before line after said
+said_answered (Ok v) items d before after line said ok err is = subst (d before line after) (sym is) ok
+said_answered (Err e) items d before after line said ok err is = subst (d before line after) (sym is) err
+
+pub lost_piece : {V E : Type 0} (r : Result V E) (d : Answering) (before after : List File) (kind : Line) (bytes line : List ℕ) → IsPiece kind bytes line
+    → IfErr r (λ _. (whole : List ℕ) → IsPiece kind bytes whole → d before whole after no_memory_line) → IfErr r (λ _. d before line after no_memory_line)
+lost_piece (Ok v) d before after kind bytes line piece h = tt
+lost_piece (Err e) d before after kind bytes line piece h = h line piece

@@ -1,6 +1,6 @@
 -- The answer to a line.
-use Rattle.std.specs.Prelude.{◌≡◌, ◌⊎◌, ◌++◌, ◌∷◌, [], ℕ, List, Bool, Result, Ok, Err, None, Some, codes}
-use Rattle.serde_json.specs.Data.{Data, null, string}
+use Rattle.std.specs.Prelude.{◌≡◌, ◌⊎◌, ◌++◌, ◌∷◌, [], ℕ, List, Bool, Result, Ok, Err, codes}
+use Rattle.serde_json.specs.Data.{Data, string}
 use Rattle.serde_json.specs.Written.{compact_text}
 use Rattle.star_bundle.specs.Bundle.{Asked, asked_among, within_limits, ◌>>=◌}
 use Rattle.star_bundle.specs.Refusal.{text_of}
@@ -58,26 +58,29 @@ IsRefusal id text answer =
 abbrev pub IsRefusalOf : List File → Asking → ServeError → Type 0
 IsRefusalOf before a e = (asked_after before a ≡ Err e) ⊎ ((e ≡ Memory) ⊎ (e ≡ Unpublished))
 
--- The answer refuses a line: for want of memory, which may come at any time; since the line is no request; or by what
--- its request asks for.
+-- The answer refuses a line: for want of memory, which may come at any time; since the line is not a request, and says
+-- why; or by what its request asks for.
 abbrev pub IsRefused : Defaults → List File → List ℕ → List ℕ → Type 0
 IsRefused defaults before line answer =
     (answer ≡ no_memory_line)
-    ⊎ (((asking_of defaults line ≡ None)
-    × (id : Data) × ((id ≡ id_of line) ⊎ (id ≡ null)) × (text : List ℕ) × IsRefusal id text answer)
-    ⊎ ((a : Asking) × (asking_of defaults line ≡ Some a)
+    ⊎ (((why : List ℕ) × (asking_of defaults line ≡ Err why) × IsRefusal (id_of line) why answer)
+    ⊎ ((a : Asking) × (asking_of defaults line ≡ Ok a)
     × (e : ServeError) × IsRefusalOf before a e × IsRefusal (id_of line) (text_of e) answer))
 
 -- A line is answered: by a report of the files as its changes leave them, or by a refusal, and then the files stay.
 abbrev pub IsAnswered : Defaults → List File → List ℕ → List File → List ℕ → Type 0
 IsAnswered defaults before line after answer =
-    ((a : Asking) × (asking_of defaults line ≡ Some a) × IsReported before (id_of line) a after answer)
+    ((a : Asking) × (asking_of defaults line ≡ Ok a) × IsReported before (id_of line) a after answer)
     ⊎ ((after ≡ before) × IsRefused defaults before line answer)
 
+-- what an answer to a line is: the files before it, the line, the files after it, and the answer
+abbrev pub Answering : Type 1
+Answering = List File → List ℕ → List File → List ℕ → Type 0
+
 -- Lines are answered one after another, each by one line; the files after one are those before the next.
-abbrev pub AreAnswered : Defaults → List File → List (List ℕ) → List File → List (List ℕ) → Type 0
-AreAnswered defaults before [] after [] = after ≡ before
-AreAnswered defaults before [] after (x ∷ xs) = ⊥
-AreAnswered defaults before (l ∷ ls) after [] = ⊥
-AreAnswered defaults before (l ∷ ls) after (x ∷ xs) =
-    (between : List File) × IsAnswered defaults before l between x × AreAnswered defaults between ls after xs
+abbrev pub AreAnswered : Answering → List File → List (List ℕ) → List File → List (List ℕ) → Type 0
+AreAnswered answering before [] after [] = after ≡ before
+AreAnswered answering before [] after (x ∷ xs) = ⊥
+AreAnswered answering before (l ∷ ls) after [] = ⊥
+AreAnswered answering before (l ∷ ls) after (x ∷ xs) =
+    (between : List File) × answering before l between x × AreAnswered answering between ls after xs

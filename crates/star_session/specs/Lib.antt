@@ -3,4 +3,5 @@ pub mod Lines
 pub mod Requests
 pub mod Answers
 pub mod Kept
+pub mod Folders
 pub mod Session

@@ -1,17 +1,21 @@
 -- The request that a line is: a JSON object.
-use Rattle.std.specs.Prelude.{◌≡◌, ℕ, ◌&&◌, ◌||◌, List, [], ◌∷◌, true, false, length, nat_le, nat_lt, Option, Some, None, codes, if◌then◌else◌, map, option_map, string_bytes, unwrap_or}
-use Rattle.std.specs.Option.{option_and_then}
+use Rattle.std.specs.Prelude.{◌≡◌, ◌⊎◌, ℕ, ◌&&◌, ◌||◌, List, [], ◌∷◌, ◌++◌, true, false, length, nat_le, nat_lt, Option, Some, None, Result, Ok, Err, codes, if◌then◌else◌, map, option_map, string_bytes, unwrap_or}
 use Rattle.std.specs.Str.{bytes_eq}
 use Rattle.serde_json.specs.Data.{Data, null, boolean, number, string, array, object, Items, no_items, item, Members, no_members, member}
 use Rattle.serde_json.specs.Written.{IsInOrder, compact_text, has_float}
 use Rattle.serde_json.specs.Find.{as_array, as_number, as_object, as_str, as_u64, get}
 use Rattle.star_bundle.specs.Bundle.{is_label, json_of}
 use Rattle.star_report.specs.declared.wanted.Wanted.{Wanted}
+use Rattle.star_words.specs.Words.{label_of_path}
 use Rattle.star_session.specs.Changes.{Change, change_of}
 use Rattle.star_session.specs.Lines.{line_limit}
 use Rattle.star_session.specs.declared.question.Question.{Question}
 use Rattle.star_session.specs.declared.request.Defaults.{Defaults}
+use Rattle.star_session.specs.declared.request.Origin.{Origin}
+use Rattle.star_session.specs.declared.request.Origin.TheVariants.{Folder, Sent}
 use Rattle.star_session.specs.declared.request.Request.{Request}
+use Rattle.star_session.specs.declared.request.RequestError.{RequestError}
+use Rattle.star_session.specs.declared.request.RequestError.TheVariants.{NotObject, NoRoots, BadRoots, NoMember, BadFiles, NoFiles, BadChanged, BadLabel, BadPrelude, BadSteps, BadWith, Memory}
 
 -- what is asked for: changes of the files, and the report of the files after them, for these roots, with this prelude,
 -- these steps for each file, and what is wanted
@@ -22,6 +26,54 @@ pub record Asking : Type 0 where
   pub steps : ℕ
   pub wanted : Wanted
 
+-- why a line is not a request: the texts of its refusal
+abbrev pub line_too_long : List ℕ
+line_too_long = codes "line too long"
+
+abbrev pub not_object : List ℕ
+not_object = codes "not a JSON object"
+
+abbrev pub no_member : List ℕ → List ℕ
+no_member name = codes "no such member: " ++ name
+
+abbrev pub no_roots : List ℕ
+no_roots = codes "`roots` is missing"
+
+abbrev pub bad_roots : List ℕ
+bad_roots = codes "`roots` must be an array of labels"
+
+abbrev pub bad_files : List ℕ
+bad_files = codes "`files` must be an object from labels to texts or nulls"
+
+abbrev pub no_files : List ℕ
+no_files = codes "`files` does not go with `--repo`"
+
+abbrev pub bad_changed : List ℕ
+bad_changed = codes "`changed` must be an array of paths"
+
+abbrev pub bad_label : List ℕ → List ℕ
+bad_label label = codes "bad label in `files`: " ++ label
+
+abbrev pub bad_prelude : List ℕ
+bad_prelude = codes "`prelude` must be a label or null"
+
+abbrev pub bad_steps : List ℕ
+bad_steps = codes "`steps` must be a number from 1 to 100000000"
+
+abbrev pub bad_with : List ℕ
+bad_with = codes "`with` must be an array of some of values, loads, steps, only-roots"
+
+-- one thing after another, up to the first that is refused
+infixl 10 ◌>>=◌
+abbrev pub ◌>>=◌ : {A B : Type 0} → Result A (List ℕ) → (A → Result B (List ℕ)) → Result B (List ℕ)
+(Ok x) >>= f = f x
+(Err why) >>= f = Err why
+
+-- there, or refused so
+abbrev pub there_or : {A : Type 0} → List ℕ → Option A → Result A (List ℕ)
+there_or why None = Err why
+there_or why (Some x) = Ok x
+
 -- a text, or none for null
 abbrev pub text_or_null : Data → Option (Option (List ℕ))
 text_or_null null = Some None
@@ -31,72 +83,122 @@ text_or_null (string s) = Some (Some s)
 text_or_null (array ds) = None
 text_or_null (object ms) = None
 
+-- a name that is a label in normal form
+abbrev pub label_in : List ℕ → Result (List ℕ) (List ℕ)
+label_in name = if is_label name then Ok name else Err (bad_label name)
+
 -- members whose names are labels in normal form, each with a text or null: the changes, in their order
-unfoldable pub changes_of : Members → Option (List Change)
-changes_of no_members = Some []
-changes_of (member k d ms) =
-    option_and_then (λ t. if is_label k then option_map (λ cs. (k, t) ∷ cs) (changes_of ms) else None) (text_or_null d)
+unfoldable pub changes_of : Members → Result (List Change) (List ℕ)
+changes_of no_members = Ok []
+changes_of (member k d ms) = do
+  text ← there_or bad_files (text_or_null d)
+  label ← label_in k
+  changes ← changes_of ms
+  Ok ((label, text) ∷ changes)
+
+-- the files that a request sends, unless a folder has the files
+abbrev pub files_in : Origin → Data → Result (List Change) (List ℕ)
+files_in Sent d = there_or bad_files (as_object d) >>= changes_of
+files_in Folder d = Err no_files
+
+-- the file at a label is taken away, if there is one
+abbrev pub gone_at : Option (List ℕ) → List Change
+gone_at None = []
+gone_at (Some label) = (label, None) ∷ []
+
+-- items that are all paths: the files that they lead to, below the top, are taken away
+unfoldable pub gone_in : Items → Result (List Change) (List ℕ)
+gone_in no_items = Ok []
+gone_in (item d ds) = do
+  path ← there_or bad_changed (as_str d)
+  changes ← gone_in ds
+  Ok (gone_at (label_of_path [] path) ++ changes)
+
+-- the files that have changed, if a folder has the files
+abbrev pub changed_in : Origin → Data → Result (List Change) (List ℕ)
+changed_in Sent d = Err (no_member (codes "changed"))
+changed_in Folder d = there_or bad_changed (as_array d) >>= gone_in
 
 -- items that are all texts
-unfoldable pub texts_in : Items → Option (List (List ℕ))
-texts_in no_items = Some []
-texts_in (item d ds) = option_and_then (λ t. option_map (λ ts. t ∷ ts) (texts_in ds)) (as_str d)
+unfoldable pub texts_in : Items → Result (List (List ℕ)) (List ℕ)
+texts_in no_items = Ok []
+texts_in (item d ds) = do
+  text ← there_or bad_roots (as_str d)
+  texts ← texts_in ds
+  Ok (text ∷ texts)
+
+-- the roots that a value names
+abbrev pub roots_in : Data → Result (List (List ℕ)) (List ℕ)
+roots_in d = do
+  roots ← there_or no_roots (get (codes "roots") d)
+  items ← there_or bad_roots (as_array roots)
+  texts_in items
+
+-- the prelude that a value names
+abbrev pub prelude_in : Data → Result (Option (List ℕ)) (List ℕ)
+prelude_in d = there_or bad_prelude (text_or_null d)
 
 -- a number of steps
-abbrev pub steps_of : Data → Option ℕ
-steps_of d =
-    option_and_then (λ n. if nat_le 1 n && nat_le n 100000000 then Some n else None)
-    (option_and_then as_u64 (as_number d))
+abbrev pub steps_in : Data → Result ℕ (List ℕ)
+steps_in d = do
+  value ← there_or bad_steps (as_number d)
+  n ← there_or bad_steps (as_u64 value)
+  if nat_le 1 n && nat_le n 100000000 then Ok n else Err bad_steps
 
 -- with what a word names
-unfoldable pub with_word : Wanted → List ℕ → Option Wanted
+unfoldable pub with_word : Wanted → List ℕ → Result Wanted (List ℕ)
 with_word w word =
     if bytes_eq word (codes "values")
-    then Some (record { values = true; loads = w.loads; steps = w.steps; only_roots = w.only_roots })
+    then Ok (record { values = true; loads = w.loads; steps = w.steps; only_roots = w.only_roots })
     else (if bytes_eq word (codes "loads")
-    then Some (record { values = w.values; loads = true; steps = w.steps; only_roots = w.only_roots })
+    then Ok (record { values = w.values; loads = true; steps = w.steps; only_roots = w.only_roots })
     else (if bytes_eq word (codes "steps")
-    then Some (record { values = w.values; loads = w.loads; steps = true; only_roots = w.only_roots })
+    then Ok (record { values = w.values; loads = w.loads; steps = true; only_roots = w.only_roots })
     else (if bytes_eq word (codes "only-roots")
-    then Some (record { values = w.values; loads = w.loads; steps = w.steps; only_roots = true })
-    else None)))
+    then Ok (record { values = w.values; loads = w.loads; steps = w.steps; only_roots = true })
+    else Err bad_with)))
 
 -- .. and what further words name
-unfoldable pub with_words : Wanted → Items → Option Wanted
-with_words w no_items = Some w
-with_words w (item d ds) =
-    option_and_then (λ word. option_and_then (λ more. with_words more ds) (with_word w word)) (as_str d)
+unfoldable pub with_words : Wanted → Items → Result Wanted (List ℕ)
+with_words w no_items = Ok w
+with_words w (item d ds) = do
+  word ← there_or bad_with (as_str d)
+  more ← with_word w word
+  with_words more ds
 
 -- nothing more, of all modules
 abbrev pub nothing_more : Wanted
 nothing_more = record { values = false; loads = false; steps = false; only_roots = false }
 
+-- what a value wants
+abbrev pub wanted_in : Data → Result Wanted (List ℕ)
+wanted_in d = there_or bad_with (as_array d) >>= with_words nothing_more
+
 -- what is asked for, with what a member says; the members `id` and `roots` are looked up beside
-unfoldable pub with_member : Asking → List ℕ → Data → Option Asking
-with_member a name d =
-    if bytes_eq name (codes "id") || bytes_eq name (codes "roots") then Some a
+unfoldable pub with_member : Origin → Asking → List ℕ → Data → Result Asking (List ℕ)
+with_member origin a name d =
+    if bytes_eq name (codes "id") || bytes_eq name (codes "roots") then Ok a
     else (if bytes_eq name (codes "files")
-    then option_map
-    (λ cs. record { changes = cs; roots = a.roots; prelude = a.prelude; steps = a.steps; wanted = a.wanted })
-    (option_and_then changes_of (as_object d))
+    then files_in origin d >>= (λ cs.
+    Ok (record { changes = cs; roots = a.roots; prelude = a.prelude; steps = a.steps; wanted = a.wanted }))
+    else (if bytes_eq name (codes "changed")
+    then changed_in origin d >>= (λ cs.
+    Ok (record { changes = cs; roots = a.roots; prelude = a.prelude; steps = a.steps; wanted = a.wanted }))
     else (if bytes_eq name (codes "prelude")
-    then option_map
-    (λ p. record { changes = a.changes; roots = a.roots; prelude = p; steps = a.steps; wanted = a.wanted })
-    (text_or_null d)
+    then prelude_in d >>= (λ p.
+    Ok (record { changes = a.changes; roots = a.roots; prelude = p; steps = a.steps; wanted = a.wanted }))
     else (if bytes_eq name (codes "steps")
-    then option_map
-    (λ n. record { changes = a.changes; roots = a.roots; prelude = a.prelude; steps = n; wanted = a.wanted })
-    (steps_of d)
+    then steps_in d >>= (λ n.
+    Ok (record { changes = a.changes; roots = a.roots; prelude = a.prelude; steps = n; wanted = a.wanted }))
     else (if bytes_eq name (codes "with")
-    then option_map
-    (λ w. record { changes = a.changes; roots = a.roots; prelude = a.prelude; steps = a.steps; wanted = w })
-    (option_and_then (with_words nothing_more) (as_array d))
-    else None))))
+    then wanted_in d >>= (λ w.
+    Ok (record { changes = a.changes; roots = a.roots; prelude = a.prelude; steps = a.steps; wanted = w }))
+    else Err (no_member name))))))
 
 -- .. with what further members say
-unfoldable pub with_members : Asking → Members → Option Asking
-with_members a no_members = Some a
-with_members a (member k d ms) = option_and_then (λ more. with_members more ms) (with_member a k d)
+unfoldable pub with_members : Origin → Asking → Members → Result Asking (List ℕ)
+with_members origin a no_members = Ok a
+with_members origin a (member k d ms) = with_member origin a k d >>= λ more. with_members origin more ms
 
 -- what a request without a further member asks for
 abbrev pub plain : Defaults → List (List ℕ) → Asking
@@ -108,26 +210,34 @@ plain defaults roots = record {
   wanted = defaults.wanted;
 }
 
--- what a value asks for: none where it is no request
-unfoldable pub asking_in : Defaults → Data → Option Asking
-asking_in defaults d =
-    option_and_then
-    (λ ms. option_and_then (λ roots. with_members (plain defaults roots) ms)
-    (option_and_then texts_in (option_and_then as_array (get (codes "roots") d))))
-    (as_object d)
+-- what a value asks for, or why it is not a request
+unfoldable pub asking_in : Defaults → Data → Result Asking (List ℕ)
+asking_in defaults d = do
+  members ← there_or not_object (as_object d)
+  roots ← roots_in d
+  with_members defaults.origin (plain defaults roots) members
 
--- what a line asks for
-unfoldable pub asking_of : Defaults → List ℕ → Option Asking
-asking_of defaults line =
-    if nat_lt line_limit (length line) then None else option_and_then (asking_in defaults) (json_of line)
+-- the value that a line is
+unfoldable pub value_of : List ℕ → Result Data (List ℕ)
+value_of line =
+    if nat_lt line_limit (length line) then Err line_too_long else there_or not_object (json_of line)
+
+-- what a line asks for, or why it is not a request
+abbrev pub asking_of : Defaults → List ℕ → Result Asking (List ℕ)
+asking_of defaults line = value_of line >>= asking_in defaults
 
 -- the `id` of a value
 abbrev pub id_in : Data → Data
 id_in d = unwrap_or (get (codes "id") d) null
 
--- the `id` of a line: null where it is no JSON object
+-- .. of what a line is: null where it is no value
+abbrev pub id_within : Result Data (List ℕ) → Data
+id_within (Ok d) = id_in d
+id_within (Err why) = null
+
+-- the `id` of a line
 abbrev pub id_of : List ℕ → Data
-id_of line = unwrap_or (option_map id_in (json_of line)) null
+id_of line = id_within (value_of line)
 
 -- a text is the JSON of an id: where a float is in it, that text is not said beyond its order
 abbrev pub IsIdText : Data → List ℕ → Type 0
@@ -152,3 +262,22 @@ asked_by r = record {
   steps = r.question.steps;
   wanted = r.question.wanted;
 }
+
+-- the text of a reason
+abbrev pub text_of : RequestError → List ℕ
+text_of NotObject = not_object
+text_of NoRoots = no_roots
+text_of BadRoots = bad_roots
+text_of (NoMember name) = no_member (string_bytes name)
+text_of BadFiles = bad_files
+text_of NoFiles = no_files
+text_of BadChanged = bad_changed
+text_of (BadLabel label) = bad_label (string_bytes label)
+text_of BadPrelude = bad_prelude
+text_of BadSteps = bad_steps
+text_of BadWith = bad_with
+text_of Memory = codes "out of memory"
+
+-- this is why there is none, or memory ran out
+abbrev pub IsWhy : {A : Type 0} → RequestError → Result A (List ℕ) → Type 0
+IsWhy e given = (e ≡ Memory) ⊎ (given ≡ Err (text_of e))

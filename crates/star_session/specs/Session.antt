@@ -4,9 +4,8 @@ use Rattle.std.specs.List.{All, concat}
 use Rattle.std.specs.Prelude.{map}
 use Rattle.star_label.specs.Files.{File}
 use Rattle.star_serve.specs.Stream.{Adds, Gives, GivesAll, Said}
-use Rattle.star_session.specs.Answers.{AreAnswered}
+use Rattle.star_session.specs.Answers.{Answering, AreAnswered}
 use Rattle.star_session.specs.Lines.{IsOneLine, lines_of}
-use Rattle.star_session.specs.declared.request.Defaults.{Defaults}
 
 -- a line with its line end
 abbrev pub ended : List ℕ → List ℕ
@@ -14,7 +13,7 @@ ended line = line ++ 10 ∷ []
 
 -- a part of a session: between old and new lines were taken, each with its line end, of what stood ahead and was read,
 -- and what was written is the row of answers to them; the files before it, and after it
-pub record IsPart (defaults : Defaults) (old new : Said) (ahead left : List ℕ) (wrote written : Option (List ℕ))
+pub record IsPart (answering : Answering) (old new : Said) (ahead left : List ℕ) (wrote written : Option (List ℕ))
     (before after : List File) : Type 0 where
   pub given : List ℕ
   pub gives : Gives old new given
@@ -23,33 +22,33 @@ pub record IsPart (defaults : Defaults) (old new : Said) (ahead left : List ℕ)
   pub whole : All IsOneLine lines
   pub answers : List (List ℕ)
   pub writes : Adds wrote written (concat answers)
-  pub answered : AreAnswered defaults before lines after answers
+  pub answered : AreAnswered answering before lines after answers
 
 -- the rest of a session: all was read up to its end, and what was written is the row of answers to the lines of what
 -- stood ahead and was read
-pub record IsRest (defaults : Defaults) (old new : Said) (ahead : List ℕ) (wrote written : Option (List ℕ))
+pub record IsRest (answering : Answering) (old new : Said) (ahead : List ℕ) (wrote written : Option (List ℕ))
     (before : List File) : Type 0 where
   pub given : List ℕ
   pub all_read : GivesAll old new given
   pub answers : List (List ℕ)
   pub writes : Adds wrote written (concat answers)
   pub after : List File
-  pub answered : AreAnswered defaults before (lines_of (ahead ++ given)) after answers
+  pub answered : AreAnswered answering before (lines_of (ahead ++ given)) after answers
 
 -- one line is answered, or the last one, or none is left
-abbrev pub IsStep : Defaults → Said → Said → List ℕ → List ℕ → Option (List ℕ) → Option (List ℕ) → List File → List File
+abbrev pub IsStep : Answering → Said → Said → List ℕ → List ℕ → Option (List ℕ) → Option (List ℕ) → List File → List File
     → Bool → Type 0
-IsStep defaults old new ahead left wrote written before after true =
-    IsPart defaults old new ahead left wrote written before after
-IsStep defaults old new ahead left wrote written before after false =
-    IsRest defaults old new ahead wrote written before
+IsStep answering old new ahead left wrote written before after true =
+    IsPart answering old new ahead left wrote written before after
+IsStep answering old new ahead left wrote written before after false =
+    IsRest answering old new ahead wrote written before
 
 -- Between old and new all was read up to its end, and what was written is the row of answers to its lines, one a line,
 -- where there were no files at first.
-pub record IsSession (defaults : Defaults) (old new : Said) (wrote written : Option (List ℕ)) : Type 0 where
+pub record IsSession (answering : Answering) (old new : Said) (wrote written : Option (List ℕ)) : Type 0 where
   pub input : List ℕ
   pub all_read : GivesAll old new input
   pub answers : List (List ℕ)
   pub writes : Adds wrote written (concat answers)
   pub after : List File
-  pub answered : AreAnswered defaults [] (lines_of input) after answers
+  pub answered : AreAnswered answering [] (lines_of input) after answers

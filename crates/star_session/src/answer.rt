@@ -6,50 +6,62 @@ ghost use Rattle.star_bundle.specs.Bundle.{within_limits};
 ghost use Rattle.star_bundle.specs.Refusal.{Gives};
 ghost use Rattle.star_bundle.specs.View.{asked_view};
 ghost use Rattle.star_label.specs.Files.{limit_passed};
-ghost use Rattle.star_reading.specs.Parsed.{AreParsesOf};
+ghost use Rattle.star_memo.specs.Outcomes.{AreOutcomes};
+ghost use Rattle.star_memo.specs.Parses.{AreKept};
 ghost use Rattle.star_report.specs.Output.{InPlanOf, IsOutput};
 ghost use Rattle.star_report.specs.declared.wanted.Output.TheVariants as output;
 ghost use Rattle.star_session.specs.Answers.{IsRefusalOf, IsReportOf, IsReported};
 ghost use Rattle.star_session.specs.Changes as spec;
 ghost use Rattle.star_session.specs.Changes.{change_of};
-ghost use Rattle.star_session.specs.Kept.{IsLast};
+ghost use Rattle.star_session.specs.Kept.{IsStanding};
 ghost use Rattle.star_session.specs.Requests.{IsIdText, asked_by, question_of};
 
 use crate::refusal::line_of;
 use crate::request::Request;
-use crate::standing::{Last, Standing, changed, parses_of};
+use crate::standing::{Last, Standing, Staying, changed};
 use star_bundle::bundle::{AskedFor, asked_in};
 use star_bundle::error::ServeError;
 use star_label::error::LabelError;
 use star_label::files::Files;
 use star_label::label::Label;
-use star_reading::parses::Parsed;
+use star_memo::outcomes::{Outcomes, Terms};
+use star_memo::parses::Parses;
+use star_outcome::good_end::GoodEnd;
 use star_reading::reading::Trees;
 use star_report::wanted::{Output, Wanted};
-use star_serve::serve::{Options, written_over};
+use star_serve::serve::{Finished, Options, written_over};
 use std::alloc::Global;
 use std::sync::Wait;
 use std::thread::Threads;
 
-/// The report that is asked for, of files whose texts were parsed, without its line end.
-fn report_of<'t, H: Threads + Wait + Sync>(
+/// A report without its line end, the good ends of the files that were reached, and the numbers of these files.
+#[derive(Drop)]
+struct Reported {
+    text: Vec<u8>,
+    ends: Vec<Option<GoodEnd>>,
+    reached: Vec<usize>,
+}
+
+/// The report that is asked for, with all that stays of what was kept.
+fn report_of<H: Threads + Wait + Sync>(
     rt: &H,
     alloc: Global,
     asked: &AskedFor,
-    trees: &'t Trees,
-    parses: &[Parsed<'t>],
+    staying: &Staying,
     wanted: Wanted,
     loaders: usize,
     steps: u32,
-) -> Result<Vec<u8>, ServeError>
-    requires parses { AreParsesOf asked.now.files parses.now }
+) -> Result<Reported, ServeError>
+    requires parses { AreKept asked.now.files staying.now.parses.all.items }
+    requires outcomes { AreOutcomes asked.now.files asked.now.prelude steps staying.now.outcomes.all.items }
     requires roots { All (λ n. n < length asked.now.files) asked.now.roots.items }
     requires prelude { IfSome asked.now.prelude (λ n. n < length asked.now.files) }
     requires loaders { (1 ≤ loaders) × (loaders ≤ 64) }
     requires steps { (1 ≤ steps) × (steps ≤ 100000000) }
     ensures kinds { IfErr result (λ e. (e ≡ ServeError.Memory) ⊎ (e ≡ ServeError.Unpublished)) }
-    ensures report { IfOk result (λ text. (ok : Bool) × InPlanOf asked.now.files asked.now.roots.items asked.now.prelude
-        steps (λ plan. IsOutput (output.Report wanted) asked.now.files plan (text.items ++ 10 ∷ []) ok)) }
+    ensures report { IfOk result (λ r. (ok : Bool) × InPlanOf asked.now.files asked.now.roots.items asked.now.prelude
+        steps (λ plan. IsOutput (output.Report wanted) asked.now.files plan (r.text.items ++ 10 ∷ []) ok)) }
+    ensures ends { IfOk result (λ r. AreOutcomes asked.now.files asked.now.prelude steps r.ends.items) }
 {
     let options = Options {
         loaders,
@@ -62,10 +74,24 @@ fn report_of<'t, H: Threads + Wait + Sync>(
         explain: None,
         progress: None,
     };
-    let written = written_over(rt, alloc, asked, trees, parses, &options)?;
+    // Its length says that the files are in order.
+    let _ = asked.files.len();
+    let trees = Trees::new(alloc)?;
+    let parses = staying.parses.views(alloc, &asked.files)?;
+    let ends = staying.outcomes.all.as_slice();
+    let finished = written_over(rt, alloc, asked, &trees, &parses, ends, &options)?;
+    let Finished {
+        written,
+        ends,
+        reached,
+    } = finished;
     let mut text = written.text;
     text.pop();
-    Ok(text)
+    Ok(Reported {
+        text,
+        ends,
+        reached,
+    })
 }
 
 /// The files after changes.
@@ -88,32 +114,34 @@ fn files_after(
     }
 }
 
-/// The files after a request, the results of parsing their texts, and the report that was asked for.
+/// The files after a request, what is kept of them, the report that was asked for, and the files that it reached.
 #[derive(Drop)]
-struct After<'t> {
+struct After {
     files: Files,
-    parses: Vec<Parsed<'t>>,
+    parses: Parses,
+    outcomes: Outcomes,
     last: Last,
+    reached: Vec<usize>,
 }
 
 /// Makes the changes of a request, and the report of the files after them.
-fn report_after<'t, H: Threads + Wait + Sync>(
+fn report_after<H: Threads + Wait + Sync>(
     rt: &H,
     alloc: Global,
-    trees: &'t Trees,
-    standing: &mut Standing<'t>,
+    standing: &mut Standing,
     request: Request,
     loaders: usize,
-) -> Result<After<'t>, ServeError>
-    requires parses { AreParsesOf standing.old.files standing.old.parses.items }
+) -> Result<After, ServeError>
+    requires standing { IsStanding standing.old }
     requires loaders { (1 ≤ loaders) × (loaders ≤ 64) }
     requires steps { (1 ≤ request.question.steps) × (request.question.steps ≤ 100000000) }
     ensures files { standing.new.files ≡ standing.old.files }
-    ensures old_parses { standing.new.parses ≡ standing.old.parses }
-    ensures old_last { standing.new.last ≡ standing.old.last }
+    ensures standing { IsStanding standing.new }
     ensures after { IfOk result (λ a.
         a.files ≡ spec.files_after standing.old.files (map change_of request.changes.items)) }
-    ensures parses { IfOk result (λ a. AreParsesOf a.files a.parses.items) }
+    ensures parses { IfOk result (λ a. AreKept a.files a.parses.all.items) }
+    ensures outcomes { IfOk result (λ a.
+        AreOutcomes a.files a.outcomes.terms.prelude a.outcomes.terms.steps a.outcomes.all.items) }
     ensures question { IfOk result (λ a. a.last.question ≡ request.question) }
     ensures report { IfOk result (λ a. IsReportOf a.files (question_of a.last.question) a.last.report.items) }
     ensures refused { IfErr result (IsRefusalOf standing.old.files (asked_by request)) }
@@ -128,41 +156,50 @@ fn report_after<'t, H: Threads + Wait + Sync>(
         Ok(asked) => asked,
         Err(error) => return Err(error),
     };
-    let parses = parses_of(rt, alloc, trees, standing, &asked.files)?;
-    let report = report_of(
+    let terms = Terms {
+        prelude: asked.prelude,
+        steps: question.steps,
+    };
+    let staying = standing.staying(rt, alloc, &asked.files, terms, loaders)?;
+    let reported = report_of(
         rt,
         alloc,
         &asked,
-        trees,
-        parses.as_slice(),
+        &staying,
         question.wanted,
         loaders,
         question.steps,
     )?;
+    let Reported {
+        text: report,
+        ends,
+        reached,
+    } = reported;
     Ok(After {
         files: asked.files,
-        parses,
+        parses: staying.parses,
+        outcomes: Outcomes { all: ends, terms },
         last: Last { question, report },
+        reached,
     })
 }
 
 /// The answer to a request, whose id is this JSON, and the files after it. If it is refused, the files stay as they
-/// were before. If nothing has changed since the last report, and the same is asked, the answer is that report.
-pub(crate) fn answered<'t, H: Threads + Wait + Sync>(
+/// were before. If nothing has changed since the last report, and the same is asked, the answer is that report. `keep` is
+/// how many bytes the texts may have of which anything is kept.
+pub(crate) fn answered<H: Threads + Wait + Sync>(
     rt: &H,
     alloc: Global,
-    trees: &'t Trees,
-    standing: &mut Standing<'t>,
+    standing: &mut Standing,
     id: &str,
     request: Request,
     loaders: usize,
+    keep: usize,
 ) -> Result<Vec<u8>, ServeError>
-    requires parses { AreParsesOf standing.old.files standing.old.parses.items }
-    requires last { IsLast standing.old.files standing.old.last }
+    requires standing { IsStanding standing.old }
     requires loaders { (1 ≤ loaders) × (loaders ≤ 64) }
     requires steps { (1 ≤ request.question.steps) × (request.question.steps ≤ 100000000) }
-    ensures parses { AreParsesOf standing.new.files standing.new.parses.items }
-    ensures last { IsLast standing.new.files standing.new.last }
+    ensures standing { IsStanding standing.new }
     ensures reports { IfOk result (λ line. (d : Data) → IsIdText d id.now
         → IsReported standing.old.files d (asked_by request) standing.new.files line.items) }
     ensures refused { IfErr result (IsRefusalOf standing.old.files (asked_by request)) }
@@ -172,7 +209,7 @@ pub(crate) fn answered<'t, H: Threads + Wait + Sync>(
         let known = line_of(alloc, id, "report", report)?;
         return Ok(known);
     }
-    let after = match report_after(rt, alloc, trees, standing, request, loaders) {
+    let after = match report_after(rt, alloc, standing, request, loaders) {
         Ok(after) => after,
         Err(error) => return Err(error),
     };
@@ -180,10 +217,14 @@ pub(crate) fn answered<'t, H: Threads + Wait + Sync>(
     let After {
         files,
         parses,
+        outcomes,
         last,
+        reached,
     } = after;
     standing.files = files;
     standing.parses = parses;
+    standing.outcomes = outcomes;
     standing.last = Some(last);
+    standing.trim(alloc, &reached, keep);
     Ok(line)
 }

@@ -1,12 +1,14 @@
 //! A host that stays up: requests on a stream of lines, one answer a line.
 //!
 //! `lines` cuts the stream into lines. `request` reads a line: changes of files, and a question about them.
-//! `standing` has the files as the requests so far leave them, with the results of parsing their texts, so that
-//! only a text that changed is parsed again. `answer` runs a request and writes its answer, and `session` goes through
-//! all of them. The form of requests and answers is in `docs/REQUESTS.md`.
+//! `standing` has the files as the requests so far leave them, and what is kept of them (`star_memo`): the trees of their
+//! texts, and the outcomes of the files that the last request reached. `answer` runs a request and writes its answer;
+//! `folder` first looks at the files of a folder, if they are not sent; and `session` goes through all requests. The form
+//! of requests and answers is in `docs/REQUESTS.md`.
 #![tactic(auto)]
 
 mod answer;
+mod folder;
 pub mod lines;
 pub mod question;
 mod refusal;

@@ -1,16 +1,15 @@
 //! A request: changes of files, and a question about the files after them.
 
-ghost use Rattle.std.specs.Prelude.{◌≡◌, ◌≢◌, ◌≤◌, ◌⊎◌, codes, false, IfErr, IfOk, None, OnOk, Some, map, option_map, string_bytes};
-ghost use Rattle.serde_json.specs.Find.{as_array, as_object, as_str, get};
+ghost use Rattle.std.specs.Prelude.{◌≡◌, ◌≢◌, ◌≤◌, ◌⊎◌, ◌++◌, [], false, Err, IfErr, IfOk, None, Ok, OnOk, Some, map, option_map, string_bytes};
+ghost use Rattle.serde_json.specs.Find.{as_object};
 ghost use Rattle.serde_json.specs.View.{items_view, members_view, view};
-ghost use Rattle.std.specs.Option.{option_and_then};
 ghost use Rattle.star_bundle.specs.Bundle.{json_of};
 ghost use Rattle.star_bundle.specs.View.{if_label};
 ghost use Rattle.star_label.specs.View.{text_of};
 ghost use Rattle.star_session.specs.Changes.{change_of};
-ghost use Rattle.star_session.specs.Requests.{IsIdText};
+ghost use Rattle.star_words.specs.Words.{label_of_path};
 ghost use Rattle.star_session.specs.Requests as spec;
-ghost use Rattle.star_session.specs.Requests.{asked_by};
+ghost use Rattle.star_session.specs.Requests.{IsIdText, IsWhy, asked_by, there_or};
 ghost use Rattle.star_session.specs.declared.request.RequestError.TheVariants.{Memory};
 
 use crate::question::Question;
@@ -18,12 +17,23 @@ use serde_json::{Map, Value};
 use star_label::error::LabelError;
 use star_label::label::Label;
 use star_report::wanted::Wanted;
+use star_words::words::label_of;
 use std::alloc::{AllocError, AllocFailed, Global};
-use thiserror::Error;
+
+/// Where the files come from.
+#[derive(Clone, Copy, Debug, PartialEq, Eq)]
+pub enum Origin {
+    /// Requests send them: `files`.
+    Sent,
+    /// A folder has them: `changed` says which are read again.
+    Folder,
+}
 
 /// The defaults of a request, for members that it lacks.
 #[derive(Debug, Drop)]
 pub struct Defaults {
+    /// Where the files come from.
+    pub origin: Origin,
     /// The label of the prelude.
     pub prelude: Option<String>,
     /// How many steps a file may take, from 1 to 100,000,000.
@@ -42,32 +52,31 @@ pub struct Request {
 }
 
 /// Why a line is not a request.
-#[derive(Debug, Drop, Error)]
+#[derive(Debug, Drop)]
 pub enum RequestError {
     /// The line is not a JSON object.
-    #[error("not a JSON object")]
     NotObject,
-    /// A request has no such member.
-    #[error("no such member: {name}")]
-    NoMember {
-        name: String,
-    },
-    /// A member is not as it must be.
-    #[error("`{name}` must be {wants}")]
-    BadMember {
-        name: &'static str,
-        wants: &'static str,
-    },
-    /// A name in `files` is not a label in normal form.
-    #[error("bad label in `files`: {label}")]
-    BadLabel {
-        label: String,
-    },
     /// There is no member `roots`.
-    #[error("`roots` is missing")]
     NoRoots,
+    /// `roots` is not an array of texts.
+    BadRoots,
+    /// A request has no such member.
+    NoMember { name: String },
+    /// `files` is not an object, or a member of it is neither a text nor null.
+    BadFiles,
+    /// A folder has the files, so none are sent.
+    NoFiles,
+    /// `changed` is not an array of texts.
+    BadChanged,
+    /// A name in `files` is not a label in normal form.
+    BadLabel { label: String },
+    /// `prelude` is neither a text nor null.
+    BadPrelude,
+    /// `steps` is not a number from 1 to 100,000,000.
+    BadSteps,
+    /// `with` is not an array of its words.
+    BadWith,
     /// A growth was refused.
-    #[error("out of memory")]
     Memory,
 }
 
@@ -79,11 +88,44 @@ impl RequestError {
         match self {
             RequestError::Memory => true,
             RequestError::NotObject => false,
-            RequestError::NoMember { .. } => false,
-            RequestError::BadMember { .. } => false,
-            RequestError::BadLabel { .. } => false,
             RequestError::NoRoots => false,
+            RequestError::BadRoots => false,
+            RequestError::NoMember { .. } => false,
+            RequestError::BadFiles => false,
+            RequestError::NoFiles => false,
+            RequestError::BadChanged => false,
+            RequestError::BadLabel { .. } => false,
+            RequestError::BadPrelude => false,
+            RequestError::BadSteps => false,
+            RequestError::BadWith => false,
         }
+    }
+
+    /// The text of the refusal.
+    pub fn text(&self, alloc: Global) -> Result<String, AllocError>
+        ensures { IfOk result (λ text. string_bytes text ≡ spec.text_of self.now) }
+    {
+        let text = match self {
+            RequestError::NotObject => "not a JSON object",
+            RequestError::NoRoots => "`roots` is missing",
+            RequestError::BadRoots => "`roots` must be an array of labels",
+            RequestError::NoMember { name } => {
+                return format!(in alloc; "no such member: {name}");
+            }
+            RequestError::BadFiles => "`files` must be an object from labels to texts or nulls",
+            RequestError::NoFiles => "`files` does not go with `--repo`",
+            RequestError::BadChanged => "`changed` must be an array of paths",
+            RequestError::BadLabel { label } => {
+                return format!(in alloc; "bad label in `files`: {label}");
+            }
+            RequestError::BadPrelude => "`prelude` must be a label or null",
+            RequestError::BadSteps => "`steps` must be a number from 1 to 100000000",
+            RequestError::BadWith => {
+                "`with` must be an array of some of values, loads, steps, only-roots"
+            }
+            RequestError::Memory => "out of memory",
+        };
+        String::from_str(alloc, text)
     }
 }
 
@@ -106,7 +148,7 @@ impl<T: Drop> From<AllocFailed<T>> for RequestError {
 /// The value that a line is: `NotObject` if it is not JSON.
 pub fn value_in(alloc: Global, line: &[u8]) -> Result<Value, RequestError>
     ensures ok { IfOk result (λ v. json_of line.now ≡ Some (view v)) }
-    ensures refused { IfErr result (λ e. (e ≡ RequestError.Memory) ⊎ (json_of line.now ≡ None)) }
+    ensures refused { IfErr result (λ e. IsWhy e (there_or spec.not_object (json_of line.now))) }
 {
     match Value::from_slice(alloc, line) {
         Ok(value) => Ok(value),
@@ -163,14 +205,13 @@ fn changes_of(
     alloc: Global,
     mut members: Map<String, Value>,
 ) -> Result<Vec<(Label, Option<String>)>, RequestError>
-    ensures ok { IfOk result (λ cs. spec.changes_of (members_view members.entries) ≡ Some (map change_of cs.items)) }
-    ensures refused { IfErr result (λ e. (e ≡ RequestError.Memory)
-        ⊎ (spec.changes_of (members_view members.entries) ≡ None)) }
+    ensures ok { IfOk result (λ cs. spec.changes_of (members_view members.entries) ≡ Ok (map change_of cs.items)) }
+    ensures refused { IfErr result (λ e. IsWhy e (spec.changes_of (members_view members.entries))) }
 {
     let mut changes = Vec::new(alloc);
     while let Some((name, value)) = members.pop_first() {
         let Some(text) = text_or_null(value) else {
-            return Err(files_are_bad());
+            return Err(RequestError::BadFiles);
         };
         let Some(label) = label_in(alloc, name.as_str())? else {
             return Err(RequestError::BadLabel { label: name });
@@ -182,7 +223,8 @@ fn changes_of(
 
 /// The texts of an array: none if an item is not a text.
 fn texts_of(alloc: Global, items: &[Value]) -> Result<Option<Vec<String>>, AllocError>
-    ensures { IfOk result (λ o. option_map (λ ts. map string_bytes ts.items) o ≡ spec.texts_in (items_view items.now)) }
+    ensures { IfOk result (λ o. there_or spec.bad_roots (option_map (λ ts. map string_bytes ts.items) o)
+        ≡ spec.texts_in (items_view items.now)) }
 {
     let mut texts = Vec::new(alloc);
     for item in items {
@@ -196,11 +238,8 @@ fn texts_of(alloc: Global, items: &[Value]) -> Result<Option<Vec<String>>, Alloc
 
 /// The roots that a request names.
 fn roots_in(alloc: Global, value: &Value) -> Result<Vec<String>, RequestError>
-    ensures ok { IfOk result (λ ts.
-        option_and_then spec.texts_in (option_and_then as_array (get (codes "roots") (view value.now)))
-        ≡ Some (map string_bytes ts.items)) }
-    ensures refused { IfErr result (λ e. (e ≡ RequestError.Memory)
-        ⊎ (option_and_then spec.texts_in (option_and_then as_array (get (codes "roots") (view value.now))) ≡ None)) }
+    ensures ok { IfOk result (λ ts. spec.roots_in (view value.now) ≡ Ok (map string_bytes ts.items)) }
+    ensures refused { IfErr result (λ e. IsWhy e (spec.roots_in (view value.now))) }
 {
     let Some(roots) = value.get("roots") else {
         return Err(RequestError::NoRoots);
@@ -211,27 +250,14 @@ fn roots_in(alloc: Global, value: &Value) -> Result<Vec<String>, RequestError>
     };
     match texts {
         Some(roots) => Ok(roots),
-        None => Err(RequestError::BadMember {
-            name: "roots",
-            wants: "an array of labels",
-        }),
-    }
-}
-
-/// A number of steps.
-fn steps_of(value: &Value) -> Option<u32>
-    ensures { result ≡ spec.steps_of (view value.now) }
-{
-    match value.as_u64() {
-        Some(steps) if 1 <= steps && steps <= 100_000_000 => Some(steps as u32),
-        _ => None,
+        None => Err(RequestError::BadRoots),
     }
 }
 
 /// The wanted members, with the one that a word of `with` names.
 #[tactic(auto, unfolding(crate::specs::Requests::with_word))]
 fn with_word(wanted: Wanted, word: &str) -> Option<Wanted>
-    ensures { result ≡ spec.with_word wanted word.now }
+    ensures { there_or spec.bad_with result ≡ spec.with_word wanted word.now }
 {
     let mut wanted = wanted;
     match word {
@@ -246,7 +272,7 @@ fn with_word(wanted: Wanted, word: &str) -> Option<Wanted>
 
 /// The members that the words of `with` name.
 fn with_words(items: &[Value]) -> Option<Wanted>
-    ensures { result ≡ spec.with_words spec.nothing_more (items_view items.now) }
+    ensures { there_or spec.bad_with result ≡ spec.with_words spec.nothing_more (items_view items.now) }
 {
     let mut wanted = Wanted::NOTHING;
     for item in items {
@@ -261,62 +287,101 @@ fn with_words(items: &[Value]) -> Option<Wanted>
     Some(wanted)
 }
 
-/// `files` is not as it must be.
-fn files_are_bad() -> RequestError {
-    RequestError::BadMember {
-        name: "files",
-        wants: "an object from labels to texts or nulls",
+/// The changes of a request that sends files.
+fn files_in(
+    alloc: Global,
+    origin: Origin,
+    value: Value,
+) -> Result<Vec<(Label, Option<String>)>, RequestError>
+    ensures ok { IfOk result (λ cs. spec.files_in origin (view value) ≡ Ok (map change_of cs.items)) }
+    ensures refused { IfErr result (λ e. IsWhy e (spec.files_in origin (view value))) }
+{
+    if origin == Origin::Folder {
+        return Err(RequestError::NoFiles);
+    }
+    match into_members(value) {
+        Some(members) => changes_of(alloc, members),
+        None => Err(RequestError::BadFiles),
     }
 }
 
-/// The changes of a request.
-fn files_in(alloc: Global, value: Value) -> Result<Vec<(Label, Option<String>)>, RequestError>
-    ensures ok { IfOk result (λ cs. option_and_then spec.changes_of (as_object (view value))
-        ≡ Some (map change_of cs.items)) }
-    ensures refused { IfErr result (λ e. (e ≡ RequestError.Memory)
-        ⊎ (option_and_then spec.changes_of (as_object (view value)) ≡ None)) }
+/// The file that a path leads to is taken away, if a label names it.
+fn push_gone(
+    alloc: Global,
+    changes: &mut Vec<(Label, Option<String>)>,
+    path: &str,
+) -> Result<(), AllocError>
+    ensures { OnOk result (map change_of changes.new.items
+        ≡ map change_of changes.old.items ++ spec.gone_at (label_of_path [] path.now)) }
 {
-    match into_members(value) {
-        Some(members) => changes_of(alloc, members),
-        None => Err(files_are_bad()),
+    match label_of(alloc, "", path) {
+        Ok(Some(label)) => {
+            changes.push((label, None))?;
+            Ok(())
+        }
+        Ok(None) => Ok(()),
+        Err(_) => Err(AllocError),
+    }
+}
+
+/// The files that paths lead to are taken away.
+fn gone_in(alloc: Global, items: &[Value]) -> Result<Vec<(Label, Option<String>)>, RequestError>
+    ensures ok { IfOk result (λ cs. spec.gone_in (items_view items.now) ≡ Ok (map change_of cs.items)) }
+    ensures refused { IfErr result (λ e. IsWhy e (spec.gone_in (items_view items.now))) }
+{
+    let mut changes = Vec::new(alloc);
+    for item in items {
+        let Some(path) = item.as_str() else {
+            return Err(RequestError::BadChanged);
+        };
+        push_gone(alloc, &mut changes, path)?;
+    }
+    Ok(changes)
+}
+
+/// The changes of a request that names files of a folder.
+fn changed_in(
+    alloc: Global,
+    origin: Origin,
+    value: &Value,
+) -> Result<Vec<(Label, Option<String>)>, RequestError>
+    requires { origin ≡ Origin.Folder }
+    ensures ok { IfOk result (λ cs. spec.changed_in origin (view value.now) ≡ Ok (map change_of cs.items)) }
+    ensures refused { IfErr result (λ e. IsWhy e (spec.changed_in origin (view value.now))) }
+{
+    match value.as_array() {
+        Some(items) => gone_in(alloc, items.as_slice()),
+        None => Err(RequestError::BadChanged),
     }
 }
 
 /// The prelude of a request.
 fn prelude_in(value: Value) -> Result<Option<String>, RequestError>
-    ensures ok { IfOk result (λ p. spec.text_or_null (view value) ≡ Some (option_map string_bytes p)) }
-    ensures refused { IfErr result (λ e. spec.text_or_null (view value) ≡ None) }
+    ensures ok { IfOk result (λ p. spec.prelude_in (view value) ≡ Ok (option_map string_bytes p)) }
+    ensures refused { IfErr result (λ e. IsWhy e (spec.prelude_in (view value))) }
 {
     match text_or_null(value) {
         Some(prelude) => Ok(prelude),
-        None => Err(RequestError::BadMember {
-            name: "prelude",
-            wants: "a label or null",
-        }),
+        None => Err(RequestError::BadPrelude),
     }
 }
 
 /// The steps of a request.
 fn steps_in(value: &Value) -> Result<u32, RequestError>
-    ensures ok { IfOk result (λ n. spec.steps_of (view value.now) ≡ Some n) }
+    ensures ok { IfOk result (λ n. spec.steps_in (view value.now) ≡ Ok n) }
     ensures range { IfOk result (λ n. (1 ≤ n) × (n ≤ 100000000)) }
-    ensures refused { IfErr result (λ e. spec.steps_of (view value.now) ≡ None) }
+    ensures refused { IfErr result (λ e. IsWhy e (spec.steps_in (view value.now))) }
 {
-    match steps_of(value) {
-        Some(steps) => Ok(steps),
-        None => Err(RequestError::BadMember {
-            name: "steps",
-            wants: "a number from 1 to 100000000",
-        }),
+    match value.as_u64() {
+        Some(steps) if 1 <= steps && steps <= 100_000_000 => Ok(steps as u32),
+        _ => Err(RequestError::BadSteps),
     }
 }
 
 /// The further members of each module that a request wants.
 fn wanted_in(value: &Value) -> Result<Wanted, RequestError>
-    ensures ok { IfOk result (λ w.
-        option_and_then (spec.with_words spec.nothing_more) (as_array (view value.now)) ≡ Some w) }
-    ensures refused { IfErr result (λ e.
-        option_and_then (spec.with_words spec.nothing_more) (as_array (view value.now)) ≡ None) }
+    ensures ok { IfOk result (λ w. spec.wanted_in (view value.now) ≡ Ok w) }
+    ensures refused { IfErr result (λ e. IsWhy e (spec.wanted_in (view value.now))) }
 {
     let wanted = match value.as_array() {
         Some(items) => with_words(items.as_slice()),
@@ -324,10 +389,7 @@ fn wanted_in(value: &Value) -> Result<Wanted, RequestError>
     };
     match wanted {
         Some(wanted) => Ok(wanted),
-        None => Err(RequestError::BadMember {
-            name: "with",
-            wants: "an array of some of values, loads, steps, only-roots",
-        }),
+        None => Err(RequestError::BadWith),
     }
 }
 
@@ -335,20 +397,24 @@ fn wanted_in(value: &Value) -> Result<Wanted, RequestError>
 #[tactic(auto, unfolding(crate::specs::Requests::with_member))]
 fn take_member(
     alloc: Global,
+    origin: Origin,
     request: &mut Request,
     name: String,
     value: Value,
 ) -> Result<(), RequestError>
-    ensures ok { OnOk result (spec.with_member (asked_by request.old) (string_bytes name) (view value)
-        ≡ Some (asked_by request.new)) }
+    ensures ok { OnOk result (spec.with_member origin (asked_by request.old) (string_bytes name) (view value)
+        ≡ Ok (asked_by request.new)) }
     ensures steps { (1 ≤ request.old.question.steps) × (request.old.question.steps ≤ 100000000)
         → (1 ≤ request.new.question.steps) × (request.new.question.steps ≤ 100000000) }
-    ensures refused { IfErr result (λ e. (e ≡ RequestError.Memory)
-        ⊎ (spec.with_member (asked_by request.old) (string_bytes name) (view value) ≡ None)) }
+    ensures refused { IfErr result (λ e.
+        IsWhy e (spec.with_member origin (asked_by request.old) (string_bytes name) (view value))) }
 {
     match name.as_str() {
         "id" | "roots" => {}
-        "files" => request.changes = files_in(alloc, value)?,
+        "files" => request.changes = files_in(alloc, origin, value)?,
+        "changed" if origin == Origin::Folder => {
+            request.changes = changed_in(alloc, origin, &value)?;
+        }
         "prelude" => request.question.prelude = prelude_in(value)?,
         "steps" => request.question.steps = steps_in(&value)?,
         "with" => request.question.wanted = wanted_in(&value)?,
@@ -381,18 +447,19 @@ fn plain(alloc: Global, roots: Vec<String>, defaults: &Defaults) -> Result<Reque
 /// A request with further members taken into it.
 fn with_members(
     alloc: Global,
+    origin: Origin,
     mut request: Request,
     mut members: Map<String, Value>,
 ) -> Result<Request, RequestError>
     requires { (1 ≤ request.question.steps) × (request.question.steps ≤ 100000000) }
-    ensures ok { IfOk result (λ made. spec.with_members (asked_by request) (members_view members.entries)
-        ≡ Some (asked_by made)) }
+    ensures ok { IfOk result (λ made. spec.with_members origin (asked_by request) (members_view members.entries)
+        ≡ Ok (asked_by made)) }
     ensures steps { IfOk result (λ made. (1 ≤ made.question.steps) × (made.question.steps ≤ 100000000)) }
-    ensures refused { IfErr result (λ e. (e ≡ RequestError.Memory)
-        ⊎ (spec.with_members (asked_by request) (members_view members.entries) ≡ None)) }
+    ensures refused { IfErr result (λ e.
+        IsWhy e (spec.with_members origin (asked_by request) (members_view members.entries))) }
 {
     while let Some((name, value)) = members.pop_first() {
-        match take_member(alloc, &mut request, name, value) {
+        match take_member(alloc, origin, &mut request, name, value) {
             Ok(()) => {}
             Err(error) => return Err(error),
         }
@@ -404,10 +471,9 @@ fn with_members(
 #[tactic(auto, unfolding(crate::specs::Requests::asking_in))]
 pub fn request_in(alloc: Global, value: Value, defaults: &Defaults) -> Result<Request, RequestError>
     requires { (1 ≤ defaults.now.steps) × (defaults.now.steps ≤ 100000000) }
-    ensures ok { IfOk result (λ request. spec.asking_in defaults.now (view value) ≡ Some (asked_by request)) }
+    ensures ok { IfOk result (λ request. spec.asking_in defaults.now (view value) ≡ Ok (asked_by request)) }
     ensures steps { IfOk result (λ request. (1 ≤ request.question.steps) × (request.question.steps ≤ 100000000)) }
-    ensures refused { IfErr result (λ e. (e ≡ RequestError.Memory)
-        ⊎ (spec.asking_in defaults.now (view value) ≡ None)) }
+    ensures refused { IfErr result (λ e. IsWhy e (spec.asking_in defaults.now (view value))) }
 {
     if value.as_object().is_none() {
         return Err(RequestError::NotObject);
@@ -415,7 +481,7 @@ pub fn request_in(alloc: Global, value: Value, defaults: &Defaults) -> Result<Re
     let roots = roots_in(alloc, &value)?;
     let request = plain(alloc, roots, defaults)?;
     match into_members(value) {
-        Some(members) => with_members(alloc, request, members),
+        Some(members) => with_members(alloc, defaults.origin, request, members),
         None => Err(RequestError::NotObject),
     }
 }

@@ -1,34 +1,32 @@
 //! Requests on a stream of lines, one answer a line.
 
-ghost use Rattle.std.specs.Prelude.{◌≡◌, ◌≢◌, ◌+◌, ◌≤◌, [], Err, List, ℕ, IfErr, IfOk, IfSome, MatchResult, None, OnOk, Some, codes, length, string_bytes};
-ghost use Rattle.serde_json.specs.Data.{null, string};
+ghost use Rattle.std.specs.Prelude.{◌≡◌, ◌≢◌, ◌+◌, ◌≤◌, [], List, ℕ, IfErr, IfOk, IfSome, MatchResult, None, Ok, OnOk, codes, string_bytes};
+ghost use Rattle.serde_json.specs.Data.{Data, null, string};
 ghost use Rattle.serde_json.specs.View.{view};
 ghost use Rattle.serde_json.specs.Written.{compact_text};
-ghost use Rattle.star_bundle.specs.Bundle.{json_of};
 ghost use Rattle.star_bundle.specs.Refusal.{reads_failed, writes_failed};
-ghost use Rattle.star_reading.specs.Parsed.{AreParsesOf};
 ghost use Rattle.star_session.specs.Answers.{IsAnswered, IsRefusal, answer_line, no_memory_line};
-ghost use Rattle.star_session.specs.Kept.{IsLast};
-ghost use Rattle.star_session.specs.Lines.{IsCut, IsOneLine, IsPiece, ahead_of, line_limit};
-ghost use Rattle.star_session.specs.Requests.{IsIdText};
-ghost use Rattle.star_session.specs.Session.{IsPart, IsRest, IsSession, IsStep};
+ghost use Rattle.star_session.specs.Folders.{IsAnsweredIn};
+ghost use Rattle.star_session.specs.Kept.{IsStanding};
+ghost use Rattle.star_session.specs.Lines.{IsCut, IsOneLine, IsPiece, ahead_of};
+ghost use Rattle.star_session.specs.Requests.{IsIdText, asked_by, asking_in, id_in, line_too_long, text_of, value_of};
+ghost use Rattle.star_session.specs.Session.{IsSession, IsStep};
 ghost use Rattle.star_session.specs.declared.request.RequestError.TheVariants as why;
 
 use crate::answer::answered;
+use crate::folder::answered_from;
 use crate::lines::{Line, Lines};
 use crate::refusal::{NO_MEMORY, refusal};
-use crate::request::{Defaults, RequestError, id_text, request_in, value_in};
+use crate::request::{Defaults, Origin, Request, RequestError, id_text, request_in, value_in};
 use crate::standing::Standing;
 use serde_json::Value;
 use star_bundle::error::ServeError;
 use star_label::error::LabelError;
 use star_label::files::Files;
-use star_reading::reading::Trees;
-use star_serve::serve::free_trees;
+use star_repo::repo::Repo;
 use star_serve::stream::{Sink, Source};
 use std::alloc::{AllocError, Global};
 use std::collections::BTreeMap;
-use std::mem::ManuallyDrop;
 use std::sync::Wait;
 use std::thread::Threads;
 
@@ -37,69 +35,108 @@ use std::thread::Threads;
 pub struct Settings {
     /// How many loaders run, from 1 to 64.
     pub loaders: usize,
-    /// Once texts of more bytes than these were parsed, the trees that are kept go.
+    /// How many bytes the texts may have of which anything is kept for the next request.
     pub keep: usize,
     /// The defaults of a request, for members that it lacks.
     pub defaults: Defaults,
 }
 
-/// The files as they are, and room for the trees of their texts.
-#[derive(Drop)]
-struct Fresh {
-    files: Files,
-    trees: Trees,
-}
-
 /// The refusal of a line that is not a request.
 fn misread(alloc: Global, id: &str, error: &RequestError) -> Result<Vec<u8>, AllocError>
     ensures known { IfOk result (λ _. error.now ≢ why.Memory) }
-    ensures line { IfOk result (λ line. (text : List ℕ)
-        × (line.items ≡ answer_line id.now (codes "refused") (compact_text (string text)))) }
+    ensures line { IfOk result (λ line. line.items
+        ≡ answer_line id.now (codes "refused") (compact_text (string (text_of error.now)))) }
 {
     if error.is_memory() {
         return Err(AllocError);
     }
-    let text = format!(in alloc; "{error}")?;
+    let text = error.text(alloc)?;
     refusal(alloc, id, text.as_str())
 }
 
-/// The answer to the value that a line is.
-fn answer_value<'t, H: Threads + Wait + Sync>(
+/// The answer to a request that sends files.
+fn answer_sent<H: Threads + Wait + Sync>(
     rt: &H,
     alloc: Global,
-    trees: &'t Trees,
-    standing: &mut Standing<'t>,
+    standing: &mut Standing,
+    id: &str,
+    request: Request,
+    settings: &Settings,
+) -> Result<Vec<u8>, AllocError>
+    requires standing { IsStanding standing.old }
+    requires loaders { (1 ≤ settings.now.loaders) × (settings.now.loaders ≤ 64) }
+    requires steps { (1 ≤ request.question.steps) × (request.question.steps ≤ 100000000) }
+    ensures standing { IsStanding standing.new }
+    ensures answered { IfOk result (λ answer. (line : List ℕ) (v : Data) → IsIdText (id_in v) id.now
+        → asking_in settings.now.defaults v ≡ Ok (asked_by request) → value_of line ≡ Ok v
+        → IsAnswered settings.now.defaults standing.old.files line standing.new.files answer.items) }
+    ensures same { IfErr result (λ _. standing.new.files ≡ standing.old.files) }
+{
+    let (loaders, keep) = (settings.loaders, settings.keep);
+    match answered(rt, alloc, standing, id, request, loaders, keep) {
+        Ok(line) => Ok(line),
+        Err(error) => refusal(alloc, id, error.text()),
+    }
+}
+
+/// The answer to a request, by where the files come from.
+fn answer_request<H: Threads + Wait + Sync, F: Repo + Copy>(
+    rt: &H,
+    alloc: Global,
+    folder: &F,
+    standing: &mut Standing,
+    settings: &Settings,
+    id: &str,
+    request: Request,
+) -> Result<Vec<u8>, AllocError>
+    requires standing { IsStanding standing.old }
+    requires loaders { (1 ≤ settings.now.loaders) × (settings.now.loaders ≤ 64) }
+    requires steps { (1 ≤ request.question.steps) × (request.question.steps ≤ 100000000) }
+    ensures standing { IsStanding standing.new }
+    ensures answered { IfOk result (λ answer. (line : List ℕ) (v : Data) → IsIdText (id_in v) id.now
+        → asking_in settings.now.defaults v ≡ Ok (asked_by request) → value_of line ≡ Ok v
+        → IsAnsweredIn (F.says folder.now) settings.now.defaults standing.old.files line standing.new.files
+        answer.items) }
+    ensures lost { IfErr result (λ _. (line : List ℕ) (v : Data)
+        → asking_in settings.now.defaults v ≡ Ok (asked_by request) → value_of line ≡ Ok v
+        → IsAnsweredIn (F.says folder.now) settings.now.defaults standing.old.files line standing.new.files
+        no_memory_line) }
+{
+    match settings.defaults.origin {
+        Origin::Sent => answer_sent(rt, alloc, standing, id, request, settings),
+        Origin::Folder => {
+            let (loaders, keep) = (settings.loaders, settings.keep);
+            answered_from(rt, alloc, folder, standing, id, request, loaders, keep)
+        }
+    }
+}
+
+/// The answer to the value that a line is.
+fn answer_value<H: Threads + Wait + Sync, F: Repo + Copy>(
+    rt: &H,
+    alloc: Global,
+    folder: &F,
+    standing: &mut Standing,
     settings: &Settings,
     value: Value,
 ) -> Result<Vec<u8>, AllocError>
-    requires parses { AreParsesOf standing.old.files standing.old.parses.items }
-    requires last { IsLast standing.old.files standing.old.last }
+    requires standing { IsStanding standing.old }
     requires loaders { (1 ≤ settings.now.loaders) × (settings.now.loaders ≤ 64) }
     requires steps { (1 ≤ settings.now.defaults.steps) × (settings.now.defaults.steps ≤ 100000000) }
-    ensures parses { AreParsesOf standing.new.files standing.new.parses.items }
-    ensures last { IsLast standing.new.files standing.new.last }
-    ensures answered { IfOk result (λ answer. (line : List ℕ) → length line ≤ line_limit
-        → json_of line ≡ Some (view value)
-        → IsAnswered settings.now.defaults standing.old.files line standing.new.files answer.items) }
-    ensures same { IfErr result (λ _. standing.new.files ≡ standing.old.files) }
+    ensures standing { IsStanding standing.new }
+    ensures answered { IfOk result (λ answer. (line : List ℕ) → value_of line ≡ Ok (view value)
+        → IsAnsweredIn (F.says folder.now) settings.now.defaults standing.old.files line standing.new.files
+        answer.items) }
+    ensures lost { IfErr result (λ _. (line : List ℕ) → value_of line ≡ Ok (view value)
+        → IsAnsweredIn (F.says folder.now) settings.now.defaults standing.old.files line standing.new.files
+        no_memory_line) }
 {
     let id = id_text(alloc, &value)?;
     let request = match request_in(alloc, value, &settings.defaults) {
         Ok(request) => request,
         Err(error) => return misread(alloc, id.as_str(), &error),
     };
-    match answered(
-        rt,
-        alloc,
-        trees,
-        standing,
-        id.as_str(),
-        request,
-        settings.loaders,
-    ) {
-        Ok(line) => Ok(line),
-        Err(error) => refusal(alloc, id.as_str(), error.text()),
-    }
+    answer_request(rt, alloc, folder, standing, settings, id.as_str(), request)
 }
 
 /// The JSON of the id of a line that has none: null.
@@ -111,7 +148,7 @@ fn no_id(alloc: Global) -> Result<String, AllocError>
 
 /// The refusal of a line that is too long.
 fn too_long(alloc: Global) -> Result<Vec<u8>, AllocError>
-    ensures { IfOk result (λ line. IsRefusal null (codes "line too long") line.items) }
+    ensures { IfOk result (λ line. IsRefusal null line_too_long line.items) }
 {
     let id = no_id(alloc)?;
     refusal(alloc, id.as_str(), "line too long")
@@ -120,35 +157,36 @@ fn too_long(alloc: Global) -> Result<Vec<u8>, AllocError>
 /// The refusal of a line that is not JSON.
 fn misread_line(alloc: Global, error: &RequestError) -> Result<Vec<u8>, AllocError>
     ensures known { IfOk result (λ _. error.now ≢ why.Memory) }
-    ensures line { IfOk result (λ line. (text : List ℕ) × IsRefusal null text line.items) }
+    ensures line { IfOk result (λ line. IsRefusal null (text_of error.now) line.items) }
 {
     let id = no_id(alloc)?;
     misread(alloc, id.as_str(), error)
 }
 
-/// The answer to a line with these bytes. If there is none, for want of memory, the files stay.
-fn answer<'t, H: Threads + Wait + Sync>(
+/// The answer to a line with these bytes.
+fn answer<H: Threads + Wait + Sync, F: Repo + Copy>(
     rt: &H,
     alloc: Global,
-    trees: &'t Trees,
-    standing: &mut Standing<'t>,
+    folder: &F,
+    standing: &mut Standing,
     settings: &Settings,
     line: Line,
     bytes: &[u8],
 ) -> Result<Vec<u8>, AllocError>
-    requires parses { AreParsesOf standing.old.files standing.old.parses.items }
-    requires last { IsLast standing.old.files standing.old.last }
+    requires standing { IsStanding standing.old }
     requires loaders { (1 ≤ settings.now.loaders) × (settings.now.loaders ≤ 64) }
     requires steps { (1 ≤ settings.now.defaults.steps) × (settings.now.defaults.steps ≤ 100000000) }
-    ensures parses { AreParsesOf standing.new.files standing.new.parses.items }
-    ensures last { IsLast standing.new.files standing.new.last }
+    ensures standing { IsStanding standing.new }
     ensures answered { IfOk result (λ answer. (whole : List ℕ) → IsPiece line bytes.now whole
-        → IsAnswered settings.now.defaults standing.old.files whole standing.new.files answer.items) }
-    ensures same { IfErr result (λ _. standing.new.files ≡ standing.old.files) }
+        → IsAnsweredIn (F.says folder.now) settings.now.defaults standing.old.files whole standing.new.files
+        answer.items) }
+    ensures lost { IfErr result (λ _. (whole : List ℕ) → IsPiece line bytes.now whole
+        → IsAnsweredIn (F.says folder.now) settings.now.defaults standing.old.files whole standing.new.files
+        no_memory_line) }
 {
     match line {
         Line::Ready => match value_in(alloc, bytes) {
-            Ok(value) => answer_value(rt, alloc, trees, standing, settings, value),
+            Ok(value) => answer_value(rt, alloc, folder, standing, settings, value),
             Err(error) => misread_line(alloc, &error),
         },
         Line::TooLong => too_long(alloc),
@@ -167,26 +205,24 @@ fn said(answer: &Result<Vec<u8>, AllocError>) -> &[u8]
 }
 
 /// Writes the answer to the next line. Whether more lines may come.
-fn next_answer<'t, H: Threads + Wait + Sync, R: Source, W: Sink>(
+fn next_answer<H: Threads + Wait + Sync, F: Repo + Copy, R: Source, W: Sink>(
     rt: &H,
     alloc: Global,
-    trees: &'t Trees,
-    standing: &mut Standing<'t>,
+    folder: &F,
+    standing: &mut Standing,
     settings: &Settings,
     lines: &mut Lines,
     reader: &mut R,
     writer: &mut W,
 ) -> Result<bool, ServeError>
-    requires parses { AreParsesOf standing.old.files standing.old.parses.items }
-    requires last { IsLast standing.old.files standing.old.last }
+    requires standing { IsStanding standing.old }
     requires cut { IsCut lines.old }
     requires loaders { (1 ≤ settings.now.loaders) × (settings.now.loaders ≤ 64) }
     requires steps { (1 ≤ settings.now.defaults.steps) × (settings.now.defaults.steps ≤ 100000000) }
-    ensures parses { AreParsesOf standing.new.files standing.new.parses.items }
-    ensures last { IsLast standing.new.files standing.new.last }
+    ensures standing { IsStanding standing.new }
     ensures cut { OnOk result (IsCut lines.new) }
-    ensures step { IfOk result (IsStep settings.now.defaults (R.said reader.old) (R.said reader.new)
-        (ahead_of lines.old) (ahead_of lines.new) (W.taken writer.old) (W.taken writer.new)
+    ensures step { IfOk result (IsStep (IsAnsweredIn (F.says folder.now) settings.now.defaults) (R.said reader.old)
+        (R.said reader.new) (ahead_of lines.old) (ahead_of lines.new) (W.taken writer.old) (W.taken writer.new)
         standing.old.files standing.new.files) }
     ensures reads { R.failed reader.new ≡ R.failed reader.old + reads_failed result }
     ensures writes { W.failed writer.new ≡ W.failed writer.old + writes_failed result }
@@ -199,7 +235,7 @@ fn next_answer<'t, H: Threads + Wait + Sync, R: Source, W: Sink>(
     let answer = answer(
         rt,
         alloc,
-        trees,
+        folder,
         standing,
         settings,
         taken.line,
@@ -211,70 +247,16 @@ fn next_answer<'t, H: Threads + Wait + Sync, R: Source, W: Sink>(
     }
 }
 
-/// Answers requests with these trees until the stream ends, or texts of more bytes were parsed than may be kept: then
-/// the files as they then are, and room for other trees. If there is no memory for this room, the trees stay longer.
-fn until_full<H: Threads + Wait + Sync, R: Source, W: Sink>(
-    rt: &H,
-    alloc: Global,
-    files: Files,
-    trees: Trees,
-    settings: &Settings,
-    lines: &mut Lines,
-    reader: &mut R,
-    writer: &mut W,
-) -> Result<Option<Fresh>, ServeError>
-    requires cut { IsCut lines.old }
-    requires loaders { (1 ≤ settings.now.loaders) × (settings.now.loaders ≤ 64) }
-    requires steps { (1 ≤ settings.now.defaults.steps) × (settings.now.defaults.steps ≤ 100000000) }
-    ensures cut { OnOk result (IsCut lines.new) }
-    ensures part { IfOk result (λ o. IfSome o (λ fresh. IsPart settings.now.defaults (R.said reader.old)
-        (R.said reader.new) (ahead_of lines.old) (ahead_of lines.new) (W.taken writer.old) (W.taken writer.new)
-        files fresh.files)) }
-    ensures rest { IfOk result (λ o. o ≡ None → IsRest settings.now.defaults (R.said reader.old) (R.said reader.new)
-        (ahead_of lines.old) (W.taken writer.old) (W.taken writer.new) files) }
-    ensures reads { R.failed reader.new ≡ R.failed reader.old + reads_failed result }
-    ensures writes { W.failed writer.new ≡ W.failed writer.old + writes_failed result }
-{
-    // If reading or writing fails, the process ends next.
-    let trees = ManuallyDrop::new(trees);
-    let mut standing = Standing {
-        files,
-        parses: Vec::new(alloc),
-        parsed: 0,
-        last: None,
-    };
-    for _ in rt.forever() {
-        if !next_answer(
-            rt,
-            alloc,
-            &*trees,
-            &mut standing,
-            settings,
-            lines,
-            reader,
-            writer,
-        )? {
-            return Ok(None);
-        }
-        if standing.parsed > settings.keep {
-            if let Ok(next) = Trees::new(alloc) {
-                let files = standing.into_files();
-                free_trees(ManuallyDrop::into_inner(trees));
-                return Ok(Some(Fresh { files, trees: next }));
-            }
-        }
-    }
-    unreachable!()
-}
-
 /// Answers requests, one a line, each with one line, up to the end of the stream. The files are those that the requests
-/// so far leave: none at first.
+/// so far leave: none at first. Or they are those of `folder`, by `settings.defaults.origin`; then a file that the last
+/// request looked at is looked at again only if a request says that it has changed.
 ///
 /// `Read` if a read failed, `Write` if a write failed, `Memory` if there is none before the first line. A
 /// request that is refused changes nothing.
-pub fn serve_requests<H: Threads + Wait + Sync, R: Source, W: Sink>(
+pub fn serve_requests<H: Threads + Wait + Sync, F: Repo + Copy, R: Source, W: Sink>(
     rt: &H,
     alloc: Global,
+    folder: &F,
     reader: &mut R,
     writer: &mut W,
     settings: &Settings,
@@ -283,29 +265,32 @@ pub fn serve_requests<H: Threads + Wait + Sync, R: Source, W: Sink>(
     requires steps { (1 ≤ settings.now.defaults.steps) × (settings.now.defaults.steps ≤ 100000000) }
 
     // All was read, and the row of answers to its lines was written, and nothing else.
-    ensures session { OnOk result (IsSession settings.now.defaults (R.said reader.old) (R.said reader.new)
-        (W.taken writer.old) (W.taken writer.new)) }
+    ensures session { OnOk result (IsSession (IsAnsweredIn (F.says folder.now) settings.now.defaults)
+        (R.said reader.old) (R.said reader.new) (W.taken writer.old) (W.taken writer.new)) }
 
     // A read or a write failed exactly if the answer says so.
     ensures reads { R.failed reader.new ≡ R.failed reader.old + reads_failed result }
     ensures writes { W.failed writer.new ≡ W.failed writer.old + writes_failed result }
 {
-    let mut files = match Files::new(alloc, BTreeMap::new(alloc)) {
+    let files = match Files::new(alloc, BTreeMap::new(alloc)) {
         Ok(files) => files,
         Err(LabelError::Memory) => return Err(ServeError::Memory),
         Err(_) => unreachable!(),
     };
+    let mut standing = Standing::new(alloc, files);
     let mut lines = Lines::new(alloc)?;
-    let mut trees = Trees::new(alloc)?;
     for _ in rt.forever() {
-        match until_full(
-            rt, alloc, files, trees, settings, &mut lines, reader, writer,
+        if !next_answer(
+            rt,
+            alloc,
+            folder,
+            &mut standing,
+            settings,
+            &mut lines,
+            reader,
+            writer,
         )? {
-            Some(fresh) => {
-                files = fresh.files;
-                trees = fresh.trees;
-            }
-            None => return Ok(()),
+            return Ok(());
         }
     }
     unreachable!()

@@ -1,13 +1,14 @@
-//! The files as the requests so far leave them.
+//! The files as the requests so far leave them, and what is kept of them.
 
-ghost use Rattle.std.specs.Prelude.{◌≡◌, ◌<◌, true, IfOk, IfSome, OnOk, length, map, option_map, string_bytes};
-ghost use Rattle.star_label.specs.Files.{file_of, text_at};
+ghost use Rattle.std.specs.Prelude.{◌≡◌, ◌≤◌, true, IfOk, IfSome, OnOk, map, option_map, string_bytes};
+ghost use Rattle.star_label.specs.Files.{file_of};
 ghost use Rattle.star_label.specs.View.{text_of};
-ghost use Rattle.star_reading.specs.Parsed.{AreParsesOf, IsParsed};
+ghost use Rattle.star_memo.specs.Outcomes.{AreOutcomes};
+ghost use Rattle.star_memo.specs.Parses.{AreKept};
 ghost use Rattle.star_session.specs.Changes as spec;
 ghost use Rattle.star_session.specs.Answers.{IsReportOf};
 ghost use Rattle.star_session.specs.Changes.{change_of};
-ghost use Rattle.star_session.specs.Kept.{IsLast};
+ghost use Rattle.star_session.specs.Kept.{IsLast, IsStanding};
 ghost use Rattle.star_session.specs.Requests.{asked_by, question_of};
 
 use crate::question::Question;
@@ -15,11 +16,13 @@ use crate::request::Request;
 use star_label::error::LabelError;
 use star_label::files::Files;
 use star_label::label::Label;
-use star_reading::parses::{Parsed, parsed};
-use star_reading::reading::Trees;
+use star_memo::outcomes::{Outcomes, Terms};
+use star_memo::parses::Parses;
 use std::alloc::{AllocError, Global};
 use std::collections::BTreeMap;
+use std::mem;
 use std::sync::Wait;
+use std::thread::Threads;
 
 /// A report without its line end, and the question that it answers.
 #[derive(Drop)]
@@ -28,15 +31,25 @@ pub(crate) struct Last {
     pub report: Vec<u8>,
 }
 
-/// The files as the requests so far leave them, and the results of parsing the texts of the first of them.
+/// The files as the requests so far leave them, and what is kept of them for the next request.
 #[derive(Drop)]
-pub(crate) struct Standing<'t> {
+pub(crate) struct Standing {
     pub files: Files,
-    pub parses: Vec<Parsed<'t>>,
-    /// How many bytes the texts have that were parsed.
-    pub parsed: usize,
+    /// The results of parsing their texts.
+    pub parses: Parses,
+    /// The outcomes of those that ended well.
+    pub outcomes: Outcomes,
     /// The last report that was made of these files.
     pub last: Option<Last>,
+    /// The number of requests that were run.
+    pub requests: u64,
+}
+
+/// What stays of it when the files change.
+#[derive(Drop)]
+pub(crate) struct Staying {
+    pub parses: Parses,
+    pub outcomes: Outcomes,
 }
 
 /// A copy of a label.
@@ -123,12 +136,23 @@ fn are_as(files: &Files, changes: &[(Label, Option<String>)]) -> bool
     true
 }
 
-impl<'t> Standing<'t> {
-    /// The files alone.
-    pub(crate) fn into_files(self) -> Files
-        ensures { result ≡ self.entry.files }
+impl Standing {
+    /// These files, of which nothing is kept.
+    pub(crate) fn new(alloc: Global, files: Files) -> Standing
+        ensures files { result.files ≡ files }
+        ensures standing { IsStanding result }
     {
-        self.files
+        let terms = Terms {
+            prelude: None,
+            steps: 1,
+        };
+        Standing {
+            files,
+            parses: Parses::new(alloc),
+            outcomes: Outcomes::new(alloc, terms),
+            last: None,
+            requests: 0,
+        }
     }
 
     /// Whether a request leaves the files as they are, and asks the question that this report answers.
@@ -144,7 +168,7 @@ impl<'t> Standing<'t> {
     /// The last report, if a request leaves the files as they are and asks the same question.
     #[tactic(auto, using(crate::proofs::Limits::asked_again))]
     pub(crate) fn report_for(&self, request: &Request) -> Option<&[u8]>
-        requires { IsLast self.now.files self.now.last }
+        requires { IsStanding self.now }
         ensures same { IfSome result (λ _.
             spec.files_after self.now.files (map change_of request.now.changes.items) ≡ self.now.files) }
         ensures report { IfSome result (λ report. IsReportOf self.now.files (asked_by request.now) report.now) }
@@ -158,60 +182,66 @@ impl<'t> Standing<'t> {
         Some(last.report.as_slice())
     }
 
-    /// The result of parsing a text: none if the file at the label had another one, or was not parsed.
-    fn known(&self, label: &Label, text: &str) -> Option<Parsed<'t>>
-        requires { AreParsesOf self.now.files self.now.parses.items }
-        ensures { IfSome result (IsParsed text.now) }
+    /// What stays of all that is kept if these files take the place of those before, under these terms. The outcomes go
+    /// from here. The error: an allocation failed.
+    pub(crate) fn staying<H: Threads + Wait + Sync>(
+        &mut self,
+        rt: &H,
+        alloc: Global,
+        files: &Files,
+        terms: Terms,
+        threads: usize,
+    ) -> Result<Staying, AllocError>
+        requires standing { IsStanding self.old }
+        requires threads { 1 ≤ threads }
+        ensures files { self.new.files ≡ self.old.files }
+        ensures standing { IsStanding self.new }
+        ensures parses { IfOk result (λ s. AreKept files.now s.parses.all.items) }
+        ensures terms { IfOk result (λ s. s.outcomes.terms ≡ terms) }
+        ensures outcomes { IfOk result (λ s. AreOutcomes files.now terms.prelude terms.steps s.outcomes.all.items) }
     {
-        let n = self.files.find(label)?;
-        if n < self.parses.len() && self.files.text(n) == text {
-            return Some(self.parses[n]);
+        let parses = self.parses.after(alloc, &self.files, files)?;
+        let before = mem::replace(&mut self.outcomes, Outcomes::new(alloc, terms));
+        let outcomes = before.after(rt, alloc, &self.files, files, terms, threads)?;
+        Ok(Staying { parses, outcomes })
+    }
+
+    /// These files in the place of those before, with what stays of all that is kept. The error: an allocation failed.
+    pub(crate) fn with_files<H: Threads + Wait + Sync>(
+        self,
+        rt: &H,
+        alloc: Global,
+        files: Files,
+        threads: usize,
+    ) -> Result<Standing, AllocError>
+        requires standing { IsStanding self }
+        requires threads { 1 ≤ threads }
+        ensures files { IfOk result (λ s. s.files ≡ files) }
+        ensures standing { IfOk result IsStanding }
+    {
+        let mut before = self;
+        let terms = before.outcomes.terms;
+        let staying = before.staying(rt, alloc, &files, terms, threads)?;
+        Ok(Standing {
+            files,
+            parses: staying.parses,
+            outcomes: staying.outcomes,
+            last: None,
+            requests: before.requests,
+        })
+    }
+
+    /// Records which files a request reached. If the texts have more than `keep` bytes, the trees that no request has
+    /// reached for the longest time go, and all outcomes.
+    pub(crate) fn trim(&mut self, alloc: Global, reached: &[usize], keep: usize)
+        requires { IsStanding self.old }
+        ensures files { self.new.files ≡ self.old.files }
+        ensures standing { IsStanding self.new }
+    {
+        self.requests = self.requests.saturating_add(1);
+        self.parses.touch_each(reached, self.requests);
+        if self.parses.trim(alloc, &self.files, keep) {
+            self.outcomes = Outcomes::new(alloc, self.outcomes.terms);
         }
-        None
     }
-}
-
-/// The result of parsing a file. A text that was at its label before is not parsed again.
-fn parse_of<'t, R: Wait>(
-    rt: &R,
-    alloc: Global,
-    trees: &'t Trees,
-    before: &mut Standing<'t>,
-    files: &Files,
-    n: usize,
-) -> Result<Parsed<'t>, AllocError>
-    requires parses { AreParsesOf before.old.files before.old.parses.items }
-    requires file { n < length files.now }
-    ensures parsed { IfOk result (IsParsed (text_at files.now n)) }
-    ensures files { before.new.files ≡ before.old.files }
-    ensures parses { before.new.parses ≡ before.old.parses }
-    ensures last { before.new.last ≡ before.old.last }
-{
-    let text = files.text(n);
-    if let Some(known) = before.known(files.label(n), text) {
-        return Ok(known);
-    }
-    before.parsed = before.parsed.saturating_add(text.len());
-    parsed(rt, alloc, &trees.all, text)
-}
-
-/// The results of parsing all files.
-pub(crate) fn parses_of<'t, R: Wait>(
-    rt: &R,
-    alloc: Global,
-    trees: &'t Trees,
-    before: &mut Standing<'t>,
-    files: &Files,
-) -> Result<Vec<Parsed<'t>>, AllocError>
-    requires parses { AreParsesOf before.old.files before.old.parses.items }
-    ensures parsed { IfOk result (λ parses. AreParsesOf files.now parses.items) }
-    ensures files { before.new.files ≡ before.old.files }
-    ensures parses { before.new.parses ≡ before.old.parses }
-    ensures last { before.new.last ≡ before.old.last }
-{
-    let mut parses = Vec::new(alloc);
-    for n in 0..files.len() {
-        parses.push(parse_of(rt, alloc, trees, before, files, n)?)?;
-    }
-    Ok(parses)
 }

@@ -11,12 +11,12 @@ use star_serve::serve::{Form, Options, Output, Wanted};
 use std::alloc::{AllocError, Global};
 
 /// The words of `--version` after the program's name: its version, and the kit that proved it.
-const VERSION: &str = "1.4.0 (rattle-kit-13f logic dac8208d650f15bf)";
+const VERSION: &str = "1.5.0 (rattle-kit-13f logic dac8208d650f15bf)";
 
 /// The end of the help, after the options.
 const EXAMPLE: &str =
     "The files are those of DIR whose names end in .star; //app:main.star is the file app/main.star. Without
---dir they are read on standard input, as a JSON object from labels to texts. For example:
+--dir or --repo they are read on standard input, as a JSON object from labels to texts. For example:
 
     starload --dir . //app:main.star
     echo '{\"//:a.star\": \"x = 1 + 2\"}' | starload //:a.star
@@ -195,7 +195,6 @@ fn requests_arg<'a>(alloc: Global) -> Result<Arg<'a>, AllocError> {
         .action(ArgAction::SetTrue)
         .conflicts_with("ROOT")?
         .conflicts_with("dir")?
-        .conflicts_with("repo")?
         .conflicts_with("match")?
         .conflicts_with("get")?
         .conflicts_with("graph")?
@@ -210,9 +209,7 @@ fn keep_arg<'a>(alloc: Global) -> Result<Arg<'a>, AllocError> {
     Arg::new(alloc, "keep")
         .long("keep")
         .value_name("BYTES")
-        .help(
-            "Once texts of more bytes were parsed, what is kept of them from request to request goes",
-        )
+        .help("The most bytes of texts of which anything is kept from request to request")
         .value_parser(value_parser!(u32))
         .default_value("268435456")
         .conflicts_with("ROOT")

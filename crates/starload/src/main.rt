@@ -259,7 +259,7 @@ fn main(rt: HostRuntime) -> ExitCode {
     };
     if matches.get_flag("requests") {
         let keep = matches.get_one::<u32>("keep").unwrap_or(268_435_456);
-        return answer_requests(&rt, &rt, alloc, options, keep);
+        return answer_requests(&rt, &rt, alloc, options, keep, matches.get_str("repo"));
     }
     if is_shown(&matches, errors) {
         return report_shown(&rt, &rt, alloc, &matches, options);

@@ -1,4 +1,5 @@
-use Rattle.std.proofs.Common.{◌≡◌, sym, subst}
+use Rattle.std.proofs.Common.{◌≡◌, ◌∙◌, ap, length, sym, subst}
+use Rattle.star_outcome.specs.GoodEnds.{AreGoodEndsOf}
 use Rattle.star_outcome.specs.Kept.{AreModulesOf}
 use Rattle.star_outcome.specs.Refusals.{AreRefusalsOf}
 use Rattle.star_reading.specs.Found.{IsReadOf}
@@ -44,3 +45,18 @@ returns-clause-refused g c =
     let steps = c.args.options.now.steps in
     subst (λ r. AreRefusalsOf asked.files asked.roots.items asked.prelude steps r.refused) (sym c.in_ok-written.ensures.same)
     (subst (λ roots. AreRefusalsOf asked.files roots asked.prelude steps c.in-Ok.run'.refused) c.as_slice-roots.ensures.value c.in-Ok.ensures.refused)
+
+pub run_in-outcome-requires-clause-ends : goal.run_in-outcome-requires-clause-ends
+run_in-outcome-requires-clause-ends g c =
+    let asked = c.args.asked.now in
+    λ lives within. subst (λ roots. AreGoodEndsOf asked.files roots asked.prelude c.args.options.now.steps c.args.ends.now) (sym c.as_slice-roots.ensures.value) c.requires.ends
+
+pub returns-clause-cells : goal.returns-clause-cells
+returns-clause-cells g c = ap (λ r. length r.cells) c.in_ok-written.ensures.same ∙ c.in-Ok.ensures.files
+
+pub returns-clause-modules : goal.returns-clause-modules
+returns-clause-modules g c =
+    let asked = c.args.asked.now in
+    let steps = c.args.options.now.steps in
+    subst (λ r. AreModulesOf asked.files asked.roots.items asked.prelude steps r.kept) (sym c.in_ok-written.ensures.same)
+    (subst (λ roots. AreModulesOf asked.files roots asked.prelude steps c.in-Ok.run'.kept) c.as_slice-roots.ensures.value c.in-Ok.ensures.modules)

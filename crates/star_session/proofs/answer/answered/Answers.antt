@@ -1,5 +1,6 @@
-use Rattle.std.proofs.Common.{ap, codes, sym, ◌∙◌}
-use Rattle.star_session.specs.Answers.{answer_line}
+use Rattle.std.proofs.Common.{ap, codes, subst, sym, ◌∙◌}
+use Rattle.star_session.specs.Answers.{IsReportOf, answer_line}
+use Rattle.star_session.specs.Requests.{asked_by}
 use Rattle.star_session.proofs.Limits.{of_last}
 use Rattle.star_session.proofs.answer.answered.Goals as goal
 
@@ -15,10 +16,11 @@ returns-in-Some-clause-reports g c = λ d id. record {
 
 pub returns-clause-reports : goal.returns-clause-reports
 returns-clause-reports g c = λ d id. record {
-  after_is = c.in-Ok.ensures.after;
+  after_is = c.trim.ensures.files ∙ c.in-Ok.ensures.after;
   id_text = c.args.id.now;
   id_is = id;
   report = c.in-Ok.after.last.report.items;
-  reports = of_last c.args.request c.in-Ok.after.last.question c.in-Ok.after.files c.in-Ok.after.last.report.items c.in-Ok.ensures.question c.in-Ok.ensures.report;
+  reports = subst (λ f. IsReportOf f (asked_by c.args.request) c.in-Ok.after.last.report.items) (sym c.trim.ensures.files)
+      (of_last c.args.request c.in-Ok.after.last.question c.in-Ok.after.files c.in-Ok.after.last.report.items c.in-Ok.ensures.question c.in-Ok.ensures.report);
   answer_is = c.in_ok-line.ensures ∙ ap (answer_line c.args.id.now (codes "report")) c.as_slice.ensures.value;
 }

@@ -21,5 +21,5 @@ returns-clause-report g c =
     let roots = ap (map string_bytes) c.as_slice.ensures.value in
     let prelude = words_of c.as_ref-prelude.result c.args.request.question.prelude c.as_ref-prelude.ensures.value in
     let asked = c.in-Ok-asked_in.asked in
-    of_asked c.args.request asked.files c.in_ok-report.report.items (report_of_asked c.args.standing.now.files c.in-Ok.files (asked_by c.args.request) _ _ (asked_view asked) c.in_ok-report.report.items c.in_ok-report.ensures.report.0
-    c.in-Ok.ensures.limits c.in-Ok.ensures.files roots prelude c.in-Ok-asked_in.ensures.asked c.in_ok-report.ensures.report.1)
+    of_asked c.args.request asked.files c.in_ok-reported.reported.text.items (report_of_asked c.args.standing.now.files c.in-Ok.files (asked_by c.args.request) _ _ (asked_view asked) c.in_ok-reported.reported.text.items c.in_ok-reported.ensures.report.0
+    c.in-Ok.ensures.limits c.in-Ok.ensures.files roots prelude c.in-Ok-asked_in.ensures.asked c.in_ok-reported.ensures.report.1)

@@ -8,6 +8,6 @@ decreases-loop-name l = length l.members.entries
 
 abbrev pub invariant-loop-name : goal.invariant-loop-name
 invariant-loop-name l = record {
-  asked : with_members (asked_by l.fn.request) (members_view l.fn.members.entries) ≡ with_members (asked_by l.request) (members_view l.members.entries);
+  asked : with_members l.fn.origin (asked_by l.fn.request) (members_view l.fn.members.entries) ≡ with_members l.fn.origin (asked_by l.request) (members_view l.members.entries);
   range : (1 ≤ l.request.question.steps) × (l.request.question.steps ≤ 100000000);
 }

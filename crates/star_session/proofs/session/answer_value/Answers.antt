@@ -1,25 +1,32 @@
 use Rattle.std.proofs.Common.{refl, subst, sym}
 use Rattle.serde_json.specs.View.{view}
-use Rattle.star_session.specs.Requests.{IsIdText, asked_by, id_in}
-use Rattle.star_session.proofs.Answered.{misreads, refuses, reported}
+use Rattle.star_session.specs.Requests.{IsIdText, id_in}
+use Rattle.star_session.proofs.Answered.{lost_misreads, misreads, of_request, lost_request}
 use Rattle.star_session.proofs.session.answer_value.Goals as goal
+
+pub returns-in_err-id-clause-lost : goal.returns-in_err-id-clause-lost
+returns-in_err-id-clause-lost g c =
+    let d = c.args.settings.now.defaults in
+    lost_misreads c.from_residual.result d.origin (g.F.Repo.says c.args.folder.now) d c.args.standing.now.files c.args.standing.now.files (view c.args.value) refl
 
 pub returns-in-Err-clause-answered : goal.returns-in-Err-clause-answered
 returns-in-Err-clause-answered g c =
     let v = view c.args.value in
+    let d = c.args.settings.now.defaults in
     let id = subst (IsIdText (id_in v)) (sym c.as_str.ensures.value) c.in_ok-id.ensures in
-    misreads c.misread.result (λ l. l.items) c.args.settings.now.defaults c.args.standing.now.files c.args.standing.now.files v c.as_str.result.now c.in-Err.error id refl
+    misreads c.misread.result (λ l. l.items) d.origin (g.F.Repo.says c.args.folder.now) d c.args.standing.now.files c.args.standing.now.files v c.as_str.result.now c.in-Err.error id refl
     c.in-Err.ensures.refused c.misread.ensures.known c.misread.ensures.line
 
-pub returns-in-Ok-answered-clause-answered : goal.returns-in-Ok-answered-clause-answered
-returns-in-Ok-answered-clause-answered g c = λ line low j.
-    let v = view c.args.value in
-    let id = subst (IsIdText (id_in v)) (sym c.as_str-2.ensures.value) c.in_ok-id.ensures in
-    reported c.args.settings.now.defaults c.args.standing.now.files line v (asked_by c.in-Ok.request) c.answered.new.standing.files c.in-Ok-answered.line.items low j c.in-Ok.ensures.ok (c.in-Ok-answered.ensures.reports (id_in v) id)
+pub returns-in-Err-clause-lost : goal.returns-in-Err-clause-lost
+returns-in-Err-clause-lost g c =
+    let d = c.args.settings.now.defaults in
+    lost_misreads c.misread.result d.origin (g.F.Repo.says c.args.folder.now) d c.args.standing.now.files c.args.standing.now.files (view c.args.value) refl
 
 pub returns-clause-answered : goal.returns-clause-answered
 returns-clause-answered g c =
     let v = view c.args.value in
-    let id = subst (IsIdText (id_in v)) (sym c.as_str-in-Err-answered.ensures.value) c.in_ok-id.ensures in
-    refuses c.refusal.result (λ l. l.items) c.args.settings.now.defaults c.args.standing.now.files c.answered.new.standing.files v c.as_str-in-Err-answered.result.now (asked_by c.in-Ok.request) c.in-Err-answered.error c.text.result.now id
-    c.in-Err-answered.ensures.same c.in-Ok.ensures.ok c.in-Err-answered.ensures.refused c.text.ensures c.refusal.ensures
+    let id = subst (IsIdText (id_in v)) (sym c.as_str-2.ensures.value) c.in_ok-id.ensures in
+    of_request c.answer_request.result _ _ v _ id c.in-Ok.ensures.ok c.answer_request.ensures.answered
+
+pub returns-clause-lost : goal.returns-clause-lost
+returns-clause-lost g c = lost_request c.answer_request.result _ (view c.args.value) _ c.in-Ok.ensures.ok c.answer_request.ensures.lost

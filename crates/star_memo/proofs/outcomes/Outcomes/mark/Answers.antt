@@ -1,0 +1,9 @@
+use Rattle.std.proofs.Common.{subst}
+use Rattle.star_memo.specs.Outcomes.{IsStaying}
+use Rattle.star_memo.proofs.Staying.{one_marked}
+use Rattle.star_memo.proofs.outcomes.Outcomes.mark.Goals as goal
+
+pub returns-then-stays : goal.returns-then-stays
+returns-then-stays c =
+    one_marked c.args.before.now c.args.files.now c.args.self.now.all.items _ c.args.n c.requires
+    (subst (λ ms. IsStaying c.args.before.now c.args.files.now c.args.self.now.all.items ms c.args.n) c.deref.ensures.value (c.stays.ensures c.if-stays.true))

@@ -1,0 +1,7 @@
+use Rattle.std.proofs.Common.{◌≡◌, length}
+use Rattle.std.specs.Prelude.{vec_len}
+use Rattle.star_memo.specs.Outcomes.{AreStaying}
+use Rattle.star_memo.proofs.outcomes.Outcomes.staying.Given as goal
+
+abbrev pub invariant-loop : goal.invariant-loop
+invariant-loop g l = AreStaying l.before l.files l.self.all.items l.marks.items

@@ -1,0 +1,43 @@
+-- What is kept of running files.
+use Rattle.std.specs.Prelude.{◌≡◌, ℕ, Bool, true, false, List, Option, Some, map, slice_get, slice_index_or}
+use Rattle.std.specs.List.{list_all}
+use Rattle.std.specs.Arc.{arc_value}
+use Rattle.star_label.specs.Files.{File, text_at}
+use Rattle.star_outcome.specs.declared.good_end.GoodEnd.{GoodEnd}
+use Rattle.star_needs.specs.Ends.{AreLoadsUnder, IsBodyUnder}
+
+-- this is the outcome of the file n: the files that it loads, and the body with which it ends in each run of these files
+-- with this prelude and these steps, whatever the roots
+pub record IsOutcome (files : List File) (prelude : Option ℕ) (steps n : ℕ) (e : GoodEnd) : Type 0 where
+  pub loads : AreLoadsUnder files prelude n e.loads.items
+  pub body : IsBodyUnder files prelude steps n (arc_value e.body)
+
+-- whatever is kept for a file, by its number, is its outcome
+abbrev pub AreOutcomes : List File → Option ℕ → ℕ → List (Option GoodEnd) → Type 0
+AreOutcomes files prelude steps all =
+    (n : ℕ) (e : GoodEnd) → slice_get all n ≡ Some (Some e) → IsOutcome files prelude steps n e
+
+abbrev pub is_marked : List Bool → ℕ → Bool
+is_marked marks n = slice_index_or marks n false
+
+-- two rows of files have the same labels, in order
+abbrev pub HaveLabels : List File → List File → Type 0
+HaveLabels files others = map (λ f. f.0) files ≡ map (λ f. f.0) others
+
+-- the outcome of the file n stays: it has the same text, and all that it loads is marked
+pub record IsStaying (files others : List File) (all : List (Option GoodEnd)) (marks : List Bool) (n : ℕ) : Type 0
+  where
+    pub text : text_at files n ≡ text_at others n
+    pub end : GoodEnd
+    pub kept : slice_get all n ≡ Some (Some end)
+    pub loads : list_all (is_marked marks) end.loads.items ≡ true
+
+-- the outcomes of all marked files stay
+abbrev pub AreStaying : List File → List File → List (Option GoodEnd) → List Bool → Type 0
+AreStaying files others all marks = (n : ℕ) → is_marked marks n ≡ true → IsStaying files others all marks n
+
+-- whatever is left is of a marked file, and was there before
+abbrev pub AreMarkedOf : List Bool → List (Option GoodEnd) → List (Option GoodEnd) → Type 0
+AreMarkedOf marks before after =
+    (n : ℕ) (e : GoodEnd) → slice_get after n ≡ Some (Some e)
+    → (is_marked marks n ≡ true) × (slice_get before n ≡ Some (Some e))

@@ -1,0 +1,226 @@
+//! The outcomes of files that ended well, which are kept from one request to the next.
+//!
+//! An outcome stays if the labels, the prelude and the steps stay, and the texts of the prelude, of the file itself and
+//! of all files that it needs. These are found along the loads, from the files that load nothing.
+
+ghost use Rattle.std.specs.Prelude.{◌≡◌, ◌≤◌, ℕ, [], true, IfOk, OnOk, Some};
+ghost use Rattle.std.specs.List.{list_all};
+ghost use Rattle.star_label.specs.Files.{IsOrdered, text_at};
+ghost use Rattle.star_memo.specs.Outcomes.{AreMarkedOf, AreOutcomes, AreStaying, HaveLabels, IsStaying, is_marked};
+
+use crate::release::free;
+use star_flow::{Flow, Graph};
+use star_label::files::Files;
+use star_outcome::good_end::GoodEnd;
+use std::alloc::{AllocError, Global};
+use std::sync::Wait;
+use std::thread::Threads;
+
+/// What the outcomes of files depend on, beside their texts: the number of the prelude, and the steps that each file may
+/// take.
+#[derive(Clone, Copy, Debug, PartialEq, Eq)]
+pub struct Terms {
+    pub prelude: Option<usize>,
+    pub steps: u32,
+}
+
+/// The outcomes of files that ended well, by the numbers of the files; none for a file that must run again.
+#[derive(Drop)]
+pub struct Outcomes {
+    pub all: Vec<Option<GoodEnd>>,
+    pub terms: Terms,
+}
+
+/// Whether two rows of files have the same labels.
+fn have_labels(before: &Files, files: &Files) -> bool
+    ensures labels { result ≡ true → HaveLabels before.now files.now }
+    ensures ordered { result ≡ true → IsOrdered before.now }
+{
+    if before.len() != files.len() {
+        return false;
+    }
+    for n in 0..files.len() {
+        if before.label(n).text() != files.label(n).text() {
+            return false;
+        }
+    }
+    true
+}
+
+/// Whether a file has the same text in two rows of files.
+fn has_text(before: &Files, files: &Files, n: usize) -> bool
+    ensures { result ≡ true → text_at before.now n ≡ text_at files.now n }
+{
+    n < before.len() && n < files.len() && before.text(n) == files.text(n)
+}
+
+/// Whether the prelude, if there is one, has the same text.
+fn has_prelude(before: &Files, files: &Files, prelude: Option<usize>) -> bool
+    ensures { result ≡ true → (q : ℕ) → prelude ≡ Some q → text_at before.now q ≡ text_at files.now q }
+{
+    match prelude {
+        Some(n) => has_text(before, files, n),
+        None => true,
+    }
+}
+
+/// Whether a number is marked.
+fn is_marked(marks: &[bool], n: usize) -> bool
+    ensures { result ≡ is_marked marks.now n }
+{
+    n < marks.len() && marks[n]
+}
+
+/// Whether all these numbers are marked.
+fn are_marked(marks: &[bool], numbers: &[usize]) -> bool
+    ensures { result ≡ list_all (is_marked marks.now) numbers.now }
+{
+    for n in numbers {
+        if !is_marked(marks, *n) {
+            return false;
+        }
+    }
+    true
+}
+
+/// Adds a file with its loads to a graph. The error: an allocation failed.
+fn add_file(graph: &mut Graph, n: usize, loads: &[usize]) -> Result<(), AllocError> {
+    graph.add_file(n)?;
+    for m in loads {
+        graph.add_load(n, *m)?;
+    }
+    Ok(())
+}
+
+impl Outcomes {
+    /// None is kept.
+    pub fn new(alloc: Global, terms: Terms) -> Outcomes
+        ensures all { result.all.items ≡ [] }
+        ensures terms { result.terms ≡ terms }
+    {
+        Outcomes {
+            all: Vec::new(alloc),
+            terms,
+        }
+    }
+
+    /// The files with outcomes, in an order in which each comes after those that it loads.
+    fn flow(&self, alloc: Global) -> Result<Flow, AllocError> {
+        let count = self.all.len();
+        let mut graph = Graph::new(alloc, count)?;
+        for n in 0..count {
+            if let Some(end) = &self.all[n] {
+                add_file(&mut graph, n, &end.loads)?;
+            }
+        }
+        graph.into_flow(alloc)
+    }
+
+    /// Whether the outcome of a file stays: its text is the same, and the outcomes of all that it loads stay.
+    fn stays(&self, before: &Files, files: &Files, marks: &[bool], n: usize) -> bool
+        ensures { result ≡ true → IsStaying before.now files.now self.now.all.items marks.now n }
+    {
+        if !has_text(before, files, n) {
+            return false;
+        }
+        match self.all.get(n) {
+            Some(Some(end)) => are_marked(marks, &end.loads),
+            _ => false,
+        }
+    }
+
+    /// Marks a file if its outcome stays.
+    fn mark(&self, before: &Files, files: &Files, marks: &mut Vec<bool>, n: usize)
+        requires { AreStaying before.now files.now self.now.all.items marks.old.items }
+        ensures { AreStaying before.now files.now self.now.all.items marks.new.items }
+    {
+        if n >= marks.len() {
+            return;
+        }
+        if self.stays(before, files, marks, n) {
+            marks[n] = true;
+        }
+    }
+
+    /// Marks the files whose outcomes stay. The error: an allocation failed.
+    fn staying<R: Wait>(
+        &self,
+        rt: &R,
+        alloc: Global,
+        before: &Files,
+        files: &Files,
+    ) -> Result<Vec<bool>, AllocError>
+        ensures { IfOk result (λ marks. AreStaying before.now files.now self.now.all.items marks.items) }
+    {
+        let flow = self.flow(alloc)?;
+        let mut marks = vec![in alloc; false; self.all.len()]?;
+        let mut ended = None;
+        for _ in 0..self.all.len() {
+            let Some(n) = flow.take(rt, ended) else {
+                return Ok(marks);
+            };
+            self.mark(before, files, &mut marks, n);
+            ended = Some(n);
+        }
+        Ok(marks)
+    }
+
+    /// Takes out the outcomes of files that are not marked. The error: an allocation failed.
+    fn take_others(
+        &mut self,
+        alloc: Global,
+        marks: &[bool],
+    ) -> Result<Vec<Option<GoodEnd>>, AllocError>
+        ensures terms { self.new.terms ≡ self.old.terms }
+        ensures all { OnOk result (AreMarkedOf marks.now self.old.all.items self.new.all.items) }
+    {
+        let mut taken = Vec::with_capacity(alloc, self.all.len())?;
+        for n in 0..self.all.len() {
+            if !is_marked(marks, n) {
+                taken.push(self.all[n].take())?;
+            }
+        }
+        Ok(taken)
+    }
+
+    /// Whether the files have the same labels, under the same terms, with the same text of the prelude.
+    fn is_for(&self, before: &Files, files: &Files, terms: Terms) -> bool
+        ensures terms { result ≡ true → self.now.terms ≡ terms }
+        ensures labels { result ≡ true → HaveLabels before.now files.now }
+        ensures ordered { result ≡ true → IsOrdered before.now }
+        ensures prelude { result ≡ true
+            → (q : ℕ) → terms.prelude ≡ Some q → text_at before.now q ≡ text_at files.now q }
+    {
+        if self.terms != terms || !have_labels(before, files) {
+            return false;
+        }
+        has_prelude(before, files, terms.prelude)
+    }
+
+    /// The outcomes that stay if files take the place of those before, under these terms. The others are freed, by up to
+    /// `threads` threads. The error: an allocation failed.
+    pub fn after<R: Threads + Wait + Sync>(
+        self,
+        rt: &R,
+        alloc: Global,
+        before: &Files,
+        files: &Files,
+        terms: Terms,
+        threads: usize,
+    ) -> Result<Outcomes, AllocError>
+        requires outcomes { AreOutcomes before.now self.terms.prelude self.terms.steps self.all.items }
+        requires threads { 1 ≤ threads }
+        ensures terms { IfOk result (λ os. os.terms ≡ terms) }
+        ensures all { IfOk result (λ os. AreOutcomes files.now terms.prelude terms.steps os.all.items) }
+    {
+        if !self.is_for(before, files, terms) {
+            free(rt, alloc, self.all, threads);
+            return Ok(Outcomes::new(alloc, terms));
+        }
+        let marks = self.staying(rt, alloc, before, files)?;
+        let mut outcomes = self;
+        let others = outcomes.take_others(alloc, &marks)?;
+        free(rt, alloc, others, threads);
+        Ok(outcomes)
+    }
+}

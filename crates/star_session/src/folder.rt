@@ -1,0 +1,269 @@
+//! Requests about the files of a folder: those that the last request looked at are known, and are read again only if a
+//! request says that they have changed.
+
+ghost use Rattle.std.specs.Prelude.{◌≡◌, ◌≤◌, [], IfErr, IfOk, None, OnErr, OnOk, map, option_map, string_bytes};
+ghost use Rattle.serde_json.specs.Data.{Data};
+ghost use Rattle.star_label.specs.View.{text_of};
+ghost use Rattle.star_reading.specs.Parsed.{AreParsesOf};
+ghost use Rattle.star_bundle.specs.declared.error.ServeError.TheVariants.{Memory};
+ghost use Rattle.star_repo.specs.Parsed.{AreKnown};
+ghost use Rattle.star_repo.specs.declared.error.RepoError.TheVariants as why;
+ghost use Rattle.star_session.specs.Changes.{change_of};
+ghost use Rattle.star_session.specs.Folders as spec;
+ghost use Rattle.star_session.specs.Answers.{IsRefusal};
+ghost use Rattle.star_session.specs.Folders.{AreLookedAt, IsAnsweredBy, IsKnown, IsReportedOrRefused, IsUnseen, told};
+ghost use Rattle.star_session.specs.Kept.{IsStanding};
+ghost use Rattle.star_session.specs.Requests.{IsIdText, asked_by, question_of};
+
+use crate::answer::answered;
+use crate::question::Question;
+use crate::refusal::refusal;
+use crate::request::Request;
+use crate::standing::Standing;
+use star_bundle::error::ServeError;
+use star_folder::folder::FolderError;
+use star_label::files::Files;
+use star_label::label::Label;
+use star_reading::parses::Parsed;
+use star_reading::reading::Trees;
+use star_repo::asked::read_asked;
+use star_repo::error::RepoError;
+use star_repo::known::Known;
+use star_repo::mark::front_of;
+use star_repo::repo::Repo;
+use std::alloc::{AllocError, Global};
+use std::collections::BTreeMap;
+use std::mem;
+use std::sync::Wait;
+use std::thread::Threads;
+
+/// A folder of which some files are known.
+#[derive(Drop)]
+struct KnownRepo<'a, F> {
+    folder: F,
+    files: &'a Files,
+    /// The known files that have changed.
+    changes: &'a [(Label, Option<String>)],
+}
+
+/// Whether a file has changed.
+fn is_changed(changes: &[(Label, Option<String>)], label: &Label) -> bool
+    ensures { result ≡ spec.is_changed (text_of label.now) (map change_of changes.now) }
+{
+    for change in changes {
+        if change.0.text() == label.text() {
+            return true;
+        }
+    }
+    false
+}
+
+/// The text of the file at a label.
+fn text_named<'a>(files: &'a Files, label: &Label) -> Option<&'a str>
+    ensures { option_map (λ t. t.now) result ≡ spec.text_named (text_of label.now) files.now }
+{
+    match files.find(label) {
+        Some(n) => Some(files.text(n)),
+        None => None,
+    }
+}
+
+/// The text of a file that is known and has not changed.
+fn known_text<'a>(
+    files: &'a Files,
+    changes: &[(Label, Option<String>)],
+    label: &Label,
+) -> Option<&'a str>
+    ensures { option_map (λ t. t.now) result
+        ≡ spec.known_at files.now (map change_of changes.now) (text_of label.now) }
+{
+    if is_changed(changes, label) {
+        return None;
+    }
+    text_named(files, label)
+}
+
+impl<'a, F: Repo + Copy> Repo for KnownRepo<'a, F> {
+    ghost says = { λ s. told (F.says s.folder) s.files.now (map change_of s.changes.now) };
+
+    ghost failed = { λ s. F.failed s.folder };
+
+    fn find(&mut self, alloc: Global, label: &Label) -> Result<Option<Vec<u8>>, FolderError> {
+        match known_text(self.files, self.changes, label) {
+            Some(text) => Ok(Some(front_of(alloc, text.as_bytes())?)),
+            None => self.folder.find(alloc, label),
+        }
+    }
+}
+
+/// The error of a look that gets no memory.
+fn no_memory(_error: AllocError) -> RepoError
+    ensures { result ≡ why.Run Memory }
+{
+    RepoError::Run {
+        error: ServeError::Memory,
+    }
+}
+
+/// The results of parsing files, if there are any.
+fn known_parses<'a, 't>(files: &'a Files, parses: &'a [Parsed<'t>]) -> Option<Known<'a, 't>>
+    requires { AreParsesOf files.now parses.now }
+    ensures { AreKnown result }
+{
+    if parses.is_empty() {
+        return None;
+    }
+    Some(Known { files, parses })
+}
+
+/// The files that a request reaches, looked at. A text that is kept is not parsed again.
+fn files_looked_at<H: Threads + Wait + Sync, F: Repo + Copy>(
+    rt: &H,
+    alloc: Global,
+    folder: &F,
+    before: &Standing,
+    request: &Request,
+    loaders: usize,
+) -> Result<Files, RepoError>
+    requires { IsStanding before.now }
+    ensures looked { IfOk result (AreLookedAt (F.says folder.now) before.now.files (asked_by request.now)) }
+    ensures refused { IfErr result (IsUnseen (F.says folder.now) before.now.files (asked_by request.now)) }
+{
+    let trees = Trees::new(alloc).map_err(no_memory)?;
+    let parses = before
+        .parses
+        .views(alloc, &before.files)
+        .map_err(no_memory)?;
+    let mut looked = KnownRepo {
+        folder: *folder,
+        files: &before.files,
+        changes: request.changes.as_slice(),
+    };
+    let reached = read_asked(
+        rt,
+        alloc,
+        &mut looked,
+        &trees.all,
+        known_parses(&before.files, parses.as_slice()),
+        request.question.roots.as_slice(),
+        request.question.prelude.as_ref(),
+        loaders,
+    )?;
+    Ok(reached.files)
+}
+
+/// Looks at the files that a request reaches. Those that were known before are known no more, unless they are among
+/// these; if a file is refused, or a root or the prelude is not a label, none are known.
+fn look<H: Threads + Wait + Sync, F: Repo + Copy>(
+    rt: &H,
+    alloc: Global,
+    folder: &F,
+    standing: &mut Standing,
+    request: &Request,
+    loaders: usize,
+    empty: Files,
+) -> Result<(), RepoError>
+    requires standing { IsStanding standing.old }
+    requires loaders { 1 ≤ loaders }
+    requires empty { empty ≡ [] }
+    ensures standing { IsStanding standing.new }
+    ensures looked { OnOk result (AreLookedAt (F.says folder.now) standing.old.files (asked_by request.now)
+        standing.new.files) }
+    ensures none { OnErr result (standing.new.files ≡ []) }
+    ensures refused { IfErr result (IsUnseen (F.says folder.now) standing.old.files (asked_by request.now)) }
+{
+    let before = mem::replace(standing, Standing::new(alloc, empty));
+    let files = match files_looked_at(rt, alloc, folder, &before, request, loaders) {
+        Ok(files) => files,
+        Err(error) => return Err(error),
+    };
+    match before.with_files(rt, alloc, files, loaders) {
+        Ok(after) => {
+            *standing = after;
+            Ok(())
+        }
+        Err(error) => Err(no_memory(error)),
+    }
+}
+
+/// The text of a reason.
+fn text_for(alloc: Global, error: &RepoError) -> Result<String, AllocError>
+    ensures { IfOk result (λ text. string_bytes text ≡ spec.text_for error.now) }
+{
+    match error {
+        RepoError::File { label, error } => {
+            let why = error.text();
+            let label = label.text();
+            format!(in alloc; "{why}: {label}")
+        }
+        RepoError::Run { error } => String::from_str(alloc, error.text()),
+    }
+}
+
+/// The refusal of a request whose files were not read.
+fn unseen(alloc: Global, id: &str, error: &RepoError) -> Result<Vec<u8>, AllocError>
+    ensures { IfOk result (λ line. (d : Data) → IsIdText d id.now
+        → IsRefusal d (spec.text_for error.now) line.items) }
+{
+    let text = text_for(alloc, error)?;
+    refusal(alloc, id, text.as_str())
+}
+
+/// The answer to a question about the files that were looked at.
+fn seen<H: Threads + Wait + Sync>(
+    rt: &H,
+    alloc: Global,
+    standing: &mut Standing,
+    id: &str,
+    question: Question,
+    loaders: usize,
+    keep: usize,
+) -> Result<Vec<u8>, AllocError>
+    requires standing { IsStanding standing.old }
+    requires loaders { (1 ≤ loaders) × (loaders ≤ 64) }
+    requires steps { (1 ≤ question.steps) × (question.steps ≤ 100000000) }
+    ensures standing { IsStanding standing.new }
+    ensures answered { IfOk result (λ line. (d : Data) → IsIdText d id.now
+        → (standing.new.files ≡ standing.old.files)
+        × IsReportedOrRefused d (question_of question) standing.old.files line.items) }
+    ensures same { IfErr result (λ _. standing.new.files ≡ standing.old.files) }
+{
+    let request = Request {
+        changes: Vec::new(alloc),
+        question,
+    };
+    match answered(rt, alloc, standing, id, request, loaders, keep) {
+        Ok(line) => Ok(line),
+        Err(error) => refusal(alloc, id, error.text()),
+    }
+}
+
+/// The answer to a request about the files of a folder. Files that were looked at for the request before, and have not
+/// changed since by what this one says, are not read again. The error: memory ran out.
+pub(crate) fn answered_from<H: Threads + Wait + Sync, F: Repo + Copy>(
+    rt: &H,
+    alloc: Global,
+    folder: &F,
+    standing: &mut Standing,
+    id: &str,
+    request: Request,
+    loaders: usize,
+    keep: usize,
+) -> Result<Vec<u8>, AllocError>
+    requires standing { IsStanding standing.old }
+    requires loaders { (1 ≤ loaders) × (loaders ≤ 64) }
+    requires steps { (1 ≤ request.question.steps) × (request.question.steps ≤ 100000000) }
+    ensures standing { IsStanding standing.new }
+    ensures answered { IfOk result (λ line. (d : Data) → IsIdText d id.now
+        → IsAnsweredBy (F.says folder.now) standing.old.files d (asked_by request) standing.new.files line.items) }
+    ensures known { IfErr result (λ _.
+        IsKnown (F.says folder.now) standing.old.files (asked_by request) standing.new.files) }
+{
+    let Ok(empty) = Files::new(alloc, BTreeMap::new(alloc)) else {
+        return Err(AllocError);
+    };
+    match look(rt, alloc, folder, standing, &request, loaders, empty) {
+        Ok(()) => seen(rt, alloc, standing, id, request.question, loaders, keep),
+        Err(error) => unseen(alloc, id, &error),
+    }
+}
