@@ -4,6 +4,7 @@ import os
 import statistics
 import subprocess
 import sys
+import tempfile
 import time
 
 
@@ -30,6 +31,19 @@ def once(program, bundle, root, loaders=1, steps=100000000):
     report = run.communicate(bundle)[0]
     took = time.perf_counter() - began
     return took, report
+
+
+def measured(program, bundle, root, loaders, steps=100000000):
+    """The seconds of one run over the bundle in a file, those of the processor, the most MiB, and its report."""
+    bundle.seek(0)
+    # by the program `time`, since the memory of a child begins with that of the process that started it
+    with tempfile.NamedTemporaryFile("r") as used:
+        words = ["time", "-o", used.name, "-f", "%M %U %S", program, "--loaders", str(loaders), "--steps", str(steps), root]
+        began = time.perf_counter()
+        report = subprocess.run(words, stdin=bundle, stdout=subprocess.PIPE, stderr=subprocess.DEVNULL).stdout
+        took = time.perf_counter() - began
+        kib, user, system = used.read().split()[-3:]
+    return (took, float(user) + float(system), int(kib) / 1024), report
 
 
 def median(program, bundle, root, loaders, rounds):

@@ -69,12 +69,104 @@ def big():
     return {"//:root.star": text}, "//:root.star"
 
 
+COMPUTE = '''def numbers(n):
+    a, b, c = 17, 3, 0
+    for i in range(n):
+        a = (a * 16807 + 12345) % 65537
+        if a & 1 == 0:
+            b = (b + (a >> 3)) % 1000003
+        else:
+            b ^= i & 255
+        c = (c + b // 3 - a % 11) & 1048575
+    return c
+
+def lists(n):
+    out = []
+    for i in range(n):
+        if len(out) >= 512:
+            out.clear()
+        out.append(i * 2 + 1)
+    return len(out)
+
+def dictionaries(n):
+    d = {}
+    hits = 0
+    for i in range(n):
+        k = i * 31 % 1021
+        if k in d:
+            d[k] = (d[k] + i) % 1000003
+            hits += 1
+        else:
+            d[k] = i
+    return (len(d), hits)
+
+def strings(n):
+    total = 0
+    for i in range(n):
+        s = "%s-%d/{}" % ("node", i)
+        t = s.format(i % 7)
+        if t.startswith("node-1") and t.endswith("3"):
+            total += len(t.split("/"))
+        total += len(t)
+    return total
+
+def added(a, b, c = 1):
+    return a + b + c
+
+def calls(n):
+    x = 0
+    for i in range(n):
+        x = added(x, i)
+        x = added(i, b = x, c = 2) % 1000003
+    return x
+
+def comprehensions(n):
+    total = 0
+    for i in range(n):
+        row = [x * x + i for x in range(20) if x % 3 != 1]
+        m = {"k%d" % x: x for x in row[:4]}
+        total += max(row) + len(m)
+    return total
+
+v = (numbers(19000), lists(10000), dictionaries(7500), strings(2500), calls(3000), comprehensions(200))
+'''
+
+
+def compute(count=64):
+    """One root over files that do several kinds of work."""
+    files = {f"//w:f{i}.star": COMPUTE for i in range(count)}
+    loads = "".join(f'load("//w:f{i}.star", v{i} = "v")\n' for i in range(count))
+    files["//:root.star"] = loads + "all = [" + ", ".join(f"v{i}" for i in range(count)) + "]\n"
+    return files, "//:root.star"
+
+
+def tree(count):
+    """So many files of 10 KB, in twenty layers, each of which loads four of the layer below; one root loads the upmost layer."""
+    body = "".join(
+        f'def f{j}(a, b = {j}, *c, **d):\n    """Doc of f{j}."""\n    if a in d:\n        return [x + b for x in c]\n'
+        f'    return {{"k{j}": a, "list": [1, 2, 3, "four"]}}\nx{j} = f{j}("q", q = [{j}])\n'
+        for j in range(62)
+    )
+    files, width = {}, count // 20
+    for layer in range(20):
+        for i in range(width):
+            loads = "".join(f'load("//l{layer - 1}:f{(i * 7 + k * 13) % width}.star", v{k} = "value")\n' for k in range(4)) if layer else ""
+            up = "[" + ", ".join(f'v{k}["n"]' for k in range(4)) + "]" if layer else "[]"
+            files[f"//l{layer}:f{i}.star"] = f'{loads}value = {{"n": {i}, "up": {up}}}\n{body}'
+    files["//:root.star"] = "".join(f'load("//l19:f{i}.star", v{i} = "value")\n' for i in range(width))
+    return files, "//:root.star"
+
+
+# measured only if they are named
+TREES = {f"tree of {count:,}": lambda count=count: tree(count) for count in (1000, 4000, 9980)}
+
 FILES = {
     "wide": wide,
     "chain": chain,
     "chain of 10,000": lambda: chain(10000),
     "layers": layers,
     "leaves": leaves,
+    "compute": compute,
     "texts": texts,
     "big": big,
 }
