@@ -1,6 +1,7 @@
 //! Tests of the words of the command line: the labels that they name, and the files that a pattern finds.
 
 use crate::checks::hold;
+use star_bundle::bundle::normal_label;
 use star_label::label::Label;
 use star_words::glob::matches;
 use star_words::pattern::{front_of, label_below};
@@ -29,6 +30,23 @@ fn words_that_name_labels(rt: HostRuntime) -> Result<(), Fail> {
             None => None,
         };
         hold(&rt, text == want, word);
+    }
+    Ok(())
+}
+
+#[test]
+fn labels_in_normal_form(rt: HostRuntime) -> Result<(), Fail> {
+    let alloc = rt.alloc();
+    for (text, want) in [
+        ("//a:b.star", true),
+        ("//:b.star", true),
+        (":b.star", false),
+        ("b.star", false),
+        ("//a", false),
+        ("", false),
+    ] {
+        let label = normal_label(alloc, text)?;
+        hold(&rt, label.is_some() == want, text);
     }
     Ok(())
 }

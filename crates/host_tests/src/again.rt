@@ -8,7 +8,7 @@ ghost use Rattle.star_reading.specs.Found.{Within};
 use crate::checks::holds;
 use crate::meeting::Meeting;
 use crate::runs::{all_roots, files_of, report_text};
-use star_host::{GoodEnd, Reads, Run, Trees, run_in};
+use star_host::{GoodEnd, Known, Reads, Run, RunOptions, Trees, run_in};
 use star_label::files::Files;
 use star_report::wanted::Wanted;
 use std::alloc::Global;
@@ -29,31 +29,31 @@ fn run_with<R: Threads + Wait + Sync>(
     rt: &R,
     alloc: Global,
     files: &Files,
-    ends: &[Option<GoodEnd>],
+    ends: Vec<Option<GoodEnd>>,
     roots: &[usize],
     gate: &Meeting,
 ) -> Result<Run, Fail>
     requires roots { Within files.now roots.now }
-    requires ends { AreGoodEndsOf files.now roots.now None 100000 ends.now }
+    requires ends { AreGoodEndsOf files.now roots.now None 100000 ends.items }
     ensures files { IfOk result (λ r. length r.cells ≡ length files.now) }
     ensures modules { IfOk result (λ r. AreModulesOf files.now roots.now None 100000 r.kept) }
 {
     let trees = Trees::new(alloc)?;
     let mut reads = Reads::new(alloc);
-    Ok(run_in(
-        rt,
-        alloc,
-        files,
-        &trees,
-        &[],
-        ends,
-        &mut reads,
+    let parses = Vec::new(alloc);
+    let known = Known {
+        trees: &trees,
+        parses: parses.as_slice(),
+        ends: ends.as_slice(),
+    };
+    let options = RunOptions {
         roots,
-        None,
-        2,
-        100_000,
-        gate,
-    )?)
+        prelude: None,
+        loaders: 2,
+        steps: 100_000,
+        seed: 1,
+    };
+    Ok(run_in(rt, alloc, files, known, &mut reads, options, gate)?)
 }
 
 /// The run of the same files again, to which the good ends of a first run are known.
@@ -72,7 +72,7 @@ fn run_again<R: Threads + Wait + Sync>(
     ensures files { IfOk result (λ r. length r.cells ≡ length files.now) }
 {
     let ends = first.good_ends(alloc, files.len())?;
-    run_with(rt, alloc, files, ends.as_slice(), roots, gate)
+    run_with(rt, alloc, files, ends, roots, gate)
 }
 
 #[test]
@@ -81,7 +81,8 @@ fn a_file_whose_good_end_is_known_is_not_run(rt: HostRuntime) -> Result<(), Fail
     let files = files_of(alloc, &BUNDLE)?;
     let roots = all_roots(alloc, &files)?;
     let (gate, again) = (Meeting::new([0; 4], 1), Meeting::new([0; 4], 1));
-    let mut first = run_with(&rt, alloc, &files, &[], &roots, &gate)?;
+    let none = Vec::new(alloc);
+    let mut first = run_with(&rt, alloc, &files, none, &roots, &gate)?;
     let mut second = run_again(&rt, alloc, &files, &mut first, &roots, &again)?;
     gate.has_held(&rt, 3, 0);
     again.has_held(&rt, 1, 0);

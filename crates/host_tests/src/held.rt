@@ -8,7 +8,9 @@ use crate::checks::holds;
 use crate::meeting::Meeting;
 use crate::runs::{all_roots, files_of};
 use star_cache::{LoadCache, Seat};
-use star_host::{Common, LoadError, Naming, Shelf, Told, Trace, Trees, load, programs, read_files};
+use star_host::{
+    Common, LoadError, Naming, RunOptions, Shelf, Told, Trace, Trees, load, programs, read_files,
+};
 use star_label::files::Files;
 use std::alloc::{AllocError, Global};
 use std::marker::Brand;
@@ -111,17 +113,14 @@ fn read_while_held<R: Threads + Wait + Sync>(
     let shelf = Shelf::new(alloc, files.len())?;
     let reads = read_files(rt, alloc, files, &trees, roots, None, 2)?;
     let programs = programs(alloc, &reads)?;
-    let common = Common::new(
-        alloc,
-        files,
-        &reads,
-        &programs,
-        &shelf,
-        &[],
+    let options = RunOptions {
         roots,
-        None,
-        100_000,
-    );
+        prelude: None,
+        loaders: 2,
+        steps: 100_000,
+        seed: 1,
+    };
+    let common = Common::new(alloc, files, &reads, &programs, &shelf, &[], options);
     read_and_load::<Brand, R>(rt, &common, gate, roots, Blank::new(2))
 }
 

@@ -8,7 +8,9 @@ use crate::checks::holds;
 use crate::runs::files_of;
 use star_cache::{Book, LoadCache};
 use star_host::gate::Open;
-use star_host::{Common, LoadError, Naming, Shelf, Told, Trace, Trees, load, programs, read_files};
+use star_host::{
+    Common, LoadError, Naming, RunOptions, Shelf, Told, Trace, Trees, load, programs, read_files,
+};
 use star_label::files::Files;
 use star_label::label::Label;
 use std::alloc::{AllocError, Global};
@@ -83,17 +85,14 @@ fn load_label<R: Threads + Wait + Sync>(
     let shelf = Shelf::new(alloc, files.len())?;
     let reads = read_files(rt, alloc, files, &trees, &roots, None, 2)?;
     let programs = programs(alloc, &reads)?;
-    let common = Common::new(
-        alloc,
-        files,
-        &reads,
-        &programs,
-        &shelf,
-        &[],
-        &roots,
-        None,
-        100_000,
-    );
+    let options = RunOptions {
+        roots: &roots,
+        prelude: None,
+        loaders: 2,
+        steps: 100_000,
+        seed: 1,
+    };
+    let common = Common::new(alloc, files, &reads, &programs, &shelf, &[], options);
     load_first::<Brand, R>(rt, &common, &roots, Blank::new(2))
 }
 

@@ -4,7 +4,7 @@ ghost use Rattle.std.specs.Prelude.{◌≡◌, ◌<◌, ◌≤◌, All, IfOk, le
 
 use crate::checks::{holds, reads};
 use star_host::gate::{Gate, Open};
-use star_host::{Reads, Run, run};
+use star_host::{Reads, Run, RunOptions, run};
 use star_label::files::Files;
 use star_label::label::Label;
 use star_report::report::report;
@@ -100,7 +100,14 @@ pub fn run_all<R: Threads + Wait + Sync, G: Gate + Sync>(
     ensures { IfOk result (λ r. length r.cells ≡ length files.now) }
 {
     let roots = all_roots(alloc, files)?;
-    Ok(run(rt, alloc, files, &roots, None, loaders, 100_000, gate)?)
+    let options = RunOptions {
+        roots: &roots,
+        prelude: None,
+        loaders,
+        steps: 100_000,
+        seed: 1,
+    };
+    Ok(run(rt, alloc, files, options, gate)?)
 }
 
 /// The report of a run without the member for loads, for which the read files are not needed.

@@ -3,7 +3,7 @@
 use crate::checks::holds;
 use crate::runs::all_roots;
 use star_host::gate::Open;
-use star_host::{Reads, run};
+use star_host::{Reads, RunOptions, run};
 use star_label::files::Files;
 use star_label::label::Label;
 use star_report::report::report;
@@ -32,7 +32,14 @@ fn reported<R: Threads + Wait + Sync>(rt: &R, alloc: Global) -> Option<String> {
     }
     let files = Files::new(alloc, files).ok()?;
     let roots = all_roots(alloc, &files).ok()?;
-    let mut run = run(rt, alloc, &files, &roots, None, 1, 100_000, &Open).ok()?;
+    let options = RunOptions {
+        roots: &roots,
+        prelude: None,
+        loaders: 1,
+        steps: 100_000,
+        seed: 1,
+    };
+    let mut run = run(rt, alloc, &files, options, &Open).ok()?;
     let reads = Reads::new(alloc);
     let text = report(rt, alloc, &files, &reads, &mut run, &[], Wanted::NOTHING, 1).ok()?;
     String::from_utf8(text).ok()

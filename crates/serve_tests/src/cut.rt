@@ -42,6 +42,7 @@ fn options_of(alloc: Global, root: &str) -> Result<Options, AllocError>
     Ok(Options {
         loaders: 1,
         steps: 10_000,
+        seed: 1,
         roots,
         prelude: None,
         output: Output::Report(Wanted::NOTHING),

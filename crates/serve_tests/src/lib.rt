@@ -10,6 +10,8 @@ mod checks;
 #[cfg(test)]
 mod cut;
 #[cfg(test)]
+mod kept;
+#[cfg(test)]
 mod ondemand;
 #[cfg(test)]
 mod outputs;

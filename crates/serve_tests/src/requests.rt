@@ -32,6 +32,7 @@ fn each_line_is_answered_by_the_files_as_they_then_are(rt: HostRuntime) -> Resul
     let mut writer = writer_of(alloc, NEVER);
     let settings = Settings {
         loaders: 2,
+        seed: 1,
         keep: 1_000_000,
         defaults: Defaults {
             origin: Origin::Sent,
@@ -84,6 +85,7 @@ fn each_line_is_answered_by_the_files_of_a_folder(rt: HostRuntime) -> Result<(),
     let mut writer = writer_of(alloc, NEVER);
     let settings = Settings {
         loaders: 2,
+        seed: 1,
         keep: 1_000_000,
         defaults: Defaults {
             origin: Origin::Folder,

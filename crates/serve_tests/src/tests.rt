@@ -149,6 +149,7 @@ pub(crate) fn options_of(alloc: Global, loaders: usize) -> Result<Options, Alloc
     Ok(Options {
         loaders,
         steps: 10_000,
+        seed: 1,
         roots,
         prelude: None,
         output: Output::Report(Wanted::NOTHING),
@@ -202,6 +203,7 @@ fn asked_by(alloc: Global, case: &Case, loaders: usize) -> Result<Options, Alloc
     Ok(Options {
         loaders: loaders.clamp(1, 64),
         steps: case.steps.clamp(1, 100_000_000),
+        seed: 1,
         roots,
         prelude,
         output: Output::Report(Wanted::NOTHING),

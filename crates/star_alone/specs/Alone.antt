@@ -23,6 +23,6 @@ IsAnswered wanted asked steps text all_ok =
     InPlanOf asked.files asked.roots asked.prelude steps
     (λ plan. IsOutput (Report wanted) asked.files plan text all_ok)
 
--- a refusal of this input: the one that the rules give, or want of memory; or a module of it was not published
+-- a refusal of this input: the one that the rules give, or that an allocation failed; or a module of it was not published
 abbrev pub IsRefusedBy : Result Asked ServeError → ServeError → Type 0
 IsRefusedBy given e = Fails e given ⊎ ((e ≡ Unpublished) × ((asked : Asked) × (given ≡ Ok asked)))

@@ -11,12 +11,13 @@ use crate::report::report_alone;
 use crate::running::run_alone;
 use star_bundle::bundle::{AskedFor, asked_for};
 use star_bundle::error::ServeError;
-use star_host::{Reads, RunError};
+use star_host::{Reads, RunError, RunOptions};
 use star_outcome::shelf::Shelf;
 use star_report::report::all_good;
 use star_report::wanted::Wanted;
 use star_tree::tree::Tree;
 use std::alloc::Global;
+use std::hash::{DefaultHasher, Hasher};
 
 /// The most bytes that a bundle may have.
 const LIMIT: usize = 268_435_456;
@@ -35,6 +36,7 @@ fn answer_over<'t>(
     trees: &'t Shelf<Tree>,
     reads: &mut Reads<'t>,
     steps: u32,
+    seed: u64,
     wanted: Wanted,
 ) -> Result<Answered, ServeError>
     requires cells { length trees.now ≡ length asked.now.files + 1 }
@@ -46,7 +48,14 @@ fn answer_over<'t>(
 {
     let files = &asked.files;
     let roots = asked.roots.as_slice();
-    let mut run = match run_alone(alloc, files, trees, reads, roots, asked.prelude, steps) {
+    let options = RunOptions {
+        roots,
+        prelude: asked.prelude,
+        loaders: 1,
+        steps,
+        seed,
+    };
+    let mut run = match run_alone(alloc, files, trees, reads, options) {
         Ok(run) => run,
         Err(RunError::Memory) => return Err(ServeError::Memory),
         Err(RunError::Unpublished) => return Err(ServeError::Unpublished),
@@ -61,6 +70,7 @@ fn answer_asked(
     alloc: Global,
     asked: &AskedFor,
     steps: u32,
+    seed: u64,
     wanted: Wanted,
 ) -> Result<Answered, ServeError>
     requires roots { All (λ n. n < length asked.now.files) asked.now.roots.items }
@@ -71,7 +81,15 @@ fn answer_asked(
 {
     let trees = tree_cells(alloc, &asked.files)?;
     let mut reads = Reads::new(alloc);
-    answer_over(alloc, asked, &trees, &mut reads, steps, wanted)
+    answer_over(alloc, asked, &trees, &mut reads, steps, seed, wanted)
+}
+
+/// The seed for the hashes of keys, drawn from the input: to choose keys that all collide, one must know the input that
+/// they are a part of.
+fn seed_of(bytes: &[u8]) -> u64 {
+    let mut hasher = DefaultHasher::new();
+    hasher.write(bytes);
+    hasher.finish()
 }
 
 /// The input, by the bytes of a bundle and the words of the roots and the prelude. `TooBig` if there are too many bytes.
@@ -115,7 +133,7 @@ pub fn answer_alone(
         ≡ Ok asked)
         × IsAnswered wanted asked steps a.text.items a.all_ok) }
 
-    // The refusal is the first that the rules give, or memory was refused, or a module was not published.
+    // The refusal is the first that the rules give, or an allocation failed, or a module was not published.
     ensures refused { IfErr result (IsRefusedBy
         (asked_within (map string_bytes roots.now) (option_map (λ p. string_bytes p.now) prelude.entry) bytes.now)) }
 {
@@ -123,7 +141,7 @@ pub fn answer_alone(
         Ok(asked) => asked,
         Err(error) => return Err(error),
     };
-    match answer_asked(alloc, &asked, steps, wanted) {
+    match answer_asked(alloc, &asked, steps, seed_of(bytes), wanted) {
         Ok(answered) => Ok(answered),
         Err(error) => Err(error),
     }

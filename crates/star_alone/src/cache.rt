@@ -37,7 +37,7 @@ impl<J: Naming> Model for Cache<J> {
 }
 
 impl<J: Naming> Cache<J> {
-    /// A book of so many files, none of which has been asked for.
+    /// A book of `count` files, none of which has been asked for.
     pub(crate) fn new(alloc: Global, files: usize) -> Result<Cache<J>, AllocError>
         requires files { files ≡ length J.files }
         requires few { files ≤ 10000 }

@@ -90,7 +90,7 @@ fn begins<J: Naming>(cache: &mut Cache<J>, root: usize) -> Result<bool, LoadErro
 }
 
 /// Loads a file and all that it loads, unless it has ended. A file whose load was begun asks for it again once it has
-/// ended. `Memory` where a growth was refused; `Unpublished` where a cell of the shelf had something already, and
+/// ended. `Memory` if an allocation failed; `Unpublished` where a cell of the shelf had something already, and
 /// after 2^64 - 1 turns; `Spoiled` where the book refuses a call.
 pub(crate) fn load<'s, 'r, 'p, 't, J: Naming>(
     common: &Common<'s, 'r, 'p, 't>,

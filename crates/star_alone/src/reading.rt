@@ -23,7 +23,7 @@ use std::alloc::{AllocError, Global};
 /// Why files were not read.
 #[derive(Clone, Copy, Debug, PartialEq, Eq)]
 pub enum ReadError {
-    /// A growth was refused.
+    /// An allocation failed.
     Memory,
     /// A cell had a tree already.
     Unpublished,

@@ -17,7 +17,7 @@ use crate::reading::{ReadError, read_alone};
 use star_cache::Book;
 use star_host::running::root_at;
 use star_host::settle::{kept_of, reached};
-use star_host::{Common, LoadError, Run, RunError, programs};
+use star_host::{Common, LoadError, Run, RunError, RunOptions, programs};
 use star_label::files::Files as Labels;
 use star_outcome::module::Module;
 use star_outcome::naming::Naming;
@@ -50,12 +50,12 @@ struct Ended {
 fn load_each<'s, 'r, 'p, 't, J: Naming>(
     common: &Common<'s, 'r, 'p, 't>,
     cache: &mut Cache<J>,
-    roots: &[usize],
 ) -> Result<(), LoadError>
     requires world { IsWorld J.files J.plan J.shelf common.now }
     requires within { IsWithin J.files J.plan }
-    requires roots { roots.now ≡ J.plan.roots }
+    requires roots { common.now.roots.now ≡ J.plan.roots }
 {
+    let roots = common.roots;
     for i in 0..roots.len() {
         load(common, cache, root_at::<J>(roots, i))?;
     }
@@ -87,13 +87,10 @@ fn ended_of<J: Naming>(
 }
 
 /// The run of a naming: its roots are loaded, and the modules of all reached files are kept.
-fn run_named<'s, 'r, 'p, 't, J: Naming>(
-    common: &Common<'s, 'r, 'p, 't>,
-    roots: &[usize],
-) -> Result<Ended, RunError>
+fn run_named<'s, 'r, 'p, 't, J: Naming>(common: &Common<'s, 'r, 'p, 't>) -> Result<Ended, RunError>
     requires world { IsWorld J.files J.plan J.shelf common.now }
     requires within { IsWithin J.files J.plan }
-    requires roots { roots.now ≡ J.plan.roots }
+    requires roots { common.now.roots.now ≡ J.plan.roots }
     ensures kept { IfOk result (λ c. AllKept common.now.modules.now c.kept.items) }
     ensures modules { IfOk result (λ c. AreModules J.plan c.kept.items) }
     ensures begun { IfOk result (λ c. c.begun ≡ vec_len c.kept) }
@@ -101,7 +98,7 @@ fn run_named<'s, 'r, 'p, 't, J: Naming>(
 {
     let alloc = common.alloc;
     let mut cache = Cache::<J>::new(alloc, common.files.len())?;
-    load_each(common, &mut cache, roots)?;
+    load_each(common, &mut cache)?;
     let reached = reached(alloc, common.reads)?;
     if !cache.have_ended(&reached) {
         return Err(RunError::Unpublished);
@@ -116,33 +113,23 @@ fn run_over<'s, 'r, 't>(
     files: &'s Labels,
     reads: &'r Reads<'t>,
     modules: &'s Shelf<Module>,
-    roots: &[usize],
-    prelude: Option<usize>,
-    steps: u32,
+    options: RunOptions<'s>,
 ) -> Result<Ended, RunError>
-    requires prelude { IfSome prelude (λ p. p < length files.now) }
-    requires steps { (1 ≤ steps) × (steps ≤ 100000000) }
+    requires prelude { IfSome options.prelude (λ p. p < length files.now) }
+    requires steps { (1 ≤ options.steps) × (options.steps ≤ 100000000) }
     requires cells { length modules.now ≡ length files.now }
-    requires read { IsReadOf files.now roots.now prelude reads.now.all.items }
+    requires read { IsReadOf files.now options.roots.now options.prelude reads.now.all.items }
     requires placeable { All IsPlaceable reads.now.all.items }
     ensures kept { IfOk result (λ c. AllKept modules.now c.kept.items) }
-    ensures modules { IfOk result (λ c. AreModulesOf files.now roots.now prelude steps c.kept.items) }
+    ensures modules { let o = options.entry in
+        IfOk result (λ c. AreModulesOf files.now o.roots.now o.prelude o.steps c.kept.items) }
     ensures begun { IfOk result (λ c. c.begun ≡ vec_len c.kept) }
-    ensures refused { IfOk result (λ c. AreRefusalsOf files.now roots.now prelude steps c.refused.items) }
+    ensures refused { let o = options.entry in
+        IfOk result (λ c. AreRefusalsOf files.now o.roots.now o.prelude o.steps c.refused.items) }
 {
     let programs = programs(alloc, reads)?;
-    let common = Common::new(
-        alloc,
-        files,
-        reads,
-        &programs,
-        modules,
-        &[],
-        roots,
-        prelude,
-        steps,
-    );
-    run_named::<Brand>(&common, roots)
+    let common = Common::new(alloc, files, reads, &programs, modules, &[], options);
+    run_named::<Brand>(&common)
 }
 
 /// The counts of the loaders where one has begun all files.
@@ -156,33 +143,32 @@ fn counts_of_one(begun: u32) -> [u32; 64]
 }
 
 /// Loads the roots by the caller's own thread: the modules of exactly the reached files, in order, each with its
-/// outcome; and the loads that were refused, each of which lies on a cycle of loads.
-/// `steps` is what each body may take; the roots and the prelude are numbers of files. The trees and what was read of
-/// the files stay with the caller. `Memory` where a growth was refused; `Unpublished` where a cell did not take its
-/// module or its tree.
+/// outcome; and the loads that were refused, each of which lies on a cycle of loads. The number of loaders is not read.
+/// The trees and what was read of the files stay with the caller. `Memory` if an allocation failed; `Unpublished`
+/// where a cell did not take its module or its tree.
 pub fn run_alone<'t>(
     alloc: Global,
     files: &Labels,
     trees: &'t Shelf<Tree>,
     reads: &mut Reads<'t>,
-    roots: &[usize],
-    prelude: Option<usize>,
-    steps: u32,
+    options: RunOptions<'_>,
 ) -> Result<Run, RunError>
     requires cells { length trees.now ≡ length files.now + 1 }
-    requires roots { Within files.now roots.now }
-    requires prelude { IfSome prelude (λ n. n < length files.now) }
-    requires steps { (1 ≤ steps) × (steps ≤ 100000000) }
-    ensures read { IfOk result (λ _. IsReadOf files.now roots.now prelude reads.new.all.items) }
+    requires roots { Within files.now options.roots.now }
+    requires prelude { IfSome options.prelude (λ n. n < length files.now) }
+    requires steps { (1 ≤ options.steps) × (options.steps ≤ 100000000) }
+    ensures read { IfOk result (λ _. IsReadOf files.now options.entry.roots.now options.entry.prelude reads.new.all.items) }
     ensures files { IfOk result (λ r. length r.cells ≡ length files.now) }
-    ensures modules { IfOk result (λ r. AreModulesOf files.now roots.now prelude steps r.kept) }
+    ensures modules { let o = options.entry in
+        IfOk result (λ r. AreModulesOf files.now o.roots.now o.prelude o.steps r.kept) }
     ensures begun { IfOk result (λ r. r.begun ≡ length r.kept) }
     ensures sum { IfOk result (λ r. sum r.per_loader ≡ r.begun) }
     ensures counts { IfOk result (λ r. AreCounts 1 r.begun r.per_loader) }
-    ensures refused { IfOk result (λ r. AreRefusalsOf files.now roots.now prelude steps r.refused) }
+    ensures refused { let o = options.entry in
+        IfOk result (λ r. AreRefusalsOf files.now o.roots.now o.prelude o.steps r.refused) }
 {
     let modules = Shelf::new(alloc, files.len())?;
-    *reads = match read_alone(alloc, files, trees, roots, prelude) {
+    *reads = match read_alone(alloc, files, trees, options.roots, options.prelude) {
         Ok(reads) => reads,
         Err(error) => return Err(unread(error)),
     };
@@ -190,6 +176,6 @@ pub fn run_alone<'t>(
         kept,
         begun,
         refused,
-    } = run_over(alloc, files, reads, &modules, roots, prelude, steps)?;
+    } = run_over(alloc, files, reads, &modules, options)?;
     Ok(Run::new(modules, kept, begun, counts_of_one(begun), refused))
 }

@@ -1,9 +1,8 @@
 -- Which texts are labels in normal form.
-use Rattle.std.proofs.Common.{◌≡◌, ℕ, List, [], ◌∷◌, Bool, true, false, ◌&&◌, refl, ap, sym, ◌∙◌, subst, inl, inr, Option, Some, None, Result, Ok}
+use Rattle.std.proofs.Common.{◌≡◌, ℕ, List, [], ◌∷◌, Bool, true, false, ◌&&◌, refl, ap, sym, ◌∙◌, subst, inl, inr, Option, Some, None}
 use Rattle.std.specs.Prelude.{option_map}
 use Rattle.star_label.specs.declared.label.Label.{Label}
 use Rattle.star_label.specs.View.{text_of}
-use Rattle.star_bundle.specs.declared.error.ServeError.{ServeError}
 use Rattle.star_bundle.specs.View.{if_label}
 use Rattle.std.specs.Prelude.{◌⊎◌}
 use Rattle.std.proofs.lemmas.Slice.Eq.{bytes_eq-Decides}
@@ -50,20 +49,17 @@ other t l d e (inr h) i = colon (name_of l) (package_of t) (name_of t) (sym h.0 
 pub another_label : (t l : List ℕ) → (t ≡ l → ⊥) → l ≡ label_text (package_of l) (name_of l) → Reads [] t (package_of l) (name_of l) → is_label t ≡ false
 another_label t l d e r = decided (is_label t) (other t l d e r.form)
 
-abbrev said : Option (List ℕ) → Result (Option (List ℕ)) ServeError
-said o = Ok o
-
 -- the answer of `normal_label` for a text
-pub is_no_label : (t u : List ℕ) (o : Option Label) → said (if_label t) ≡ said (option_map text_of o) → o ≡ None → t ≡ u → is_label u ≡ false
+pub is_no_label : (t u : List ℕ) (o : Option Label) → option_map text_of o ≡ if_label t → o ≡ None → t ≡ u → is_label u ≡ false
 is_no_label t u o h e same = subst (λ x. is_label x ≡ false) same (from (is_label t) refl)
   where
     from : (b : Bool) → is_label t ≡ b → is_label t ≡ false
     from false i = i
-    from true i = let wrong : said (Some t) ≡ said None = rw i at (h ∙ ap (λ y. said (option_map text_of y)) e) in cc
+    from true i = let wrong : None ≡ Some t = rw i at (sym (ap (option_map text_of) e) ∙ h) in cc
 
-pub is_some_label : (t u : List ℕ) (o : Option Label) (l : Label) → said (if_label t) ≡ said (option_map text_of o) → o ≡ Some l → t ≡ u → (is_label u ≡ true) × (text_of l ≡ u)
+pub is_some_label : (t u : List ℕ) (o : Option Label) (l : Label) → option_map text_of o ≡ if_label t → o ≡ Some l → t ≡ u → (is_label u ≡ true) × (text_of l ≡ u)
 is_some_label t u o l h e same = subst (λ x. (is_label x ≡ true) × (text_of l ≡ x)) same (from (is_label t) refl)
   where
     from : (b : Bool) → is_label t ≡ b → (is_label t ≡ true) × (text_of l ≡ t)
-    from true i = let is : said (Some t) ≡ said (Some (text_of l)) = rw i at (h ∙ ap (λ y. said (option_map text_of y)) e) in (i, (let equal : text_of l ≡ t = cc in equal))
-    from false i = let wrong : said None ≡ said (Some (text_of l)) = rw i at (h ∙ ap (λ y. said (option_map text_of y)) e) in cc
+    from true i = let is : Some (text_of l) ≡ Some t = rw i at (sym (ap (option_map text_of) e) ∙ h) in (i, (let equal : text_of l ≡ t = cc in equal))
+    from false i = let wrong : Some (text_of l) ≡ None = rw i at (sym (ap (option_map text_of) e) ∙ h) in cc

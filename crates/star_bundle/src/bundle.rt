@@ -1,6 +1,6 @@
 //! The bundle: a JSON object from labels in normal form to texts; and the files that the command line names.
 
-ghost use Rattle.std.specs.Prelude.{◌≡◌, ◌<◌, Ok, IfOk, IfSome, All, length, map, option_map, string_bytes};
+ghost use Rattle.std.specs.Prelude.{◌≡◌, ◌<◌, IfOk, IfSome, All, length, map, option_map, string_bytes};
 ghost use Rattle.serde_json.specs.Find.{as_object, as_str};
 ghost use Rattle.serde_json.specs.View.{view, members_view};
 ghost use Rattle.star_label.specs.View.{text_of};
@@ -16,7 +16,7 @@ use serde_json::{Map, Value};
 use star_label::error::LabelError;
 use star_label::files::Files;
 use star_label::label::Label;
-use std::alloc::Global;
+use std::alloc::{AllocError, Global};
 use std::collections::BTreeMap;
 
 fn into_text(value: Value) -> Option<String>
@@ -54,8 +54,8 @@ fn json_in(alloc: Global, bytes: &[u8]) -> Result<Value, ServeError>
 }
 
 /// The label whose normal form a text is; `None` for another text.
-fn normal_label(alloc: Global, text: &str) -> Result<Option<Label>, ServeError>
-    ensures { Gives (option_map text_of) result (Ok (if_label text.now)) }
+pub fn normal_label(alloc: Global, text: &str) -> Result<Option<Label>, AllocError>
+    ensures { IfOk result (λ label. option_map text_of label ≡ if_label text.now) }
 {
     match Label::read(alloc, text, "") {
         Ok(label) => {
@@ -66,7 +66,8 @@ fn normal_label(alloc: Global, text: &str) -> Result<Option<Label>, ServeError>
             }
         }
         Err(LabelError::BadLabel) => Ok(None),
-        Err(_) => Err(ServeError::Memory),
+        Err(LabelError::Memory) => Err(AllocError),
+        Err(_) => unreachable!(),
     }
 }
 

@@ -4,5 +4,6 @@ pub mod Parts
 pub mod Paths
 pub mod Texts
 pub mod Rows
+pub mod Stores
 pub mod Reading
 pub mod Laws

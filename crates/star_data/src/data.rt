@@ -10,6 +10,7 @@ ghost use Rattle.star_data.specs.Texts.{IsJson, Says, Sends, row_data};
 ghost use Rattle.star_store.specs.declared.values.Cell.TheVariants as cell;
 ghost use Rattle.star_data.specs.Paths.{AllStandInEach, StandsInEach};
 ghost use Rattle.star_data.specs.Rows.{IsRowOf, put_new};
+ghost use Rattle.star_data.specs.Stores.{look_in};
 
 use json::Writer;
 use star_store::arena::{Arena, Homes};
@@ -23,6 +24,13 @@ use std::collections::BTreeMap;
 pub struct Written {
     pub text: Vec<u8>,
     pub is_data: bool,
+}
+
+/// The cells of the run whose value is written, and the published ones.
+#[derive(Drop)]
+struct Stores<'a> {
+    arena: &'a Arena,
+    homes: &'a Homes<'a>,
 }
 
 /// The text with the JSON of a value that nests less deep than so many levels after it: None, bools, ints and strings,
@@ -41,10 +49,11 @@ pub fn write_data<'a>(
     ensures { IfOk result (λ w. IsJson (data_of (look arena.now homes.now) levels value) text.items
         w.is_data w.text.items) }
 {
+    let stores = Stores { arena, homes };
     let before = text.len();
     let mut path = Vec::new(alloc);
     let mut out = Writer::new(text);
-    let is_data = write_value(alloc, arena, homes, levels, &mut path, value, &mut out)?;
+    let is_data = write_value(alloc, &stores, levels, &mut path, value, &mut out)?;
     let mut text = out.into_inner();
     if !is_data {
         text.truncate(before);
@@ -60,18 +69,17 @@ const FEW: usize = 16;
 #[cycle(write)]
 fn is_data<'a>(
     alloc: Global,
-    arena: &'a Arena,
-    homes: &'a Homes<'a>,
+    stores: &Stores<'a>,
     levels: u32,
     path: &mut Vec<Value>,
     value: Value,
 ) -> Result<bool, AllocError>
-    requires { StandsInEach (look arena.now homes.now) path.old.items value }
-    ensures data { IfOk result (Says (data_of (look arena.now homes.now) levels value)) }
+    requires { StandsInEach (look_in stores.now) path.old.items value }
+    ensures data { IfOk result (Says (data_of (look_in stores.now) levels value)) }
     ensures path { OnOk result (path.new.items ≡ path.old.items) }
 {
     let mut out = Writer::new(Vec::new(alloc));
-    write_value(alloc, arena, homes, levels, path, value, &mut out)
+    write_value(alloc, stores, levels, path, value, &mut out)
 }
 
 /// An int is data: it has 64 bits.
@@ -95,15 +103,14 @@ fn write_text(text: &str, out: &mut Writer) -> Result<bool, AllocError>
 #[cycle(write)]
 fn write_value<'a>(
     alloc: Global,
-    arena: &'a Arena,
-    homes: &'a Homes<'a>,
+    stores: &Stores<'a>,
     levels: u32,
     path: &mut Vec<Value>,
     value: Value,
     out: &mut Writer,
 ) -> Result<bool, AllocError>
-    requires { StandsInEach (look arena.now homes.now) path.old.items value }
-    ensures data { IfOk result (λ b. Sends (data_of (look arena.now homes.now) levels value) b out.old.tokens
+    requires { StandsInEach (look_in stores.now) path.old.items value }
+    ensures data { IfOk result (λ b. Sends (data_of (look_in stores.now) levels value) b out.old.tokens
         out.new.tokens) }
     ensures path { OnOk result (path.new.items ≡ path.old.items) }
     ensures before { out.new.before ≡ out.old.before }
@@ -123,8 +130,8 @@ fn write_value<'a>(
         Value::Int(number) => write_int(number, out),
         Value::Builtin(_) => Ok(false),
         Value::Ref { .. } => {
-            let cell = arena.read(homes, value);
-            write_cell(alloc, arena, homes, levels - 1, path, value, cell, out)
+            let cell = stores.arena.read(stores.homes, value);
+            write_cell(alloc, stores, levels - 1, path, value, cell, out)
         }
     }
 }
@@ -132,18 +139,17 @@ fn write_value<'a>(
 #[cycle(write)]
 fn write_cell<'a>(
     alloc: Global,
-    arena: &'a Arena,
-    homes: &'a Homes<'a>,
+    stores: &Stores<'a>,
     levels: u32,
     path: &mut Vec<Value>,
     value: Value,
     cell: Option<&'a Cell>,
     out: &mut Writer,
 ) -> Result<bool, AllocError>
-    requires path { StandsInEach (look arena.now homes.now) path.old.items value }
-    requires cell { option_copied cell ≡ cell_of (look arena.now homes.now) value }
+    requires path { StandsInEach (look_in stores.now) path.old.items value }
+    requires cell { option_copied cell ≡ cell_of (look_in stores.now) value }
     ensures data { IfOk result (λ b. Sends
-        (cell_data (look arena.now homes.now) (data_of (look arena.now homes.now) levels) (option_copied cell.entry)) b
+        (cell_data (look_in stores.now) (data_of (look_in stores.now) levels) (option_copied cell.entry)) b
         out.old.tokens out.new.tokens) }
     ensures path { OnOk result (path.new.items ≡ path.old.items) }
     ensures before { out.new.before ≡ out.old.before }
@@ -151,31 +157,13 @@ fn write_cell<'a>(
     match cell {
         Some(Cell::Text(text)) => write_text(text.as_str(), out),
         Some(Cell::Tuple(items)) => {
-            write_items(alloc, arena, homes, levels, path, items.as_slice(), out)
+            write_items(alloc, stores, levels, path, items.as_slice(), out)
         }
         Some(Cell::List(items)) => {
-            write_list(
-                alloc,
-                arena,
-                homes,
-                levels,
-                path,
-                value,
-                items.as_slice(),
-                out,
-            )
+            write_list(alloc, stores, levels, path, value, items.as_slice(), out)
         }
         Some(Cell::Dict(entries)) => {
-            write_dict(
-                alloc,
-                arena,
-                homes,
-                levels,
-                path,
-                value,
-                entries.as_slice(),
-                out,
-            )
+            write_dict(alloc, stores, levels, path, value, entries.as_slice(), out)
         }
         _ => Ok(false),
     }
@@ -185,18 +173,17 @@ fn write_cell<'a>(
 #[cycle(write)]
 fn write_list<'a>(
     alloc: Global,
-    arena: &'a Arena,
-    homes: &'a Homes<'a>,
+    stores: &Stores<'a>,
     levels: u32,
     path: &mut Vec<Value>,
     value: Value,
     items: &'a [Value],
     out: &mut Writer,
 ) -> Result<bool, AllocError>
-    requires path { StandsInEach (look arena.now homes.now) path.old.items value }
-    requires cell { cell_of (look arena.now homes.now) value ≡ Some (cell.List items.now) }
+    requires path { StandsInEach (look_in stores.now) path.old.items value }
+    requires cell { cell_of (look_in stores.now) value ≡ Some (cell.List items.now) }
     ensures data { IfOk result (λ b. Sends
-        (option_map array (items_data (data_of (look arena.now homes.now) levels) items.now)) b
+        (option_map array (items_data (data_of (look_in stores.now) levels) items.now)) b
         out.old.tokens out.new.tokens) }
     ensures path { OnOk result (path.new.items ≡ path.old.items) }
     ensures before { out.new.before ≡ out.old.before }
@@ -205,7 +192,7 @@ fn write_list<'a>(
         return Ok(false);
     }
     path.push(value)?;
-    let is_data = write_items(alloc, arena, homes, levels, path, items, out)?;
+    let is_data = write_items(alloc, stores, levels, path, items, out)?;
     leave(path);
     Ok(is_data)
 }
@@ -214,19 +201,18 @@ fn write_list<'a>(
 #[cycle(write)]
 fn write_dict<'a>(
     alloc: Global,
-    arena: &'a Arena,
-    homes: &'a Homes<'a>,
+    stores: &Stores<'a>,
     levels: u32,
     path: &mut Vec<Value>,
     value: Value,
     entries: &'a [(Value, Value)],
     out: &mut Writer,
 ) -> Result<bool, AllocError>
-    requires path { StandsInEach (look arena.now homes.now) path.old.items value }
-    requires cell { cell_of (look arena.now homes.now) value ≡ Some (cell.Dict entries.now) }
+    requires path { StandsInEach (look_in stores.now) path.old.items value }
+    requires cell { cell_of (look_in stores.now) value ≡ Some (cell.Dict entries.now) }
     ensures data { IfOk result (λ b. Sends
         (option_map object
-        (entries_data (look arena.now homes.now) (data_of (look arena.now homes.now) levels) entries.now)) b
+        (entries_data (look_in stores.now) (data_of (look_in stores.now) levels) entries.now)) b
         out.old.tokens out.new.tokens) }
     ensures path { OnOk result (path.new.items ≡ path.old.items) }
     ensures before { out.new.before ≡ out.old.before }
@@ -235,7 +221,7 @@ fn write_dict<'a>(
         return Ok(false);
     }
     path.push(value)?;
-    let is_data = write_entries(alloc, arena, homes, levels, path, entries, out)?;
+    let is_data = write_entries(alloc, stores, levels, path, entries, out)?;
     leave(path);
     Ok(is_data)
 }
@@ -243,23 +229,22 @@ fn write_dict<'a>(
 #[cycle(write)]
 fn write_items<'a>(
     alloc: Global,
-    arena: &'a Arena,
-    homes: &'a Homes<'a>,
+    stores: &Stores<'a>,
     levels: u32,
     path: &mut Vec<Value>,
     items: &'a [Value],
     out: &mut Writer,
 ) -> Result<bool, AllocError>
-    requires { AllStandInEach (look arena.now homes.now) path.old.items items.now }
+    requires { AllStandInEach (look_in stores.now) path.old.items items.now }
     ensures data { IfOk result (λ b. Sends
-        (option_map array (items_data (data_of (look arena.now homes.now) levels) items.now)) b
+        (option_map array (items_data (data_of (look_in stores.now) levels) items.now)) b
         out.old.tokens out.new.tokens) }
     ensures path { OnOk result (path.new.items ≡ path.old.items) }
     ensures before { out.new.before ≡ out.old.before }
 {
     out.begin_array()?;
     for item in items {
-        if !write_value(alloc, arena, homes, levels, path, *item, out)? {
+        if !write_value(alloc, stores, levels, path, *item, out)? {
             return Ok(false);
         }
     }
@@ -270,77 +255,74 @@ fn write_items<'a>(
 #[cycle(write)]
 fn write_entries<'a>(
     alloc: Global,
-    arena: &'a Arena,
-    homes: &'a Homes<'a>,
+    stores: &Stores<'a>,
     levels: u32,
     path: &mut Vec<Value>,
     entries: &'a [(Value, Value)],
     out: &mut Writer,
 ) -> Result<bool, AllocError>
-    requires { AllStandInEach (look arena.now homes.now) path.old.items (map (λ e. e.1) entries.now) }
+    requires { AllStandInEach (look_in stores.now) path.old.items (map (λ e. e.1) entries.now) }
     ensures data { IfOk result (λ b. Sends
         (option_map object
-        (entries_data (look arena.now homes.now) (data_of (look arena.now homes.now) levels) entries.now)) b
+        (entries_data (look_in stores.now) (data_of (look_in stores.now) levels) entries.now)) b
         out.old.tokens out.new.tokens) }
     ensures path { OnOk result (path.new.items ≡ path.old.items) }
     ensures before { out.new.before ≡ out.old.before }
 {
     if entries.len() <= FEW {
-        let row = few_members(alloc, arena, homes, entries)?;
+        let row = few_members(alloc, stores, entries)?;
         if let Some(row) = row {
-            return write_row(alloc, arena, homes, levels, path, &row, out);
+            return write_row(alloc, stores, levels, path, &row, out);
         }
     }
-    write_many(alloc, arena, homes, levels, path, entries, out)
+    write_many(alloc, stores, levels, path, entries, out)
 }
 
 /// The same with a map, for any number of entries, and for a key that stands twice.
 #[cycle(write)]
 fn write_many<'a>(
     alloc: Global,
-    arena: &'a Arena,
-    homes: &'a Homes<'a>,
+    stores: &Stores<'a>,
     levels: u32,
     path: &mut Vec<Value>,
     entries: &'a [(Value, Value)],
     out: &mut Writer,
 ) -> Result<bool, AllocError>
-    requires { AllStandInEach (look arena.now homes.now) path.old.items (map (λ e. e.1) entries.now) }
+    requires { AllStandInEach (look_in stores.now) path.old.items (map (λ e. e.1) entries.now) }
     ensures data { IfOk result (λ b. Sends
         (option_map object
-        (entries_data (look arena.now homes.now) (data_of (look arena.now homes.now) levels) entries.now)) b
+        (entries_data (look_in stores.now) (data_of (look_in stores.now) levels) entries.now)) b
         out.old.tokens out.new.tokens) }
     ensures path { OnOk result (path.new.items ≡ path.old.items) }
     ensures before { out.new.before ≡ out.old.before }
 {
     let mut members = BTreeMap::new(alloc);
     for i in (0..entries.len()).rev() {
-        let Some(key) = text_at(arena, homes, entries[i].0) else {
+        let Some(key) = text_at(stores, entries[i].0) else {
             return Ok(false);
         };
         let hidden = members.insert(key, entries[i].1)?;
         if let Some(hidden) = hidden {
-            if !is_data(alloc, arena, homes, levels, path, hidden)? {
+            if !is_data(alloc, stores, levels, path, hidden)? {
                 return Ok(false);
             }
         }
     }
-    write_members(alloc, arena, homes, levels, path, &members, out)
+    write_members(alloc, stores, levels, path, &members, out)
 }
 
 #[cycle(write)]
 fn write_members<'a>(
     alloc: Global,
-    arena: &'a Arena,
-    homes: &'a Homes<'a>,
+    stores: &Stores<'a>,
     levels: u32,
     path: &mut Vec<Value>,
     members: &BTreeMap<&'a str, Value>,
     out: &mut Writer,
 ) -> Result<bool, AllocError>
-    requires { AllStandInEach (look arena.now homes.now) path.old.items (map (λ e. e.1) members.now.entries) }
+    requires { AllStandInEach (look_in stores.now) path.old.items (map (λ e. e.1) members.now.entries) }
     ensures data { IfOk result (λ b. Sends
-        (option_map object (row_data (data_of (look arena.now homes.now) levels) members.now.entries)) b
+        (option_map object (row_data (data_of (look_in stores.now) levels) members.now.entries)) b
         out.old.tokens out.new.tokens) }
     ensures path { OnOk result (path.new.items ≡ path.old.items) }
     ensures before { out.new.before ≡ out.old.before }
@@ -348,7 +330,7 @@ fn write_members<'a>(
     out.begin_object()?;
     for (key, value) in members.iter() {
         out.key(*key)?;
-        if !write_value(alloc, arena, homes, levels, path, *value, out)? {
+        if !write_value(alloc, stores, levels, path, *value, out)? {
             return Ok(false);
         }
     }
@@ -359,16 +341,15 @@ fn write_members<'a>(
 #[cycle(write)]
 fn write_row<'a>(
     alloc: Global,
-    arena: &'a Arena,
-    homes: &'a Homes<'a>,
+    stores: &Stores<'a>,
     levels: u32,
     path: &mut Vec<Value>,
     row: &[(&'a str, Value)],
     out: &mut Writer,
 ) -> Result<bool, AllocError>
-    requires { AllStandInEach (look arena.now homes.now) path.old.items (map (λ e. e.1) row.now) }
+    requires { AllStandInEach (look_in stores.now) path.old.items (map (λ e. e.1) row.now) }
     ensures data { IfOk result (λ b. Sends
-        (option_map object (row_data (data_of (look arena.now homes.now) levels) row.now)) b
+        (option_map object (row_data (data_of (look_in stores.now) levels) row.now)) b
         out.old.tokens out.new.tokens) }
     ensures path { OnOk result (path.new.items ≡ path.old.items) }
     ensures before { out.new.before ≡ out.old.before }
@@ -376,7 +357,7 @@ fn write_row<'a>(
     out.begin_object()?;
     for member in row {
         out.key(member.0)?;
-        if !write_value(alloc, arena, homes, levels, path, member.1, out)? {
+        if !write_value(alloc, stores, levels, path, member.1, out)? {
             return Ok(false);
         }
     }
@@ -388,15 +369,14 @@ fn write_row<'a>(
 /// string, or a string stands twice as a key.
 fn few_members<'a>(
     alloc: Global,
-    arena: &'a Arena,
-    homes: &'a Homes<'a>,
+    stores: &Stores<'a>,
     entries: &[(Value, Value)],
 ) -> Result<Option<Vec<(&'a str, Value)>>, AllocError>
-    ensures { IfOk result (λ found. IfSome found (λ row. IsRowOf (look arena.now homes.now) entries.now row.items)) }
+    ensures { IfOk result (λ found. IfSome found (λ row. IsRowOf (look_in stores.now) entries.now row.items)) }
 {
     let mut row = Vec::with_capacity(alloc, entries.len())?;
     for i in (0..entries.len()).rev() {
-        let Some(key) = text_at(arena, homes, entries[i].0) else {
+        let Some(key) = text_at(stores, entries[i].0) else {
             return Ok(None);
         };
         if !put_new(&mut row, key, entries[i].1)? {
@@ -429,10 +409,10 @@ fn put_new<'a>(
 }
 
 /// The text of a string, which may be a key: it is UTF-8.
-fn text_at<'a>(arena: &'a Arena, homes: &'a Homes<'a>, value: Value) -> Option<&'a str>
-    ensures { option_copied result ≡ key_in (cell_of (look arena.now homes.now) value) }
+fn text_at<'a>(stores: &Stores<'a>, value: Value) -> Option<&'a str>
+    ensures { option_copied result ≡ key_in (cell_of (look_in stores.now) value) }
 {
-    match arena.read(homes, value) {
+    match stores.arena.read(stores.homes, value) {
         Some(Cell::Text(text)) => Some(text.as_str()),
         _ => None,
     }

@@ -4,6 +4,7 @@
 //! - `Graph` says which file loads which.
 //! - `Schedule` has the files that are ready, and counts the loads that each other file still waits for.
 //! - `Flow` puts the schedule under a lock, and lets loaders sleep while no file is ready.
+//! - `Search` hands out files to readers as they are found, and others ahead of time to readers that would sleep.
 //!
 //! Begin at `schedule.rt`. It promises that a file which is handed out has no load that has not ended
 //! (`Schedule::next`). `docs/LOADING.md` says how the host uses it.
@@ -12,7 +13,9 @@
 mod flow;
 mod graph;
 mod schedule;
+mod search;
 
 pub use flow::Flow;
 pub use graph::Graph;
 pub use schedule::{Next, Schedule};
+pub use search::Search;

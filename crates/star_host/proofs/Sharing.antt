@@ -1,10 +1,8 @@
 -- Several threads may use the data that loaders share.
 use Rattle.std.proofs.Common.{ℕ, List, [], ◌∷◌}
-use denote.Builtin.{usize}
 use denote.Hole.{shared_at}
 use denote.Ref.{NamedLft}
 use denote.RattleType.{RattleType}
-use denote.Slice.{ShrSlice}
 use denote.Struct.Tuple.{TupleAt}
 use denote.Param.Send.{AllSync, IsSync, sendable}
 use denote.Param.SendFields.{variants_sync}
@@ -55,14 +53,14 @@ common_sync κ ν μ ξ =
     let s = of_shelf.the_sync _ of_module.the_send of_module.the_sync in
     search (sendable, crosses) depth 40
 
--- a loader's closure: it captures the runtime R, the data that all loaders share, the gate G, the cache, the number of
--- loaders, the roots, the trace and the flow
-module _ (J : RattleType) (n : Naming.Ghosts J.Denot) (l : Ledger.Ghosts J.Denot) (R G : RattleType) (α β γ δ ε ζ η θ ι κ ξ ο : NamedLft) where
+-- a loader's closure: it captures the runtime R, the data that all loaders share, the gate G, the cache, the trace and
+-- the flow
+module _ (J : RattleType) (n : Naming.Ghosts J.Denot) (l : Ledger.Ghosts J.Denot) (R G : RattleType) (α β γ δ ε ζ η θ ι κ : NamedLft) where
   abbrev the_cache : RattleType
   the_cache = cache.the_row (told.the_row J n l) J (product.ghosts J n product.no_dict l product.no_dict) l
 
   abbrev captured : List RattleType
-  captured = shared_at α R ∷ shared_at β (common.the_row γ δ ε ζ) ∷ shared_at η G ∷ shared_at θ the_cache ∷ shared_at ι usize ∷ ShrSlice κ.mir κ.lft usize ∷ shared_at ξ (trace.the_row J n l) ∷ shared_at ο flow.the_row ∷ []
+  captured = shared_at α R ∷ shared_at β (common.the_row γ δ ε ζ) ∷ shared_at η G ∷ shared_at θ the_cache ∷ shared_at ι (trace.the_row J n l) ∷ shared_at κ flow.the_row ∷ []
 
   captured_sync : IsSync R → IsSync G → AllSync captured
   captured_sync r g = search (common_sync, of_cache.the_sync, of_told.the_send, of_trace.the_sync, of_flow.the_sync, sendable) depth 20

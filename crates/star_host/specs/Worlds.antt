@@ -36,9 +36,9 @@ pub record IsWorld (files : List File) (plan : Plan) (shelf : List ℕ) (c : Com
   pub placed : ArePlaced files plan c.programs.now
   pub ends_are : AreGoodEnds plan c.ends.now
 
--- the plan of loaders that load these roots and share this data
-abbrev pub plan_in : List ℕ → Common → Plan
-plan_in roots c = record { roots = roots; prelude = c.prelude; steps = c.steps; reads = readings c.reads.now }
+-- the plan of loaders that share this data
+abbrev pub plan_in : Common → Plan
+plan_in c = record { roots = c.roots.now; prelude = c.prelude; steps = c.steps; reads = readings c.reads.now }
 
 -- the end of the file n is known, and has this body
 abbrev pub HasBody : {Z : Type 0} → Common → ℕ → Arc Body Z → Type 0

@@ -7,6 +7,7 @@ ghost use Rattle.star_host.specs.Worlds.{HasBody, IsWorld, plan_in};
 ghost use Rattle.star_reading.specs.Found.{IsReadOf};
 ghost use Rattle.star_reading.specs.Readings.{loads_at, table_of};
 
+use crate::options::RunOptions;
 use crate::table::loads_in;
 use star_label::files::Files as Labels;
 use star_outcome::good_end::GoodEnd;
@@ -19,8 +20,8 @@ use std::alloc::{AllocError, Global};
 use std::sync::Arc;
 
 /// The data that all loaders share: the read files, the programs of all files, a shelf for the module of each file, the
-/// good ends that are known before the run, by the numbers of their files, the prelude's file, and the steps that a body
-/// may take. These are 1 to 100,000,000.
+/// good ends that are known before the run, by the numbers of their files, the roots, the prelude's file, the number of
+/// loaders, the steps that a body may take, which are 1 to 100,000,000, and the seed for the hashes of keys.
 #[derive(Drop)]
 pub struct Common<'s, 'r, 'p, 't> {
     pub alloc: Global,
@@ -29,8 +30,11 @@ pub struct Common<'s, 'r, 'p, 't> {
     pub programs: &'p Files<'r, 't>,
     pub modules: &'s Shelf<Module>,
     pub ends: &'s [Option<GoodEnd>],
+    pub roots: &'s [usize],
     pub prelude: Option<usize>,
+    pub loaders: usize,
     pub steps: u32,
+    pub seed: u64,
 }
 
 /// The number of a file: there are at most 10,000.
@@ -43,7 +47,7 @@ pub(crate) fn file_number(files: &Labels, n: usize) -> u32
 }
 
 impl<'s, 'r, 'p, 't> Common<'s, 'r, 'p, 't> {
-    /// The shared data for loading these roots: all that `load` needs. A file whose good end is among `ends` is not run.
+    /// The shared data of a run: all that `load` needs. A file whose good end is among `ends` is not run.
     pub fn new(
         alloc: Global,
         files: &'s Labels,
@@ -51,23 +55,23 @@ impl<'s, 'r, 'p, 't> Common<'s, 'r, 'p, 't> {
         programs: &'p Files<'r, 't>,
         modules: &'s Shelf<Module>,
         ends: &'s [Option<GoodEnd>],
-        roots: &[usize],
-        prelude: Option<usize>,
-        steps: u32,
+        options: RunOptions<'s>,
     ) -> Common<'s, 'r, 'p, 't>
-        requires read { IsReadOf files.now roots.now prelude reads.now.all.items }
+        requires read { IsReadOf files.now options.roots.now options.prelude reads.now.all.items }
         requires programs { programs.now ≡ table_of reads.now.all.items }
         requires cells { length modules.now ≡ length files.now }
-        requires prelude { IfSome prelude (λ p. p < length files.now) }
-        requires steps { (1 ≤ steps) × (steps ≤ 100000000) }
-        requires ends { AreGoodEndsOf files.now roots.now prelude steps ends.now }
-        ensures world { IsWorld result.files.now (plan_in roots.now result) result.modules.now result }
-        ensures within { IsWithin result.files.now (plan_in roots.now result) }
-        ensures roots { All (IsAsked result.files.now (plan_in roots.now result)) roots.now }
+        requires prelude { IfSome options.prelude (λ p. p < length files.now) }
+        requires steps { (1 ≤ options.steps) × (options.steps ≤ 100000000) }
+        requires ends { AreGoodEndsOf files.now options.roots.now options.prelude options.steps ends.now }
+        ensures world { IsWorld result.files.now (plan_in result) result.modules.now result }
+        ensures within { IsWithin result.files.now (plan_in result) }
+        ensures asked { All (IsAsked result.files.now (plan_in result)) options.entry.roots.now }
         ensures files { result.files.now ≡ files.now }
         ensures modules { result.modules.now ≡ modules.now }
-        ensures prelude { result.prelude ≡ prelude }
-        ensures steps { result.steps ≡ steps }
+        ensures roots { result.roots.now ≡ options.entry.roots.now }
+        ensures prelude { result.prelude ≡ options.entry.prelude }
+        ensures loaders { result.loaders ≡ options.entry.loaders }
+        ensures steps { result.steps ≡ options.entry.steps }
     {
         Common {
             alloc,
@@ -76,8 +80,11 @@ impl<'s, 'r, 'p, 't> Common<'s, 'r, 'p, 't> {
             programs,
             modules,
             ends,
-            prelude,
-            steps,
+            roots: options.roots,
+            prelude: options.prelude,
+            loaders: options.loaders,
+            steps: options.steps,
+            seed: options.seed,
         }
     }
 

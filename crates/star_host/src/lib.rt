@@ -2,7 +2,7 @@
 //! roots reach.
 //!
 //! - `read_files` (of `star_reading`) reads the reached files before anything runs; `Common` is the data that all
-//!   loaders share: the read files, their programs, the shelf for modules, the steps.
+//!   loaders share: the read files, their programs, the shelf for modules, the roots, the steps.
 //! - `running::run` starts a thread for each loader. A loader first takes files all of whose loads have ended
 //!   (`star_flow`); then it asks for the roots, one after another, since the files that are left are on a cycle or lead
 //!   to one.
@@ -23,6 +23,7 @@
 mod common;
 pub mod gate;
 pub mod loading;
+pub mod options;
 mod order;
 pub mod running;
 pub mod settle;
@@ -31,6 +32,7 @@ mod work;
 
 pub use common::Common;
 pub use loading::{LoadError, load};
+pub use options::{Known, RunOptions};
 pub use running::{RunError, run, run_in};
 pub use star_outcome::good_end::GoodEnd;
 pub use star_outcome::naming::Naming;
@@ -38,7 +40,7 @@ pub use star_outcome::outcome::Run;
 pub use star_outcome::shelf::Shelf;
 pub use star_outcome::told::Told;
 pub use star_outcome::trace::{OnCycle, Refused, Token, Trace};
-pub use star_reading::files::{read_files, read_parsed};
+pub use star_reading::files::{Texts, read_files, read_parsed};
 pub use star_reading::parses::Parsed;
 pub use star_reading::reading::{Reads, Trees};
 pub use table::programs;

@@ -5,10 +5,9 @@ ghost use Rattle.star_outcome.specs.Fits.{IsAsked, IsWithin};
 ghost use Rattle.star_outcome.specs.GoodEnds.{AreGoodEndsOf};
 ghost use Rattle.star_reading.specs.Found.{IsReadOf, Within};
 ghost use Rattle.star_host.specs.Counts.{AreCounts};
-ghost use Rattle.star_host.specs.Worlds.{IsWorld};
+ghost use Rattle.star_host.specs.Worlds.{IsWorld, plan_in};
 ghost use Rattle.star_outcome.specs.Kept.{AllKept, AreModules, AreModulesOf};
 ghost use Rattle.star_reading.specs.Parsed.{AreParsesOf};
-ghost use Rattle.star_reading.specs.Readings.{IsPlaceable};
 ghost use Rattle.star_outcome.specs.Refusals.{AreRefusals, AreRefusalsOf};
 ghost use Rattle.star_cache.specs.Seats.{counts_of};
 ghost use Rattle.star_cache.specs.State.{HasEnded, begun_count};
@@ -17,21 +16,19 @@ ghost use Rattle.star_plan.specs.Reached.{IsReached};
 use crate::common::Common;
 use crate::gate::Gate;
 use crate::loading::{LoadError, load};
+use crate::options::{Known, RunOptions};
 use crate::order::{first_place, place};
 use crate::settle::{closed, kept_of, settle_one};
 use crate::table::{is_read, programs, read_count};
 use star_cache::{Book, LoadCache, Seat};
 use star_flow::{Flow, Graph};
 use star_label::files::Files as Labels;
-use star_outcome::good_end::GoodEnd;
-use star_outcome::module::Module;
 use star_outcome::naming::Naming;
 use star_outcome::outcome::{Kept, Run};
 use star_outcome::shelf::Shelf;
 use star_outcome::told::Told;
 use star_outcome::trace::{Refused, Trace};
-use star_reading::files::read_parsed;
-use star_reading::parses::Parsed;
+use star_reading::files::{Texts, read_parsed};
 use star_reading::reading::{Reads, Trees};
 use std::alloc::{AllocError, Global};
 use std::marker::Brand;
@@ -40,7 +37,7 @@ use std::sync::ledger::Blank;
 use std::thread;
 use std::thread::Threads;
 
-/// Why a run fails.
+/// Why a run fails. It has no text of its own: the program shows that of `ServeError`, which it becomes.
 #[derive(Clone, Copy, Debug, PartialEq, Eq)]
 pub enum RunError {
     /// An allocation failed.
@@ -145,27 +142,26 @@ fn work<'s, 'r, 'p, 't, J: Naming, R: Wait, G: Gate>(
     gate: &G,
     cache: &LoadCache<Told<J>>,
     seat: Seat<Told<J>>,
-    loaders: usize,
-    roots: &[usize],
     trace: &Trace<J>,
     flow: &Flow,
 ) -> Worked<J>
     requires world { IsWorld J.files J.plan J.shelf common.now }
     requires within { IsWithin J.files J.plan }
-    requires roots { roots.now ≡ J.plan.roots }
-    requires loaders { (1 ≤ loaders) × (loaders ≤ 64) }
+    requires roots { common.now.roots.now ≡ J.plan.roots }
+    requires loaders { (1 ≤ common.now.loaders) × (common.now.loaders ≤ 64) }
     ensures { result.seat.number ≡ seat.number }
 {
     let mut seat = seat;
     let mut error = None;
-    if loaders > 1 {
+    if common.loaders > 1 {
         error = take_ready(rt, common, gate, cache, &mut seat, flow, trace);
     }
+    let roots = common.roots;
     let count = roots.len();
     if count == 0 {
         return Worked { seat, error };
     }
-    let first = first_place(seat.number(), loaders, count);
+    let first = first_place(seat.number(), common.loaders, count);
     for i in 0..count {
         let root = root_at::<J>(roots, place(first, i, count));
         let told = load(rt, common, gate, cache, &mut seat, root, trace);
@@ -182,15 +178,13 @@ fn spread<'s, 'r, 'p, 't, J: Naming + Send + Sync, R: Threads + Wait + Sync, G: 
     gate: &G,
     cache: &LoadCache<Told<J>>,
     seats: Vec<Seat<Told<J>>>,
-    loaders: usize,
-    roots: &[usize],
     trace: &Trace<J>,
     flow: &Flow,
 ) -> Result<Vec<Worked<J>>, AllocError>
     requires world { IsWorld J.files J.plan J.shelf common.now }
     requires within { IsWithin J.files J.plan }
-    requires roots { roots.now ≡ J.plan.roots }
-    requires loaders { (1 ≤ loaders) × (loaders ≤ 64) }
+    requires roots { common.now.roots.now ≡ J.plan.roots }
+    requires loaders { (1 ≤ common.now.loaders) × (common.now.loaders ≤ 64) }
     ensures { IfOk result (λ v. map (λ w. w.seat.number) v.items ≡ map (λ s. s.number) seats.items) }
 {
     thread::map_vec(
@@ -198,9 +192,9 @@ fn spread<'s, 'r, 'p, 't, J: Naming + Send + Sync, R: Threads + Wait + Sync, G: 
         seats,
         &|seat: Seat<Told<J>>| -> Worked<J>
             requires { IsWorld J.files J.plan J.shelf common.now × IsWithin J.files J.plan
-                × (roots.now ≡ J.plan.roots) × ((1 ≤ loaders) × (loaders ≤ 64)) }
+                × (common.now.roots.now ≡ J.plan.roots) × ((1 ≤ common.now.loaders) × (common.now.loaders ≤ 64)) }
             ensures { result.seat.number ≡ seat.number }
-        { work(rt, common, gate, cache, seat, loaders, roots, trace, flow) },
+        { work(rt, common, gate, cache, seat, trace, flow) },
     )
 }
 
@@ -248,30 +242,27 @@ fn run_named<'s, 'r, 'p, 't, J: Naming + Send + Sync, R: Threads + Wait + Sync, 
     rt: &R,
     common: &Common<'s, 'r, 'p, 't>,
     gate: &G,
-    roots: &[usize],
-    loaders: usize,
     blank: Blank,
 ) -> Result<Closed, RunError>
     requires name { blank.name ≡ J.name }
-    requires parts { (blank.parts ≡ J.parts) × (blank.parts ≡ loaders) }
-    requires loaders { (1 ≤ loaders) × (loaders ≤ 64) }
+    requires parts { (blank.parts ≡ J.parts) × (blank.parts ≡ common.now.loaders) }
+    requires loaders { (1 ≤ common.now.loaders) × (common.now.loaders ≤ 64) }
     requires world { IsWorld J.files J.plan J.shelf common.now }
     requires within { IsWithin J.files J.plan }
-    requires roots { roots.now ≡ J.plan.roots }
+    requires roots { common.now.roots.now ≡ J.plan.roots }
     ensures kept { IfOk result (λ c. AllKept common.now.modules.now c.kept.items) }
     ensures modules { IfOk result (λ c. AreModules J.plan c.kept.items) }
     ensures begun { IfOk result (λ c. c.begun ≡ vec_len c.kept) }
     ensures sum { IfOk result (λ c. sum c.per_loader ≡ c.begun) }
-    ensures counts { IfOk result (λ c. AreCounts loaders c.begun c.per_loader) }
+    ensures counts { IfOk result (λ c. AreCounts common.now.loaders c.begun c.per_loader) }
     ensures refused { IfOk result (λ c. AreRefusals J.plan c.refused.items) }
 {
     let alloc = common.alloc;
     let trace = Trace::<J>::new(alloc)?;
-    let (cache, seats) = LoadCache::<Told<J>>::new(alloc, blank, common.files.len(), loaders)?;
+    let files = common.files.len();
+    let (cache, seats) = LoadCache::<Told<J>>::new(alloc, blank, files, common.loaders)?;
     let flow = flow_of(common)?;
-    let worked = spread(
-        rt, common, gate, &cache, seats, loaders, roots, &trace, &flow,
-    )?;
+    let worked = spread(rt, common, gate, &cache, seats, &trace, &flow)?;
     let (seats, error) = taken(alloc, worked)?;
     if let Some(error) = error {
         return Err(RunError::from(error));
@@ -310,83 +301,57 @@ fn closed_of<J: Naming>(
     })
 }
 
-/// The run over files that are read, with a shelf for the modules.
-fn run_over<'s, 'r, 't, R: Threads + Wait + Sync, G: Gate + Sync>(
+/// The run of a naming that is new: of the files, the plan and the shelf of this data.
+fn run_over<'s, 'r, 'p, 't, R: Threads + Wait + Sync, G: Gate + Sync>(
     rt: &R,
-    alloc: Global,
-    files: &'s Labels,
-    reads: &'r Reads<'t>,
-    modules: &'s Shelf<Module>,
-    ends: &'s [Option<GoodEnd>],
-    roots: &[usize],
-    prelude: Option<usize>,
-    loaders: usize,
-    steps: u32,
+    common: &Common<'s, 'r, 'p, 't>,
     gate: &G,
 ) -> Result<Closed, RunError>
-    requires prelude { IfSome prelude (λ p. p < length files.now) }
-    requires loaders { (1 ≤ loaders) × (loaders ≤ 64) }
-    requires steps { (1 ≤ steps) × (steps ≤ 100000000) }
-    requires cells { length modules.now ≡ length files.now }
-    requires read { IsReadOf files.now roots.now prelude reads.now.all.items }
-    requires placeable { All IsPlaceable reads.now.all.items }
-    requires ends { AreGoodEndsOf files.now roots.now prelude steps ends.now }
-    ensures kept { IfOk result (λ c. AllKept modules.now c.kept.items) }
-    ensures modules { IfOk result (λ c. AreModulesOf files.now roots.now prelude steps c.kept.items) }
+    requires loaders { (1 ≤ common.now.loaders) × (common.now.loaders ≤ 64) }
+    requires world { let c = common.now in IsWorld c.files.now (plan_in c) c.modules.now c }
+    requires within { IsWithin common.now.files.now (plan_in common.now) }
+    ensures kept { IfOk result (λ c. AllKept common.now.modules.now c.kept.items) }
+    ensures modules { IfOk result (λ c. AreModules (plan_in common.now) c.kept.items) }
     ensures begun { IfOk result (λ c. c.begun ≡ vec_len c.kept) }
     ensures sum { IfOk result (λ c. sum c.per_loader ≡ c.begun) }
-    ensures counts { IfOk result (λ c. AreCounts loaders c.begun c.per_loader) }
-    ensures refused { IfOk result (λ c. AreRefusalsOf files.now roots.now prelude steps c.refused.items) }
+    ensures counts { IfOk result (λ c. AreCounts common.now.loaders c.begun c.per_loader) }
+    ensures refused { IfOk result (λ c. AreRefusals (plan_in common.now) c.refused.items) }
 {
-    let programs = programs(alloc, reads)?;
-    let common = Common::new(
-        alloc, files, reads, &programs, modules, ends, roots, prelude, steps,
-    );
-    let blank = Blank::new(loaders as u64);
-    run_named::<Brand, R, G>(rt, &common, gate, roots, loaders, blank)
+    let blank = Blank::new(common.loaders as u64);
+    run_named::<Brand, R, G>(rt, common, gate, blank)
 }
 
-/// Loads the roots by `loaders` loaders: the modules of exactly the reached files, in order, each with its outcome; and
-/// loads that were refused, each on a cycle of loads. `steps` is the number of steps that each body may take; the roots
-/// and the prelude are numbers of files. `Memory` if an allocation failed, `Unpublished` as `RunError` says.
+/// Loads the roots: the modules of exactly the reached files, in order, each with its outcome; and loads that were
+/// refused, each on a cycle of loads. `Memory` if an allocation failed, `Unpublished` as `RunError` says.
 pub fn run<R: Threads + Wait + Sync, G: Gate + Sync>(
     rt: &R,
     alloc: Global,
     files: &Labels,
-    roots: &[usize],
-    prelude: Option<usize>,
-    loaders: usize,
-    steps: u32,
+    options: RunOptions<'_>,
     gate: &G,
 ) -> Result<Run, RunError>
-    requires roots { Within files.now roots.now }
-    requires prelude { IfSome prelude (λ n. n < length files.now) }
-    requires loaders { (1 ≤ loaders) × (loaders ≤ 64) }
-    requires steps { (1 ≤ steps) × (steps ≤ 100000000) }
+    requires roots { Within files.now options.roots.now }
+    requires prelude { IfSome options.prelude (λ n. n < length files.now) }
+    requires loaders { (1 ≤ options.loaders) × (options.loaders ≤ 64) }
+    requires steps { (1 ≤ options.steps) × (options.steps ≤ 100000000) }
     ensures files { IfOk result (λ r. length r.cells ≡ length files.now) }
-    ensures modules { IfOk result (λ r. AreModulesOf files.now roots.now prelude steps r.kept) }
+    ensures modules { let o = options.entry in
+        IfOk result (λ r. AreModulesOf files.now o.roots.now o.prelude o.steps r.kept) }
     ensures begun { IfOk result (λ r. r.begun ≡ length r.kept) }
     ensures sum { IfOk result (λ r. sum r.per_loader ≡ r.begun) }
-    ensures counts { IfOk result (λ r. AreCounts loaders r.begun r.per_loader) }
-    ensures refused { IfOk result (λ r. AreRefusalsOf files.now roots.now prelude steps r.refused) }
+    ensures counts { IfOk result (λ r. AreCounts options.entry.loaders r.begun r.per_loader) }
+    ensures refused { let o = options.entry in
+        IfOk result (λ r. AreRefusalsOf files.now o.roots.now o.prelude o.steps r.refused) }
 {
     let trees = Trees::new(alloc)?;
     let parses = Vec::new(alloc);
     let mut reads = Reads::new(alloc);
-    run_in(
-        rt,
-        alloc,
-        files,
-        &trees,
-        parses.as_slice(),
-        &[],
-        &mut reads,
-        roots,
-        prelude,
-        loaders,
-        steps,
-        gate,
-    )
+    let known = Known {
+        trees: &trees,
+        parses: parses.as_slice(),
+        ends: &[],
+    };
+    run_in(rt, alloc, files, known, &mut reads, options, gate)
 }
 
 /// The number of loaders to start: no more than there are files to run, since a further loader would find no file to
@@ -400,49 +365,61 @@ fn enough(loaders: usize, reads: &Reads) -> usize
     loaders.min(read_count(reads)).max(1)
 }
 
-/// As `run`, with the first files parsed already: their texts are not parsed again; and with good ends that are known
-/// already, by the numbers of their files: these files are not run again, but loaded and published as ever. The trees
-/// and the read files stay with the caller, who may leave them to the end of the process: to free them takes a tenth of
-/// the time of a run of many small files. The errors are those of `run`.
+/// As `run`, with what is known of the files before it. The trees and the read files stay with the caller, who may leave
+/// them to the end of the process: to free them takes a tenth of the time of a run of many small files. The errors are
+/// those of `run`.
 pub fn run_in<'t, R: Threads + Wait + Sync, G: Gate + Sync>(
     rt: &R,
     alloc: Global,
     files: &Labels,
-    trees: &'t Trees,
-    parses: &[Parsed<'t>],
-    ends: &[Option<GoodEnd>],
+    known: Known<'_, 't>,
     reads: &mut Reads<'t>,
-    roots: &[usize],
-    prelude: Option<usize>,
-    loaders: usize,
-    steps: u32,
+    options: RunOptions<'_>,
     gate: &G,
 ) -> Result<Run, RunError>
-    requires parses { AreParsesOf files.now parses.now }
-    requires ends { AreGoodEndsOf files.now roots.now prelude steps ends.now }
-    requires roots { Within files.now roots.now }
-    requires prelude { IfSome prelude (λ n. n < length files.now) }
-    requires loaders { (1 ≤ loaders) × (loaders ≤ 64) }
-    requires steps { (1 ≤ steps) × (steps ≤ 100000000) }
-    ensures read { IfOk result (λ _. IsReadOf files.now roots.now prelude reads.new.all.items) }
+    requires parses { AreParsesOf files.now known.parses.now }
+    requires ends { let o = options in AreGoodEndsOf files.now o.roots.now o.prelude o.steps known.ends.now }
+    requires roots { Within files.now options.roots.now }
+    requires prelude { IfSome options.prelude (λ n. n < length files.now) }
+    requires loaders { (1 ≤ options.loaders) × (options.loaders ≤ 64) }
+    requires steps { (1 ≤ options.steps) × (options.steps ≤ 100000000) }
+    ensures read { IfOk result (λ _. IsReadOf files.now options.entry.roots.now options.entry.prelude reads.new.all.items) }
     ensures files { IfOk result (λ r. length r.cells ≡ length files.now) }
-    ensures modules { IfOk result (λ r. AreModulesOf files.now roots.now prelude steps r.kept) }
+    ensures modules { let o = options.entry in
+        IfOk result (λ r. AreModulesOf files.now o.roots.now o.prelude o.steps r.kept) }
     ensures begun { IfOk result (λ r. r.begun ≡ length r.kept) }
     ensures sum { IfOk result (λ r. sum r.per_loader ≡ r.begun) }
-    ensures counts { IfOk result (λ r. AreCounts loaders r.begun r.per_loader) }
-    ensures refused { IfOk result (λ r. AreRefusalsOf files.now roots.now prelude steps r.refused) }
+    ensures counts { IfOk result (λ r. AreCounts options.entry.loaders r.begun r.per_loader) }
+    ensures refused { let o = options.entry in
+        IfOk result (λ r. AreRefusalsOf files.now o.roots.now o.prelude o.steps r.refused) }
 {
     let modules = Shelf::new(alloc, files.len())?;
-    *reads = read_parsed(rt, alloc, files, trees, parses, roots, prelude, loaders)?;
+    let RunOptions {
+        roots,
+        prelude,
+        loaders,
+        ..
+    } = options;
+    let texts = Texts {
+        files,
+        trees: known.trees,
+        parses: known.parses,
+    };
+    *reads = read_parsed(rt, alloc, texts, roots, prelude, loaders)?;
     gate.before_bodies(read_count(reads));
-    let loaders = enough(loaders, reads);
+    let options = RunOptions {
+        loaders: enough(loaders, reads),
+        ..options
+    };
+    let programs = programs(alloc, reads)?;
+    let common = Common::new(
+        alloc, files, reads, &programs, &modules, known.ends, options,
+    );
     let Closed {
         kept,
         begun,
         per_loader,
         refused,
-    } = run_over(
-        rt, alloc, files, reads, &modules, ends, roots, prelude, loaders, steps, gate,
-    )?;
+    } = run_over(rt, &common, gate)?;
     Ok(Run::new(modules, kept, begun, per_loader, refused))
 }

@@ -32,25 +32,25 @@ use star_world::world::World;
 use std::alloc::{AllocError, Global};
 use std::sync::Arc;
 
-/// Runs the body of a file over these stores, with `steps` steps.
-fn outcome_in(
-    alloc: Global,
+/// Runs the body of a file over these stores.
+fn outcome_in<'s, 'r, 'p, 't>(
+    common: &Common<'s, 'r, 'p, 't>,
     home: u32,
     homes: &Homes,
-    files: &Files,
     program: &Program,
     prelude: Option<u32>,
-    steps: u32,
 ) -> Result<Outcome, AllocError>
-    requires stands { file_in files.now home ≡ Some (placed_file program.now) }
-    requires steps { (1 ≤ steps) × (steps ≤ 100000000) }
-    ensures names { let w = world_over home homes.now files.now program.now.loads.items prelude in
-        AreReady w steps → IfOk result (λ o. meant w.setting o ≡ local w.setting steps program.now.statements.now) }
-    ensures named { let w = world_over home homes.now files.now program.now.loads.items prelude in AreReady w steps
-        → IfOk result (λ o. IsOutcome (run_by_names w.setting steps program.now.statements.now) o) }
+    requires stands { file_in common.now.programs.now home ≡ Some (placed_file program.now) }
+    requires steps { (1 ≤ common.now.steps) × (common.now.steps ≤ 100000000) }
+    ensures names { let w = world_over home homes.now common.now.programs.now program.now.loads.items prelude in
+        AreReady w common.now.steps
+        → IfOk result (λ o. meant w.setting o ≡ local w.setting common.now.steps program.now.statements.now) }
+    ensures named { let w = world_over home homes.now common.now.programs.now program.now.loads.items prelude in
+        AreReady w common.now.steps
+        → IfOk result (λ o. IsOutcome (run_by_names w.setting common.now.steps program.now.statements.now) o) }
 {
-    let world = World::new(home, homes, files, program.loads(), prelude);
-    run_body(alloc, &world, program, steps)
+    let world = World::new(home, homes, common.programs, program.loads(), prelude);
+    run_body(common.alloc, &world, program, common.steps, common.seed)
 }
 
 /// Finds the part of the program that a fault is about, by a second look at the store of its run and the stores that it
@@ -171,15 +171,7 @@ fn run<'s, 'r, 'p, 't, J: Naming, G: Gate>(
     let prelude = common.prelude_file();
     let home = file_number(common.files, n);
     gate.before_body(loader, n);
-    let outcome = outcome_in(
-        common.alloc,
-        home,
-        &homes,
-        common.programs,
-        program,
-        prelude,
-        common.steps,
-    );
+    let outcome = outcome_in(common, home, &homes, program, prelude);
     gate.after_body(loader, n);
     let outcome = outcome?;
     let found = found_of(

@@ -68,8 +68,21 @@ impl Model for Machine {
 }
 
 impl Machine {
-    /// A machine of a file, with no cell and these steps left.
+    /// A machine of a file, with no cell and these steps left. Its keys are hashed by the seed 0.
     pub fn new(alloc: Global, home: u32, steps: u32) -> Machine
+        requires { steps < 2 ^ 31 }
+        ensures { result ≡ record {
+          store = record { home = home; cells = [] };
+          active = [];
+          steps = steps;
+          lines = [];
+        } }
+    {
+        Machine::with_seed(alloc, home, steps, 0)
+    }
+
+    /// The same, with a seed for the hashes of keys (`Arena::with_seed`).
+    pub fn with_seed(alloc: Global, home: u32, steps: u32, seed: u64) -> Machine
         requires { steps < 2 ^ 31 }
         ensures { result ≡ record {
           store = record { home = home; cells = [] };
@@ -80,7 +93,7 @@ impl Machine {
     {
         Machine {
             alloc,
-            arena: Arena::new(alloc, home),
+            arena: Arena::with_seed(alloc, home, seed),
             active: Vec::new(alloc),
             steps: steps as u64,
             lines: Vec::new(alloc),

@@ -1,1 +1,4 @@
 pub mod Staying
+pub mod Labels
+pub mod Kept
+pub mod Moving

@@ -6,7 +6,10 @@ use Rattle.std.specs.Prelude.{slice_set}
 use Rattle.std.proofs.lemmas.List.{get_or-set_other}
 use Rattle.star_label.specs.Files.{File, IsOrdered, label_at, text_at}
 use Rattle.star_reading.proofs.Finds.{by_cases, same_or_not}
-use Rattle.star_plan.specs.Plan.{Plan}
+use Rattle.star_cache.specs.State.{Loads}
+use Rattle.star_cache.specs.Walk.{Walk}
+use Rattle.star_plan.specs.Plan.{Plan, loaded}
+use Rattle.star_plan.specs.Reached.{IsReached, load}
 use Rattle.star_plan.specs.Reading.{IsPlanOf}
 use Rattle.star_outcome.specs.GoodEnds.{AreGoodEndsOf, AreReachedEnds}
 use Rattle.star_outcome.specs.declared.good_end.GoodEnd.{GoodEnd}
@@ -37,6 +40,18 @@ closed files others prelude steps all marks are h = λ n m.
       (are n s.end s.kept).loads,
       λ k c. one_of (is_marked marks) s.end.loads.items k s.loads c,
     )
+
+-- whatever a marked file needs is marked, so all texts that it needs are as they were: in each plan of the files, those
+-- of all files that it leads to by loads
+pub texts_stay : (files others : List File) (prelude : Option ℕ) (steps : ℕ) (all : List (Option GoodEnd)) (marks : List Bool) → AreOutcomes files prelude steps all → AreStaying files others all marks
+    → (plan : Plan) → IsPlanOf files plan → plan.prelude ≡ prelude → plan.steps ≡ steps
+    → (k n m : ℕ) → Walk (Loads (loaded plan)) k n m → IsReached plan n → is_marked marks n ≡ true → (is_marked marks m ≡ true) × (text_at files m ≡ text_at others m)
+texts_stay files others prelude steps all marks are h plan planned p s zero n m w reached marked = subst (λ i. (is_marked marks i ≡ true) × (text_at files i ≡ text_at others i)) w (marked, (h n marked).text)
+texts_stay files others prelude steps all marks are h plan planned p s (suc k) n m (u, first, rest) reached marked =
+    let stay = h n marked in
+    let loads : stay.end.loads.items ≡ loaded plan n = loads_in_plans files prelude steps n stay.end.loads.items (are n stay.end stay.kept).loads plan planned p s reached in
+    let among : Contains stay.end.loads.items u = subst (λ ns. Contains ns u) (sym loads) first in
+    texts_stay files others prelude steps all marks are h plan planned p s k u m rest (load reached first) (one_of (is_marked marks) stay.end.loads.items u stay.loads among)
 
 stays : (files others : List File) (prelude : Option ℕ) (steps : ℕ) (all : List (Option GoodEnd)) (marks : List Bool) → IsOrdered files → HaveLabels files others → ((q : ℕ) → prelude ≡ Some q → text_at files q ≡ text_at others q) → AreOutcomes files prelude steps all → AreStaying files others all marks → (n : ℕ) (e : GoodEnd) → is_marked marks n ≡ true → slice_get all n ≡ Some (Some e) → IsOutcome others prelude steps n e
 stays files others prelude steps all marks ordered l p are h n e m k =

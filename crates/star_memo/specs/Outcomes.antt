@@ -24,7 +24,8 @@ is_marked marks n = slice_index_or marks n false
 abbrev pub HaveLabels : List File → List File → Type 0
 HaveLabels files others = map (λ f. f.0) files ≡ map (λ f. f.0) others
 
--- the outcome of the file n stays: it has the same text, and all that it loads is marked
+-- the outcome of the file n stays: it has the same text, and all that it loads is marked. If all marked files stay so,
+-- then the texts of all files that one of them needs are as they were: `texts_stay` of `proofs/Staying`
 pub record IsStaying (files others : List File) (all : List (Option GoodEnd)) (marks : List Bool) (n : ℕ) : Type 0
   where
     pub text : text_at files n ≡ text_at others n
@@ -36,7 +37,8 @@ pub record IsStaying (files others : List File) (all : List (Option GoodEnd)) (m
 abbrev pub AreStaying : List File → List File → List (Option GoodEnd) → List Bool → Type 0
 AreStaying files others all marks = (n : ℕ) → is_marked marks n ≡ true → IsStaying files others all marks n
 
--- whatever is left is of a marked file, and was there before
+-- whatever is left is of a marked file, and was there before. So it is an outcome of the files as they are now:
+-- `all_stay` of `proofs/Staying`
 abbrev pub AreMarkedOf : List Bool → List (Option GoodEnd) → List (Option GoodEnd) → Type 0
 AreMarkedOf marks before after =
     (n : ℕ) (e : GoodEnd) → slice_get after n ≡ Some (Some e)

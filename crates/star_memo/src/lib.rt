@@ -1,7 +1,8 @@
 //! What is kept from one request to the next, so that only what has changed is done again.
 //!
-//! - `parses` has the results of parsing texts. A text that a label had before is not parsed again. If the texts have
-//!   more bytes than may be kept, those go first that no request has reached for the longest time.
+//! - `parses` has the results of parsing texts. A text that a label had before is not parsed again; of the others those
+//!   are parsed that are reached (`ahead`). If the texts have more bytes than may be kept, those go first that no request
+//!   has reached for the longest time.
 //! - `outcomes` has the ends of the files that the last request reached and that ended well. Begin at `Outcomes::after`:
 //!   it marks those that stay when the files change, and lets the others go.
 //! - `release` frees many values by several threads.
@@ -10,6 +11,7 @@
 //! in every run of the files as they are (`specs`). That an end stays is a law of `star_needs`.
 #![tactic(auto)]
 
+mod ahead;
 pub mod outcomes;
 pub mod parses;
-pub mod release;
+mod release;

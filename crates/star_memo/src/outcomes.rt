@@ -3,7 +3,7 @@
 //! An outcome stays if the labels, the prelude and the steps stay, and the texts of the prelude, of the file itself and
 //! of all files that it needs. These are found along the loads, from the files that load nothing.
 
-ghost use Rattle.std.specs.Prelude.{◌≡◌, ◌≤◌, ℕ, [], true, IfOk, OnOk, Some};
+ghost use Rattle.std.specs.Prelude.{◌≡◌, ◌<◌, ◌≤◌, ℕ, [], true, IfOk, IfSome, OnOk, Some, length};
 ghost use Rattle.std.specs.List.{list_all};
 ghost use Rattle.star_label.specs.Files.{IsOrdered, text_at};
 ghost use Rattle.star_memo.specs.Outcomes.{AreMarkedOf, AreOutcomes, AreStaying, HaveLabels, IsStaying, is_marked};
@@ -35,6 +35,7 @@ pub struct Outcomes {
 fn have_labels(before: &Files, files: &Files) -> bool
     ensures labels { result ≡ true → HaveLabels before.now files.now }
     ensures ordered { result ≡ true → IsOrdered before.now }
+    ensures same { before.now ≡ files.now → result ≡ true }
 {
     if before.len() != files.len() {
         return false;
@@ -49,14 +50,29 @@ fn have_labels(before: &Files, files: &Files) -> bool
 
 /// Whether a file has the same text in two rows of files.
 fn has_text(before: &Files, files: &Files, n: usize) -> bool
-    ensures { result ≡ true → text_at before.now n ≡ text_at files.now n }
+    ensures text { result ≡ true → text_at before.now n ≡ text_at files.now n }
+    ensures same { before.now ≡ files.now → n < length files.now → result ≡ true }
 {
     n < before.len() && n < files.len() && before.text(n) == files.text(n)
 }
 
+/// Whether two rows of files, which are as many, have the same texts.
+fn have_texts(before: &Files, files: &Files) -> bool
+    ensures texts { result ≡ true → (n : ℕ) → n < length files.now → text_at before.now n ≡ text_at files.now n }
+    ensures same { before.now ≡ files.now → result ≡ true }
+{
+    for n in 0..files.len() {
+        if !has_text(before, files, n) {
+            return false;
+        }
+    }
+    true
+}
+
 /// Whether the prelude, if there is one, has the same text.
 fn has_prelude(before: &Files, files: &Files, prelude: Option<usize>) -> bool
-    ensures { result ≡ true → (q : ℕ) → prelude ≡ Some q → text_at before.now q ≡ text_at files.now q }
+    ensures text { result ≡ true → (q : ℕ) → prelude ≡ Some q → text_at before.now q ≡ text_at files.now q }
+    ensures same { before.now ≡ files.now → IfSome prelude (λ q. q < length files.now) → result ≡ true }
 {
     match prelude {
         Some(n) => has_text(before, files, n),
@@ -190,6 +206,8 @@ impl Outcomes {
         ensures ordered { result ≡ true → IsOrdered before.now }
         ensures prelude { result ≡ true
             → (q : ℕ) → terms.prelude ≡ Some q → text_at before.now q ≡ text_at files.now q }
+        ensures same { before.now ≡ files.now → self.now.terms ≡ terms
+            → IfSome terms.prelude (λ q. q < length files.now) → result ≡ true }
     {
         if self.terms != terms || !have_labels(before, files) {
             return false;
@@ -197,8 +215,8 @@ impl Outcomes {
         has_prelude(before, files, terms.prelude)
     }
 
-    /// The outcomes that stay if files take the place of those before, under these terms. The others are freed, by up to
-    /// `threads` threads. The error: an allocation failed.
+    /// The outcomes that stay if files take the place of those before, under these terms: all, if these are the same
+    /// files and terms. The others are freed, by up to `threads` threads. The error: an allocation failed.
     pub fn after<R: Threads + Wait + Sync>(
         self,
         rt: &R,
@@ -212,10 +230,15 @@ impl Outcomes {
         requires threads { 1 ≤ threads }
         ensures terms { IfOk result (λ os. os.terms ≡ terms) }
         ensures all { IfOk result (λ os. AreOutcomes files.now terms.prelude terms.steps os.all.items) }
+        ensures same { IfOk result (λ os. before.now ≡ files.now → self.terms ≡ terms
+            → IfSome terms.prelude (λ q. q < length files.now) → os.all ≡ self.all) }
     {
         if !self.is_for(before, files, terms) {
             free(rt, alloc, self.all, threads);
             return Ok(Outcomes::new(alloc, terms));
+        }
+        if have_texts(before, files) {
+            return Ok(self);
         }
         let marks = self.staying(rt, alloc, before, files)?;
         let mut outcomes = self;

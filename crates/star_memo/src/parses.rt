@@ -1,19 +1,24 @@
 //! The results of parsing the texts of files, which are kept from one request to the next.
 
-ghost use Rattle.std.specs.Prelude.{◌≡◌, ◌<◌, [], List, ℕ, IfOk, IfSome, length};
+ghost use Rattle.std.specs.Prelude.{◌≡◌, ◌<◌, ◌≤◌, ◌⊎◌, [], false, true, All, List, ℕ, IfOk, IfSome, IsSome, None, OnOk, Some, length, slice_index_or, vec_len};
 ghost use Rattle.std.specs.Arc.{arc_value};
-ghost use Rattle.star_label.specs.Files.{File, text_at};
-ghost use Rattle.star_memo.specs.Parses.{AreKept, IsParse};
+ghost use Rattle.star_label.specs.Files.{File, label_at, text_at};
+ghost use Rattle.star_memo.specs.Parses.{AreKept, AreMade, Has, IsKept, IsParse, IsSameFile, IsTouched, kept_bytes};
 ghost use Rattle.star_reading.specs.Parsed.{AreParsesOf, IsParsed};
 
+use crate::ahead::Parser;
 use star_label::files::Files;
-use star_label::label::Label;
 use star_lex::token::SyntaxFault;
 use star_parser::parse;
 use star_reading::parses::Parsed;
 use star_tree::tree::Tree;
 use std::alloc::{AllocError, Global};
-use std::sync::Arc;
+use std::sync::{Arc, Wait};
+use std::thread::Threads;
+
+/// Below this many, texts that are not parsed yet are parsed by one thread, reached or not. One thread more may parse
+/// for each further group of this many.
+const SHARE: usize = 16;
 
 /// The result of parsing a text: its tree, or its fault, which is not want of memory.
 #[derive(Drop)]
@@ -37,7 +42,7 @@ pub struct Parses {
 
 impl Parse {
     /// The result as a reader of files takes it.
-    fn view(&self) -> Parsed<'_>
+    pub(crate) fn view(&self) -> Parsed<'_>
         ensures { (text : List ℕ) → IsParse text self.now → IsParsed text result }
     {
         match self {
@@ -48,7 +53,7 @@ impl Parse {
 }
 
 /// Parses a text. The error: an allocation failed.
-fn parse_of(alloc: Global, text: &str) -> Result<Parse, AllocError>
+pub(crate) fn parse_of(alloc: Global, text: &str) -> Result<Parse, AllocError>
     ensures { IfOk result (IsParse text.now) }
 {
     match parse(alloc, text) {
@@ -58,15 +63,28 @@ fn parse_of(alloc: Global, text: &str) -> Result<Parse, AllocError>
     }
 }
 
-/// The result of parsing a text, to be kept. The error: an allocation failed.
-fn made(alloc: Global, text: &str) -> Result<Kept, AllocError>
-    ensures { IfOk result (λ k. IsParse text.now (arc_value k.parse)) }
+/// The number that the label of a file had before. Most labels keep theirs, and need no search.
+fn number_before(before: &Files, files: &Files, n: usize) -> Option<usize>
+    requires { n < length files.now }
+    ensures found { IfSome result (λ m. (m < length before.now) × (label_at before.now m ≡ label_at files.now n)) }
+    ensures each { (m : ℕ) → m < length before.now → label_at before.now m ≡ label_at files.now n → result ≡ Some m }
 {
-    let parse = Arc::new(alloc, parse_of(alloc, text)?)?;
-    Ok(Kept { parse, used: 0 })
+    let label = files.label(n);
+    if n < before.len() && before.label(n).text() == label.text() {
+        return Some(n);
+    }
+    before.find(label)
 }
 
 impl Kept {
+    /// A result, to be kept. No request has reached its file yet. The error: an allocation failed.
+    fn new(alloc: Global, parse: Parse) -> Result<Kept, AllocError>
+        ensures { IfOk result (λ k. arc_value k.parse ≡ parse) }
+    {
+        let parse = Arc::new(alloc, parse)?;
+        Ok(Kept { parse, used: 0 })
+    }
+
     /// A copy that shares the result. The error: an allocation failed.
     fn again(&self) -> Result<Kept, AllocError>
         ensures { IfOk result (λ k. arc_value k.parse ≡ arc_value self.now.parse) }
@@ -89,55 +107,175 @@ impl Parses {
         }
     }
 
-    /// What is kept for a label, if it had this text before.
-    fn find(&self, before: &Files, label: &Label, text: &str) -> Option<&Kept>
-        requires { AreKept before.now self.now.all.items }
-        ensures { IfSome result (λ k. IsParse text.now (arc_value k.now.parse)) }
+    /// What is kept for a file that has the label and the text that it had before.
+    fn find(&self, before: &Files, files: &Files, n: usize) -> Option<&Kept>
+        requires kept { AreKept before.now self.now.all.items }
+        requires file { n < length files.now }
+        ensures parse { IfSome result (λ k. IsParse (text_at files.now n) (arc_value k.now.parse)) }
+        ensures each { (m : ℕ) → IsSameFile before.now m files.now n → Has self.now.all.items m → IsSome result }
     {
-        let n = before.find(label)?;
-        if n < self.all.len() && before.text(n) == text {
-            return self.all[n].as_ref();
+        let m = number_before(before, files, n)?;
+        if m < self.all.len() && before.text(m) == files.text(n) {
+            return self.all[m].as_ref();
         }
         None
     }
 
-    /// The result of parsing a file, kept or made now. The error: an allocation failed.
-    fn parse_at(
-        &self,
-        alloc: Global,
-        before: &Files,
-        files: &Files,
-        n: usize,
-    ) -> Result<Kept, AllocError>
+    /// A copy of what is kept for a file that has the label and the text that it had before; it shares the result. The
+    /// error: an allocation failed.
+    fn staying(&self, before: &Files, files: &Files, n: usize) -> Result<Option<Kept>, AllocError>
         requires kept { AreKept before.now self.now.all.items }
         requires file { n < length files.now }
-        ensures { IfOk result (λ k. IsParse (text_at files.now n) (arc_value k.parse)) }
+        ensures kept { IfOk result (IsKept (text_at files.now n)) }
+        ensures each { IfOk result (λ o. (m : ℕ) → IsSameFile before.now m files.now n → Has self.now.all.items m
+            → IsSome o) }
     {
-        let text = files.text(n);
-        match self.find(before, files.label(n), text) {
-            Some(kept) => kept.again(),
-            None => made(alloc, text),
+        match self.find(before, files, n) {
+            Some(kept) => Ok(Some(kept.again()?)),
+            None => Ok(None),
         }
     }
 
-    /// The results of parsing files that have taken the place of those before. If a label has the text that it had, its
-    /// text is not parsed again. The error: an allocation failed.
+    /// What stays if files take the place of those before: the result of each text that its label had before. The error:
+    /// an allocation failed.
     pub fn after(&self, alloc: Global, before: &Files, files: &Files) -> Result<Parses, AllocError>
         requires { AreKept before.now self.now.all.items }
         ensures kept { IfOk result (λ ps. AreKept files.now ps.all.items) }
+        ensures count { IfOk result (λ ps. vec_len ps.all ≡ length files.now) }
+        ensures stays { IfOk result (λ ps. (m n : ℕ) → n < length files.now → IsSameFile before.now m files.now n
+            → Has self.now.all.items m → Has ps.all.items n) }
     {
         let mut all = Vec::with_capacity(alloc, files.len())?;
         for n in 0..files.len() {
-            all.push(Some(self.parse_at(alloc, before, files, n)?))?;
+            all.push(self.staying(before, files, n)?)?;
         }
         Ok(Parses { all })
+    }
+
+    /// Keeps a result for a file. The error: an allocation failed.
+    fn put(&mut self, alloc: Global, n: usize, parse: Parse) -> Result<(), AllocError>
+        ensures kept { OnOk result ((files : List File) → IsParse (text_at files n) parse
+            → AreKept files self.old.all.items → AreKept files self.new.all.items) }
+        ensures size { vec_len self.new.all ≡ vec_len self.old.all }
+        ensures there { OnOk result (n < vec_len self.old.all → Has self.new.all.items n) }
+        ensures stays { OnOk result ((m : ℕ) → Has self.old.all.items m → Has self.new.all.items m) }
+    {
+        let kept = Kept::new(alloc, parse)?;
+        if n < self.all.len() {
+            self.all[n] = Some(kept);
+        }
+        Ok(())
+    }
+
+    /// Keeps several results, each for the file with its number. The error: an allocation failed.
+    fn put_each(&mut self, alloc: Global, made: Vec<(usize, Parse)>) -> Result<(), AllocError>
+        ensures kept { OnOk result ((files : List File) → AreMade files made.items
+            → AreKept files self.old.all.items → AreKept files self.new.all.items) }
+        ensures stays { OnOk result ((m : ℕ) → Has self.old.all.items m → Has self.new.all.items m) }
+    {
+        for (n, parse) in made {
+            self.put(alloc, n, parse)?;
+        }
+        Ok(())
+    }
+
+    /// Keeps the results of several threads. The error: an allocation failed.
+    fn put_shares(
+        &mut self,
+        alloc: Global,
+        shares: Vec<Result<Vec<(usize, Parse)>, AllocError>>,
+    ) -> Result<(), AllocError>
+        ensures kept { OnOk result ((files : List File)
+            → All (λ r. IfOk r (λ made. AreMade files made.items)) shares.items
+            → AreKept files self.old.all.items → AreKept files self.new.all.items) }
+        ensures stays { OnOk result ((m : ℕ) → Has self.old.all.items m → Has self.new.all.items m) }
+    {
+        for share in shares {
+            self.put_each(alloc, share?)?;
+        }
+        Ok(())
+    }
+
+    /// How many files have no result.
+    fn missing(&self) -> usize
+        ensures { result ≤ vec_len self.now.all }
+    {
+        self.all.iter().filter(|kept| kept.is_none()).count()
+    }
+
+    /// Parses all texts that have no result. The error: an allocation failed.
+    fn parse_rest(&mut self, alloc: Global, files: &Files) -> Result<(), AllocError>
+        requires { AreKept files.now self.old.all.items }
+        ensures kept { OnOk result (AreKept files.now self.new.all.items) }
+        ensures there { OnOk result ((n : ℕ) → n < vec_len self.old.all → n < length files.now
+            → Has self.new.all.items n) }
+        ensures stays { OnOk result ((m : ℕ) → Has self.old.all.items m → Has self.new.all.items m) }
+    {
+        for n in 0..files.len() {
+            if !self.has(n) {
+                self.put(alloc, n, parse_of(alloc, files.text(n))?)?;
+            }
+        }
+        Ok(())
+    }
+
+    /// The results of parsing the texts of the files that roots and a prelude reach, unless they are kept, by `threads`
+    /// threads. The error: an allocation failed.
+    fn reached<R: Threads + Wait + Sync>(
+        &self,
+        rt: &R,
+        alloc: Global,
+        files: &Files,
+        roots: &[usize],
+        prelude: Option<usize>,
+        threads: usize,
+    ) -> Result<Vec<Result<Vec<(usize, Parse)>, AllocError>>, AllocError>
+        requires { AreKept files.now self.now.all.items }
+        ensures { IfOk result (λ shares.
+            All (λ r. IfOk r (λ made. AreMade files.now made.items)) shares.items) }
+    {
+        let views = self.views(alloc, files)?;
+        let parser = Parser {
+            alloc,
+            files,
+            parses: views.as_slice(),
+        };
+        let search = parser.search(roots, prelude)?;
+        parser.parse_shares(rt, &search, threads)
+    }
+
+    /// Parses the texts of the files that roots and a prelude reach, unless their results are kept, by at most `threads`
+    /// threads. If few are not kept, one thread parses all of these. The error: an allocation failed.
+    pub fn parse_reached<R: Threads + Wait + Sync>(
+        &mut self,
+        rt: &R,
+        alloc: Global,
+        files: &Files,
+        roots: &[usize],
+        prelude: Option<usize>,
+        threads: usize,
+    ) -> Result<(), AllocError>
+        requires { AreKept files.now self.old.all.items }
+        ensures kept { OnOk result (AreKept files.now self.new.all.items) }
+        ensures stays { OnOk result ((n : ℕ) → Has self.old.all.items n → Has self.new.all.items n) }
+        ensures few { OnOk result (vec_len self.old.all < 16 → (n : ℕ) → n < vec_len self.old.all → n < length files.now
+            → Has self.new.all.items n) }
+    {
+        let missing = self.missing();
+        if missing < SHARE {
+            return self.parse_rest(alloc, files);
+        }
+        let threads = threads.min(missing / SHARE);
+        let shares = self.reached(rt, alloc, files, roots, prelude, threads)?;
+        self.put_shares(alloc, shares)
     }
 
     /// The result of a file as a reader of files takes it, if it is kept.
     fn view_at(&self, files: &Files, n: usize) -> Option<Parsed<'_>>
         requires kept { AreKept files.now self.now.all.items }
         requires file { n < length self.now.all.items }
-        ensures { IfSome result (IsParsed (text_at files.now n)) }
+        ensures parsed { IfSome result (IsParsed (text_at files.now n)) }
+        ensures there { Has self.now.all.items n → IsSome result }
     {
         match &self.all[n] {
             Some(kept) => Some(kept.parse.view()),
@@ -145,25 +283,24 @@ impl Parses {
         }
     }
 
-    /// The results as a reader of files takes them: of the first files, up to one for which none is kept. The error: an
-    /// allocation failed.
-    pub fn views(&self, alloc: Global, files: &Files) -> Result<Vec<Parsed<'_>>, AllocError>
+    /// The results as a reader of files takes them, by the numbers of the files. The error: an allocation failed.
+    pub fn views(&self, alloc: Global, files: &Files) -> Result<Vec<Option<Parsed<'_>>>, AllocError>
         requires { AreKept files.now self.now.all.items }
-        ensures { IfOk result (λ views. AreParsesOf files.now views.items) }
+        ensures parses { IfOk result (λ views. AreParsesOf files.now views.items) }
+        ensures all { IfOk result (λ views. (n : ℕ) → Has self.now.all.items n
+            → IsSome (slice_index_or views.items n None)) }
     {
         let mut views = Vec::with_capacity(alloc, self.all.len())?;
         for n in 0..self.all.len() {
-            let Some(view) = self.view_at(files, n) else {
-                return Ok(views);
-            };
-            views.push(view)?;
+            views.push(self.view_at(files, n))?;
         }
         Ok(views)
     }
 
     /// Records that a request with this number reached some files.
     pub fn touch_each(&mut self, reached: &[usize], request: u64)
-        ensures { (files : List File) → AreKept files self.old.all.items → AreKept files self.new.all.items }
+        ensures kept { (files : List File) → AreKept files self.old.all.items → AreKept files self.new.all.items }
+        ensures reached { All (IsTouched self.new.all.items request) reached.now }
     {
         for n in reached {
             self.touch(*n, request);
@@ -172,7 +309,9 @@ impl Parses {
 
     /// Records that a request with this number reached a file.
     fn touch(&mut self, n: usize, request: u64)
-        ensures { (files : List File) → AreKept files self.old.all.items → AreKept files self.new.all.items }
+        ensures kept { (files : List File) → AreKept files self.old.all.items → AreKept files self.new.all.items }
+        ensures this { IsTouched self.new.all.items request n }
+        ensures others { (m : ℕ) → IsTouched self.old.all.items request m → IsTouched self.new.all.items request m }
     {
         if n >= self.all.len() {
             return;
@@ -183,12 +322,16 @@ impl Parses {
     }
 
     /// Whether a result is kept for a file.
-    fn has(&self, n: usize) -> bool {
+    fn has(&self, n: usize) -> bool
+        ensures { result ≡ true → Has self.now.all.items n }
+    {
         matches!(self.all.get(n), Some(Some(_)))
     }
 
     /// How many bytes the texts have whose results are kept.
-    fn bytes(&self, files: &Files) -> usize {
+    fn bytes(&self, files: &Files) -> usize
+        ensures { result ≤ kept_bytes files.now self.now.all.items }
+    {
         let mut bytes: usize = 0;
         for n in 0..files.len() {
             if self.has(n) {
@@ -215,7 +358,10 @@ impl Parses {
     /// has reached for the longest time. If an allocation fails, all go. It answers whether any went.
     pub fn trim(&mut self, alloc: Global, files: &Files, keep: usize) -> bool
         requires { AreKept files.now self.old.all.items }
-        ensures { AreKept files.now self.new.all.items }
+        ensures kept { AreKept files.now self.new.all.items }
+        ensures within { kept_bytes files.now self.old.all.items ≤ keep
+            → (result ≡ false) × (self.new ≡ self.old) }
+        ensures told { result ≡ false → self.new ≡ self.old }
     {
         let mut bytes = self.bytes(files);
         if bytes <= keep {

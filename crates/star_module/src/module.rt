@@ -189,6 +189,7 @@ pub fn run_body(
     world: &World,
     program: &Program,
     steps: u32,
+    seed: u64,
 ) -> Result<Outcome, AllocError>
     requires running { Stands (trees_of world.now.files) world.now.setting.home program.now.statements.now }
     requires steps { steps ≤ MOST_STEPS }
@@ -203,7 +204,7 @@ pub fn run_body(
         → FitAfter (trees_of w.files) w.setting (run_by_names w.setting steps program.now.statements.now) }
 {
     world.are_outlined();
-    let mut machine = Machine::new(alloc, world.setting().home(), steps);
+    let mut machine = Machine::with_seed(alloc, world.setting().home(), steps, seed);
     let ended = run_file(&mut machine, world, program.body(), MOST_LEVELS);
     outcome_of(machine, ended)
 }

@@ -32,7 +32,7 @@ use Rattle.star_plan.specs.Runs.{ArePlaced, PreludeIsSound, given}
 use Rattle.star_plan.proofs.Fit.{fit_at}
 use Rattle.star_plan.proofs.Outcomes.{gather}
 use Rattle.star_plan.proofs.Seen.{result-sound, stands}
-use Rattle.star_plan.proofs.Tables.{sound_read, tables_right}
+use Rattle.star_plan.proofs.Tables.{first_load, head_sound, sound_read, tables_right}
 use Rattle.star_needs.specs.Agree.{IsPartOf, RunsAgree}
 use Rattle.star_needs.specs.Laws.{PartsHaveResults, PartsRun}
 use Rattle.star_needs.proofs.Outlines.{with_outlines}
@@ -106,24 +106,6 @@ right files part whole placed is placed_so of sound n ms file ss there =
     }
 
 -- ---- the prelude of a part
-
--- each file but the prelude loads the prelude first
-first_load : (files : List File) (plan : Plan) (is : IsPlanOf files plan) (n : ℕ) (ss : List Statement) → tree_in (read_of plan n) ≡ Some ss
-    → (q : ℕ) → plan.prelude ≡ Some q → nat_eq q n ≡ false → (ns : List ℕ) × (loaded plan n ≡ q ∷ ns)
-first_load files plan is n ss e q prelude apart =
-    let read = sound_read (read_of plan n) ss e in
-    let right : IsRead files is.prelude n (Sound ss read.0) = is.right n (Sound ss read.0) read.1 in
-    let there : IsPrelude files (Some q) is.prelude = subst (λ o. IsPrelude files o is.prelude) prelude is.prelude_is in
-    let own : Prelude = record { file = q; names = prelude_names (statements_in there.0) } in
-    let seen : seen_by n is.prelude ≡ Some own = ap (seen_by n) there.3 ∙ ap (λ b. let o : Option Prelude = if b then None else Some own in o) apart in
-    let resolves = right.3.1 in
-    let more : List Load = flat_map load_of resolves.0 in
-    let loads : read.0 ≡ prelude_loads (Some q) ++ more = sym right.3.2 ∙ (resolves.3.loads ∙ ap (λ o. prelude_loads (option_map (λ (z : Prelude). z.file) o) ++ more) seen) in
-    (map (λ l. l.file) more, ap (λ r. map (λ l. l.file) (loads_in r)) read.1 ∙ ap (λ ls. map (λ (l : Load). l.file) ls) loads)
-
-head_sound : (plan : Plan) (q : ℕ) (ns : List ℕ) (ms : List Local) → AreGood plan (q ∷ ns) ms → (ss : List Statement) × (tree_in (read_of plan q) ≡ Some ss)
-head_sound plan q ns [] g = absurd g
-head_sound plan q ns (m ∷ ms) g = result-sound plan g.0.0 q m g.0.1
 
 prelude_by : (files : List File) (part whole : Plan) → IsPlanOf files whole → IsPartOf part whole → (n : ℕ) (ss : List Statement) (ms : List Local) → tree_in (read_of part n) ≡ Some ss → AreGood part (loaded part n) ms
     → (q : ℕ) → part.prelude ≡ Some q → (b : Bool) → nat_eq q n ≡ b → (us : List Statement) × (tree_in (read_of part q) ≡ Some us)

@@ -35,15 +35,15 @@ Right plan tables = (n : ℕ) (ms : List Local) (file : ℕ) (ss : List Statemen
 abbrev pub FitAt : Plan → ℕ → Type 0
 FitAt plan d = (n : ℕ) (ms : List Local) → all_good (map (result plan d) (loaded plan n)) ≡ Some ms → AllFit (trees plan) (given plan n ms) (start (given plan n ms) plan.steps)
 
-same_number : (m n : ℕ) → m ≡ n → nat_eq m n ≡ true
+pub same_number : (m n : ℕ) → m ≡ n → nat_eq m n ≡ true
 same_number m n e = grind (arith, e)
 
-other_number : (b : Bool) (m n : ℕ) → nat_eq m n ≡ b → (m ≡ n → ⊥) → b ≡ false
+pub other_number : (b : Bool) (m n : ℕ) → nat_eq m n ≡ b → (m ≡ n → ⊥) → b ≡ false
 other_number true m n e h = absurd (h (grind (arith, e)))
 other_number false m n e h = refl
 
 -- a cell that is seen before a run is on its shelf
-found_in : (b : Bool) (o : Option (Option Published)) (at : ℕ) (c : Cell) → cell_at (if b then [] else published_cells o) at ≡ Some c → (p : Published) × (o ≡ Some (Some p)) × (cell_at p.cells at ≡ Some c)
+pub found_in : (b : Bool) (o : Option (Option Published)) (at : ℕ) (c : Cell) → cell_at (if b then [] else published_cells o) at ≡ Some c → (p : Published) × (o ≡ Some (Some p)) × (cell_at p.cells at ≡ Some c)
 found_in true o at c e = absurd (let no : ⊥ = cc in no)
 found_in false None at c e = absurd (let no : ⊥ = cc in no)
 found_in false (Some None) at c e = absurd (let no : ⊥ = cc in no)
@@ -51,7 +51,7 @@ found_in false (Some (Some p)) at c e = (p, refl, e)
 
 -- a load of a file: the place of its outcome among those of all loads, and its run, over good results at a smaller
 -- depth
-record Source (plan : Plan) (d n : ℕ) (ms : List Local) (k : ℕ) (m : Local) : Type 0 where
+pub record Source (plan : Plan) (d n : ℕ) (ms : List Local) (k : ℕ) (m : Local) : Type 0 where
   all : all_good (map (result plan (suc d)) (loaded plan n)) ≡ Some ms
   place : ℕ
   loads : slice_get (loaded plan n) place ≡ Some k
@@ -63,7 +63,7 @@ record Source (plan : Plan) (d n : ℕ) (ms : List Local) (k : ℕ) (m : Local) 
   sound : tree_in (read_of plan k) ≡ Some statements
   run : EndsWell plan k statements outcomes m
 
-source : (plan : Plan) (d n : ℕ) (ms : List Local) → all_good (map (result plan (suc d)) (loaded plan n)) ≡ Some ms → (home : ℕ) (p : Published) → (one : StandsOn (result plan (suc d)) (loaded plan n) ms home p) → Source plan d n ms one.file one.outcome
+pub source : (plan : Plan) (d n : ℕ) (ms : List Local) → all_good (map (result plan (suc d)) (loaded plan n)) ≡ Some ms → (home : ℕ) (p : Published) → (one : StandsOn (result plan (suc d)) (loaded plan n) ms home p) → Source plan d n ms one.file one.outcome
 source plan d n ms all home p one =
     let from = result-from plan d one.file one.outcome one.result in
     let sound = result-sound plan (suc d) one.file one.outcome one.result in
@@ -80,34 +80,34 @@ source plan d n ms all home p one =
       run = ends_well plan one.file sound.0 from.0 one.outcome sound.1 from.2 (good_shelf one.outcome home p one.there);
     }
 
-abbrev own : (plan : Plan) (d n : ℕ) (ms : List Local) (k : ℕ) (m : Local) → Source plan d n ms k m → Published
+abbrev pub own : (plan : Plan) (d n : ℕ) (ms : List Local) (k : ℕ) (m : Local) → Source plan d n ms k m → Published
 own plan d n ms k m s = own_module s.run.ended s.run.state
 
 -- the load's outcome reaches each module on the shelf of its run
-kept : (plan : Plan) (d n : ℕ) (ms : List Local) (k : ℕ) (m : Local) (s : Source plan d n ms k m) (j : ℕ) (q : Published) → slice_get (union (map reached s.outcomes)) j ≡ Some (Some q) → slice_get (reached m) j ≡ Some (Some q)
+pub kept : (plan : Plan) (d n : ℕ) (ms : List Local) (k : ℕ) (m : Local) (s : Source plan d n ms k m) (j : ℕ) (q : Published) → slice_get (union (map reached s.outcomes)) j ≡ Some (Some q) → slice_get (reached m) j ≡ Some (Some q)
 kept plan d n ms k m s = run-keeps plan k s.statements s.outcomes m s.run
 
 -- and so is the load's own module
-own_there : (plan : Plan) (d n : ℕ) (ms : List Local) (k : ℕ) (m : Local) (s : Source plan d n ms k m) → slice_get (reached m) k ≡ Some (Some (own plan d n ms k m s))
+pub own_there : (plan : Plan) (d n : ℕ) (ms : List Local) (k : ℕ) (m : Local) (s : Source plan d n ms k m) → slice_get (reached m) k ≡ Some (Some (own plan d n ms k m s))
 own_there plan d n ms k m s = run-own plan d k s.statements s.outcomes m s.run s.below
 
 -- all that is reached by the load's outcome is published for the file
-published_too : (plan : Plan) (d n : ℕ) (ms : List Local) (k : ℕ) (m : Local) (s : Source plan d n ms k m) (j : ℕ) (q : Published) → slice_get (reached m) j ≡ Some (Some q) → published_of (given plan n ms) j ≡ Some q
+pub published_too : (plan : Plan) (d n : ℕ) (ms : List Local) (k : ℕ) (m : Local) (s : Source plan d n ms k m) (j : ℕ) (q : Published) → slice_get (reached m) j ≡ Some (Some q) → published_of (given plan n ms) j ≡ Some q
 published_too plan d n ms k m s j q at = ap option_flatten (stands_too plan (suc d) n ms s.all s.place k m s.among s.is j q at)
 
 -- the file is not reached by the load's outcome
-not_back : (plan : Plan) (d n : ℕ) (ms : List Local) (k : ℕ) (m : Local) (s : Source plan d n ms k m) (q : Published) → slice_get (reached m) n ≡ Some (Some q) → ⊥
+pub not_back : (plan : Plan) (d n : ℕ) (ms : List Local) (k : ℕ) (m : Local) (s : Source plan d n ms k m) (q : Published) → slice_get (reached m) n ≡ Some (Some q) → ⊥
 not_back plan d n ms k m s q at = (cycle_is_bad plan (suc d) n k (contained (loaded plan n) s.place k s.loads, leads plan (suc d) k m s.is n q at)).1 (good_there plan (suc d) k m n q s.is at)
 
-not_same : (plan : Plan) (d n : ℕ) (ms : List Local) (k : ℕ) (m : Local) (s : Source plan d n ms k m) → (n ≡ k → ⊥)
+pub not_same : (plan : Plan) (d n : ℕ) (ms : List Local) (k : ℕ) (m : Local) (s : Source plan d n ms k m) → (n ≡ k → ⊥)
 not_same plan d n ms k m s same = not_back plan d n ms k m s (own plan d n ms k m s) (subst (λ z. slice_get (reached m) z ≡ Some (Some (own plan d n ms k m s))) (sym same) (own_there plan d n ms k m s))
 
-not_published : (plan : Plan) (d n : ℕ) (ms : List Local) (k : ℕ) (m : Local) (s : Source plan d n ms k m) (o : Option Published) → published_of (given plan k s.outcomes) n ≡ o → published_of (given plan k s.outcomes) n ≡ None
+pub not_published : (plan : Plan) (d n : ℕ) (ms : List Local) (k : ℕ) (m : Local) (s : Source plan d n ms k m) (o : Option Published) → published_of (given plan k s.outcomes) n ≡ o → published_of (given plan k s.outcomes) n ≡ None
 not_published plan d n ms k m s None e = e
 not_published plan d n ms k m s (Some q) e = absurd (not_back plan d n ms k m s q (kept plan d n ms k m s n q (flat_is (slice_get (union (map reached s.outcomes)) n) q e)))
 
 -- so it is a load as `loads_fit` wants one
-is_loaded : (plan : Plan) (d n : ℕ) (ms : List Local) (k : ℕ) (m : Local) (s : Source plan d n ms k m) → Loaded (given plan k s.outcomes) s.run.state (given plan n ms)
+pub is_loaded : (plan : Plan) (d n : ℕ) (ms : List Local) (k : ℕ) (m : Local) (s : Source plan d n ms k m) → Loaded (given plan k s.outcomes) s.run.state (given plan n ms)
 is_loaded plan d n ms k m s = record {
   outlines = refl;
   home = ends_at_home (given plan k s.outcomes) s.statements plan.steps s.run.ended s.run.state s.run.done;
@@ -118,7 +118,7 @@ is_loaded plan d n ms k m s = record {
 }
 
 -- a cell that the file sees was seen at the end of the load's run
-seen_on : (shelf : Shelf) (t : State) (k home : ℕ) (q p : Published) (at : ℕ) (c : Cell) → t.store.home ≡ k → q.cells ≡ t.store.cells → ((x : Published) → slice_get shelf k ≡ Some (Some x) → ⊥)
+pub seen_on : (shelf : Shelf) (t : State) (k home : ℕ) (q p : Published) (at : ℕ) (c : Cell) → t.store.home ≡ k → q.cells ≡ t.store.cells → ((x : Published) → slice_get shelf k ≡ Some (Some x) → ⊥)
     → ((slice_get shelf home ≡ Some (Some p)) ⊎ ((home ≡ k) × (q ≡ p))) → cell_at p.cells at ≡ Some c → cell_at (if nat_eq home t.store.home then t.store.cells else published_cells (slice_get shelf home)) at ≡ Some c
 seen_on shelf t k home q p at c ends cells alone (inl h) here =
     let apart : home ≡ t.store.home → ⊥ = λ same. alone p (subst (λ z. slice_get shelf z ≡ Some (Some p)) (same ∙ ends) h) in
@@ -128,7 +128,7 @@ seen_on shelf t k home q p at c ends cells alone (inr (same, is)) here =
     ap (λ b. cell_at (if b then t.store.cells else published_cells (slice_get shelf home)) at) (same_number home t.store.home (same ∙ sym ends))
     ∙ (ap (λ xs. cell_at xs at) (sym cells) ∙ (ap (λ z. cell_at z.cells at) is ∙ here))
 
-seen_there : (plan : Plan) (d n : ℕ) (ms : List Local) (k : ℕ) (m : Local) (s : Source plan d n ms k m) (home : ℕ) (p : Published) → slice_get (reached m) home ≡ Some (Some p) → (at : ℕ) (c : Cell) → cell_at p.cells at ≡ Some c
+pub seen_there : (plan : Plan) (d n : ℕ) (ms : List Local) (k : ℕ) (m : Local) (s : Source plan d n ms k m) (home : ℕ) (p : Published) → slice_get (reached m) home ≡ Some (Some p) → (at : ℕ) (c : Cell) → cell_at p.cells at ≡ Some c
     → seen (given plan k s.outcomes) s.run.state (value.Ref home at) ≡ Some c
 seen_there plan d n ms k m s home p there at c here =
     let shelf : Shelf = union (map reached s.outcomes) in

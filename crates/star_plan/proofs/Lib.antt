@@ -5,6 +5,7 @@ pub mod Outcomes
 pub mod Walks
 pub mod Goodness
 pub mod Causes
+pub mod Rising
 pub mod Follow
 pub mod Reports
 pub mod Plans

@@ -9,6 +9,7 @@ use Rattle.star_plan.specs.Results.{Static, Unloaded, Ran}
 use Rattle.star_plan.specs.Report.{Ended, HadFault, HadLoad, HadStatic, IsEnded, IsReport, Module, WentWell}
 use Rattle.star_plan.proofs.Outcomes.{one-outcome}
 use Rattle.star_plan.proofs.Causes.{one-cause}
+use Rattle.star_plan.proofs.Rising.{same_rising}
 
 pub one-ended : (plan : Plan) (n : ℕ) (a b : Ended) → IsEnded plan n a → IsEnded plan n b → a ≡ b
 one-ended plan n (WentWell ts ls) (WentWell us ms) x y =
@@ -43,46 +44,6 @@ one-ended plan n (HadLoad c i) (HadLoad d k) x y =
     let loads : x.1.1 ≡ y.1.1 = cc in
     let lines : i ≡ k = sym x.1.4 ∙ (ap (λ l. l.line) loads ∙ y.1.4) in
     ap (λ z. HadLoad z i) causes ∙ ap (HadLoad d) lines
-
-member : (x : ℕ) (xs : List ℕ) (n : ℕ) → Contains (x ∷ xs) n → (x ≡ n) ⊎ Contains xs n
-member x xs n (zero, less, e) = inl e
-member x xs n (suc k, less, e) = inr (k, omega arith, e)
-
-first : (x : ℕ) (xs : List ℕ) → Contains (x ∷ xs) x
-first x xs = (0, omega arith, refl)
-
-later : (x n : ℕ) (xs : List ℕ) → Contains xs n → Contains (x ∷ xs) n
-later x n xs (k, less, e) = (suc k, omega arith, e)
-
-above : (x : ℕ) (xs : List ℕ) → AllPairs (λ y z. y < z) (x ∷ xs) → (n : ℕ) → Contains xs n → x < n
-above x xs rises n (k, less, e) = subst (λ z. x < z) e (rises 0 (suc k) n (omega arith) (omega arith))
-
-rest_rises : (x : ℕ) (xs : List ℕ) → AllPairs (λ y z. y < z) (x ∷ xs) → AllPairs (λ y z. y < z) xs
-rest_rises x xs rises i j d less short = rises (suc i) (suc j) d (omega arith) (omega arith)
-
--- rising lists with the same members are one
-same_rising : (xs ys : List ℕ) → AllPairs (λ y z. y < z) xs → AllPairs (λ y z. y < z) ys → ((n : ℕ) → Contains xs n → Contains ys n) → ((n : ℕ) → Contains ys n → Contains xs n) → xs ≡ ys
-same_rising [] [] p q to from = refl
-same_rising [] (y ∷ ys) p q to from = absurd (let h : Contains [] y = from y (first y ys) in let less = h.1 in let no : ⊥ = omega arith in no)
-same_rising (x ∷ xs) [] p q to from = absurd (let h : Contains [] x = to x (first x xs) in let less = h.1 in let no : ⊥ = omega arith in no)
-same_rising (x ∷ xs) (y ∷ ys) p q to from =
-    let same : x ≡ y = heads (member y ys x (to x (first x xs))) (member x xs y (from y (first y ys))) in
-    let rest : xs ≡ ys = same_rising xs ys (rest_rises x xs p) (rest_rises y ys q)
-    (λ n h. tail y ys n (let less = above x xs p n h in λ e. let no : ⊥ = omega arith in no) (to n (later x n xs h)))
-    (λ n h. tail x xs n (let less = above y ys q n h in λ e. let no : ⊥ = omega arith in no) (from n (later y n ys h))) in
-    ap (λ zs. x ∷ zs) rest ∙ ap (λ z. z ∷ ys) same
-  where
-    heads : ((y ≡ x) ⊎ Contains ys x) → ((x ≡ y) ⊎ Contains xs y) → x ≡ y
-    heads (inl e) _ = sym e
-    heads (inr h) (inl e) = e
-    heads (inr h) (inr k) = let up = above y ys q x h in let down = above x xs p y k in absurd (let no : ⊥ = omega arith in no)
-
-    tail : (z : ℕ) (zs : List ℕ) (n : ℕ) → (z ≡ n → ⊥) → Contains (z ∷ zs) n → Contains zs n
-    tail z zs n differ h = pick (member z zs n h)
-      where
-        pick : ((z ≡ n) ⊎ Contains zs n) → Contains zs n
-        pick (inl e) = absurd (differ e)
-        pick (inr k) = k
 
 -- modules of the same files with the same ends are the same
 pub same_modules : (plan : Plan) (ms ks : List Module) → map (λ m. m.file) ms ≡ map (λ m. m.file) ks → All (λ m. IsEnded plan m.file m.ended) ms → All (λ m. IsEnded plan m.file m.ended) ks → ms ≡ ks

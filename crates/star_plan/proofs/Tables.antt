@@ -60,7 +60,7 @@ tables_right files plan placed is placed_so sound n ms file ss there =
 -- ---- the prelude of a file whose loads are good
 
 -- each file but the prelude loads the prelude first
-first_load : (files : List File) (plan : Plan) (is : IsPlanOf files plan) (n : ℕ) (ss : List Statement) → tree_in (read_of plan n) ≡ Some ss
+pub first_load : (files : List File) (plan : Plan) (is : IsPlanOf files plan) (n : ℕ) (ss : List Statement) → tree_in (read_of plan n) ≡ Some ss
     → (q : ℕ) → plan.prelude ≡ Some q → nat_eq q n ≡ false → (ns : List ℕ) × (loaded plan n ≡ q ∷ ns)
 first_load files plan is n ss e q prelude apart =
     let read = sound_read (read_of plan n) ss e in
@@ -73,7 +73,7 @@ first_load files plan is n ss e q prelude apart =
     let loads : read.0 ≡ prelude_loads (Some q) ++ more = sym right.3.2 ∙ (resolves.3.loads ∙ ap (λ o. prelude_loads (option_map (λ (z : Prelude). z.file) o) ++ more) seen) in
     (map (λ l. l.file) more, ap (λ r. map (λ l. l.file) (loads_in r)) read.1 ∙ ap (λ ls. map (λ (l : Load). l.file) ls) loads)
 
-head_sound : (plan : Plan) (q : ℕ) (ns : List ℕ) (ms : List Local) → AreGood plan (q ∷ ns) ms → (ss : List Statement) × (tree_in (read_of plan q) ≡ Some ss)
+pub head_sound : (plan : Plan) (q : ℕ) (ns : List ℕ) (ms : List Local) → AreGood plan (q ∷ ns) ms → (ss : List Statement) × (tree_in (read_of plan q) ≡ Some ss)
 head_sound plan q ns [] g = absurd g
 head_sound plan q ns (m ∷ ms) g = result-sound plan g.0.0 q m g.0.1
 

@@ -10,8 +10,8 @@ use Rattle.std.specs.contracts.vec.Vec as vec
 use Rattle.std.specs.contracts.alloc.Global as heap
 use Rattle.std.specs.contracts.alloc.AllocError as refusal
 use Rattle.std.specs.contracts.impls.GlobalAllocator.TheImpl.{ghosts}
-use Rattle.star_flow.specs.contracts.flow.Flow as flow
-use Rattle.star_flow.proofs.flow.Flow.TheSendSync as of_flow
+use Rattle.star_flow.specs.contracts.search.Search as search_of
+use Rattle.star_flow.proofs.search.Search.TheSendSync as of_search
 use Rattle.boxcar.proofs.vec.Vec.TheSendSync as of_trees
 use Rattle.star_label.proofs.files.Files.TheSendSync as of_labels
 use Rattle.star_lex.proofs.token.SyntaxFault.TheSendSync as of_syntax
@@ -65,10 +65,10 @@ parameter_field_send = search (sendable, crosses, of_expressions.crosses, moving
 statement_send : IsSend statement.the_row
 statement_send = search (sendable, crosses, of_statements.crosses, expression_field_send, target_field_send, parameter_field_send, of_literal.the_field_send, of_loaded.the_field_send, moving) depth 60 fits 100000
 
-tree_send : IsSend tree.the_row
+pub tree_send : IsSend tree.the_row
 tree_send = let s = statement_send in search (sendable, crosses, of_items.the_send) depth 20
 
-tree_sync : IsSync tree.the_row
+pub tree_sync : IsSync tree.the_row
 tree_sync = let s = statement_sync in search (sendable, crosses, of_items.the_sync) depth 20
 
 module _ (s : IsSync statement.the_row) (p : IsSync parameter.the_row) (e : IsSync expression.the_row) (κ : NamedLft) where
@@ -116,13 +116,13 @@ reader_sync κ ν =
     let y = tree_sync in
     search (of_trees.the_sync, sendable, crosses) depth 40
 
--- a reader's closure: it captures the reader, the runtime R, and the flow
+-- a reader's closure: it captures the reader, the runtime R, and the search
 module _ (R : RattleType) (α β γ δ ε : NamedLft) where
   abbrev captured : List RattleType
-  captured = shared_at α (reader.the_row β γ) ∷ shared_at δ R ∷ shared_at ε flow.the_row ∷ []
+  captured = shared_at α (reader.the_row β γ) ∷ shared_at δ R ∷ shared_at ε search_of.the_row ∷ []
 
   captured_sync : IsSync R → AllSync captured
-  captured_sync r = search (reader_sync, of_flow.the_sync, sendable) depth 20
+  captured_sync r = search (reader_sync, of_search.the_sync, sendable) depth 20
 
   pub readers_sync : IsSync R → (ν : List ℕ) → IsSync (TupleAt ν captured)
   readers_sync r ν = tuple_sync ν captured (captured_sync r)

@@ -1,5 +1,5 @@
--- Texts that are parsed already, by number.
-use Rattle.std.specs.Prelude.{◌≢◌, ℕ, ◌<◌, List, length, Result, Ok, Err, slice_index_or}
+-- Texts that are parsed already, by the numbers of their files.
+use Rattle.std.specs.Prelude.{◌≢◌, ℕ, ◌<◌, List, length, Option, IfSome, Result, Ok, Err, slice_index_or}
 use denote.Ref.{Bor}
 use Rattle.star_label.specs.Files.{File, text_at}
 use Rattle.star_lex.specs.declared.token.SyntaxFault.{SyntaxFault}
@@ -15,7 +15,7 @@ abbrev pub IsParsed : List ℕ → ParsedView → Type 0
 IsParsed text (Ok tree) = Parses text (Ok tree.now)
 IsParsed text (Err fault) = Parses text (Err fault) × (fault ≢ Memory)
 
--- these are the results of parsing the texts of the first files, by their numbers; the others are not parsed
-abbrev pub AreParsesOf : List File → List ParsedView → Type 0
+-- whatever is there for a file, by its number, is the result of parsing its text
+abbrev pub AreParsesOf : List File → List (Option ParsedView) → Type 0
 AreParsesOf files parses =
-    (n : ℕ) (d : ParsedView) → n < length parses → IsParsed (text_at files n) (slice_index_or parses n d)
+    (n : ℕ) (d : Option ParsedView) → n < length parses → IfSome (slice_index_or parses n d) (IsParsed (text_at files n))

@@ -1,4 +1,4 @@
-//! Reading in parallel: several threads read files as they are found, before anybody asks for them.
+//! Reading in parallel: several threads read files as they are found, and some before that, when they would sleep.
 
 ghost use Rattle.std.specs.Prelude.{◌<◌, All, IfOk, IfSome, List, OnOk, Option, length};
 ghost use Rattle.std.specs.Option.{option_copied};
@@ -8,7 +8,8 @@ ghost use Rattle.star_reading.specs.Parsed.{AreParsesOf};
 ghost use Rattle.star_reading.specs.Readings.{AreReadAs, AreAllReadAs, IsReadAs};
 
 use crate::reading::{Found, Read, Reader, loads_of, numbers};
-use star_flow::{Flow, Schedule};
+use star_flow::Search;
+use star_label::files::Files as Labels;
 use std::alloc::{AllocError, Global};
 use std::sync::Wait;
 use std::thread;
@@ -17,11 +18,13 @@ use std::thread::Threads;
 /// One thread more may read for each further group of this many files.
 const SHARE: usize = 16;
 
-/// A flow that hands out each file as it is found: first the roots, then the loads of the files that were read.
-fn found_first(alloc: Global, count: usize, roots: &[usize]) -> Result<Flow, AllocError> {
-    let mut schedule = Schedule::new(vec![in alloc; 1; count]?, Vec::new(alloc));
-    schedule.ended(roots);
-    Ok(Flow::new(Vec::new(alloc), schedule))
+/// The bytes of the texts of files.
+fn sizes(alloc: Global, files: &Labels) -> Result<Vec<usize>, AllocError> {
+    let mut sizes = Vec::with_capacity(alloc, files.len())?;
+    for n in 0..files.len() {
+        sizes.push(files.text(n).len())?;
+    }
+    Ok(sizes)
 }
 
 impl<'s, 't> Reader<'s, 't> {
@@ -47,32 +50,40 @@ impl<'s, 't> Reader<'s, 't> {
     }
 
     /// Reads one file after another, as they are handed out.
-    fn read_found<R: Wait>(&self, rt: &R, flow: &Flow) -> Result<Vec<(usize, Read<'t>)>, AllocError>
+    fn read_found<R: Wait>(
+        &self,
+        rt: &R,
+        search: &Search,
+    ) -> Result<Vec<(usize, Read<'t>)>, AllocError>
         requires parses { AreParsesOf self.now.files.now self.now.parses.now }
         ensures { IfOk result (λ reads.
             AreAllReadAs self.now.files.now (option_copied self.now.prelude) reads.items) }
     {
         let mut reads = Vec::new(self.alloc);
-        let mut loads = None;
+        let mut read = None;
         for _ in rt.forever() {
-            let Some(n) = flow.take_after(rt, loads.as_deref()) else {
+            let Some(n) = search.take(rt, read)? else {
                 return Ok(reads);
             };
-            loads = Some(self.read_into(rt, &mut reads, n)?);
+            read = Some((n, self.read_into(rt, &mut reads, n)?));
         }
         unreachable!()
     }
 
-    /// As `read_found`, for one of several threads. If it fails, it leaves the flow, so that no other thread waits for
+    /// As `read_found`, for one of several threads. If it fails, it leaves the search, so that no other thread waits for
     /// it.
-    fn read_share<R: Wait>(&self, rt: &R, flow: &Flow) -> Result<Vec<(usize, Read<'t>)>, AllocError>
+    fn read_share<R: Wait>(
+        &self,
+        rt: &R,
+        search: &Search,
+    ) -> Result<Vec<(usize, Read<'t>)>, AllocError>
         requires parses { AreParsesOf self.now.files.now self.now.parses.now }
         ensures { IfOk result (λ reads.
             AreAllReadAs self.now.files.now (option_copied self.now.prelude) reads.items) }
     {
-        let reads = self.read_found(rt, flow);
+        let reads = self.read_found(rt, search);
         if reads.is_err() {
-            flow.leave(rt);
+            search.leave(rt);
         }
         reads
     }
@@ -81,7 +92,7 @@ impl<'s, 't> Reader<'s, 't> {
     fn read_shares<R: Threads + Wait + Sync>(
         &self,
         rt: &R,
-        flow: &Flow,
+        search: &Search,
         threads: usize,
     ) -> Result<Vec<Result<Vec<(usize, Read<'t>)>, AllocError>>, AllocError>
         requires parses { AreParsesOf self.now.files.now self.now.parses.now }
@@ -96,7 +107,7 @@ impl<'s, 't> Reader<'s, 't> {
                 requires { AreParsesOf self.now.files.now self.now.parses.now }
                 ensures { IfOk result (λ reads.
                     AreAllReadAs self.entry.now.files.now (option_copied self.entry.now.prelude) reads.items) }
-            { self.read_share(rt, flow) },
+            { self.read_share(rt, search) },
         )
     }
 
@@ -116,8 +127,9 @@ impl<'s, 't> Reader<'s, 't> {
         if threads < 2 {
             return Ok(ahead);
         }
-        let flow = found_first(self.alloc, count, self.roots)?;
-        let shares = self.read_shares(rt, &flow, threads)?;
+        let roots = self.roots.iter().copied().collect(self.alloc)?;
+        let search = Search::new(self.alloc, sizes(self.alloc, self.files)?, roots)?;
+        let shares = self.read_shares(rt, &search, threads)?;
         ahead.add_shares(shares)?;
         Ok(ahead)
     }

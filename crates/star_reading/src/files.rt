@@ -34,22 +34,29 @@ pub fn prelude_over<'t>(
     }
 }
 
+/// The texts of files: the files, the place of their trees, and what is parsed already, by the numbers of the files.
+#[derive(Clone, Copy)]
+pub struct Texts<'s, 't> {
+    pub files: &'s Labels,
+    pub trees: &'t Trees,
+    /// None for a text that is not parsed yet.
+    pub parses: &'s [Option<Parsed<'t>>],
+}
+
 /// The prelude: its names are the names that its tree binds, and no names if its text does not parse. The tree is kept
 /// with the other trees.
 fn prelude_of<'t, R: Wait>(
     rt: &R,
     alloc: Global,
-    files: &Labels,
-    trees: &'t boxcar::Vec<Tree>,
-    parses: &[Parsed<'t>],
+    texts: Texts<'_, 't>,
     n: usize,
 ) -> Result<Prelude<'t>, AllocError>
-    requires file { n < length files.now }
-    requires parses { AreParsesOf files.now parses.now }
-    ensures prelude { IfOk result (λ p. IsPrelude files.now (Some n) (Some p)) }
+    requires file { n < length texts.files.now }
+    requires parses { AreParsesOf texts.files.now texts.parses.now }
+    ensures prelude { IfOk result (λ p. IsPrelude texts.entry.files.now (Some n) (Some p)) }
     ensures file { IfOk result (λ p. p.file ≡ n) }
 {
-    match parsed_once(rt, alloc, files, trees, parses, n)? {
+    match parsed_once(rt, alloc, texts.files, &texts.trees.all, texts.parses, n)? {
         Ok(tree) => Ok(prelude_over(alloc, n, Some(tree))?),
         Err(_) => Ok(prelude_over(alloc, n, None)?),
     }
@@ -59,18 +66,16 @@ fn prelude_of<'t, R: Wait>(
 fn block_of<'t, R: Wait>(
     rt: &R,
     alloc: Global,
-    files: &Labels,
-    trees: &'t boxcar::Vec<Tree>,
-    parses: &[Parsed<'t>],
+    texts: Texts<'_, 't>,
     prelude: Option<usize>,
 ) -> Result<Option<Prelude<'t>>, AllocError>
-    requires prelude { IfSome prelude (λ n. n < length files.now) }
-    requires parses { AreParsesOf files.now parses.now }
-    ensures prelude { IfOk result (IsPrelude files.now prelude) }
-    ensures file { IfOk result (λ block. IfSome block (λ p. p.file < length files.now)) }
+    requires prelude { IfSome prelude (λ n. n < length texts.files.now) }
+    requires parses { AreParsesOf texts.files.now texts.parses.now }
+    ensures prelude { IfOk result (IsPrelude texts.entry.files.now prelude) }
+    ensures file { IfOk result (λ block. IfSome block (λ p. p.file < length texts.entry.files.now)) }
 {
     match prelude {
-        Some(n) => Ok(Some(prelude_of(rt, alloc, files, trees, parses, n)?)),
+        Some(n) => Ok(Some(prelude_of(rt, alloc, texts, n)?)),
         None => Ok(None),
     }
 }
@@ -79,23 +84,21 @@ fn block_of<'t, R: Wait>(
 fn read_by<'s, 't, R: Threads + Wait + Sync>(
     rt: &R,
     alloc: Global,
-    files: &'s Labels,
-    trees: &'t boxcar::Vec<Tree>,
-    parses: &'s [Parsed<'t>],
+    texts: Texts<'s, 't>,
     prelude: Option<&'s Prelude<'t>>,
     roots: &'s [usize],
     threads: usize,
 ) -> Result<Vec<Option<Read<'t>>>, AllocError>
-    requires parses { AreParsesOf files.now parses.now }
-    requires roots { Within files.now roots.now }
-    requires prelude { IfSome prelude (λ p. p.now.file < length files.now) }
-    ensures { IfOk result (λ row. IsRowOf files.now (option_copied prelude.entry) roots.now row.items) }
+    requires parses { AreParsesOf texts.files.now texts.parses.now }
+    requires roots { Within texts.files.now roots.now }
+    requires prelude { IfSome prelude (λ p. p.now.file < length texts.files.now) }
+    ensures { IfOk result (λ row. IsRowOf texts.entry.files.now (option_copied prelude.entry) roots.now row.items) }
 {
     let reader = Reader {
         alloc,
-        files,
-        trees,
-        parses,
+        files: texts.files,
+        trees: &texts.trees.all,
+        parses: texts.parses,
         prelude,
         roots,
     };
@@ -119,46 +122,30 @@ pub fn read_files<'t, R: Threads + Wait + Sync>(
     ensures placeable { IfOk result (λ reads. All IsPlaceable reads.all.items) }
 {
     let none = Vec::new(alloc);
-    read_parsed(
-        rt,
-        alloc,
+    let texts = Texts {
         files,
         trees,
-        none.as_slice(),
-        roots,
-        prelude,
-        threads,
-    )
+        parses: none.as_slice(),
+    };
+    read_parsed(rt, alloc, texts, roots, prelude, threads)
 }
 
-/// As `read_files`, with the first files parsed already: their texts are not parsed again. The error: an allocation
-/// failed.
+/// As `read_files`, with some texts parsed already: these are not parsed again. The error: an allocation failed.
 pub fn read_parsed<'t, R: Threads + Wait + Sync>(
     rt: &R,
     alloc: Global,
-    files: &Labels,
-    trees: &'t Trees,
-    parses: &[Parsed<'t>],
+    texts: Texts<'_, 't>,
     roots: &[usize],
     prelude: Option<usize>,
     threads: usize,
 ) -> Result<Reads<'t>, AllocError>
-    requires parses { AreParsesOf files.now parses.now }
-    requires roots { Within files.now roots.now }
-    requires prelude { IfSome prelude (λ n. n < length files.now) }
-    ensures read { IfOk result (λ reads. IsReadOf files.now roots.now prelude reads.all.items) }
+    requires parses { AreParsesOf texts.files.now texts.parses.now }
+    requires roots { Within texts.files.now roots.now }
+    requires prelude { IfSome prelude (λ n. n < length texts.files.now) }
+    ensures read { IfOk result (λ reads. IsReadOf texts.entry.files.now roots.now prelude reads.all.items) }
     ensures placeable { IfOk result (λ reads. All IsPlaceable reads.all.items) }
 {
-    let block = block_of(rt, alloc, files, &trees.all, parses, prelude)?;
-    let all = read_by(
-        rt,
-        alloc,
-        files,
-        &trees.all,
-        parses,
-        block.as_ref(),
-        roots,
-        threads,
-    )?;
+    let block = block_of(rt, alloc, texts, prelude)?;
+    let all = read_by(rt, alloc, texts, block.as_ref(), roots, threads)?;
     Ok(Reads { all })
 }

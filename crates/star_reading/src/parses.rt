@@ -1,6 +1,6 @@
 //! Parsed texts: a text that is parsed already is not parsed again.
 
-ghost use Rattle.std.specs.Prelude.{◌<◌, IfOk, length};
+ghost use Rattle.std.specs.Prelude.{◌≡◌, ◌<◌, IfOk, Some, length, map};
 ghost use Rattle.star_label.specs.Files.{text_at};
 ghost use Rattle.star_reading.specs.Parsed.{AreParsesOf, IsParsed};
 
@@ -41,7 +41,7 @@ pub fn parsed_once<'t, R: Wait>(
     alloc: Global,
     files: &Labels,
     trees: &'t boxcar::Vec<Tree>,
-    parses: &[Parsed<'t>],
+    parses: &[Option<Parsed<'t>>],
     n: usize,
 ) -> Result<Parsed<'t>, AllocError>
     requires file { n < length files.now }
@@ -49,7 +49,19 @@ pub fn parsed_once<'t, R: Wait>(
     ensures { IfOk result (IsParsed (text_at files.now n)) }
 {
     if n < parses.len() {
-        return Ok(parses[n]);
+        if let Some(parse) = parses[n] {
+            return Ok(parse);
+        }
     }
     parsed(rt, alloc, trees, files.text(n))
+}
+
+/// The results of parsing the texts of all files, as a reader takes them. The error: an allocation failed.
+pub fn all_there<'t>(
+    alloc: Global,
+    parses: &[Parsed<'t>],
+) -> Result<Vec<Option<Parsed<'t>>>, AllocError>
+    ensures { IfOk result (λ row. row.items ≡ map (λ p. Some p) parses.now) }
+{
+    parses.iter().map(|parse| Some(*parse)).collect(alloc)
 }

@@ -89,8 +89,8 @@ pub struct Reader<'s, 't> {
     pub alloc: Global,
     pub files: &'s Labels,
     pub trees: &'t boxcar::Vec<Tree>,
-    /// The parsed texts of the first files, by their numbers; these are not parsed again.
-    pub parses: &'s [Parsed<'t>],
+    /// The results of parsing texts, by the numbers of their files; none for a text that is not parsed yet.
+    pub parses: &'s [Option<Parsed<'t>>],
     pub prelude: Option<&'s Prelude<'t>>,
     pub roots: &'s [usize],
 }

@@ -13,7 +13,7 @@ use Rattle.star_check.specs.Check.{AtFault, Fails, FailsBy, IsCause, IsCheck, Is
 use Rattle.star_check.proofs.Judgements.{fault_unsound, faulty_barred, lack_unsound}
 use Rattle.std.proofs.lemmas.Bool.{cases_order}
 use Rattle.star_check.specs.Text.{IsCheckAnswer, IsCheckText, check_text}
-use Rattle.star_reply.proofs.Rising.{same_rising}
+use Rattle.star_plan.proofs.Rising.{same_rising}
 
 -- a file with a static fault
 abbrev IsBarred : Plan → ℕ → Type 0

@@ -17,7 +17,7 @@ use Rattle.star_report.specs.declared.wanted.Output.{Output}
 use Rattle.star_report.specs.declared.wanted.Output.TheVariants.{Check, Global, Graph, Report}
 use Rattle.star_report.proofs.OneText.{one_full_text}
 use Rattle.star_reply.proofs.Checks.{one_check_text}
-use Rattle.star_reply.proofs.Rising.{same_rising}
+use Rattle.star_plan.proofs.Rising.{same_rising}
 use Rattle.star_reply.proofs.Goods.{all_good_too, same_answer}
 
 -- ---- globals

@@ -45,7 +45,7 @@ module _ (said : Said) (words : Words) (d : ℕ) (fresh : List Fresh) (looked : 
   pub are_reached : (held : Held) × Fits said held × AreReachedFiles held words files × Pass files
   are_reached = subst (λ fs. (held : Held) × Fits said held × AreReachedFiles held words fs × Pass fs) same (ends said words d (map answer_of looked) count size last)
 
-pub files_parsed : (texts : List Fresh) (parses : List ParsedView) → AreParsed texts parses → AreFilesParsed (map file_of texts) parses
+pub files_parsed : (texts : List Fresh) (parses : List ParsedView) → AreParsed texts parses → AreFilesParsed (map file_of texts) (map (λ p. Some p) parses)
 files_parsed [] [] h = tt
 files_parsed [] (p ∷ ps) h = absurd h
 files_parsed (t ∷ ts) [] h = absurd h

@@ -7,13 +7,13 @@ use star_label::files::Files;
 use star_label::label::Label;
 use star_reading::parses::Parsed;
 
-/// Files, and the results of parsing the texts of the first of them.
+/// Files, and the results of parsing the texts of some of them.
 #[derive(Clone, Copy)]
 pub struct Known<'a, 't> {
     /// The files.
     pub files: &'a Files,
     /// The results, by the numbers of the files.
-    pub parses: &'a [Parsed<'t>],
+    pub parses: &'a [Option<Parsed<'t>>],
 }
 
 impl<'a, 't> Known<'a, 't> {
@@ -24,7 +24,7 @@ impl<'a, 't> Known<'a, 't> {
     {
         let n = self.files.find(label)?;
         if n < self.parses.len() && self.files.text(n) == text {
-            return Some(self.parses[n]);
+            return self.parses[n];
         }
         None
     }

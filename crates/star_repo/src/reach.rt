@@ -19,7 +19,7 @@ use crate::round::{read_round, settled};
 use star_label::error::LabelError;
 use star_label::files::Files;
 use star_label::label::Label;
-use star_reading::parses::Parsed;
+use star_reading::parses::{Parsed, all_there};
 use star_tree::tree::Tree;
 use std::alloc::{AllocError, Global};
 use std::collections::{BTreeMap, BTreeSet};
@@ -31,7 +31,7 @@ use std::thread::Threads;
 #[derive(Drop)]
 pub struct Reached<'t> {
     pub files: Files,
-    pub parses: Vec<Parsed<'t>>,
+    pub parses: Vec<Option<Parsed<'t>>>,
 }
 
 /// Keeps the file that was read at a label, if there is one.
@@ -92,7 +92,11 @@ fn ended<'t>(alloc: Global, found: Found<'t>) -> Result<Reached<'t>, AllocError>
 {
     let (texts, parses) = kept(alloc, found.looked)?;
     let files = numbered(alloc, texts)?;
-    Ok(Reached { files, parses })
+    let there = all_there(alloc, parses.as_slice())?;
+    Ok(Reached {
+        files,
+        parses: there,
+    })
 }
 
 /// How far a reading has come at the front of a round.

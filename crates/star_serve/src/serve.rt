@@ -27,7 +27,9 @@ use star_check::check::{Checked, check};
 use star_check::verdict::Judged;
 pub use star_explain::explain::Form;
 use star_explain::explain::{explain, explain_check};
-use star_host::{GoodEnd, Parsed, Reads, Run, RunError, Trees, read_parsed, run_in};
+use star_host::{
+    GoodEnd, Known, Parsed, Reads, Run, RunError, RunOptions, Texts, Trees, read_parsed, run_in,
+};
 pub use star_report::wanted::{Output, Wanted};
 use std::alloc::{AllocError, Global};
 use std::mem;
@@ -41,6 +43,8 @@ pub struct Options {
     pub loaders: usize,
     /// How many steps a file may take, from 1 to 100,000,000.
     pub steps: u32,
+    /// The seed for the hashes of keys (`RunOptions`). No answer depends on it.
+    pub seed: u64,
     /// The labels that are asked for, each word as it was given.
     pub roots: Vec<String>,
     /// The label of the prelude: the file whose names every other file sees.
@@ -67,14 +71,14 @@ struct Answer {
     written: Written,
 }
 
-/// Reads the files that what is asked for reaches, runs none, and says what is told of them. The texts of the first files
-/// were parsed before.
+/// Reads the files that what is asked for reaches, runs none, and says what is told of them. The texts of some files were
+/// parsed before.
 fn checked<'t, H: Threads + Wait + Sync>(
     rt: &H,
     alloc: Global,
     asked: &AskedFor,
     trees: &'t Trees,
-    parses: &[Parsed<'t>],
+    parses: &[Option<Parsed<'t>>],
     reads: &mut Reads<'t>,
     only_roots: bool,
     threads: usize,
@@ -87,16 +91,12 @@ fn checked<'t, H: Threads + Wait + Sync>(
 {
     let files = &asked.files;
     let roots = asked.roots.as_slice();
-    let read = read_parsed(
-        rt,
-        alloc,
+    let texts = Texts {
         files,
         trees,
         parses,
-        roots,
-        asked.prelude,
-        threads,
-    )?;
+    };
+    let read = read_parsed(rt, alloc, texts, roots, asked.prelude, threads)?;
     let it = check(alloc, files, &read, roots, only_roots)?;
     *reads = read;
     Ok(it)
@@ -108,7 +108,7 @@ fn answered<'t, H: Threads + Wait + Sync>(
     alloc: Global,
     asked: &AskedFor,
     trees: &'t Trees,
-    parses: &[Parsed<'t>],
+    parses: &[Option<Parsed<'t>>],
     ends: &[Option<GoodEnd>],
     reads: &mut Reads<'t>,
     options: &Options,
@@ -132,27 +132,26 @@ fn answered<'t, H: Threads + Wait + Sync>(
 {
     let files = &asked.files;
     let roots = asked.roots.as_slice();
-    let (loaders, steps) = (options.loaders, options.steps);
+    let loaders = options.loaders;
     let gate = Watched {
         rt,
         alloc,
         files,
         progress: options.progress.as_ref(),
     };
-    let outcome = run_in(
-        rt,
-        alloc,
-        files,
+    let known = Known {
         trees,
         parses,
         ends,
-        reads,
+    };
+    let run_options = RunOptions {
         roots,
-        asked.prelude,
+        prelude: asked.prelude,
         loaders,
-        steps,
-        &gate,
-    );
+        steps: options.steps,
+        seed: options.seed,
+    };
+    let outcome = run_in(rt, alloc, files, known, reads, run_options, &gate);
     gate.end();
     let mut run = match outcome {
         Ok(run) => run,
@@ -178,7 +177,7 @@ fn check_over<'t, H: Threads + Wait + Sync>(
     alloc: Global,
     asked: &AskedFor,
     trees: &'t Trees,
-    parses: &[Parsed<'t>],
+    parses: &[Option<Parsed<'t>>],
     options: &Options,
     only_roots: bool,
 ) -> Result<Written, ServeError>
@@ -224,14 +223,14 @@ fn read_numbers(alloc: Global, reads: &Reads) -> Result<Vec<usize>, AllocError> 
 }
 
 /// Runs what is asked for, frees the run, and answers what there is to write of it, with its good ends; for a check
-/// nothing is run. The texts of the first files were parsed before, and a file whose good end is among `ends` is not run.
+/// nothing is run. The texts of some files were parsed before, and a file whose good end is among `ends` is not run.
 /// `Memory`, or `Unpublished` where a module was not published.
 pub fn written_over<'t, H: Threads + Wait + Sync>(
     rt: &H,
     alloc: Global,
     asked: &AskedFor,
     trees: &'t Trees,
-    parses: &[Parsed<'t>],
+    parses: &[Option<Parsed<'t>>],
     ends: &[Option<GoodEnd>],
     options: &Options,
 ) -> Result<Finished, ServeError>
@@ -314,13 +313,13 @@ fn write_judged<E: Sink>(
 }
 
 /// Writes what is told of the files that are reached, and to `errors` what a person is told, where that is wanted. None is
-/// run. It answers whether there is nothing against any. The texts of the first files were parsed before.
+/// run. It answers whether there is nothing against any. The texts of some files were parsed before.
 fn checked_over<'t, H: Threads + Wait + Sync, W: Sink, E: Sink>(
     rt: &H,
     alloc: Global,
     asked: &AskedFor,
     trees: &'t Trees,
-    parses: &[Parsed<'t>],
+    parses: &[Option<Parsed<'t>>],
     writer: &mut W,
     errors: &mut E,
     options: &Options,
@@ -368,14 +367,14 @@ fn checked_over<'t, H: Threads + Wait + Sync, W: Sink, E: Sink>(
 }
 
 /// Runs what is asked for and writes the report, and to `errors` the trace and what a person is told, where these are
-/// wanted. It answers whether every module of the report is ok. The texts of the first files were parsed before. For a
+/// wanted. It answers whether every module of the report is ok. The texts of some files were parsed before. For a
 /// check nothing is run.
 pub(crate) fn reported_over<'t, H: Threads + Wait + Sync, W: Sink, E: Sink>(
     rt: &H,
     alloc: Global,
     asked: &AskedFor,
     trees: &'t Trees,
-    parses: &[Parsed<'t>],
+    parses: &[Option<Parsed<'t>>],
     writer: &mut W,
     errors: &mut E,
     options: &Options,

@@ -42,18 +42,19 @@ struct Reported {
     reached: Vec<usize>,
 }
 
-/// The report that is asked for, with all that stays of what was kept.
+/// The report that is asked for, with all that stays of what was kept. The texts that are reached are parsed first,
+/// unless they have trees, and their trees are kept.
 fn report_of<H: Threads + Wait + Sync>(
     rt: &H,
     alloc: Global,
     asked: &AskedFor,
-    staying: &Staying,
+    staying: &mut Staying,
     wanted: Wanted,
     loaders: usize,
     steps: u32,
 ) -> Result<Reported, ServeError>
-    requires parses { AreKept asked.now.files staying.now.parses.all.items }
-    requires outcomes { AreOutcomes asked.now.files asked.now.prelude steps staying.now.outcomes.all.items }
+    requires parses { AreKept asked.now.files staying.old.parses.all.items }
+    requires outcomes { AreOutcomes asked.now.files asked.now.prelude steps staying.old.outcomes.all.items }
     requires roots { All (λ n. n < length asked.now.files) asked.now.roots.items }
     requires prelude { IfSome asked.now.prelude (λ n. n < length asked.now.files) }
     requires loaders { (1 ≤ loaders) × (loaders ≤ 64) }
@@ -62,6 +63,7 @@ fn report_of<H: Threads + Wait + Sync>(
     ensures report { IfOk result (λ r. (ok : Bool) × InPlanOf asked.now.files asked.now.roots.items asked.now.prelude
         steps (λ plan. IsOutput (output.Report wanted) asked.now.files plan (r.text.items ++ 10 ∷ []) ok)) }
     ensures ends { IfOk result (λ r. AreOutcomes asked.now.files asked.now.prelude steps r.ends.items) }
+    ensures parses { IfOk result (λ _. AreKept asked.now.files staying.new.parses.all.items) }
 {
     let options = Options {
         loaders,
@@ -73,9 +75,14 @@ fn report_of<H: Threads + Wait + Sync>(
         dir: None,
         explain: None,
         progress: None,
+        seed: staying.seed,
     };
     // Its length says that the files are in order.
     let _ = asked.files.len();
+    let roots = asked.roots.as_slice();
+    staying
+        .parses
+        .parse_reached(rt, alloc, &asked.files, roots, asked.prelude, loaders)?;
     let trees = Trees::new(alloc)?;
     let parses = staying.parses.views(alloc, &asked.files)?;
     let ends = staying.outcomes.all.as_slice();
@@ -160,12 +167,12 @@ fn report_after<H: Threads + Wait + Sync>(
         prelude: asked.prelude,
         steps: question.steps,
     };
-    let staying = standing.staying(rt, alloc, &asked.files, terms, loaders)?;
+    let mut staying = standing.staying(rt, alloc, &asked.files, terms, loaders)?;
     let reported = report_of(
         rt,
         alloc,
         &asked,
-        &staying,
+        &mut staying,
         question.wanted,
         loaders,
         question.steps,

@@ -106,11 +106,11 @@ fn no_memory(_error: AllocError) -> RepoError
 }
 
 /// The results of parsing files, if there are any.
-fn known_parses<'a, 't>(files: &'a Files, parses: &'a [Parsed<'t>]) -> Option<Known<'a, 't>>
+fn known_parses<'a, 't>(files: &'a Files, parses: &'a [Option<Parsed<'t>>]) -> Option<Known<'a, 't>>
     requires { AreParsesOf files.now parses.now }
     ensures { AreKnown result }
 {
-    if parses.is_empty() {
+    if parses.iter().all(|parse| parse.is_none()) {
         return None;
     }
     Some(Known { files, parses })
@@ -172,7 +172,8 @@ fn look<H: Threads + Wait + Sync, F: Repo + Copy>(
     ensures none { OnErr result (standing.new.files ≡ []) }
     ensures refused { IfErr result (IsUnseen (F.says folder.now) standing.old.files (asked_by request.now)) }
 {
-    let before = mem::replace(standing, Standing::new(alloc, empty));
+    let empty = Standing::new(alloc, empty, standing.seed);
+    let before = mem::replace(standing, empty);
     let files = match files_looked_at(rt, alloc, folder, &before, request, loaders) {
         Ok(files) => files,
         Err(error) => return Err(error),

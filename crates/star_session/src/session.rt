@@ -35,6 +35,8 @@ use std::thread::Threads;
 pub struct Settings {
     /// How many loaders run, from 1 to 64.
     pub loaders: usize,
+    /// The seed for the hashes of keys. No answer depends on it.
+    pub seed: u64,
     /// How many bytes the texts may have of which anything is kept for the next request.
     pub keep: usize,
     /// The defaults of a request, for members that it lacks.
@@ -277,7 +279,7 @@ pub fn serve_requests<H: Threads + Wait + Sync, F: Repo + Copy, R: Source, W: Si
         Err(LabelError::Memory) => return Err(ServeError::Memory),
         Err(_) => unreachable!(),
     };
-    let mut standing = Standing::new(alloc, files);
+    let mut standing = Standing::new(alloc, files, settings.seed);
     let mut lines = Lines::new(alloc)?;
     for _ in rt.forever() {
         if !next_answer(

@@ -43,6 +43,8 @@ pub(crate) struct Standing {
     pub last: Option<Last>,
     /// The number of requests that were run.
     pub requests: u64,
+    /// The seed for the hashes of keys in each run.
+    pub seed: u64,
 }
 
 /// What stays of it when the files change.
@@ -50,6 +52,8 @@ pub(crate) struct Standing {
 pub(crate) struct Staying {
     pub parses: Parses,
     pub outcomes: Outcomes,
+    /// The seed for the hashes of keys in each run.
+    pub seed: u64,
 }
 
 /// A copy of a label.
@@ -138,7 +142,7 @@ fn are_as(files: &Files, changes: &[(Label, Option<String>)]) -> bool
 
 impl Standing {
     /// These files, of which nothing is kept.
-    pub(crate) fn new(alloc: Global, files: Files) -> Standing
+    pub(crate) fn new(alloc: Global, files: Files, seed: u64) -> Standing
         ensures files { result.files ≡ files }
         ensures standing { IsStanding result }
     {
@@ -152,6 +156,7 @@ impl Standing {
             outcomes: Outcomes::new(alloc, terms),
             last: None,
             requests: 0,
+            seed,
         }
     }
 
@@ -203,7 +208,11 @@ impl Standing {
         let parses = self.parses.after(alloc, &self.files, files)?;
         let before = mem::replace(&mut self.outcomes, Outcomes::new(alloc, terms));
         let outcomes = before.after(rt, alloc, &self.files, files, terms, threads)?;
-        Ok(Staying { parses, outcomes })
+        Ok(Staying {
+            parses,
+            outcomes,
+            seed: self.seed,
+        })
     }
 
     /// These files in the place of those before, with what stays of all that is kept. The error: an allocation failed.
@@ -228,6 +237,7 @@ impl Standing {
             outcomes: staying.outcomes,
             last: None,
             requests: before.requests,
+            seed: before.seed,
         })
     }
 

@@ -16,6 +16,7 @@ pub mod write;
 use crate::fault::StoreFault;
 use crate::globals::{ascend, global_among, global_in};
 use crate::key_index::KeyIndex;
+use crate::seed::SeededState;
 use crate::table::TableSlot;
 use crate::values::{Cell, Counted, Value};
 use std::alloc::{AllocError, Global};
@@ -29,6 +30,9 @@ pub struct Arena {
     home: u32,
     cells: Vec<Counted>,
     rows: Vec<Option<Box<KeyIndex>>>,
+    state: SeededState,
+    /// How many entries may still be gone through to make indexes.
+    allowed: usize,
 }
 
 impl Model for Arena {
@@ -127,8 +131,16 @@ impl<'a> Homes<'a> {
 }
 
 impl Arena {
-    /// The store of this file's module, with no cell.
+    /// The store of this file's module, with no cell. Its keys are hashed by the seed 0.
     pub fn new(alloc: Global, home: u32) -> Arena
+        ensures { result ≡ record { home = home; cells = [] } }
+    {
+        Arena::with_seed(alloc, home, 0)
+    }
+
+    /// The same, with a seed for the hashes of keys: if it differs from run to run, nobody who writes a file can choose
+    /// keys that all collide. No answer depends on it.
+    pub fn with_seed(alloc: Global, home: u32, seed: u64) -> Arena
         ensures { result ≡ record { home = home; cells = [] } }
     {
         Arena {
@@ -136,6 +148,8 @@ impl Arena {
             home,
             cells: Vec::new(alloc),
             rows: Vec::new(alloc),
+            state: SeededState::new(seed),
+            allowed: 0,
         }
     }
 
@@ -296,6 +310,8 @@ pub fn freeze(arena: Arena, globals: Vec<(String, Value)>) -> Frozen
         home,
         mut cells,
         mut rows,
+        state: _,
+        allowed: _,
     } = arena;
     // Nothing is added any more.
     cells.shrink_to_fit();

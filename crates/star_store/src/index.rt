@@ -9,6 +9,7 @@ ghost use Rattle.star_store.specs.Scalars.{scalar_atom};
 ghost use Rattle.star_store.specs.Index.{place_by};
 
 use crate::content::{KeyContent, ScalarKey};
+use crate::seed::SeededState;
 use indexmap::IndexSet;
 use std::alloc::{AllocError, Global};
 use std::marker::Model;
@@ -17,7 +18,7 @@ use std::marker::Model;
 /// and nothing moves.
 #[derive(Drop)]
 pub struct Index {
-    contents: IndexSet<KeyContent>,
+    contents: IndexSet<KeyContent, SeededState>,
     gone: usize,
 }
 
@@ -34,11 +35,15 @@ impl Model for Index {
 
 impl Index {
     /// An index of no entries, with room for `capacity` contents.
-    pub fn with_capacity(alloc: Global, capacity: usize) -> Result<Index, AllocError>
+    pub fn with_capacity(
+        alloc: Global,
+        capacity: usize,
+        state: SeededState,
+    ) -> Result<Index, AllocError>
         ensures { IfOk result (λ index. index ≡ []) }
     {
         Ok(Index {
-            contents: IndexSet::with_capacity(alloc, capacity)?,
+            contents: IndexSet::with_capacity_and_hasher(alloc, capacity, state)?,
             gone: 0,
         })
     }
@@ -124,7 +129,7 @@ impl Index {
 
 /// Makes sure, if memory suffices, that the first contents, which have gone, do not include this one: a content that no
 /// key has takes its place.
-fn bury(contents: &mut IndexSet<KeyContent>, gone: usize, content: &KeyContent)
+fn bury(contents: &mut IndexSet<KeyContent, SeededState>, gone: usize, content: &KeyContent)
     requires { gone ≤ length contents.old.keys }
     ensures same { drop gone contents.new.keys ≡ drop gone contents.old.keys }
     ensures within { gone ≤ length contents.new.keys }
@@ -141,7 +146,7 @@ fn bury(contents: &mut IndexSet<KeyContent>, gone: usize, content: &KeyContent)
 }
 
 /// Takes the first contents out, which have gone, and says how many of them are left: all if memory is refused.
-fn close_up(contents: &mut IndexSet<KeyContent>, gone: usize) -> usize
+fn close_up(contents: &mut IndexSet<KeyContent, SeededState>, gone: usize) -> usize
     requires { gone ≤ length contents.old.keys }
     ensures same { drop result contents.new.keys ≡ drop gone contents.old.keys }
     ensures within { result ≤ length contents.new.keys }

@@ -12,6 +12,7 @@ ghost use Rattle.star_store.specs.declared.content.Atom.{Atom as AnyAtom};
 
 use crate::content::KeyContent;
 use crate::index::Index;
+use crate::seed::SeededState;
 use std::alloc::{AllocError, Global};
 use std::marker::Model;
 
@@ -42,11 +43,15 @@ impl Model for KeyIndex {
 
 impl KeyIndex {
     /// An index of no entries, with room for `capacity` keys.
-    pub fn with_capacity(alloc: Global, capacity: usize) -> Result<KeyIndex, AllocError>
+    pub fn with_capacity(
+        alloc: Global,
+        capacity: usize,
+        state: SeededState,
+    ) -> Result<KeyIndex, AllocError>
         ensures { IfOk result (λ index. index ≡ []) }
     {
         Ok(KeyIndex {
-            keys: Index::with_capacity(alloc, capacity)?,
+            keys: Index::with_capacity(alloc, capacity, state)?,
             homes: Vec::new(alloc),
         })
     }

@@ -11,7 +11,8 @@
 //! - A dictionary is a list of `Entries` in the order of insertion. If it is large, the arena has a `KeyIndex` for it:
 //!   from the content of a key (the hashable value, with no references left) to the place of its entry. A key that
 //!   another file made is there under the number of its value, and the `Table` of that file's store says which values
-//!   have a content. Without an index a look-up is a walk, with the same answer.
+//!   have a content. Without an index a look-up is a walk, with the same answer. The hashes begin with the arena's seed
+//!   (`seed.rt`).
 //! - `arithmetic` has the operations on ints of 64 bits, `slots` the variables of a frame, `roomy` vectors with free
 //!   places at their front.
 //!
@@ -40,6 +41,7 @@ pub mod names;
 pub mod order;
 pub mod range;
 mod roomy;
+mod seed;
 pub mod slots;
 mod table;
 pub mod text;

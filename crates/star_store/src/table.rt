@@ -13,6 +13,7 @@ ghost use Rattle.star_store.specs.declared.values.Cell.{Cell as AnyCell};
 
 use crate::content::KeyContent;
 use crate::index::Index;
+use crate::seed::SeededState;
 use crate::values::Counted;
 use boxcar::slot::{OnceSlot, SlotRule, Written};
 use boxcar::tag::{Names, Tag};
@@ -71,12 +72,12 @@ pub(crate) struct Rows {
 
 impl Rows {
     /// No row.
-    pub(crate) fn new(alloc: Global) -> Result<Rows, AllocError>
+    pub(crate) fn new(alloc: Global, state: SeededState) -> Result<Rows, AllocError>
         ensures contents { IfOk result (λ rows. rows.contents ≡ []) }
         ensures addresses { IfOk result (λ rows. rows.addresses.items ≡ []) }
     {
         Ok(Rows {
-            contents: Index::with_capacity(alloc, 0)?,
+            contents: Index::with_capacity(alloc, 0, state)?,
             addresses: Vec::new(alloc),
         })
     }

@@ -123,7 +123,7 @@ impl<F: Fn(Global, u128, Level, &[Leaf]) -> Read<'_, Boxed<Expression>>> Grammar
     }
 
     /// `Primary {',' Primary}`
-    #[tactic(auto, unfolding(crate::specs::Expressions::list_of_primaries))]
+    #[tactic(auto, unfolding(crate::specs::Expressions::list_of_primaries), using(crate::proofs::Rounds::turns))]
     fn list_of_primaries<'a>(&self, leaves: &'a [Leaf]) -> Read<'a, Items<Expression>>
         requires { Nests self.now.depth (F.pre self.now.expression) (F.post self.now.expression) }
         ensures { Gives (reads self.now.depth spec.list_of_primaries leaves.now) result }
@@ -221,7 +221,7 @@ impl<F: Fn(Global, u128, Level, &[Leaf]) -> Read<'_, Boxed<Expression>>> Grammar
     }
 
     /// `{ForClause | 'if' Or}`
-    #[tactic(auto, unfolding(crate::specs::Expressions::further_clauses))]
+    #[tactic(auto, unfolding(crate::specs::Expressions::further_clauses), using(crate::proofs::Rounds::turns))]
     fn further_clauses<'a>(&self, leaves: &'a [Leaf]) -> Read<'a, Items<Clause>>
         requires { Nests self.now.depth (F.pre self.now.expression) (F.post self.now.expression) }
         ensures { Gives (reads self.now.depth spec.further_clauses leaves.now) result }
@@ -376,7 +376,7 @@ impl<F: Fn(Global, u128, Level, &[Leaf]) -> Read<'_, Boxed<Expression>>> Grammar
     }
 
     /// `{',' Entry}`
-    #[tactic(auto, unfolding(crate::specs::Expressions::further_entries))]
+    #[tactic(auto, unfolding(crate::specs::Expressions::further_entries), using(crate::proofs::Rounds::turns))]
     fn further_entries<'a>(&self, leaves: &'a [Leaf]) -> Read<'a, Items<Entry>>
         requires { Nests self.now.depth (F.pre self.now.expression) (F.post self.now.expression) }
         ensures { Gives (reads self.now.depth spec.further_entries leaves.now) result }

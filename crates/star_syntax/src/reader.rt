@@ -246,7 +246,7 @@ impl<F: Fn(Global, u128, Level, &[Leaf]) -> Read<'_, Boxed<Expression>>> Grammar
     }
 
     /// `Test {',' Test}`
-    #[tactic(auto, unfolding(crate::specs::Expressions::list_of_tests))]
+    #[tactic(auto, unfolding(crate::specs::Expressions::list_of_tests), using(crate::proofs::Rounds::turns))]
     pub fn list_of_tests<'a>(&self, leaves: &'a [Leaf]) -> Read<'a, Items<Expression>>
         requires { Nests self.now.depth (F.pre self.now.expression) (F.post self.now.expression) }
         ensures { Gives (reads self.now.depth spec.list_of_tests leaves.now) result }
@@ -267,7 +267,7 @@ impl<F: Fn(Global, u128, Level, &[Leaf]) -> Read<'_, Boxed<Expression>>> Grammar
     }
 
     /// `{',' Test}`
-    #[tactic(auto, unfolding(crate::specs::Expressions::further_tests))]
+    #[tactic(auto, unfolding(crate::specs::Expressions::further_tests), using(crate::proofs::Rounds::turns))]
     pub fn further_tests<'a>(&self, leaves: &'a [Leaf]) -> Read<'a, Items<Expression>>
         requires { Nests self.now.depth (F.pre self.now.expression) (F.post self.now.expression) }
         ensures { Gives (reads self.now.depth spec.further_tests leaves.now) result }

@@ -1,25 +1,10 @@
 -- Labels among texts.
-use Rattle.std.proofs.Common.{◌≡◌, ◌⊎◌, inl, inr, ℕ, List, [], ◌∷◌, ◌++◌, Bool, true, false, Option, Some, None, Ok, refl, ap, sym, ◌∙◌}
-use Rattle.std.specs.Prelude.{◌↔◌, Result, option_map}
-use Rattle.star_label.specs.declared.label.Label.{Label}
-use Rattle.star_label.specs.View.{text_of}
+use Rattle.std.proofs.Common.{◌≡◌, ◌⊎◌, inl, inr, ℕ, List, [], ◌∷◌, ◌++◌, true, Some, None, ap, sym, ◌∙◌}
+use Rattle.std.specs.Prelude.{◌↔◌}
 use Rattle.star_bundle.specs.Bundle.{is_label}
-use Rattle.star_bundle.specs.View.{if_label}
-use Rattle.star_bundle.specs.declared.error.ServeError.{ServeError}
-use Rattle.star_bundle.proofs.Labels.{is_no_label, is_some_label}
 use Rattle.star_words.specs.Named.{AllLabels, AreAsked, Names, AreNamed}
 use Rattle.star_words.specs.Rows.{IsIn}
 use Rattle.star_words.proofs.Members.{in_back, in_either, in_front}
-
-abbrev given : Option (List ℕ) → Result (Option (List ℕ)) ServeError
-given o = Ok o
-
--- the answer of `label_in` for a text
-pub is_none : (t : List ℕ) (o : Option Label) → option_map text_of o ≡ if_label t → o ≡ None → is_label t ≡ false
-is_none t o h e = is_no_label t t o (ap given (sym h)) e refl
-
-pub is_some : (t : List ℕ) (o : Option Label) (l : Label) → option_map text_of o ≡ if_label t → o ≡ Some l → (is_label t ≡ true) × (text_of l ≡ t)
-is_some t o l h e = is_some_label t t o l (ap given (sym h)) e refl
 
 -- one text more
 pub all_more : (ts : List (List ℕ)) (t : List ℕ) → AllLabels ts → is_label t ≡ true → AllLabels (ts ++ t ∷ [])

@@ -2,34 +2,15 @@
 
 ghost use Rattle.std.specs.Prelude.{◌≡◌, ◌↔◌, ◌⊎◌, ℕ, List, IfOk, IfErr, MatchOption, option_map, string_bytes, true};
 ghost use Rattle.star_bundle.specs.Bundle.{is_label};
-ghost use Rattle.star_bundle.specs.View.{if_label};
-ghost use Rattle.star_label.specs.View.{text_of};
 ghost use Rattle.star_words.specs.Named.{AllLabels, AreAsked, IsMisnamed, OneIsNone, texts_of};
 ghost use Rattle.star_words.specs.Rows.{IsIn};
 ghost use Rattle.star_words.specs.Named.{labels_of};
 
+use star_bundle::bundle::normal_label;
 use star_bundle::error::ServeError;
-use star_label::error::LabelError;
 use star_label::label::Label;
 use std::alloc::{AllocError, Global};
 use std::collections::BTreeSet;
-
-/// The label whose normal form a text is; `None` for another text.
-fn label_in(alloc: Global, text: &str) -> Result<Option<Label>, AllocError>
-    ensures { IfOk result (λ label. option_map text_of label ≡ if_label text.now) }
-{
-    match Label::read(alloc, text, "") {
-        Ok(label) => {
-            if label.text() == text {
-                Ok(Some(label))
-            } else {
-                Ok(None)
-            }
-        }
-        Err(LabelError::BadLabel) => Ok(None),
-        Err(_) => Err(AllocError),
-    }
-}
 
 /// Puts a label among others. False if the text is not a label in normal form.
 fn add_label(alloc: Global, labels: &mut BTreeSet<Label>, text: &str) -> Result<bool, AllocError>
@@ -37,7 +18,7 @@ fn add_label(alloc: Global, labels: &mut BTreeSet<Label>, text: &str) -> Result<
     ensures added { IfOk result (λ is. is ≡ true → (m : List ℕ) → IsIn m (labels_of labels.new.keys)
         ↔ (IsIn m (labels_of labels.old.keys) ⊎ (m ≡ text.now))) }
 {
-    let Some(label) = label_in(alloc, text)? else {
+    let Some(label) = normal_label(alloc, text)? else {
         return Ok(false);
     };
     labels.insert(label)?;

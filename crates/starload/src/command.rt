@@ -11,7 +11,7 @@ use star_serve::serve::{Form, Options, Output, Wanted};
 use std::alloc::{AllocError, Global};
 
 /// The words of `--version` after the program's name: its version, and the kit that proved it.
-const VERSION: &str = "1.5.0 (rattle-kit-13f logic dac8208d650f15bf)";
+const VERSION: &str = "1.6.0 (rattle-kit-13f logic dac8208d650f15bf)";
 
 /// The end of the help, after the options.
 const EXAMPLE: &str =
@@ -405,7 +405,7 @@ fn form_of(matches: &ArgMatches<'_>, errors: Errors) -> Option<Form>
 }
 
 /// The options that the words of the command line give: the roots in their order, and nothing that shows how far the run
-/// is. `Memory` where a growth was refused.
+/// is. `Memory` if an allocation failed.
 pub fn options(
     alloc: Global,
     matches: &ArgMatches<'_>,
@@ -451,5 +451,6 @@ pub fn options(
         dir: value_of(alloc, matches, "dir")?,
         explain: form_of(matches, errors),
         progress: None,
+        seed: 0,
     })
 }

@@ -32,6 +32,7 @@ use star_serve::dir::serve_dir;
 use star_serve::ends::{CountedReader, CountedWriter, KeptReader};
 use star_serve::serve::{Options, serve};
 use std::alloc::{AllocError, Global};
+use std::hash::{BuildHasher, RandomState};
 use std::io::IsTerminal;
 use std::process::ExitCode;
 use std::sync::Wait;
@@ -45,7 +46,7 @@ fn refuse(rt: &HostRuntime, text: &str) -> ExitCode {
     ExitCode::from(2)
 }
 
-/// The text on a command line that could not be had.
+/// The message for arguments that cannot be read.
 fn text_of(error: &io::Error) -> &'static str {
     if error.kind() == io::ErrorKind::OutOfMemory {
         ServeError::Memory.text()
@@ -76,6 +77,14 @@ fn say(rt: &HostRuntime, error: &clap::Error) -> ExitCode {
             let _ = rt.eprint(error);
             ExitCode::from(2)
         }
+    }
+}
+
+/// The seed for the hashes of keys, drawn at random: 0 if the system has none to give.
+fn seed_of(rt: &HostRuntime) -> u64 {
+    match RandomState::new(rt) {
+        Ok(state) => state.hash_one(0u8),
+        Err(_) => 0,
     }
 }
 
@@ -253,10 +262,11 @@ fn main(rt: HostRuntime) -> ExitCode {
         return explain_code(&rt, code);
     }
     let errors = errors_of(&rt);
-    let options = match options(alloc, &matches, errors) {
+    let mut options = match options(alloc, &matches, errors) {
         Ok(options) => options,
         Err(_) => return refuse(&rt, ServeError::Memory.text()),
     };
+    options.seed = seed_of(&rt);
     if matches.get_flag("requests") {
         let keep = matches.get_one::<u32>("keep").unwrap_or(268_435_456);
         return answer_requests(&rt, &rt, alloc, options, keep, matches.get_str("repo"));

@@ -54,6 +54,7 @@ pub(crate) fn answer_requests<H: Threads + Wait + Sync>(
     let Options {
         loaders,
         steps,
+        seed,
         prelude,
         output,
         ..
@@ -69,6 +70,7 @@ pub(crate) fn answer_requests<H: Threads + Wait + Sync>(
     };
     let settings = Settings {
         loaders,
+        seed,
         keep: keep as usize,
         defaults: Defaults {
             origin,

@@ -1,7 +1,7 @@
 //! The indexes of an arena's dictionaries, and how they follow each write.
 //!
-//! An index is tried when a cell is made, and when the number of entries is a power of two, so failed attempts cost at
-//! most twice the entries.
+//! An index is tried when a cell is made, and when a new key makes the number of entries a power of two. Each new key
+//! allows the arena to go through eight entries more, so all attempts together cost no more than the keys do.
 
 ghost use Rattle.std.specs.Prelude.{◌≡◌, ◌≤◌, ◌+◌, ℕ, List, [], Some, None, map, max, length, IfSome, OnOk, ◌⊎◌, option_and_then};
 ghost use Rattle.std.specs.Bool.{OnTrue};
@@ -22,6 +22,9 @@ const FEW: usize = 8;
 /// A new dictionary gets one if it has this many entries: it may be read a few times only.
 const MANY: usize = 16;
 
+/// Each new key pays for so many entries that are gone through to make an index. A dictionary that grows asks for two.
+const ALLOWED: usize = 8;
+
 impl Arena {
     /// The number of entries of the dictionary at an address; 0 if there is no dictionary there.
     fn entry_count(&self, at: u32) -> usize {
@@ -38,13 +41,18 @@ impl Arena {
         matches!(self.rows.get(at as usize), Some(Some(_)))
     }
 
-    /// Makes an index of the dictionary at an address if it lacks one and is due. A dictionary some of whose keys have
-    /// none is gone through no more often than it doubles.
-    pub(crate) fn index_if_due(&mut self, at: u32)
+    /// Makes an index of the dictionary at an address that has got a new key, if it lacks one, is due, and new keys have
+    /// paid for it.
+    pub(crate) fn index_if_due(&mut self, at: u32, has_new_key: bool)
         ensures { self.new ≡ self.old }
     {
+        if !has_new_key {
+            return;
+        }
+        self.allowed = self.allowed.saturating_add(ALLOWED);
         let count = self.entry_count(at);
-        if count >= FEW && count.is_power_of_two() && !self.has_index(at) {
+        if count >= FEW && count.is_power_of_two() && count <= self.allowed && !self.has_index(at) {
+            self.allowed -= count;
             self.add_index(at);
         }
     }
@@ -128,7 +136,7 @@ fn index_of(arena: &Arena, entries: &Entries) -> Option<KeyIndex>
     ensures { IfSome result (λ index. entries_by arena.now entries.now ≡ map Some index) }
 {
     let homes = Homes::new(arena.alloc);
-    let mut index = KeyIndex::with_capacity(arena.alloc, entries.len()).ok()?;
+    let mut index = KeyIndex::with_capacity(arena.alloc, entries.len(), arena.state).ok()?;
     let are_few = entries.len() < FEW_FAR;
     for entry in entries.as_slice() {
         if !index.push(arena.early_entry(&homes, entry.0, are_few)?) {

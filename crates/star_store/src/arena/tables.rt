@@ -138,7 +138,7 @@ impl Arena {
         ensures { IfOk result (λ rows. AreRowsUpTo (look self.now homes.now) home count
             rows.contents rows.addresses.items) }
     {
-        let mut rows = Rows::new(self.alloc)?;
+        let mut rows = Rows::new(self.alloc, self.state)?;
         for at in 0..count {
             self.add_key(homes, home, at, &mut rows)?;
         }

@@ -175,7 +175,7 @@ impl Arena {
         let content = self.new_content(at, change, place);
         let old = change_at(&mut self.cells, at, change, place)?;
         change_row(&mut self.rows, at, change, place, content);
-        self.index_if_due(at);
+        self.index_if_due(at, place.is_none());
         Ok(old)
     }
 }

@@ -1,8 +1,6 @@
-use Rattle.std.proofs.Common.{◌≡◌, List, Option, None, sym, subst}
-use Rattle.star_outcome.specs.GoodEnds.{AreGoodEndsOf}
+use Rattle.std.proofs.Common.{None}
 use Rattle.host_tests.proofs.again.run_again.Goals as goal
 
 pub run_with-requires-clause-ends : goal.run_with-requires-clause-ends
 run_with-requires-clause-ends g c = λ lives within.
-    subst (AreGoodEndsOf c.args.files.now c.args.roots.now None 100000) (sym c.as_slice.ensures.value)
-    (c.in_ok-ends.ensures.again c.args.files.now c.args.roots.now None 100000 c.len.ensures.ordered c.requires.modules)
+    c.in_ok-ends.ensures.again c.args.files.now c.args.roots.now None 100000 c.len.ensures.ordered c.requires.modules

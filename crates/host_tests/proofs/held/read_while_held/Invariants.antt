@@ -7,6 +7,6 @@ ghosts-read_and_load-J-Ledger g a = record { name = a.blank.name; parts = a.blan
 abbrev pub ghosts-read_and_load-J-Naming : goal.ghosts-read_and_load-J-Naming
 ghosts-read_and_load-J-Naming g a = record {
   files = a.common.now.files.now;
-  plan = plan_in a.roots.now a.common.now;
+  plan = plan_in a.common.now;
   shelf = a.common.now.modules.now;
 }

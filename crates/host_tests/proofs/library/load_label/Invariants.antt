@@ -7,6 +7,6 @@ ghosts-load_first-J-Ledger g a = record { name = a.blank.name; parts = a.blank.p
 abbrev pub ghosts-load_first-J-Naming : goal.ghosts-load_first-J-Naming
 ghosts-load_first-J-Naming g a = record {
   files = a.common.now.files.now;
-  plan = plan_in a.roots.now a.common.now;
+  plan = plan_in a.common.now;
   shelf = a.common.now.modules.now;
 }

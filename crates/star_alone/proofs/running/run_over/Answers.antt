@@ -1,4 +1,4 @@
-use Rattle.std.proofs.Common.{IfOk, refl, subst}
+use Rattle.std.proofs.Common.{IfOk, subst}
 use Rattle.star_plan.specs.Reading.{IsPlanOf}
 use Rattle.star_outcome.specs.Kept.{AllKept}
 use Rattle.star_host.specs.Worlds.{plan_in}
@@ -11,13 +11,13 @@ returns-clause-kept c = subst (λ ms. IfOk c.run_named.result (λ x. AllKept ms 
 
 pub returns-clause-modules : goal.returns-clause-modules
 returns-clause-modules c =
-    let plan = plan_in c.args.roots.now c.new-common.result in
-    if_ok c.run_named.result (λ x all. (plan, subst (λ fs. IsPlanOf fs plan) c.new-common.ensures.files c.new-common.ensures.world.planned, refl, c.new-common.ensures.prelude, c.new-common.ensures.steps, all)) c.run_named.ensures.modules
+    let plan = plan_in c.new-common.result in
+    if_ok c.run_named.result (λ x all. (plan, subst (λ fs. IsPlanOf fs plan) c.new-common.ensures.files c.new-common.ensures.world.planned, c.new-common.ensures.roots, c.new-common.ensures.prelude, c.new-common.ensures.steps, all)) c.run_named.ensures.modules
 
 pub returns-clause-refused : goal.returns-clause-refused
 returns-clause-refused c =
-    let plan = plan_in c.args.roots.now c.new-common.result in
-    if_ok c.run_named.result (λ x all. (plan, subst (λ fs. IsPlanOf fs plan) c.new-common.ensures.files c.new-common.ensures.world.planned, refl, c.new-common.ensures.prelude, c.new-common.ensures.steps, all)) c.run_named.ensures.refused
+    let plan = plan_in c.new-common.result in
+    if_ok c.run_named.result (λ x all. (plan, subst (λ fs. IsPlanOf fs plan) c.new-common.ensures.files c.new-common.ensures.world.planned, c.new-common.ensures.roots, c.new-common.ensures.prelude, c.new-common.ensures.steps, all)) c.run_named.ensures.refused
 
 pub new-common-requires-clause-ends : goal.new-common-requires-clause-ends
-new-common-requires-clause-ends c = no_ends c.args.files.now c.args.roots.now c.args.prelude c.args.steps
+new-common-requires-clause-ends c = no_ends c.args.files.now c.args.options.roots.now c.args.options.prelude c.args.options.steps

@@ -7,6 +7,6 @@ ghosts-run_named-J-Ledger a = record { name = 0; parts = 1 }
 abbrev pub ghosts-run_named-J-Naming : goal.ghosts-run_named-J-Naming
 ghosts-run_named-J-Naming a = record {
   files = a.common.now.files.now;
-  plan = plan_in a.roots.now a.common.now;
+  plan = plan_in a.common.now;
   shelf = a.common.now.modules.now;
 }

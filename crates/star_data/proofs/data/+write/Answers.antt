@@ -7,7 +7,7 @@ use Rattle.serde_json.specs.Data.{array, object}
 use Rattle.star_store.specs.declared.values.Value.{Value}
 use Rattle.star_store.specs.declared.values.Value.TheVariants.{NoneValue}
 use Rattle.star_store.specs.declared.values.Cell.TheVariants as cell
-use Rattle.star_store.specs.Store.{look}
+use Rattle.star_data.specs.Stores.{look_in}
 use Rattle.star_data.specs.Data.{cell_data, cell_of, data_of, entries_data, int_data, key_in, value_data}
 use Rattle.star_data.specs.Paths.{AllStandInEach, StandsInEach}
 use Rattle.star_data.specs.Rows.{IsRowOf}
@@ -21,30 +21,30 @@ is_data-write_value-requires t c = (omega arith, c.requires)
 
 pub write_cell-write_items-requires : goal.write_cell-write_items-requires
 write_cell-write_items-requires t c =
-    let see = look c.args.arena.now c.args.homes.now in
+    let see = look_in c.args.stores.now in
     let xs = c.as_slice.result.now in
     let is : cell_of see c.args.value ≡ Some (cell.Tuple xs) = search rules in
     (omega arith, in_a_tuple see c.args.path.now.items c.args.value xs is c.requires.path)
 
 pub write_list-returns-then-is_within-clause-data : goal.write_list-returns-then-is_within-clause-data
 write_list-returns-then-is_within-clause-data t c =
-    let see = look c.args.arena.now c.args.homes.now in
+    let see = look_in c.args.stores.now in
     sends_none _ _ _ (no_cell_data see c.args.levels c.args.path.now.items c.args.value (cell.List c.args.items.now) c.requires.cell c.requires.path (cc (c.deref.ensures.value, c.is_within.ensures, c.if-is_within.true)))
 
 pub write_list-write_items-requires : goal.write_list-write_items-requires
 write_list-write_items-requires t c =
-    let see = look c.args.arena.now c.args.homes.now in
+    let see = look_in c.args.stores.now in
     let xs = c.args.items.now in
     (omega arith, subst (λ p. AllStandInEach see p xs) (sym c.in_ok-push.ensures.items) (in_a_list see c.args.path.now.items c.args.value xs c.requires.cell c.requires.path))
 
 pub write_dict-returns-then-is_within-clause-data : goal.write_dict-returns-then-is_within-clause-data
 write_dict-returns-then-is_within-clause-data t c =
-    let see = look c.args.arena.now c.args.homes.now in
+    let see = look_in c.args.stores.now in
     sends_none _ _ _ (no_cell_data see c.args.levels c.args.path.now.items c.args.value (cell.Dict c.args.entries.now) c.requires.cell c.requires.path (cc (c.deref.ensures.value, c.is_within.ensures, c.if-is_within.true)))
 
 pub write_dict-write_entries-requires : goal.write_dict-write_entries-requires
 write_dict-write_entries-requires t c =
-    let see = look c.args.arena.now c.args.homes.now in
+    let see = look_in c.args.stores.now in
     let es = c.args.entries.now in
     (omega arith, subst (λ p. AllStandInEach see p (map (λ e. e.1) es)) (sym c.in_ok-push.ensures.items) (in_a_dict see c.args.path.now.items c.args.value es c.requires.cell c.requires.path))
 
@@ -52,7 +52,7 @@ write_dict-write_entries-requires t c =
 
 pub write_items-loop-item-init : goal.write_items-loop-item-init
 write_items-loop-item-init t c =
-    let f = data_of (look c.args.arena.now c.args.homes.now) c.args.levels in
+    let f = data_of (look_in c.args.stores.now) c.args.levels in
     record {
       path = search rules;
       before = search rules;
@@ -61,7 +61,7 @@ write_items-loop-item-init t c =
 
 pub write_items-write_value-requires : goal.write_items-write_value-requires
 write_items-write_value-requires t c =
-    let see = look c.args.arena.now c.args.homes.now in
+    let see = look_in c.args.stores.now in
     let xs = c.args.items.now in
     let i = c.loop-item.item-index in
     let less : i < length xs = omega (arith, c.loop-item-test.true, c.loop-item.auto.item-index-end) in
@@ -69,7 +69,7 @@ write_items-write_value-requires t c =
 
 pub write_items-returns-then-not-branch-clause-data : goal.write_items-returns-then-not-branch-clause-data
 write_items-returns-then-not-branch-clause-data t c =
-    let see = look c.args.arena.now c.args.homes.now in
+    let see = look_in c.args.stores.now in
     let f = data_of see c.args.levels in
     let xs = c.args.items.now in
     let i = c.loop-item.item-index in
@@ -79,7 +79,7 @@ write_items-returns-then-not-branch-clause-data t c =
 
 pub write_items-loop-item-preserved : goal.write_items-loop-item-preserved
 write_items-loop-item-preserved t c =
-    let see = look c.args.arena.now c.args.homes.now in
+    let see = look_in c.args.stores.now in
     let f = data_of see c.args.levels in
     let xs = c.args.items.now in
     let i = c.loop-item.item-index in
@@ -95,7 +95,7 @@ write_items-loop-item-preserved t c =
 
 pub write_items-returns-clause-data : goal.write_items-returns-clause-data
 write_items-returns-clause-data t c =
-    let f = data_of (look c.args.arena.now c.args.homes.now) c.args.levels in
+    let f = data_of (look_in c.args.stores.now) c.args.levels in
     let xs = c.args.items.now in
     let i = c.loop-item.item-index in
     let whole : take i xs ≡ xs = take_all i xs (omega (arith, c.loop-item-test.false, c.loop-item.auto.item-index-end)) in
@@ -106,14 +106,14 @@ write_items-returns-clause-data t c =
 
 pub write_entries-write_row-requires : goal.write_entries-write_row-requires
 write_entries-write_row-requires t c =
-    let see = look c.args.arena.now c.args.homes.now in
+    let see = look_in c.args.stores.now in
     let es = c.args.entries.now in
     let row : IsRowOf see es c.in-Some.row.items = subst (λ o. IfSome o (λ row. IsRowOf see es row.items)) c.in-Some.is c.in_ok-row.ensures in
     (omega arith, subst (λ ms. AllStandInEach see c.args.path.now.items (map (λ e. e.1) ms)) (sym c.deref.ensures.value) (row.stand c.args.path.now.items c.requires))
 
 pub write_entries-returns-in-Some-clause-data : goal.write_entries-returns-in-Some-clause-data
 write_entries-returns-in-Some-clause-data t c =
-    let see = look c.args.arena.now c.args.homes.now in
+    let see = look_in c.args.stores.now in
     let f = data_of see c.args.levels in
     let es = c.args.entries.now in
     let row : IsRowOf see es c.in-Some.row.items = subst (λ o. IfSome o (λ row. IsRowOf see es row.items)) c.in-Some.is c.in_ok-row.ensures in
@@ -122,7 +122,7 @@ write_entries-returns-in-Some-clause-data t c =
 
 pub write_many-loop-i-init : goal.write_many-loop-i-init
 write_many-loop-i-init t c =
-    let see = look c.args.arena.now c.args.homes.now in
+    let see = look_in c.args.stores.now in
     let f = data_of see c.args.levels in
     let es = c.args.entries.now in
     let blank : c.new-members.result.entries ≡ [] = c.new-members.ensures.empty in
@@ -135,7 +135,7 @@ write_many-loop-i-init t c =
 
 pub write_many-returns-in_default-clause-data : goal.write_many-returns-in_default-clause-data
 write_many-returns-in_default-clause-data t c =
-    let see = look c.args.arena.now c.args.homes.now in
+    let see = look_in c.args.stores.now in
     let f = data_of see c.args.levels in
     let es = c.args.entries.now in
     let i = c.loop-i.i - 1 in
@@ -146,13 +146,13 @@ write_many-returns-in_default-clause-data t c =
 
 pub write_many-is_data-requires : goal.write_many-is_data-requires
 write_many-is_data-requires t c =
-    let see = look c.args.arena.now c.args.homes.now in
+    let see = look_in c.args.stores.now in
     let there = sym c.in_ok-hidden.ensures.old ∙ c.in-Some-hidden.is in
     (omega arith, subst (λ p. StandsInEach see p c.in-Some-hidden.hidden) (sym c.loop-i.invariant.path) (found_stands see c.args.path.now.items c.in-Some.key c.loop-i.members.entries c.in-Some-hidden.hidden there c.loop-i.invariant.stand))
 
 pub write_many-returns-then-not-branch-clause-data : goal.write_many-returns-then-not-branch-clause-data
 write_many-returns-then-not-branch-clause-data t c =
-    let see = look c.args.arena.now c.args.homes.now in
+    let see = look_in c.args.stores.now in
     let f = data_of see c.args.levels in
     let es = c.args.entries.now in
     let there = sym c.in_ok-hidden.ensures.old ∙ c.in-Some-hidden.is in
@@ -162,7 +162,7 @@ write_many-returns-then-not-branch-clause-data t c =
 
 pub write_many-loop-i-preserved-else-not-branch : goal.write_many-loop-i-preserved-else-not-branch
 write_many-loop-i-preserved-else-not-branch t c =
-    let see = look c.args.arena.now c.args.homes.now in
+    let see = look_in c.args.stores.now in
     let f = data_of see c.args.levels in
     let es = c.args.entries.now in
     let i = c.loop-i.i - 1 in
@@ -182,7 +182,7 @@ write_many-loop-i-preserved-else-not-branch t c =
 
 pub write_many-loop-i-preserved : goal.write_many-loop-i-preserved
 write_many-loop-i-preserved t c =
-    let see = look c.args.arena.now c.args.homes.now in
+    let see = look_in c.args.stores.now in
     let f = data_of see c.args.levels in
     let es = c.args.entries.now in
     let i = c.loop-i.i - 1 in
@@ -201,12 +201,12 @@ write_many-loop-i-preserved t c =
 
 pub write_many-write_members-requires : goal.write_many-write_members-requires
 write_many-write_members-requires t c =
-    let see = look c.args.arena.now c.args.homes.now in
+    let see = look_in c.args.stores.now in
     (omega arith, subst (λ p. AllStandInEach see p (map (λ e. e.1) c.loop-i.members.entries)) (sym c.loop-i.invariant.path) c.loop-i.invariant.stand)
 
 pub write_many-returns-clause-data : goal.write_many-returns-clause-data
 write_many-returns-clause-data t c =
-    let see = look c.args.arena.now c.args.homes.now in
+    let see = look_in c.args.stores.now in
     let f = data_of see c.args.levels in
     let es = c.args.entries.now in
     let none_left : c.loop-i.i ≡ 0 = omega (arith, c.loop-i-test.false) in
@@ -217,7 +217,7 @@ write_many-returns-clause-data t c =
 
 pub write_members-loop-key-init : goal.write_members-loop-key-init
 write_members-loop-key-init t c =
-    let see = look c.args.arena.now c.args.homes.now in
+    let see = look_in c.args.stores.now in
     let f = data_of see c.args.levels in
     let all : c.into_iter-key-iterator.result ≡ c.args.members.now.entries = search rules in
     record {
@@ -229,20 +229,20 @@ write_members-loop-key-init t c =
 
 pub write_members-write_value-requires : goal.write_members-write_value-requires
 write_members-write_value-requires t c =
-    let see = look c.args.arena.now c.args.homes.now in
+    let see = look_in c.args.stores.now in
     let step = c.in-Some.ensures.steps in
     let stand : AllStandInEach see c.args.path.now.items (map (λ e. e.1) ((c.in-Some.key.now, c.in-Some.value.now) ∷ c.next.new.self)) = subst (λ left. AllStandInEach see c.args.path.now.items (map (λ e. e.1) left)) step c.loop-key.invariant.stand in
     (omega arith, subst (λ p. StandsInEach see p c.in-Some.value.now) (sym c.loop-key.invariant.path) (stand.all 0 c.in-Some.value.now refl))
 
 pub write_members-returns-then-not-branch-clause-data : goal.write_members-returns-then-not-branch-clause-data
 write_members-returns-then-not-branch-clause-data t c =
-    let f = data_of (look c.args.arena.now c.args.homes.now) c.args.levels in
+    let f = data_of (look_in c.args.stores.now) c.args.levels in
     let none : f c.in-Some.value.now ≡ None = none_sent _ _ _ _ c.in_ok-write_value.ensures.data (search rules) in
     sends_none _ _ _ (ap (option_map object) (members_none f c.args.members.now.entries (c.in-Some.key.now, c.in-Some.value.now) c.next.new.self c.loop-key.key-iterator c.args.out.now.tokens c.loop-key.out.tokens c.loop-key.invariant.sent c.in-Some.ensures.steps none))
 
 pub write_members-loop-key-preserved : goal.write_members-loop-key-preserved
 write_members-loop-key-preserved t c =
-    let see = look c.args.arena.now c.args.homes.now in
+    let see = look_in c.args.stores.now in
     let f = data_of see c.args.levels in
     let e : Bor (List ℕ) × Value = (c.in-Some.key.now, c.in-Some.value.now) in
     let step = c.in-Some.ensures.steps in
@@ -257,7 +257,7 @@ write_members-loop-key-preserved t c =
 
 pub write_members-returns-clause-data : goal.write_members-returns-clause-data
 write_members-returns-clause-data t c =
-    let f = data_of (look c.args.arena.now c.args.homes.now) c.args.levels in
+    let f = data_of (look_in c.args.stores.now) c.args.levels in
     members_end f c.args.members.now.entries c.loop-key.key-iterator c.args.out.now.tokens c.loop-key.out.tokens c.end_object.new.self.tokens c.loop-key.invariant.sent c.in-None.ensures.steps.0 (search rules)
 
 -- ---- a row
@@ -268,7 +268,7 @@ no_member = (record { ref_ptr = (0, 0); now = [] }, NoneValue)
 
 pub write_row-loop-member-init : goal.write_row-loop-member-init
 write_row-loop-member-init t c =
-    let f = data_of (look c.args.arena.now c.args.homes.now) c.args.levels in
+    let f = data_of (look_in c.args.stores.now) c.args.levels in
     record {
       path = search rules;
       before = search rules;
@@ -277,7 +277,7 @@ write_row-loop-member-init t c =
 
 pub write_row-write_value-requires : goal.write_row-write_value-requires
 write_row-write_value-requires t c =
-    let see = look c.args.arena.now c.args.homes.now in
+    let see = look_in c.args.stores.now in
     let es = c.args.row.now in
     let i = c.loop-member.member-index in
     let e = get_or es i no_member in
@@ -286,7 +286,7 @@ write_row-write_value-requires t c =
 
 pub write_row-returns-then-not-branch-clause-data : goal.write_row-returns-then-not-branch-clause-data
 write_row-returns-then-not-branch-clause-data t c =
-    let f = data_of (look c.args.arena.now c.args.homes.now) c.args.levels in
+    let f = data_of (look_in c.args.stores.now) c.args.levels in
     let es = c.args.row.now in
     let i = c.loop-member.member-index in
     let e = get_or es i no_member in
@@ -296,7 +296,7 @@ write_row-returns-then-not-branch-clause-data t c =
 
 pub write_row-loop-member-preserved : goal.write_row-loop-member-preserved
 write_row-loop-member-preserved t c =
-    let f = data_of (look c.args.arena.now c.args.homes.now) c.args.levels in
+    let f = data_of (look_in c.args.stores.now) c.args.levels in
     let es = c.args.row.now in
     let i = c.loop-member.member-index in
     let e = get_or es i no_member in
@@ -310,7 +310,7 @@ write_row-loop-member-preserved t c =
 
 pub write_row-returns-clause-data : goal.write_row-returns-clause-data
 write_row-returns-clause-data t c =
-    let f = data_of (look c.args.arena.now c.args.homes.now) c.args.levels in
+    let f = data_of (look_in c.args.stores.now) c.args.levels in
     let es = c.args.row.now in
     let i = c.loop-member.member-index in
     let none_left : drop i es ≡ [] = drop_all i es (omega (arith, c.loop-member-test.false, c.loop-member.auto.member-index-end)) in
@@ -320,34 +320,34 @@ write_row-returns-clause-data t c =
 
 pub write_value-returns-then-levels-eq0-clause-data : goal.write_value-returns-then-levels-eq0-clause-data
 write_value-returns-then-levels-eq0-clause-data t c =
-    let see = look c.args.arena.now c.args.homes.now in
+    let see = look_in c.args.stores.now in
     sends_none _ _ _ (ap (λ n. data_of see n c.args.value) c.if-levels-eq0.true ∙ data_at_none see c.args.value)
 
 pub write_value-returns-in_ok-null-in-NoneValue-clause-data : goal.write_value-returns-in_ok-null-in-NoneValue-clause-data
 write_value-returns-in_ok-null-in-NoneValue-clause-data t c =
-    let see = look c.args.arena.now c.args.homes.now in
+    let see = look_in c.args.stores.now in
     sends_some _ _ _ _ (data_at see c.args.levels c.args.value (omega arith) ∙ ap (value_data see (data_of see (c.args.levels - 1))) c.in-NoneValue.is) (search rules)
 
 pub write_value-returns-in_ok-boolean-in-Bool-clause-data : goal.write_value-returns-in_ok-boolean-in-Bool-clause-data
 write_value-returns-in_ok-boolean-in-Bool-clause-data t c =
-    let see = look c.args.arena.now c.args.homes.now in
+    let see = look_in c.args.stores.now in
     sends_some _ _ _ _ (data_at see c.args.levels c.args.value (omega arith) ∙ ap (value_data see (data_of see (c.args.levels - 1))) c.in-Bool.is) (search rules)
 
 pub write_value-returns-in-Int-clause-data : goal.write_value-returns-in-Int-clause-data
 write_value-returns-in-Int-clause-data t c =
-    let see = look c.args.arena.now c.args.homes.now in
+    let see = look_in c.args.stores.now in
     let is = sym (data_at see c.args.levels c.args.value (omega arith) ∙ ap (value_data see (data_of see (c.args.levels - 1))) c.in-Int.is) in
     let sent : IfOk c.write_int.result (λ b. Sends (int_data c.in-Int.number) b c.args.out.now.tokens c.write_int.new.out.tokens) = search rules in
     IfOk-weaker c.write_int.result _ _ (λ b h. sent_as _ _ b c.args.out.now.tokens c.write_int.new.out.tokens is h) sent
 
 pub write_value-returns-in-Builtin-clause-data : goal.write_value-returns-in-Builtin-clause-data
 write_value-returns-in-Builtin-clause-data t c =
-    let see = look c.args.arena.now c.args.homes.now in
+    let see = look_in c.args.stores.now in
     sends_none _ _ _ (data_at see c.args.levels c.args.value (omega arith) ∙ ap (value_data see (data_of see (c.args.levels - 1))) c.in-Builtin.is)
 
 pub write_value-returns-in-Ref-clause-data : goal.write_value-returns-in-Ref-clause-data
 write_value-returns-in-Ref-clause-data t c =
-    let see = look c.args.arena.now c.args.homes.now in
+    let see = look_in c.args.stores.now in
     let below = data_of see (c.args.levels - 1) in
     let is = ap (cell_data see below) c.read-cell.ensures ∙ (by_ref see below c.args.value c.in-Ref.home c.in-Ref.at c.in-Ref.is ∙ sym (data_at see c.args.levels c.args.value (omega arith))) in
     IfOk-weaker c.write_cell.result _ _ (λ b h. sent_as _ _ b c.args.out.now.tokens c.write_cell.new.out.tokens is h) c.write_cell.ensures.data

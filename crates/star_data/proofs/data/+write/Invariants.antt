@@ -1,5 +1,5 @@
 use Rattle.std.proofs.Common.{◌≡◌, ◌+◌, ◌*◌, drop, map, take}
-use Rattle.star_store.specs.Store.{look}
+use Rattle.star_data.specs.Stores.{look_in}
 use Rattle.star_data.specs.Data.{data_of, entries_data}
 use Rattle.star_data.specs.Paths.{AllStandInEach}
 use Rattle.star_data.specs.Texts.{row_data}
@@ -40,28 +40,28 @@ abbrev pub invariant-write_many-loop-i : goal.invariant-write_many-loop-i
 invariant-write_many-loop-i l = record {
   path : l.path.items ≡ l.fn.path.items;
   out : l.out ≡ l.fn.out;
-  row : entries_data (look l.arena l.homes) (data_of (look l.arena l.homes) l.levels) (drop l.i l.entries) ≡ row_data (data_of (look l.arena l.homes) l.levels) l.members.entries;
-  stand : AllStandInEach (look l.arena l.homes) l.fn.path.items (map (λ e. e.1) l.members.entries);
+  row : entries_data (look_in l.stores) (data_of (look_in l.stores) l.levels) (drop l.i l.entries) ≡ row_data (data_of (look_in l.stores) l.levels) l.members.entries;
+  stand : AllStandInEach (look_in l.stores) l.fn.path.items (map (λ e. e.1) l.members.entries);
 }
 
 abbrev pub invariant-write_items-loop-item : goal.invariant-write_items-loop-item
 invariant-write_items-loop-item l = record {
   path : l.path.items ≡ l.fn.path.items;
   before : l.out.before ≡ l.fn.out.before;
-  sent : SentItems (data_of (look l.arena l.homes) l.levels) (take l.item-index l.items) l.fn.out.tokens l.out.tokens;
+  sent : SentItems (data_of (look_in l.stores) l.levels) (take l.item-index l.items) l.fn.out.tokens l.out.tokens;
 }
 
 abbrev pub invariant-write_members-loop-key : goal.invariant-write_members-loop-key
 invariant-write_members-loop-key l = record {
   path : l.path.items ≡ l.fn.path.items;
   before : l.out.before ≡ l.fn.out.before;
-  sent : LeftMembers (data_of (look l.arena l.homes) l.levels) l.members.entries l.key-iterator l.fn.out.tokens l.out.tokens;
-  stand : AllStandInEach (look l.arena l.homes) l.fn.path.items (map (λ e. e.1) l.key-iterator);
+  sent : LeftMembers (data_of (look_in l.stores) l.levels) l.members.entries l.key-iterator l.fn.out.tokens l.out.tokens;
+  stand : AllStandInEach (look_in l.stores) l.fn.path.items (map (λ e. e.1) l.key-iterator);
 }
 
 abbrev pub invariant-write_row-loop-member : goal.invariant-write_row-loop-member
 invariant-write_row-loop-member l = record {
   path : l.path.items ≡ l.fn.path.items;
   before : l.out.before ≡ l.fn.out.before;
-  sent : LeftMembers (data_of (look l.arena l.homes) l.levels) l.row (drop l.member-index l.row) l.fn.out.tokens l.out.tokens;
+  sent : LeftMembers (data_of (look_in l.stores) l.levels) l.row (drop l.member-index l.row) l.fn.out.tokens l.out.tokens;
 }

@@ -1,7 +1,7 @@
 use Rattle.std.proofs.Common.{arith, rules, ◌≡◌, ◌<◌, ◌-◌, ◌∙◌, Some, None, ap, drop, get_or, if◌then◌else◌, length, subst, sym, true}
 use Rattle.std.specs.Option.{option_copied}
 use Rattle.star_store.specs.declared.values.Value.TheVariants.{NoneValue}
-use Rattle.star_store.specs.Store.{look}
+use Rattle.star_data.specs.Stores.{look_in}
 use Rattle.star_data.specs.Data.{cell_of, key_in}
 use Rattle.star_data.specs.Rows.{IsRowOf, put_new}
 use Rattle.star_data.proofs.Builds.{one_back}
@@ -10,7 +10,7 @@ use Rattle.star_data.proofs.data.few_members.Goals as goal
 
 pub loop-i-preserved : goal.loop-i-preserved
 loop-i-preserved c =
-    let see = look c.args.arena.now c.args.homes.now in
+    let see = look_in c.args.stores.now in
     let es = c.args.entries.now in
     let i = c.loop-i.i - 1 in
     let e = get_or es i (NoneValue, NoneValue) in
@@ -22,6 +22,6 @@ loop-i-preserved c =
 
 pub returns : goal.returns
 returns c =
-    let see = look c.args.arena.now c.args.homes.now in
+    let see = look_in c.args.stores.now in
     let none_left : c.loop-i.i ≡ 0 = omega (arith, c.loop-i-test.false) in
     subst (λ k. IsRowOf see (drop k c.args.entries.now) c.loop-i.row.items) none_left c.loop-i.invariant

@@ -1,9 +1,16 @@
-use Rattle.std.proofs.Common.{arith, rules, ◌≡◌, ◌<◌, ◌∙◌, ◌∷◌, ◌++◌, ◌+◌, [], Some, ap, suc, sym, subst, length, slice_index_or}
+use Rattle.std.proofs.Common.{arith, rules, ◌≡◌, ◌<◌, ◌∙◌, ◌∷◌, ◌++◌, ◌+◌, [], ℕ, List, Some, ap, suc, sym, subst, length, slice_index_or}
+use denote.Ref.{Bor}
 use Rattle.std.specs.Prelude.{slice_get}
 use Rattle.std.specs.List.{insert}
+use Rattle.star_store.specs.declared.values.Value.{Value}
 use Rattle.star_data.proofs.Builds.{at_place}
 use Rattle.star_data.proofs.Rows.{After, after_more, put_before, put_last, put_never}
+use Rattle.star_data.proofs.Sent.{Row}
 use Rattle.star_data.proofs.data.put_new.Goals as goal
+
+-- the entry at a place of a row that is as it was
+entry_at : (row es : Row) (i : ℕ) (e : Bor (List ℕ) × Value) → i < length es → row ≡ es → e ≡ slice_index_or row i e → slice_get es i ≡ Some e
+entry_at row es i e less same is = at_place es i e less ∙ ap Some (sym (is ∙ ap (λ xs. slice_index_or xs i e) same))
 
 pub returns-in-Less : goal.returns-in-Less
 returns-in-Less c =
@@ -11,7 +18,7 @@ returns-in-Less c =
     let i = c.loop-i.i in
     let e = c.index.result.now in
     let less : i < length es = search rules in
-    let at : slice_get es i ≡ Some e = at_place es i e less ∙ ap Some (sym (c.index.ensures ∙ ap (λ xs. slice_index_or xs i e) c.loop-i.invariant.row)) in
+    let at = entry_at c.loop-i.row.items es i e less c.loop-i.invariant.row c.index.ensures in
     let new : c.insert.new.self.items ≡ insert es i (c.args.key, c.args.value) = c.in_ok-insert-in-Less.ensures.items ∙ ap (λ xs. insert xs i (c.args.key, c.args.value)) c.loop-i.invariant.row in
     ap Some new ∙ sym (put_before c.args.key c.args.value es i e c.loop-i.invariant.after at (sym c.cmp.ensures ∙ c.in-Less.is))
 
@@ -21,7 +28,7 @@ returns-in-Equal c =
     let i = c.loop-i.i in
     let e = c.index.result.now in
     let less : i < length es = search rules in
-    let at : slice_get es i ≡ Some e = at_place es i e less ∙ ap Some (sym (c.index.ensures ∙ ap (λ xs. slice_index_or xs i e) c.loop-i.invariant.row)) in
+    let at = entry_at c.loop-i.row.items es i e less c.loop-i.invariant.row c.index.ensures in
     sym (put_never c.args.key c.args.value es i e c.loop-i.invariant.after at (sym c.cmp.ensures ∙ c.in-Equal.is))
 
 pub loop-i-preserved : goal.loop-i-preserved
@@ -30,7 +37,7 @@ loop-i-preserved c =
     let i = c.loop-i.i in
     let e = c.index.result.now in
     let less : i < length es = search rules in
-    let at : slice_get es i ≡ Some e = at_place es i e less ∙ ap Some (sym (c.index.ensures ∙ ap (λ xs. slice_index_or xs i e) c.loop-i.invariant.row)) in
+    let at = entry_at c.loop-i.row.items es i e less c.loop-i.invariant.row c.index.ensures in
     let next : suc i ≡ i + 1 = omega arith in
     record {
       row = c.loop-i.invariant.row;

@@ -2,4 +2,4 @@ use Rattle.star_host.proofs.Shared.{no_ends}
 use Rattle.star_host.proofs.running.run.Goals as goal
 
 pub run_in-requires-clause-ends : goal.run_in-requires-clause-ends
-run_in-requires-clause-ends g c = λ lives within. no_ends c.args.files.now c.args.roots.now c.args.prelude c.args.steps
+run_in-requires-clause-ends g c = λ lives within. no_ends c.args.files.now c.args.options.roots.now c.args.options.prelude c.args.options.steps

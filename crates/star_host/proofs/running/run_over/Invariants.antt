@@ -7,6 +7,6 @@ ghosts-run_named-J-Ledger g a = record { name = a.blank.name; parts = a.blank.pa
 abbrev pub ghosts-run_named-J-Naming : goal.ghosts-run_named-J-Naming
 ghosts-run_named-J-Naming g a = record {
   files = a.common.now.files.now;
-  plan = plan_in a.roots.now a.common.now;
+  plan = plan_in a.common.now;
   shelf = a.common.now.modules.now;
 }

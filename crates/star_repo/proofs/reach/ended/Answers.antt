@@ -1,4 +1,4 @@
-use Rattle.std.proofs.Common.{map, subst, sym}
+use Rattle.std.proofs.Common.{Some, ap, map, subst, sym, ◌∙◌}
 use Rattle.star_label.specs.Files.{file_of}
 use Rattle.star_repo.specs.Held.{Fits, Held}
 use Rattle.star_repo.specs.Parsed.{AreFilesParsed}
@@ -23,4 +23,6 @@ returns-clause-files c = λ said words d way none.
 
 pub returns-clause-parsed : goal.returns-clause-parsed
 returns-clause-parsed c = λ all.
-    subst (λ fs. AreFilesParsed fs c.in_ok-texts.parses.items) (sym c.in_ok-files.ensures) (files_parsed c.in_ok-texts.texts.entries c.in_ok-texts.parses.items (c.in_ok-texts.ensures.parsed all))
+    let parses = c.in_ok-texts.parses.items in
+    subst (λ row. AreFilesParsed c.in_ok-files.files row) (sym (c.in_ok-there.ensures ∙ ap (λ ps. map (λ p. Some p) ps) c.as_slice.ensures.value))
+    (subst (λ fs. AreFilesParsed fs (map (λ p. Some p) parses)) (sym c.in_ok-files.ensures) (files_parsed c.in_ok-texts.texts.entries parses (c.in_ok-texts.ensures.parsed all)))

@@ -11,8 +11,9 @@ pub returns-clause-world : goal.returns-clause-world
 returns-clause-world c =
     let row = c.as_slice.result.now in
     let same : row ≡ c.args.reads.now.all.items = c.as_slice.ensures.value in
-    let is : IsReadOf c.args.files.now c.args.roots.now c.args.prelude row = subst (IsReadOf c.args.files.now c.args.roots.now c.args.prelude) (sym same) c.requires.read in
-    let plan : Plan = record { roots = c.args.roots.now; prelude = c.args.prelude; steps = c.args.steps; reads = readings row } in
+    let o = c.args.options in
+    let is : IsReadOf c.args.files.now o.roots.now o.prelude row = subst (IsReadOf c.args.files.now o.roots.now o.prelude) (sym same) c.requires.read in
+    let plan : Plan = record { roots = o.roots.now; prelude = o.prelude; steps = o.steps; reads = readings row } in
     let planned = planned_so c.args.files.now is.0 row plan refl is.1 is.2 in
     record {
       files_are = refl;
@@ -25,7 +26,7 @@ returns-clause-world c =
       steps_are = refl;
       steps_fit = c.requires.steps;
       planned = planned;
-      placed = subst (ArePlaced c.args.files.now plan) (sym (subst (λ r. c.args.programs.now ≡ table_of r) (sym same) c.requires.programs)) (placed_so c.args.files.now c.args.roots.now is.0 row plan refl is.1 is.2);
+      placed = subst (ArePlaced c.args.files.now plan) (sym (subst (λ r. c.args.programs.now ≡ table_of r) (sym same) c.requires.programs)) (placed_so c.args.files.now o.roots.now is.0 row plan refl is.1 is.2);
       ends_are = c.requires.ends plan planned refl refl refl;
     }
 
@@ -33,8 +34,9 @@ pub returns-clause-within : goal.returns-clause-within
 returns-clause-within c =
     let row = c.as_slice.result.now in
     let same : row ≡ c.args.reads.now.all.items = c.as_slice.ensures.value in
-    let is : IsReadOf c.args.files.now c.args.roots.now c.args.prelude row = subst (IsReadOf c.args.files.now c.args.roots.now c.args.prelude) (sym same) c.requires.read in
+    let o = c.args.options in
+    let is : IsReadOf c.args.files.now o.roots.now o.prelude row = subst (IsReadOf c.args.files.now o.roots.now o.prelude) (sym same) c.requires.read in
     closed_within c.args.files.now _ row refl is.2.sized is.2.closed
 
-pub returns-clause-roots : goal.returns-clause-roots
-returns-clause-roots c = roots_asked c.args.files.now _ c.args.roots.now (returns-clause-within c) refl
+pub returns-clause-asked : goal.returns-clause-asked
+returns-clause-asked c = roots_asked c.args.files.now _ c.args.options.roots.now (returns-clause-within c) refl

@@ -8,7 +8,7 @@ pub returns-in-Some-Some : goal.returns-in-Some-Some
 returns-in-Some-Some c = λ m.
     let look = c.in-Some-Some.ensures.lookup in
     record {
-      text = c.has_text.ensures c.if-not-has_text.false;
+      text = c.has_text.ensures.text c.if-not-has_text.false;
       end = c.in-Some-Some.end;
       kept = subst (λ xs. slice_get xs c.args.n ≡ Some (Some c.in-Some-Some.end)) c.deref.ensures.value (in_place c.deref.result.now c.args.n _ c.in-Some-Some.end look.3.0 (sym look.1 ∙ c.in-Some-Some.field-0-is));
       loads = sym (ap (list_all (is_marked c.args.marks.now)) c.deref-in-Some-Some.ensures.value) ∙ sym c.are_marked.ensures ∙ m;

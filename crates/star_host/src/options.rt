@@ -1,0 +1,32 @@
+//! What a run is asked for, how it is done, and what is known before it.
+
+use star_outcome::good_end::GoodEnd;
+use star_reading::parses::Parsed;
+use star_reading::reading::Trees;
+
+/// What a run is asked for, and how it is done.
+#[derive(Clone, Copy)]
+pub struct RunOptions<'a> {
+    /// The files that are asked for, by their numbers.
+    pub roots: &'a [usize],
+    /// The file whose names every other file sees.
+    pub prelude: Option<usize>,
+    /// How many loaders there are, from 1 to 64.
+    pub loaders: usize,
+    /// How many steps each body may take, from 1 to 100,000,000.
+    pub steps: u32,
+    /// The seed for the hashes of keys. No answer depends on it: if it differs from run to run, nobody who writes a
+    /// file can choose keys that all collide.
+    pub seed: u64,
+}
+
+/// What is known of the files before a run.
+#[derive(Clone, Copy)]
+pub struct Known<'k, 't> {
+    /// Where the trees of the other files are put.
+    pub trees: &'t Trees,
+    /// The results of parsing texts, by the numbers of their files: these are not parsed again.
+    pub parses: &'k [Option<Parsed<'t>>],
+    /// Good ends, by the numbers of their files: these files are not run again, but loaded and published as ever.
+    pub ends: &'k [Option<GoodEnd>],
+}

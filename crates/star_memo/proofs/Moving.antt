@@ -1,0 +1,55 @@
+-- Several threads may parse texts: the data that they share, and the results that they hand back.
+use Rattle.std.proofs.Common.{ℕ, List, [], ◌∷◌}
+use denote.Builtin.{usize}
+use denote.Hole.{shared_at}
+use denote.RattleType.{RattleType}
+use denote.Ref.{NamedLft}
+use denote.Struct.Tuple.{Tuple, TupleAt}
+use denote.Param.Send.{AllSync, IsSend, IsSync, sendable}
+use denote.Param.SendFields.{variants_send}
+use Rattle.std.proofs.Crossing.{crosses}
+use Rattle.std.specs.contracts.result.Result as result
+use Rattle.std.specs.contracts.vec.Vec as vec
+use Rattle.std.specs.contracts.alloc.Global as heap
+use Rattle.std.specs.contracts.alloc.AllocError as refusal
+use Rattle.std.specs.contracts.impls.GlobalAllocator.TheImpl.{ghosts}
+use Rattle.star_flow.specs.contracts.search.Search as search_of
+use Rattle.star_flow.proofs.search.Search.TheSendSync as of_search
+use Rattle.star_label.proofs.files.Files.TheSendSync as of_labels
+use Rattle.star_lex.proofs.token.SyntaxFault.TheSendSync as of_syntax
+use Rattle.star_reading.proofs.Closures.{tuple_sync}
+use Rattle.star_reading.proofs.Moving.{tree_send, tree_sync}
+use Rattle.star_memo.specs.contracts.parses.Parse as parse
+use Rattle.star_memo.specs.contracts.ahead.Parser as parser
+
+parse_send : IsSend parse.the_row
+parse_send = variants_send parse.enum ((tree_send, tt), ((of_syntax.the_send, tt), tt))
+
+abbrev numbered : RattleType
+numbered = Tuple (usize ∷ parse.the_row ∷ [])
+
+numbered_send : IsSend numbered
+numbered_send = let p = parse_send in search sendable depth 20
+
+-- the result of a thread that has parsed some texts
+pub share_send : IsSend (result.the_row (vec.the_row numbered heap.the_row ghosts) refusal.the_row)
+share_send = let n = numbered_send in search (sendable, crosses) depth 20
+
+parser_sync : (κ ν : NamedLft) → IsSync (parser.the_row κ ν)
+parser_sync κ ν =
+    let l = of_labels.the_sync in
+    let f = of_syntax.the_sync in
+    let s = tree_send in
+    let y = tree_sync in
+    search (sendable, crosses) depth 40
+
+-- a parser's closure: it captures the parser, the runtime R, and the search
+module _ (R : RattleType) (α β γ δ ε : NamedLft) where
+  abbrev captured : List RattleType
+  captured = shared_at α (parser.the_row β γ) ∷ shared_at δ R ∷ shared_at ε search_of.the_row ∷ []
+
+  captured_sync : IsSync R → AllSync captured
+  captured_sync r = search (parser_sync, of_search.the_sync, sendable) depth 20
+
+  pub parsers_sync : IsSync R → (ν : List ℕ) → IsSync (TupleAt ν captured)
+  parsers_sync r ν = tuple_sync ν captured (captured_sync r)
