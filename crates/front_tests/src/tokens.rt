@@ -12,7 +12,7 @@ fn letter(kind: Kind) -> char {
         Kind::Keyword(_) => 'k',
         Kind::Int => 'i',
         Kind::Text => 't',
-        Kind::Sign(_) => 's',
+        Kind::Punctuator(_) => 's',
         Kind::Newline => 'N',
         Kind::Indent => 'I',
         Kind::Outdent => 'O',

@@ -5,7 +5,7 @@ ghost use Rattle.star_host.specs.Worlds.{IsWorld};
 ghost use Rattle.star_outcome.specs.Fits.{IsAsked};
 
 use crate::checks::holds;
-use crate::runs::files_of;
+use crate::runs::{THREE, files_of};
 use star_cache::{Book, LoadCache};
 use star_host::gate::Open;
 use star_host::{
@@ -99,15 +99,7 @@ fn load_label<R: Threads + Wait + Sync>(
 #[test]
 fn a_root_is_loaded_with_all_that_it_loads(rt: HostRuntime) -> Result<(), Fail> {
     let alloc = rt.alloc();
-    let bundle = [
-        (
-            "//:a.star",
-            "load(\"//:b.star\", \"y\")\nload(\"//:c.star\", \"k\")\nx = y + k",
-        ),
-        ("//:b.star", "load(\"//:c.star\", \"k\")\ny = k"),
-        ("//:c.star", "k = 1"),
-    ];
-    let files = files_of(alloc, &bundle)?;
+    let files = files_of(alloc, &THREE)?;
     let label = Label::read(alloc, "//:a.star", "")?;
     let loaded = load_label(&rt, alloc, &files, &label)?;
     let want = Loaded {

@@ -7,7 +7,7 @@ use star_host::gate::{Gate, Open};
 use star_host::{Reads, Run, RunOptions, run};
 use star_label::files::Files;
 use star_label::label::Label;
-use star_report::report::report;
+use star_report::report::{ReportOptions, report};
 use star_report::wanted::Wanted;
 use std::alloc::{AllocError, Global};
 use std::collections::BTreeMap;
@@ -15,6 +15,16 @@ use std::process::Abort;
 use std::sync::Wait;
 use std::test::Fail;
 use std::thread::Threads;
+
+/// Three files, two of which load the third, and one of them the other.
+pub const THREE: [(&str, &str); 3] = [
+    (
+        "//:a.star",
+        "load(\"//:b.star\", \"y\")\nload(\"//:c.star\", \"k\")\nx = y + k",
+    ),
+    ("//:b.star", "load(\"//:c.star\", \"k\")\ny = k"),
+    ("//:c.star", "k = 1"),
+];
 
 /// The files with these labels and texts.
 pub fn files_of(alloc: Global, bundle: &[(&str, &str)]) -> Result<Files, Fail> {
@@ -123,7 +133,8 @@ pub fn report_text<R: Threads + Sync>(
     requires { length run.old.cells ≡ length files.now }
 {
     let reads = Reads::new(alloc);
-    let text = report(rt, alloc, files, &reads, run, roots, wanted, threads)?;
+    let options = ReportOptions { wanted, threads };
+    let text = report(rt, alloc, files, &reads, run, roots, options)?;
     Ok(String::from_utf8(text)?)
 }
 

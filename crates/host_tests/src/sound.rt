@@ -8,6 +8,14 @@ use std::alloc::Global;
 use std::process::Abort;
 use std::test::Fail;
 
+/// The first two files lack each other.
+const LACKING: [Prospect; 4] = [
+    Prospect::Lacks(1),
+    Prospect::Lacks(0),
+    Prospect::Sound,
+    Prospect::Barred,
+];
+
 /// Asserts that what a file needs is of so many files.
 fn within(rt: &impl Abort, row: &[usize], files: usize)
     ensures { All (λ m. m < files) row.now }
@@ -29,41 +37,35 @@ fn told(rt: &impl Abort, alloc: Global, rows: &[&[usize]]) -> Result<Vec<Prospec
     Ok(prospects(alloc, needs.as_slice())?)
 }
 
+/// Asserts what is said of files that need these.
+fn says(
+    rt: &impl Abort,
+    alloc: Global,
+    rows: &[&[usize]],
+    wanted: [Prospect; 4],
+) -> Result<(), Fail> {
+    let told = told(rt, alloc, rows)?;
+    holds!(rt; told.as_slice() == wanted.as_slice());
+    Ok(())
+}
+
 #[test]
 fn files_wait_for_what_they_need(rt: HostRuntime) -> Result<(), Fail> {
-    let told = told(&rt, rt.alloc(), &[&[1, 2], &[2], &[]])?;
     let wanted = [
         Prospect::Sound,
         Prospect::Sound,
         Prospect::Sound,
         Prospect::Barred,
     ];
-    holds!(&rt; told.as_slice() == wanted.as_slice());
-    Ok(())
+    says(&rt, rt.alloc(), &[&[1, 2], &[2], &[]], wanted)
 }
 
 #[test]
 fn the_first_need_that_is_not_sound_is_named(rt: HostRuntime) -> Result<(), Fail> {
-    let told = told(&rt, rt.alloc(), &[&[2, 3, 1], &[0], &[]])?;
-    let wanted = [
-        Prospect::Lacks(1),
-        Prospect::Lacks(0),
-        Prospect::Sound,
-        Prospect::Barred,
-    ];
-    holds!(&rt; told.as_slice() == wanted.as_slice());
-    Ok(())
+    says(&rt, rt.alloc(), &[&[2, 3, 1], &[0], &[]], LACKING)
 }
 
 #[test]
 fn files_on_a_cycle_are_not_sound(rt: HostRuntime) -> Result<(), Fail> {
-    let told = told(&rt, rt.alloc(), &[&[2, 1], &[0], &[]])?;
-    let wanted = [
-        Prospect::Lacks(1),
-        Prospect::Lacks(0),
-        Prospect::Sound,
-        Prospect::Barred,
-    ];
-    holds!(&rt; told.as_slice() == wanted.as_slice());
-    Ok(())
+    says(&rt, rt.alloc(), &[&[2, 1], &[0], &[]], LACKING)
 }

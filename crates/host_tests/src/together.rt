@@ -2,7 +2,7 @@
 
 use crate::checks::{hold, holds, reads};
 use crate::meeting::{Counting, Meeting};
-use crate::runs::{began, files_of, report_of, report_text, reports, rings, run_all, sums};
+use crate::runs::{THREE, began, files_of, report_of, report_text, reports, rings, run_all, sums};
 use star_host::gate::Open;
 use star_report::wanted::Wanted;
 use std::test::Fail;
@@ -103,15 +103,7 @@ fn each_body_runs_once(rt: HostRuntime) -> Result<(), Fail> {
 #[test]
 fn each_of_three_bodies_runs_once(rt: HostRuntime) -> Result<(), Fail> {
     let alloc = rt.alloc();
-    let bundle = [
-        (
-            "//:a.star",
-            "load(\"//:b.star\", \"y\")\nload(\"//:c.star\", \"k\")\nx = y + k",
-        ),
-        ("//:b.star", "load(\"//:c.star\", \"k\")\ny = k"),
-        ("//:c.star", "k = 1"),
-    ];
-    let files = files_of(alloc, &bundle)?;
+    let files = files_of(alloc, &THREE)?;
     for _ in 0..20u32 {
         let gate = Counting::new();
         let run = run_all(&rt, alloc, &files, 4, &gate)?;

@@ -3,7 +3,7 @@
 ghost use Rattle.star_outcome.specs.Refusals.{IsRefusal};
 
 use crate::checks::holds;
-use star_host::{Naming, Refused, Trace};
+use star_host::{CyclicLoad, Naming, Trace};
 use std::alloc::{AllocError, Global};
 use std::marker::Brand;
 use std::sync::Wait;
@@ -14,12 +14,12 @@ fn two_are_read<J: Naming, R: Wait>(rt: &R, alloc: Global) -> Result<bool, Alloc
     requires first { IsRefusal J.plan (record { file = 0; index = 0; loaded = 0 }) }
     requires second { IsRefusal J.plan (record { file = 0; index = 1; loaded = 0 }) }
 {
-    let a = Refused {
+    let a = CyclicLoad {
         file: 0,
         index: 0,
         loaded: 0,
     };
-    let b = Refused {
+    let b = CyclicLoad {
         file: 0,
         index: 1,
         loaded: 0,

@@ -6,7 +6,7 @@ use star_host::gate::Open;
 use star_host::{Reads, RunOptions, run};
 use star_label::files::Files;
 use star_label::label::Label;
-use star_report::report::report;
+use star_report::report::{ReportOptions, report};
 use star_report::wanted::Wanted;
 use std::alloc::Global;
 use std::collections::BTreeMap;
@@ -41,7 +41,11 @@ fn reported<R: Threads + Wait + Sync>(rt: &R, alloc: Global) -> Option<String> {
     };
     let mut run = run(rt, alloc, &files, options, &Open).ok()?;
     let reads = Reads::new(alloc);
-    let text = report(rt, alloc, &files, &reads, &mut run, &[], Wanted::NOTHING, 1).ok()?;
+    let options = ReportOptions {
+        wanted: Wanted::NOTHING,
+        threads: 1,
+    };
+    let text = report(rt, alloc, &files, &reads, &mut run, &[], options).ok()?;
     String::from_utf8(text).ok()
 }
 

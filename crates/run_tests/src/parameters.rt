@@ -6,15 +6,15 @@ ghost use Rattle.star_meaning.specs.Programs.{IsOfFile};
 use crate::checks::{hold, holds};
 use crate::samples::two;
 use star_call::callee::{Called, Callee};
-use star_call::passed::{Passed, given};
+use star_call::passed::{EvaluatedArgument, given};
 use star_enter::calls::callee_of;
 use star_enter::ordered::{bound_of, enter_bound};
 use star_label::files::Files as Labels;
 use star_machine::content::Content;
 use star_machine::fault::Stop;
 use star_machine::machine::Machine;
-use star_meaning::given::Given;
-use star_meaning::place::Place;
+use star_meaning::given::Arguments;
+use star_meaning::site::Site;
 use star_parser::parse;
 use star_scope::program::Program;
 use star_store::arena::Homes;
@@ -48,14 +48,14 @@ fn defaults(alloc: Global) -> Result<Defaults, AllocError> {
 /// Asserts that its parameters have their layout.
 fn are_laid_out(rt: &impl Abort, layout: &Layout) -> Result<(), Fail> {
     holds!(rt; layout.count() == 19);
-    holds!(rt; layout.by_place() == 15);
+    holds!(rt; layout.positional() == 15);
     holds!(rt; layout.defaults() == 14);
     holds!(rt; layout.needed().len() == 3);
     holds!(rt; layout.needed().last().copied() == Some(16));
     holds!(rt; layout.rest() == Some(15));
     holds!(rt; layout.names() == Some(18));
-    holds!(rt; layout.is_own(17) && !layout.is_own(15));
-    holds!(rt; !layout.is_own(18) && !layout.is_own(19));
+    holds!(rt; layout.takes_keyword(17) && !layout.takes_keyword(15));
+    holds!(rt; !layout.takes_keyword(18) && !layout.takes_keyword(19));
     let ranks = layout.ranks()?;
     holds!(rt; ranks.as_slice().get(17).copied() == Some(Some(13)));
     Ok(())
@@ -82,14 +82,14 @@ fn a_call_is_bound_by_its_layout(
     machine: &mut Machine,
     world: &World,
     called: Called<'_>,
-    given: &Given,
+    given: &Arguments,
 ) -> Result<(), Fail>
     requires { IsDefined world.now.setting called }
 {
     match bound_of(machine, world, &called, given)? {
         Some(bound) => {
-            let place = enter_bound(machine, 1, called, bound)?;
-            are_bound(rt, machine, world, place.frame);
+            let site = enter_bound(machine, 1, called, bound)?;
+            are_bound(rt, machine, world, site.frame);
         }
         None => return Err(Fail::from("a call that is not bound")),
     }
@@ -101,7 +101,7 @@ fn a_callee_is_bound_by_its_layout(
     machine: &mut Machine,
     world: &World,
     callee: Callee<'_>,
-    given: &Given,
+    given: &Arguments,
 ) -> Result<(), Fail>
     requires { IsFound world.now.setting callee }
 {
@@ -116,13 +116,13 @@ fn a_callee_is_bound_by_its_layout(
 /// The function, with its defaults.
 fn function(alloc: Global, machine: &mut Machine, world: &World) -> Result<Value, Stop> {
     let frame = paid_frame(machine, world, 1, 0, 0, None)?;
-    let place = Place {
+    let site = Site {
         file: 0,
         frame,
         line: 1,
     };
     let defaults = defaults(alloc)?;
-    new_closure(machine, &place, 0, "f", defaults)
+    new_closure(machine, &site, 0, "f", defaults)
 }
 
 fn many_parameters_have_a_layout_over(
@@ -143,10 +143,10 @@ fn many_parameters_have_a_layout_over(
     holds!(rt; world.order(1, 0).is_none());
     let mut machine = Machine::new(alloc, 0, 1_000);
     let passed = [
-        Passed::Plain(Value::Int(1)),
-        Passed::Plain(Value::Int(2)),
-        Passed::Named("r", Value::Int(3)),
-        Passed::Named("x", Value::Int(4)),
+        EvaluatedArgument::Plain(Value::Int(1)),
+        EvaluatedArgument::Plain(Value::Int(2)),
+        EvaluatedArgument::Named("r", Value::Int(3)),
+        EvaluatedArgument::Named("x", Value::Int(4)),
     ];
     let given = given(&mut machine, world.setting(), 1, &passed)?;
     let function = function(alloc, &mut machine, &world)?;

@@ -9,8 +9,8 @@ use star_label::files::Files as Labels;
 use star_label::label::Label;
 use star_machine::fault::{Stop, faulted};
 use star_machine::machine::Machine;
-use star_meaning::fault::Code;
-use star_meaning::place::Place;
+use star_meaning::fault::FaultCode;
+use star_meaning::site::Site;
 use star_parser::parse;
 use star_scope::program::Program;
 use star_store::arena::{Arena, Frozen, Homes, freeze};
@@ -57,22 +57,22 @@ fn text_of_last(
     machine: &mut Machine,
     world: &World,
     levels: u32,
-    place: &Place,
+    site: &Site,
     statement: &Statement,
 ) -> Result<Text, Stop> {
     let line = statement.position.line;
     match &statement.form {
         Form::Expression(expression) => {
-            let place = Place {
+            let site = Site {
                 file: 0,
-                frame: place.frame,
+                frame: site.frame,
                 line,
             };
-            let value = evaluate(machine, world, levels, &place, expression)?;
+            let value = evaluate(machine, world, levels, &site, expression)?;
             machine.repr(world.setting(), 400, line, value)
         }
         _ => {
-            let _flow = execute(machine, world, levels, place, statement)?;
+            let _flow = execute(machine, world, levels, site, statement)?;
             Ok(Text::new(machine.alloc(), "")?)
         }
     }
@@ -83,13 +83,13 @@ fn text_of(
     machine: &mut Machine,
     world: &World,
     levels: u32,
-    place: &Place,
+    site: &Site,
     statements: &[Statement],
 ) -> Result<Text, Stop> {
     let before = statements.len().saturating_sub(1);
-    let _flow = execute_each(machine, world, levels, place, &statements[..before])?;
+    let _flow = execute_each(machine, world, levels, site, &statements[..before])?;
     match statements.get(before) {
-        Some(last) => text_of_last(machine, world, levels, place, last),
+        Some(last) => text_of_last(machine, world, levels, site, last),
         None => Err(Stop::Memory),
     }
 }
@@ -102,12 +102,12 @@ fn sample_is_as_wanted_in(
     statements: &[Statement],
     sample: Sample<'_>,
 ) -> Result<(), Fail> {
-    let place = Place {
+    let site = Site {
         file: 0,
         frame,
         line: 1,
     };
-    let made = text_of(machine, world, sample.levels, &place, statements);
+    let made = text_of(machine, world, sample.levels, &site, statements);
     let made = match &made {
         Ok(text) => Ok(text.as_str()),
         Err(stop) => Err(*stop),
@@ -208,8 +208,8 @@ impl Need {
     /// How a program stops at a line if one is missing.
     fn stop(self, line: usize) -> Stop {
         match self {
-            Need::Steps => faulted(Code::Steps, line),
-            Need::Levels => faulted(Code::Deep, line),
+            Need::Steps => faulted(FaultCode::Steps, line),
+            Need::Levels => faulted(FaultCode::Deep, line),
         }
     }
 }

@@ -5,7 +5,7 @@
 
 use crate::samples::gives;
 use star_machine::fault::faulted;
-use star_meaning::fault::Code;
+use star_meaning::fault::FaultCode;
 use std::test::Fail;
 
 /// Programs, and the text of the value of the last statement of each: built-in functions and methods; operators and
@@ -94,31 +94,31 @@ fn programs_end_in_values(rt: HostRuntime) -> Result<(), Fail> {
 }
 
 /// Programs, and the fault and the line in which each stops.
-const FAULTS: &[(&'static str, Code, usize)] = &[
-    ("fail([3, 0])", Code::Fail, 1),
-    ("[].upper()", Code::BadType, 1),
-    ("x = 1\nx()", Code::BadType, 2),
-    ("def f(): return f()\nf()", Code::Recursion, 1),
-    ("r = [5]\nfor x in r:\n  r[0] = 6", Code::Iterating, 3),
-    ("r = [5]\nr[9] = 6", Code::Index, 2),
+const FAULTS: &[(&'static str, FaultCode, usize)] = &[
+    ("fail([3, 0])", FaultCode::Fail, 1),
+    ("[].upper()", FaultCode::BadType, 1),
+    ("x = 1\nx()", FaultCode::BadType, 2),
+    ("def f(): return f()\nf()", FaultCode::Recursion, 1),
+    ("r = [5]\nfor x in r:\n  r[0] = 6", FaultCode::Iterating, 3),
+    ("r = [5]\nr[9] = 6", FaultCode::Index, 2),
     (
         "d = {n: n for n in range(40)}\nd.pop(38)\nd.pop(38)",
-        Code::Key,
+        FaultCode::Key,
         3,
     ),
-    ("{[]: 0}", Code::BadType, 1),
-    ("1 < 'ab'", Code::BadType, 1),
+    ("{[]: 0}", FaultCode::BadType, 1),
+    ("1 < 'ab'", FaultCode::BadType, 1),
     (
         "x = []\nx.append(x)\ny = []\ny.append(y)\nx == y",
-        Code::Deep,
+        FaultCode::Deep,
         5,
     ),
-    ("def f(k): pass\nf(1, 2)", Code::Args, 2),
-    ("'é'[0]", Code::Cut, 1),
-    ("x = 9223372036854775807\nx + 1", Code::Overflow, 2),
-    ("x = [][0:1:0]", Code::BadValue, 1),
-    ("def f():\n  y = x\n  x = 2\nf()", Code::Unbound, 2),
-    ("def f():\n  return 1 // 0\nx = [\nf()]", Code::Zero, 2),
+    ("def f(k): pass\nf(1, 2)", FaultCode::Args, 2),
+    ("'é'[0]", FaultCode::Cut, 1),
+    ("x = 9223372036854775807\nx + 1", FaultCode::Overflow, 2),
+    ("x = [][0:1:0]", FaultCode::BadValue, 1),
+    ("def f():\n  y = x\n  x = 2\nf()", FaultCode::Unbound, 2),
+    ("def f():\n  return 1 // 0\nx = [\nf()]", FaultCode::Zero, 2),
 ];
 
 #[test]

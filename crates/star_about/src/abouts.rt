@@ -5,8 +5,8 @@ use crate::parts::last_token;
 use crate::search::{Culprit, LEVELS};
 use star_found::about::{About, Found};
 use star_machine::content::Kind;
-use star_meaning::fault::Code;
-use star_meaning::place::Place;
+use star_meaning::fault::FaultCode;
+use star_meaning::site::Site;
 use star_store::values::Value;
 use star_text::Text;
 use star_tree::tree::{BinaryOperator, Comparator, Expression, Name, UnaryOperator};
@@ -147,7 +147,7 @@ impl<'w, 'a, 't> Look<'w, 'a, 't> {
 
     /// A name that has no value.
     pub(crate) fn unbound(&self, name: &Name) -> Result<Option<Found>, AllocError> {
-        if self.fault.code != Code::Unbound {
+        if self.fault.code != FaultCode::Unbound {
             return Ok(None);
         }
         let token = name.position.token;
@@ -238,7 +238,7 @@ impl<'w, 'a, 't> Look<'w, 'a, 't> {
             let Some(key) = *key else {
                 return Ok(None);
             };
-            if self.fault.code != Code::Key {
+            if self.fault.code != FaultCode::Key {
                 if let Some(found) = self.bad_key(at, Some(key))? {
                     return Ok(Some(found));
                 }
@@ -264,7 +264,7 @@ impl<'w, 'a, 't> Look<'w, 'a, 't> {
             Expression::Name(name) => self.unbound(name),
             Expression::Dict(_) => self.display(token, ran.values.as_slice()),
             Expression::ListComprehension { .. } | Expression::DictComprehension { .. } => {
-                self.comprehension(&culprit.place, culprit.expression, ran)
+                self.comprehension(&culprit.site, culprit.expression, ran)
             }
             Expression::Unary { operator, .. } => {
                 self.operand(token, sign_before(*operator), first)
@@ -295,7 +295,7 @@ impl<'w, 'a, 't> Look<'w, 'a, 't> {
     }
 
     /// The value of a name, read at a place; `None` if it has none.
-    pub(crate) fn read(&self, place: &Place, name: &Name) -> Option<Value> {
-        star_world::variables::read(&self.machine, self.world, place, name).ok()
+    pub(crate) fn read(&self, site: &Site, name: &Name) -> Option<Value> {
+        star_world::variables::read(&self.machine, self.world, site, name).ok()
     }
 }

@@ -1,13 +1,13 @@
 //! Names the values that a fault of a call is about.
 
-use crate::fits::{Given, Named, misfit, own_names};
+use crate::fits::{Arguments, Named, keywords_of, misfit};
 use crate::look::{Look, found_at};
 use crate::parts::last_token;
 use crate::search::Ran;
 use star_call::callee::definition_number;
 use star_found::about::{About, Found, Misfit, Shown, Type};
 use star_machine::content::Kind;
-use star_meaning::fault::Code;
+use star_meaning::fault::FaultCode;
 use star_store::values::Value;
 use star_text::Text;
 use star_tree::tree::{Argument, Expression, Parameter};
@@ -28,7 +28,7 @@ fn names_of(name: &str) -> Option<&'static [&'static str]> {
 
 impl<'w, 'a, 't> Look<'w, 'a, 't> {
     /// Adds the items of a value to the positional arguments; answers whether the value is an iterable.
-    fn add_items(&self, given: &mut Given, value: Value) -> Result<bool, AllocError> {
+    fn add_items(&self, given: &mut Arguments, value: Value) -> Result<bool, AllocError> {
         let (setting, line) = (self.world.setting(), self.fault.line);
         let Ok(count) = self.machine.count_of(setting, line, value) else {
             return Ok(false);
@@ -43,7 +43,7 @@ impl<'w, 'a, 't> Look<'w, 'a, 't> {
 
     /// Adds the keys of a dictionary to the keyword arguments; answers whether the value is a dictionary and each key
     /// looked at is a string.
-    fn add_names(&self, given: &mut Given, value: Value) -> Result<bool, AllocError> {
+    fn add_names(&self, given: &mut Arguments, value: Value) -> Result<bool, AllocError> {
         if !matches!(self.kind(value), Kind::Dict) {
             return Ok(false);
         }
@@ -65,7 +65,7 @@ impl<'w, 'a, 't> Look<'w, 'a, 't> {
     /// so, else `None`.
     fn add(
         &self,
-        given: &mut Given,
+        given: &mut Arguments,
         argument: &Argument,
         value: Value,
     ) -> Result<Option<&'static str>, AllocError> {
@@ -139,20 +139,20 @@ impl<'w, 'a, 't> Look<'w, 'a, 't> {
         at: usize,
         token: Option<usize>,
         value: Value,
-        given: &Given,
+        given: &Arguments,
     ) -> Result<Option<Found>, AllocError> {
-        if self.fault.code == Code::Recursion {
+        if self.fault.code == FaultCode::Recursion {
             return self.called(at, token, value);
         }
         let Some(parameters) = self.parameters(value) else {
             return Ok(None);
         };
-        if self.fault.code != Code::Args {
+        if self.fault.code != FaultCode::Args {
             return Ok(None);
         }
         match misfit(self.alloc, parameters, given)? {
             Some(misfit) => {
-                let names = own_names(self.alloc, parameters)?;
+                let names = keywords_of(self.alloc, parameters)?;
                 let callee = self.shown(value)?;
                 self.misfitting(at, token, callee, misfit, names.as_slice())
             }
@@ -166,9 +166,9 @@ impl<'w, 'a, 't> Look<'w, 'a, 't> {
         at: usize,
         name: &'static str,
         receiver: Option<Value>,
-        given: &Given,
+        given: &Arguments,
     ) -> Result<Option<Found>, AllocError> {
-        if self.fault.code == Code::Args {
+        if self.fault.code == FaultCode::Args {
             if let Some(names) = names_of(name) {
                 if let Some(named) = given.unknown(names) {
                     let callee = Shown {
@@ -210,11 +210,11 @@ impl<'w, 'a, 't> Look<'w, 'a, 't> {
             Kind::Function | Kind::BuiltInFunction(_) | Kind::Method(..)
         ) {
             return match self.fault.code {
-                Code::BadType => self.called(at, word, callee),
+                FaultCode::BadType => self.called(at, word, callee),
                 _ => Ok(None),
             };
         }
-        let mut given = Given::new(self.alloc);
+        let mut given = Arguments::new(self.alloc);
         for (i, argument) in arguments.iter().enumerate() {
             let Some(value) = ran.value(i.saturating_add(1)) else {
                 return Ok(None);

@@ -16,15 +16,15 @@ pub(crate) struct Named {
 
 /// The arguments of a call.
 #[derive(Drop)]
-pub(crate) struct Given {
+pub(crate) struct Arguments {
     pub plain: Vec<Value>,
     pub named: Vec<Named>,
 }
 
-impl Given {
+impl Arguments {
     /// No arguments.
-    pub(crate) fn new(alloc: Global) -> Given {
-        Given {
+    pub(crate) fn new(alloc: Global) -> Arguments {
+        Arguments {
             plain: Vec::new(alloc),
             named: Vec::new(alloc),
         }
@@ -65,7 +65,7 @@ impl Given {
 }
 
 /// The name of a parameter that takes a keyword argument; `None` for one with a star.
-fn own_name(parameter: &Parameter) -> Option<&Name> {
+fn keyword_of(parameter: &Parameter) -> Option<&Name> {
     match parameter {
         Parameter::Plain(name) | Parameter::Default { name, .. } => Some(name),
         _ => None,
@@ -73,13 +73,13 @@ fn own_name(parameter: &Parameter) -> Option<&Name> {
 }
 
 /// The names of the parameters that take a keyword argument.
-pub(crate) fn own_names<'p>(
+pub(crate) fn keywords_of<'p>(
     alloc: Global,
     parameters: &'p [Parameter],
 ) -> Result<Vec<&'p str>, AllocError> {
     let mut names = Vec::new(alloc);
     for parameter in parameters {
-        if let Some(name) = own_name(parameter) {
+        if let Some(name) = keyword_of(parameter) {
             names.push(name.text.as_str())?;
         }
     }
@@ -87,26 +87,29 @@ pub(crate) fn own_names<'p>(
 }
 
 /// The first keyword argument that no parameter takes.
-fn unclaimed<'g>(
+fn extra_keywords<'g>(
     alloc: Global,
     parameters: &[Parameter],
-    given: &'g Given,
+    given: &'g Arguments,
 ) -> Result<Option<&'g Named>, AllocError> {
     let takes_all = |parameter: &Parameter| matches!(parameter, Parameter::StarStar(_));
     if parameters.iter().any(takes_all) {
         return Ok(None);
     }
-    let names = own_names(alloc, parameters)?;
+    let names = keywords_of(alloc, parameters)?;
     Ok(given.unknown(names.as_slice()))
 }
 
 /// The first parameter that gets no value, or two; else that positional arguments are left over.
-fn by_parameters(parameters: &[Parameter], given: &Given) -> Result<Option<Misfit>, AllocError> {
+fn by_parameters(
+    parameters: &[Parameter],
+    given: &Arguments,
+) -> Result<Option<Misfit>, AllocError> {
     let mut taken: usize = 0;
     let mut most: usize = 0;
     let mut is_by_name = false;
     for parameter in parameters {
-        let Some(name) = own_name(parameter) else {
+        let Some(name) = keyword_of(parameter) else {
             if let Parameter::Star(_) = parameter {
                 taken = given.plain.len();
             }
@@ -138,9 +141,9 @@ fn by_parameters(parameters: &[Parameter], given: &Given) -> Result<Option<Misfi
 pub(crate) fn misfit(
     alloc: Global,
     parameters: &[Parameter],
-    given: &Given,
+    given: &Arguments,
 ) -> Result<Option<(Misfit, Option<usize>)>, AllocError> {
-    if let Some(named) = unclaimed(alloc, parameters, given)? {
+    if let Some(named) = extra_keywords(alloc, parameters, given)? {
         return Ok(Some((Misfit::Unknown(named.name.share()?), named.token)));
     }
     if let Some(named) = given.repeated() {

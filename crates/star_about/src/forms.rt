@@ -5,8 +5,8 @@ use crate::look::Look;
 use crate::parts::{add_defaults, last_token};
 use crate::search::LEVELS;
 use star_found::about::{About, Found};
-use star_meaning::fault::Code;
-use star_meaning::place::Place;
+use star_meaning::fault::FaultCode;
+use star_meaning::site::Site;
 use star_operators::subscript::index;
 use star_store::values::Value;
 use star_text::Text;
@@ -18,13 +18,13 @@ impl<'w, 'a, 't> Look<'w, 'a, 't> {
     /// it; or the values of all parts.
     fn first_of(
         &mut self,
-        place: &Place,
+        site: &Site,
         token: usize,
         parts: &[&Expression],
     ) -> Result<(Option<Found>, Vec<Option<Value>>), AllocError> {
-        let ran = self.run(place, parts)?;
+        let ran = self.run(site, parts)?;
         let found = match ran.failing {
-            Some(part) => self.in_expression(place, token, part)?,
+            Some(part) => self.in_expression(site, token, part)?,
             None => None,
         };
         Ok((found, ran.values))
@@ -33,19 +33,19 @@ impl<'w, 'a, 't> Look<'w, 'a, 't> {
     /// `target = value`
     fn assigned(
         &mut self,
-        place: &Place,
+        site: &Site,
         token: usize,
         target: &Target,
         value: &Expression,
     ) -> Result<Option<Found>, AllocError> {
-        let (found, values) = self.first_of(place, token, &[value])?;
+        let (found, values) = self.first_of(site, token, &[value])?;
         let Some(Some(value)) = values.first().copied() else {
             return Ok(found);
         };
         match target {
             Target::Name(_) => Ok(None),
             Target::Index { value: base, index } => {
-                self.element(place, token, base.get(), index.get())
+                self.element(site, token, base.get(), index.get())
             }
             Target::Tuple(_) | Target::List(_) => self.unpacked(token, target, value),
         }
@@ -54,12 +54,12 @@ impl<'w, 'a, 't> Look<'w, 'a, 't> {
     /// The target `base[at]`: reports a part that stops, or else the value and the index.
     fn element(
         &mut self,
-        place: &Place,
+        site: &Site,
         token: usize,
         base: &Expression,
         at: &Expression,
     ) -> Result<Option<Found>, AllocError> {
-        let (found, values) = self.first_of(place, token, &[base, at])?;
+        let (found, values) = self.first_of(site, token, &[base, at])?;
         if found.is_some() {
             return Ok(found);
         }
@@ -71,13 +71,13 @@ impl<'w, 'a, 't> Look<'w, 'a, 't> {
     /// `target operator= value`, if the target has the value `old`.
     fn computed(
         &mut self,
-        place: &Place,
+        site: &Site,
         token: usize,
         operator: BinaryOperator,
         old: Value,
         value: &Expression,
     ) -> Result<Option<Found>, AllocError> {
-        let (found, values) = self.first_of(place, token, &[value])?;
+        let (found, values) = self.first_of(site, token, &[value])?;
         if found.is_some() {
             return Ok(found);
         }
@@ -88,28 +88,28 @@ impl<'w, 'a, 't> Look<'w, 'a, 't> {
     /// `target operator= value`
     fn augmented(
         &mut self,
-        place: &Place,
+        site: &Site,
         token: usize,
         operator: BinaryOperator,
         target: &Target,
         value: &Expression,
     ) -> Result<Option<Found>, AllocError> {
         match target {
-            Target::Name(name) => match self.read(place, name) {
-                Some(old) => self.computed(place, token, operator, old, value),
+            Target::Name(name) => match self.read(site, name) {
+                Some(old) => self.computed(site, token, operator, old, value),
                 None => self.unbound(name),
             },
             Target::Index { value: base, index } => {
                 let (base, index) = (base.get(), index.get());
-                let (found, values) = self.first_of(place, token, &[base, index])?;
+                let (found, values) = self.first_of(site, token, &[base, index])?;
                 if found.is_some() {
                     return Ok(found);
                 }
                 match self.old_value(values.as_slice()) {
                     Some(old) if !self.is_of_writing() => {
-                        self.computed(place, token, operator, old, value)
+                        self.computed(site, token, operator, old, value)
                     }
-                    _ => self.element(place, token, base, index),
+                    _ => self.element(site, token, base, index),
                 }
             }
             _ => Ok(None),
@@ -118,7 +118,7 @@ impl<'w, 'a, 't> Look<'w, 'a, 't> {
 
     /// Whether the fault comes from writing to a value.
     fn is_of_writing(&self) -> bool {
-        matches!(self.fault.code, Code::Frozen | Code::Iterating)
+        matches!(self.fault.code, FaultCode::Frozen | FaultCode::Iterating)
     }
 
     /// The item of a value at an index, from the values of both; `None` if it has none.
@@ -132,12 +132,12 @@ impl<'w, 'a, 't> Look<'w, 'a, 't> {
     /// The conditions of an `if`, up to the first that is true.
     fn conditions(
         &mut self,
-        place: &Place,
+        site: &Site,
         token: usize,
         arms: &[Arm],
     ) -> Result<Option<Found>, AllocError> {
         for arm in arms {
-            let (found, values) = self.first_of(place, token, &[&arm.condition])?;
+            let (found, values) = self.first_of(site, token, &[&arm.condition])?;
             let Some(Some(value)) = values.first().copied() else {
                 return Ok(found);
             };
@@ -151,12 +151,12 @@ impl<'w, 'a, 't> Look<'w, 'a, 't> {
     /// The iterable of a `for`, or the first of its items that cannot be unpacked to the target.
     fn looped(
         &mut self,
-        place: &Place,
+        site: &Site,
         token: usize,
         target: &Target,
         iterable: &Expression,
     ) -> Result<Option<Found>, AllocError> {
-        let (found, values) = self.first_of(place, token, &[iterable])?;
+        let (found, values) = self.first_of(site, token, &[iterable])?;
         match values.first().copied() {
             Some(Some(value)) => self.items_unpacked(token, target, value),
             _ => Ok(found),
@@ -206,31 +206,31 @@ impl<'w, 'a, 't> Look<'w, 'a, 't> {
     /// Reports the values that a fault in a statement is about; `None` if they are not found.
     pub(crate) fn at_statement(
         &mut self,
-        place: &Place,
+        site: &Site,
         statement: &Statement,
     ) -> Result<Option<Found>, AllocError> {
         let token = statement.position.token;
         match &statement.form {
             Form::Expression(value) | Form::Return(Some(value)) => {
-                self.in_expression(place, token, value)
+                self.in_expression(site, token, value)
             }
-            Form::Assign { target, value } => self.assigned(place, token, target, value),
+            Form::Assign { target, value } => self.assigned(site, token, target, value),
             Form::Augment {
                 target,
                 operator,
                 value,
-            } => self.augmented(place, token, *operator, target, value),
-            Form::If { arms, .. } => self.conditions(place, token, arms.as_slice()),
+            } => self.augmented(site, token, *operator, target, value),
+            Form::If { arms, .. } => self.conditions(site, token, arms.as_slice()),
             Form::For {
                 target,
                 iterable,
                 ..
-            } => self.looped(place, token, target, iterable),
+            } => self.looped(site, token, target, iterable),
             Form::Load { names, .. } => self.loaded(token, names.as_slice()),
             Form::Def { parameters, .. } => {
                 let mut parts = Vec::new(self.alloc);
                 add_defaults(&mut parts, parameters.as_slice())?;
-                Ok(self.first_of(place, token, parts.as_slice())?.0)
+                Ok(self.first_of(site, token, parts.as_slice())?.0)
             }
             _ => Ok(None),
         }

@@ -3,7 +3,7 @@
 use star_found::about::{About, Found};
 use star_machine::fault::Stop;
 use star_machine::machine::Machine;
-use star_meaning::fault::Code;
+use star_meaning::fault::FaultCode;
 use star_meaning::story::Step;
 use star_scope::loads::Load;
 use star_store::arena::Homes;
@@ -17,7 +17,7 @@ const STEPS: u32 = 100_000;
 /// How the run of a file has stopped.
 #[derive(Clone, Copy)]
 pub struct Fault<'f> {
-    pub code: Code,
+    pub code: FaultCode,
     pub line: usize,
     /// The file whose run it was.
     pub home: u32,
@@ -75,7 +75,10 @@ pub fn seek<'a, 't>(
     loads: &'a [Load],
     prelude: Option<u32>,
 ) -> Result<Option<Found>, AllocError> {
-    if matches!(fault.code, Code::Steps | Code::Deep | Code::Fail) {
+    if matches!(
+        fault.code,
+        FaultCode::Steps | FaultCode::Deep | FaultCode::Fail
+    ) {
         return Ok(None);
     }
     let Ok(own) = u32::try_from(files.statements().len()) else {

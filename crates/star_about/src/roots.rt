@@ -2,7 +2,7 @@
 
 use crate::look::Look;
 use star_found::about::Found;
-use star_meaning::place::Place;
+use star_meaning::site::Site;
 use star_meaning::story::Step;
 use star_scope::outline::Body;
 use star_store::values::{Cell, Value};
@@ -17,9 +17,9 @@ const DEPTH: usize = 400;
 #[derive(Clone, Copy)]
 pub(crate) enum Root<'p> {
     /// A statement.
-    Statement(&'p Statement, Place),
+    Statement(&'p Statement, Site),
     /// The expression of a lambda.
-    Answer(&'p Expression, Place),
+    Answer(&'p Expression, Site),
 }
 
 /// The last of some statements that begins at a token or before it.
@@ -133,9 +133,9 @@ impl<'w, 'a, 't> Look<'w, 'a, 't> {
     }
 
     /// The place of the innermost block of the trail.
-    fn place(&self, file: u32) -> Option<Place> {
+    fn site(&self, file: u32) -> Option<Site> {
         let frame = self.last_frame(file, block_of(self.fault.trail))?;
-        Some(Place {
+        Some(Site {
             file,
             frame,
             line: self.fault.line,
@@ -151,12 +151,12 @@ impl<'w, 'a, 't> Look<'w, 'a, 't> {
             Step::Statement { file, token, .. } => {
                 let statements = *files.statements().get(file as usize)?;
                 let statement = statement_at(statements?, token)?;
-                Some(Root::Statement(statement, self.place(file)?))
+                Some(Root::Statement(statement, self.site(file)?))
             }
             Step::Call { file, number } => {
                 let number = u32::try_from(number).ok()?;
                 match self.world.definition(file, number)?.body {
-                    Body::Answer(answer) => Some(Root::Answer(answer, self.place(file)?)),
+                    Body::Answer(answer) => Some(Root::Answer(answer, self.site(file)?)),
                     Body::Statements(_) => None,
                 }
             }
@@ -167,8 +167,8 @@ impl<'w, 'a, 't> Look<'w, 'a, 't> {
     /// Reports the values that a fault in a statement or in the expression of a lambda is about.
     pub(crate) fn at_root(&mut self, root: Root<'_>) -> Result<Option<Found>, AllocError> {
         match root {
-            Root::Statement(statement, place) => self.at_statement(&place, statement),
-            Root::Answer(answer, place) => self.in_expression(&place, 0, answer),
+            Root::Statement(statement, site) => self.at_statement(&site, statement),
+            Root::Answer(answer, site) => self.in_expression(&site, 0, answer),
         }
     }
 }

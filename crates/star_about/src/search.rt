@@ -5,8 +5,8 @@ use crate::parts::{inner_parts, parts_of, token_of};
 use star_eval::evaluate::evaluate;
 use star_found::about::Found;
 use star_machine::fault::Stop;
-use star_meaning::fault::Code;
-use star_meaning::place::Place;
+use star_meaning::fault::FaultCode;
+use star_meaning::site::Site;
 use star_store::values::Value;
 use star_tree::tree::Expression;
 use std::alloc::AllocError;
@@ -36,27 +36,27 @@ impl<'p> Ran<'p> {
 /// The expression at fault: its place, and the values of its parts, which do not stop as the run did.
 #[derive(Drop)]
 pub(crate) struct Culprit<'p> {
-    pub place: Place,
+    pub site: Site,
     pub expression: &'p Expression,
     pub ran: Ran<'p>,
 }
 
 /// Whether a part that now stops with `found` may be the one that stopped the run with `code`. A value that was being
 /// iterated is frozen now, so `Iterating` may have become `Frozen`.
-fn is_same(code: Code, found: Code) -> bool {
-    code == found || code == Code::Iterating && found == Code::Frozen
+fn is_same(code: FaultCode, found: FaultCode) -> bool {
+    code == found || code == FaultCode::Iterating && found == FaultCode::Frozen
 }
 
 impl<'w, 'a, 't> Look<'w, 'a, 't> {
     /// Evaluates parts in order, up to the first that stops as the run has.
     pub(crate) fn run<'p>(
         &mut self,
-        place: &Place,
+        site: &Site,
         parts: &[&'p Expression],
     ) -> Result<Ran<'p>, AllocError> {
         let mut values = Vec::new(self.alloc);
         for part in parts {
-            match evaluate(&mut self.machine, self.world, LEVELS, place, *part) {
+            match evaluate(&mut self.machine, self.world, LEVELS, site, *part) {
                 Ok(value) => values.push(Some(value))?,
                 Err(Stop::Memory) => return Err(AllocError),
                 Err(Stop::Faulted { code, .. }) => {
@@ -79,17 +79,17 @@ impl<'w, 'a, 't> Look<'w, 'a, 't> {
     /// The place in the frame of a comprehension; `None` if its first iterable is not one, or its frame is not found.
     pub(crate) fn inside(
         &self,
-        place: &Place,
+        site: &Site,
         expression: &Expression,
         ran: &Ran<'_>,
-    ) -> Option<Place> {
+    ) -> Option<Site> {
         let _count = self.count(ran.value(0)?)?;
         let block = token_of(expression)?.saturating_add(1);
-        let frame = self.last_frame(place.file, block)?;
-        Some(Place {
-            file: place.file,
+        let frame = self.last_frame(site.file, block)?;
+        Some(Site {
+            file: site.file,
             frame,
-            line: place.line,
+            line: site.line,
         })
     }
 
@@ -97,10 +97,10 @@ impl<'w, 'a, 't> Look<'w, 'a, 't> {
     /// conditional, or the part of a comprehension that stops as the run did.
     fn deeper<'p>(
         &mut self,
-        place: &Place,
+        site: &Site,
         expression: &'p Expression,
         ran: &Ran<'p>,
-    ) -> Result<Option<(Place, &'p Expression)>, AllocError> {
+    ) -> Result<Option<(Site, &'p Expression)>, AllocError> {
         if let Expression::Conditional {
             chosen,
             otherwise,
@@ -112,9 +112,9 @@ impl<'w, 'a, 't> Look<'w, 'a, 't> {
             };
             let is_true = self.machine.is_true(self.world.setting(), condition);
             let part = if is_true { chosen } else { otherwise };
-            return Ok(Some((*place, part.get())));
+            return Ok(Some((*site, part.get())));
         }
-        let Some(inside) = self.inside(place, expression, ran) else {
+        let Some(inside) = self.inside(site, expression, ran) else {
             return Ok(None);
         };
         let parts = inner_parts(self.alloc, expression)?;
@@ -125,26 +125,26 @@ impl<'w, 'a, 't> Look<'w, 'a, 't> {
     /// The innermost expression that is at fault; `None` if it is nested too deeply.
     fn culprit<'p>(
         &mut self,
-        place: &Place,
+        site: &Site,
         expression: &'p Expression,
     ) -> Result<Option<Culprit<'p>>, AllocError> {
-        let mut place = *place;
+        let mut site = *site;
         let mut expression = expression;
         for _ in 0..DEPTH {
             let parts = parts_of(self.alloc, expression)?;
-            let ran = self.run(&place, parts.as_slice())?;
+            let ran = self.run(&site, parts.as_slice())?;
             if let Some(part) = ran.failing {
                 expression = part;
                 continue;
             }
-            match self.deeper(&place, expression, &ran)? {
+            match self.deeper(&site, expression, &ran)? {
                 Some((inside, part)) => {
-                    place = inside;
+                    site = inside;
                     expression = part;
                 }
                 None => {
                     return Ok(Some(Culprit {
-                        place,
+                        site,
                         expression,
                         ran,
                     }));
@@ -157,11 +157,11 @@ impl<'w, 'a, 't> Look<'w, 'a, 't> {
     /// Reports the values that a fault in an expression is about. `token` is a token at the expression or before it.
     pub(crate) fn in_expression(
         &mut self,
-        place: &Place,
+        site: &Site,
         token: usize,
         expression: &Expression,
     ) -> Result<Option<Found>, AllocError> {
-        match self.culprit(place, expression)? {
+        match self.culprit(site, expression)? {
             Some(culprit) => self.about(token, &culprit),
             None => Ok(None),
         }

@@ -5,7 +5,7 @@ use crate::parts::{clauses_of, token_of};
 use crate::search::{LEVELS, Ran};
 use star_eval::evaluate::evaluate;
 use star_found::about::{About, Found};
-use star_meaning::place::Place;
+use star_meaning::site::Site;
 use star_store::values::Value;
 use star_tree::tree::{Clause, Expression, Target};
 use std::alloc::AllocError;
@@ -119,15 +119,15 @@ impl<'w, 'a, 't> Look<'w, 'a, 't> {
     }
 
     /// The value of a part at a place; `None` if it has none.
-    fn value_of(&mut self, place: &Place, part: &Expression) -> Option<Value> {
-        evaluate(&mut self.machine, self.world, LEVELS, place, part).ok()
+    fn value_of(&mut self, site: &Site, part: &Expression) -> Option<Value> {
+        evaluate(&mut self.machine, self.world, LEVELS, site, part).ok()
     }
 
     /// Reports a fault in the later `for` clauses of a comprehension whose parts do not stop: a value that is not an
     /// iterable, or an item that does not fit its target.
     fn clauses(
         &mut self,
-        inside: &Place,
+        inside: &Site,
         at: usize,
         clauses: &[Clause],
     ) -> Result<Option<Found>, AllocError> {
@@ -148,7 +148,7 @@ impl<'w, 'a, 't> Look<'w, 'a, 't> {
     /// key.
     pub(crate) fn comprehension(
         &mut self,
-        place: &Place,
+        site: &Site,
         expression: &Expression,
         ran: &Ran<'_>,
     ) -> Result<Option<Found>, AllocError> {
@@ -159,7 +159,7 @@ impl<'w, 'a, 't> Look<'w, 'a, 't> {
         if let Some(found) = self.items_unpacked(at, &clauses.target, first)? {
             return Ok(Some(found));
         }
-        let Some(inside) = self.inside(place, expression, ran) else {
+        let Some(inside) = self.inside(site, expression, ran) else {
             return Ok(None);
         };
         if let Some(found) = self.clauses(&inside, at, clauses.more.as_slice())? {

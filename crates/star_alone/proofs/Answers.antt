@@ -1,21 +1,19 @@
 -- What is answered of a run.
 use Rattle.std.proofs.Common.{◌≡◌, ℕ, Bool, true, false, List, Option, length, map, sym, subst}
 use Rattle.star_label.specs.Files.{File}
-use Rattle.star_outcome.specs.Kept.{AllGood, AreModules, AreModulesOf, RunView}
-use Rattle.star_plan.specs.Plan.{Plan}
-use Rattle.star_plan.specs.Reading.{IsPlanOf}
+use Rattle.star_outcome.specs.Kept.{AllGood, AreModulesOf, RunView}
 use Rattle.star_plan.specs.Report.{IsReport}
 use Rattle.star_reading.specs.Found.{IsReadOf}
 use Rattle.star_reading.specs.Readings.{Row}
 use Rattle.star_report.specs.Output.{InPlanOf, IsOutput}
-use Rattle.star_report.specs.Shown.{IsReportBut}
+use Rattle.star_report.specs.Shown.{ReportsRun}
 use Rattle.star_report.specs.Wanted.{Full}
 use Rattle.star_report.specs.declared.wanted.Output.TheVariants.{Report}
 use Rattle.star_report.specs.declared.wanted.Wanted.{Wanted}
 
 -- the text of a run's report, and whether its modules are good, in the plan of the files
 pub answered_in : (wanted : Wanted) (files : List File) (roots : List ℕ) (prelude : Option ℕ) (steps : ℕ) (row : Row) (run : RunView) (text : List ℕ) (ok : Bool) → run.begun ≡ length run.kept → AreModulesOf files roots prelude steps run.kept → IsReadOf files roots prelude row
-    → ((plan : Plan) → IsPlanOf files plan → plan.roots ≡ roots → IsReadOf files roots plan.prelude row → AreModules plan run.kept → IsReportBut wanted files plan (length run.kept) run.begun text) → (ok ≡ true → AllGood run.kept) → (ok ≡ false → AllGood run.kept → ⊥)
+    → ReportsRun wanted files row roots run text → (ok ≡ true → AllGood run.kept) → (ok ≡ false → AllGood run.kept → ⊥)
     → InPlanOf files roots prelude steps (λ plan. IsOutput (Report wanted) files plan text ok)
 answered_in wanted files roots prelude steps row run text ok count (plan, planned, of_roots, of_prelude, of_steps, are) read writes good bad =
     let but = writes plan planned of_roots (subst (λ p. IsReadOf files roots p row) (sym of_prelude) read) are in (

@@ -1,10 +1,9 @@
 //! From the bytes of a bundle to the text of its report, by the caller's own thread.
 
-ghost use Rattle.std.specs.Prelude.{◌≡◌, ◌+◌, ◌<◌, ◌≤◌, ◌⊎◌, All, IfErr, IfOk, IfSome, Ok, length, map, option_map, string_bytes};
-ghost use Rattle.star_bundle.specs.Bundle as bundle;
+ghost use Rattle.std.specs.Prelude.{◌≡◌, ◌+◌, ◌<◌, ◌≤◌, ◌⊎◌, All, IfErr, IfOk, IfSome, Ok, length};
 ghost use Rattle.star_bundle.specs.Refusal.{Gives};
 ghost use Rattle.star_bundle.specs.View.{asked_view};
-ghost use Rattle.star_alone.specs.Alone.{IsAnswered, IsRefusedBy, asked_within};
+ghost use Rattle.star_alone.specs.Alone.{IsAnswerTo, IsAnswered, IsRefusedBy, asked_by};
 
 use crate::reading::tree_cells;
 use crate::report::report_alone;
@@ -100,8 +99,7 @@ fn input_of(
     roots: &[String],
     prelude: Option<&String>,
 ) -> Result<AskedFor, ServeError>
-    ensures asked { Gives asked_view result
-        (asked_within (map string_bytes roots.now) (option_map (λ p. string_bytes p.now) prelude.entry) bytes.now) }
+    ensures asked { Gives asked_view result (asked_by roots.now prelude.entry bytes.now) }
     ensures roots { IfOk result (λ a. All (λ n. n < length a.files) a.roots.items) }
     ensures prelude { IfOk result (λ a. IfSome a.prelude (λ n. n < length a.files)) }
 {
@@ -128,14 +126,11 @@ pub fn answer_alone(
     requires steps { (1 ≤ steps) × (steps ≤ 100000000) }
 
     // The bytes are a bundle that has each root and the prelude, and the text is its report, and so is the answer.
-    ensures ok { IfOk result (λ a. (asked : bundle.Asked)
-        × (asked_within (map string_bytes roots.now) (option_map (λ p. string_bytes p.now) prelude.entry) bytes.now
-        ≡ Ok asked)
-        × IsAnswered wanted asked steps a.text.items a.all_ok) }
+    ensures ok { IfOk result (λ a.
+        IsAnswerTo (asked_by roots.now prelude.entry bytes.now) wanted steps a.text.items a.all_ok) }
 
     // The refusal is the first that the rules give, or an allocation failed, or a module was not published.
-    ensures refused { IfErr result (IsRefusedBy
-        (asked_within (map string_bytes roots.now) (option_map (λ p. string_bytes p.now) prelude.entry) bytes.now)) }
+    ensures refused { IfErr result (IsRefusedBy (asked_by roots.now prelude.entry bytes.now)) }
 {
     let asked = match input_of(alloc, bytes, roots, prelude) {
         Ok(asked) => asked,

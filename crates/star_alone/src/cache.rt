@@ -1,7 +1,7 @@
 //! The book of a cache with one loader, which never waits, and the loads that it has refused.
 
-ghost use Rattle.std.specs.Prelude.{◌≡◌, ◌≤◌, ℕ, All, IfErr, IfOk, MatchOption, length, true};
-ghost use Rattle.star_cache.specs.State.{HasEnded, Loads, begun_count};
+ghost use Rattle.std.specs.Prelude.{◌≡◌, ◌≤◌, All, IfOk, MatchOption, length, true};
+ghost use Rattle.star_cache.specs.State.{HasEnded, Loads};
 ghost use Rattle.star_cache.specs.Tells.{IsCyclic, Tells};
 ghost use Rattle.star_outcome.specs.Fits.{IsAsked};
 ghost use Rattle.star_outcome.specs.Refusals.{AreRefusals, IsRefusal};
@@ -12,7 +12,7 @@ ghost use Rattle.star_plan.specs.Results.{IsGood};
 use star_cache::{Book, BookError, Reply};
 use star_outcome::naming::Naming;
 use star_outcome::told::Told;
-use star_outcome::trace::Refused;
+use star_outcome::trace::CyclicLoad;
 use std::alloc::{AllocError, Global};
 use std::marker::Model;
 
@@ -20,7 +20,7 @@ use std::marker::Model;
 #[derive(Drop)]
 pub(crate) struct Cache<J: Naming> {
     book: Book<Told<J>>,
-    refused: Vec<Refused>,
+    refused: Vec<CyclicLoad>,
 }
 
 impl<J: Naming> Model for Cache<J> {
@@ -71,7 +71,7 @@ impl<J: Naming> Cache<J> {
     }
 
     /// One refused load more.
-    pub(crate) fn note_cycle(&mut self, load: Refused) -> Result<(), AllocError>
+    pub(crate) fn note_cycle(&mut self, load: CyclicLoad) -> Result<(), AllocError>
         requires { IsRefusal J.plan load }
         ensures { self.new ≡ self.old }
     {
@@ -87,7 +87,7 @@ impl<J: Naming> Cache<J> {
     }
 
     /// The book, and the loads that were refused.
-    pub(crate) fn into_parts(self) -> (Book<Told<J>>, Vec<Refused>)
+    pub(crate) fn into_parts(self) -> (Book<Told<J>>, Vec<CyclicLoad>)
         ensures book { result.0 ≡ self }
         ensures refused { AreRefusals J.plan result.1.items }
     {

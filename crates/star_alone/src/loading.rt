@@ -9,31 +9,24 @@ use crate::cache::Cache;
 use star_cache::Reply;
 use star_host::Common;
 use star_host::gate::Open;
-use star_host::loading::{LoadError, Turn, boxed, ended, module_of, next_load, told_module};
-use star_outcome::frame::Frame;
+use star_host::loading::{LoadError, Turn, next_load, published, told_module};
 use star_outcome::naming::Naming;
-use star_outcome::told::Told;
-use star_outcome::trace::Refused;
+use star_outcome::open_file::OpenFile;
+use star_outcome::trace::CyclicLoad;
 use std::alloc::AllocError;
 
 /// Publishes how a file ended, and then says that it is done.
 fn end<'s, 'r, 'p, 't, J: Naming>(
     common: &Common<'s, 'r, 'p, 't>,
     cache: &mut Cache<J>,
-    frame: &Frame<'s, J>,
+    frame: &OpenFile<'s, J>,
 ) -> Result<(), LoadError>
     requires world { IsWorld J.files J.plan J.shelf common.now }
     requires told { frame.now.told ≡ length (loads_of J.plan frame.now.n) }
 {
     let n = frame.number();
-    let ended = ended::<J, Open>(common, &Open, 0, frame)?;
-    let made = module_of::<J>(common, n, ended)?;
-    let good = made.is_good();
-    let module = boxed(common.alloc, made)?;
-    let Ok(note) = common.modules.publish(n, module) else {
-        return Err(LoadError::Unpublished);
-    };
-    match cache.finish(n, Told::new(n, good, note)) {
+    let told = published::<J, Open>(common, &Open, 0, frame)?;
+    match cache.finish(n, told) {
         Ok(()) => Ok(()),
         Err(_) => Err(LoadError::Spoiled),
     }
@@ -43,7 +36,7 @@ fn end<'s, 'r, 'p, 't, J: Naming>(
 fn take_turn<'s, 'r, 'p, 't, J: Naming>(
     common: &Common<'s, 'r, 'p, 't>,
     cache: &mut Cache<J>,
-    top: &mut Frame<'s, J>,
+    top: &mut OpenFile<'s, J>,
 ) -> Result<Turn, LoadError>
     requires world { IsWorld J.files J.plan J.shelf common.now }
     ensures turn { IfOk result (IsTurn J.files J.plan) }
@@ -59,7 +52,7 @@ fn take_turn<'s, 'r, 'p, 't, J: Naming>(
         Ok(Reply::Failed(_told)) => top.refuse(),
         Ok(Reply::Cycle) => {
             let loaded = load.file;
-            cache.note_cycle(Refused {
+            cache.note_cycle(CyclicLoad {
                 file,
                 index,
                 loaded,
@@ -100,10 +93,10 @@ pub(crate) fn load<'s, 'r, 'p, 't, J: Naming>(
     requires world { IsWorld J.files J.plan J.shelf common.now }
     requires root { IsAsked J.files J.plan root }
 {
-    let mut stack: Vec<Frame<'s, J>> = Vec::new(common.alloc);
+    let mut stack: Vec<OpenFile<'s, J>> = Vec::new(common.alloc);
     if begins(cache, root)? {
         stack
-            .push(Frame::new(common.alloc, root))
+            .push(OpenFile::new(common.alloc, root))
             .map_err(AllocError::from)?;
     }
     for _ in 0..u64::MAX {
@@ -113,7 +106,7 @@ pub(crate) fn load<'s, 'r, 'p, 't, J: Naming>(
         match take_turn(common, cache, top)? {
             Turn::Again => {}
             Turn::Enter(m) => stack
-                .push(Frame::new(common.alloc, m))
+                .push(OpenFile::new(common.alloc, m))
                 .map_err(AllocError::from)?,
             Turn::Ended => {
                 let _ = stack.pop();

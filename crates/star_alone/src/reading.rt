@@ -1,10 +1,10 @@
 //! The reading of files by the caller's own thread.
 
-ghost use Rattle.std.specs.Prelude.{◌≡◌, ◌+◌, ◌<◌, ◌++◌, ◌∷◌, [], All, IfOk, IfSome, None, OnOk, Some, length};
+ghost use Rattle.std.specs.Prelude.{◌≡◌, ◌+◌, ◌<◌, All, IfOk, IfSome, None, OnOk, Some, length};
 ghost use Rattle.std.specs.Option.{option_copied};
 ghost use Rattle.star_label.specs.Files.{text_at};
 ghost use Rattle.star_plan.specs.Reading.{IsPrelude};
-ghost use Rattle.star_reading.specs.Found.{AreFound, IsReadOf, IsRowOf, Within, left_of};
+ghost use Rattle.star_reading.specs.Found.{HasFound, HasFoundWith, IsReadOf, IsRowOf, Within, left_of};
 ghost use Rattle.star_reading.specs.Parsed.{IsParsed};
 ghost use Rattle.star_reading.specs.Readings.{IsPlaceable, IsReadAs};
 
@@ -136,10 +136,10 @@ impl<'s, 't> Reader<'s, 't> {
         requires file { n < length self.now.files.now }
         requires cells { length self.now.trees.now ≡ length self.now.files.now + 1 }
         requires prelude { IfSome self.now.prelude (λ p. p.now.file < length self.now.files.now) }
-        requires found { AreFound self.now.files.now (option_copied self.now.prelude) self.now.roots.now
-            found.old.reads.items found.old.marks.items (found.old.todo.items ++ n ∷ []) }
-        ensures found { OnOk result (AreFound self.now.files.now (option_copied self.now.prelude) self.now.roots.now
-            found.new.reads.items found.new.marks.items found.new.todo.items) }
+        requires found { HasFoundWith self.now.files.now (option_copied self.now.prelude) self.now.roots.now found.old
+            n }
+        ensures found { OnOk result
+            (HasFound self.now.files.now (option_copied self.now.prelude) self.now.roots.now found.new) }
         ensures left { OnOk result (left_of found.new.marks.items found.new.todo.items
             ≡ left_of found.old.marks.items found.old.todo.items) }
     {
@@ -151,17 +151,6 @@ impl<'s, 't> Reader<'s, 't> {
         Ok(())
     }
 
-    /// The roots are found, and nothing is read yet.
-    fn start(&self) -> Result<Found<'t>, AllocError>
-        requires { Within self.now.files.now self.now.roots.now }
-        ensures { IfOk result (λ f. AreFound self.now.files.now (option_copied self.now.prelude) self.now.roots.now
-            f.reads.items f.marks.items f.todo.items) }
-    {
-        let mut found = Found::new(self.alloc, self.files.len())?;
-        found.mark_each(self.roots)?;
-        Ok(found)
-    }
-
     /// Reads all files that the roots reach: the roots, and the loads of all that is read. Each turn takes a file that
     /// was found, and each file is found at most once.
     fn read_all(&self) -> Result<Vec<Option<Read<'t>>>, ReadError>
@@ -171,7 +160,7 @@ impl<'s, 't> Reader<'s, 't> {
         ensures { IfOk result (λ row. IsRowOf self.now.files.now (option_copied self.now.prelude)
             self.now.roots.now row.items) }
     {
-        let mut found = self.start()?;
+        let mut found = Found::from_roots(self.alloc, self.files, self.roots)?;
         while let Some(n) = found.next() {
             self.read_next(&mut found, n)?;
         }

@@ -1,18 +1,15 @@
 //! The report of a run, written by the caller's own thread.
 
 ghost use Rattle.std.specs.Prelude.{◌≡◌, ◌<◌, All, IfOk, length};
-ghost use Rattle.star_outcome.specs.Kept.{AreModules};
-ghost use Rattle.star_plan.specs.Plan.{Plan};
-ghost use Rattle.star_plan.specs.Reading.{IsPlanOf};
-ghost use Rattle.star_reading.specs.Found.{IsReadOf};
 ghost use Rattle.star_report.specs.Pages.{AreWritten};
 ghost use Rattle.star_report.specs.Shelf.{LeadToFiles};
-ghost use Rattle.star_report.specs.Shown.{IsReportBut};
+ghost use Rattle.star_report.specs.Shown.{ReportsRun};
 
 use star_cause::Causes;
 use star_host::{Reads, Run};
 use star_label::files::Files as Labels;
-use star_report::pages::{Page, joined, pages_of, roots_marked};
+use star_reading::roots::roots_marked;
+use star_report::pages::{Page, joined, pages_of};
 use star_report::report::nexts_of;
 use star_report::wanted::Wanted;
 use std::alloc::{AllocError, Global};
@@ -42,9 +39,7 @@ pub(crate) fn report_alone(
     requires files { length run.old.cells ≡ length files.now }
     requires loads { LeadToFiles files.now reads.now.all.items }
     ensures same { run.new ≡ run.old }
-    ensures text { IfOk result (λ s. (plan : Plan) → IsPlanOf files.now plan → plan.roots ≡ roots.now
-        → IsReadOf files.now roots.now plan.prelude reads.now.all.items → AreModules plan run.old.kept
-        → IsReportBut wanted files.now plan (length run.old.kept) run.old.begun s.items) }
+    ensures text { IfOk result (λ s. ReportsRun wanted files.now reads.now.all.items roots.now run.old s.items) }
 {
     let nexts = nexts_of(alloc, files.len(), run)?;
     let causes = Causes::new(alloc, nexts)?;

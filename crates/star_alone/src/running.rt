@@ -1,7 +1,7 @@
 //! The run by one loader that never waits.
 
 ghost use Rattle.std.specs.Prelude.{◌≡◌, ◌+◌, ◌<◌, ◌≤◌, ℕ, All, IfOk, IfSome, length, sum, vec_len};
-ghost use Rattle.star_cache.specs.State.{HasEnded, begun_count};
+ghost use Rattle.star_cache.specs.State.{HasEnded};
 ghost use Rattle.star_host.specs.Counts.{AreCounts};
 ghost use Rattle.star_host.specs.Worlds.{IsWorld};
 ghost use Rattle.star_outcome.specs.Fits.{IsWithin};
@@ -24,7 +24,7 @@ use star_outcome::naming::Naming;
 use star_outcome::outcome::Kept;
 use star_outcome::shelf::Shelf;
 use star_outcome::told::Told;
-use star_outcome::trace::Refused;
+use star_outcome::trace::CyclicLoad;
 use star_reading::reading::Reads;
 use star_tree::tree::Tree;
 use std::alloc::{AllocError, Global};
@@ -43,7 +43,7 @@ fn unread(error: ReadError) -> RunError {
 struct Ended {
     kept: Vec<Kept>,
     begun: u32,
-    refused: Vec<Refused>,
+    refused: Vec<CyclicLoad>,
 }
 
 /// Loads each root.
@@ -66,7 +66,7 @@ fn load_each<'s, 'r, 'p, 't, J: Naming>(
 fn ended_of<J: Naming>(
     alloc: Global,
     book: Book<Told<J>>,
-    refused: Vec<Refused>,
+    refused: Vec<CyclicLoad>,
 ) -> Result<Ended, AllocError>
     requires cells { length J.shelf ≡ length J.files }
     requires within { IsWithin J.files J.plan }

@@ -1,10 +1,11 @@
 -- The method `format`: its string is read from one brace to the next.
-use Rattle.std.proofs.Common.{◌≡◌, ℕ, nat_eq, Bool, true, false, not, ◌&&◌, ◌||◌, List, [], ◌∷◌, ◌++◌, length, if◌then◌else◌, refl, ap, sym, ◌∙◌, append_assoc, append-nil, arith}
+use Rattle.std.proofs.Common.{◌≡◌, ℕ, nat_eq, Bool, true, false, not, ◌||◌, List, [], ◌∷◌, ◌++◌, length, if◌then◌else◌, refl, ap, sym, ◌∙◌, append_assoc, append-nil, arith}
+use Rattle.std.proofs.lemmas.Bool.{and_parts, not-true, or_parts}
 use Rattle.std.proofs.lemmas.Bool.Decides.{nat_tests}
 use Rattle.std.specs.List.{list_all}
 use Rattle.star_store.specs.declared.values.Value.{Value}
-use Rattle.star_meaning.specs.declared.fault.Code.TheVariants.{BadValue}
-use Rattle.star_meaning.specs.declared.given.Given.{Given}
+use Rattle.star_meaning.specs.declared.fault.FaultCode.TheVariants.{BadValue}
+use Rattle.star_meaning.specs.declared.given.Arguments.{Arguments}
 use Rattle.star_meaning.specs.Run.{State, Outcome, Done, Failed, ◌>>=◌, and_then, give, fail}
 use Rattle.star_meaning.specs.Program.{Setting}
 use Rattle.star_meaning.specs.Values.{str}
@@ -12,68 +13,47 @@ use Rattle.star_machine.specs.Cuts.{is_neither, begins_plainly}
 use Rattle.star_meaning.specs.Format.{Numbering, Outside, Field, Closing, formatted, field_value}
 use Rattle.star_attribute.specs.Fields.{field_text}
 
-and_left : (p q : Bool) → (p && q) ≡ true → p ≡ true
-and_left true q h = refl
-and_left false q h = cc
-
-and_right : (p q : Bool) → (p && q) ≡ true → q ≡ true
-and_right true q h = h
-and_right false q h = cc
-
-not_first : (p q : Bool) → not (p || q) ≡ true → p ≡ false
-not_first true q h = cc
-not_first false q h = refl
-
-not_second : (p q : Bool) → not (p || q) ≡ true → q ≡ false
-not_second true q h = cc
-not_second false true h = cc
-not_second false false h = refl
-
 -- bytes outside of braces are copied
-outside_before : (w : Setting) (levels line : ℕ) (g : Given) (before after : List ℕ) (k : Numbering) (out : List ℕ) → list_all (is_neither 123 125) before ≡ true → formatted w levels line g (before ++ after) Outside k out ≡ formatted w levels line g after Outside k (out ++ before)
+outside_before : (w : Setting) (levels line : ℕ) (g : Arguments) (before after : List ℕ) (k : Numbering) (out : List ℕ) → list_all (is_neither 123 125) before ≡ true → formatted w levels line g (before ++ after) Outside k out ≡ formatted w levels line g after Outside k (out ++ before)
 outside_before w levels line g [] after k out h = ap (λ t. formatted w levels line g after Outside k t) (sym (append-nil out))
 outside_before w levels line g (b ∷ bs) after k out h =
-    let n = and_left (is_neither 123 125 b) (list_all (is_neither 123 125) bs) h in
-    let p = not_first (nat_eq b 123) (nat_eq b 125) n in
-    let r = not_second (nat_eq b 123) (nat_eq b 125) n in
-    let q = and_right (is_neither 123 125 b) (list_all (is_neither 123 125) bs) h in
-    rw (p, r) (outside_before w levels line g bs after k (out ++ b ∷ []) q ∙ ap (λ t. formatted w levels line g after Outside k t) (append_assoc out (b ∷ []) bs))
+    let all = and_parts (is_neither 123 125 b) (list_all (is_neither 123 125) bs) h in
+    let other = or_parts (nat_eq b 123) (nat_eq b 125) (not-true (nat_eq b 123 || nat_eq b 125) all.0) in
+    rw (other.0, other.1) (outside_before w levels line g bs after k (out ++ b ∷ []) all.1 ∙ ap (λ t. formatted w levels line g after Outside k t) (append_assoc out (b ∷ []) bs))
 
 -- bytes inside of a field are its own
-field_before : (w : Setting) (levels line : ℕ) (g : Given) (before after f : List ℕ) (k : Numbering) (out : List ℕ) → list_all (is_neither 123 125) before ≡ true → formatted w levels line g (before ++ after) (Field f) k out ≡ formatted w levels line g after (Field (f ++ before)) k out
+field_before : (w : Setting) (levels line : ℕ) (g : Arguments) (before after f : List ℕ) (k : Numbering) (out : List ℕ) → list_all (is_neither 123 125) before ≡ true → formatted w levels line g (before ++ after) (Field f) k out ≡ formatted w levels line g after (Field (f ++ before)) k out
 field_before w levels line g [] after f k out h = ap (λ t. formatted w levels line g after (Field t) k out) (sym (append-nil f))
 field_before w levels line g (b ∷ bs) after f k out h =
-    let n = and_left (is_neither 123 125 b) (list_all (is_neither 123 125) bs) h in
-    let p = not_first (nat_eq b 123) (nat_eq b 125) n in
-    let r = not_second (nat_eq b 123) (nat_eq b 125) n in
-    let q = and_right (is_neither 123 125 b) (list_all (is_neither 123 125) bs) h in
-    rw (p, r) (field_before w levels line g bs after (f ++ b ∷ []) k out q ∙ ap (λ t. formatted w levels line g after (Field t) k out) (append_assoc f (b ∷ []) bs))
+    let all = and_parts (is_neither 123 125 b) (list_all (is_neither 123 125) bs) h in
+    let other = or_parts (nat_eq b 123) (nat_eq b 125) (not-true (nat_eq b 123 || nat_eq b 125) all.0) in
+    rw (other.0, other.1) (field_before w levels line g bs after (f ++ b ∷ []) k out all.1 ∙ ap (λ t. formatted w levels line g after (Field t) k out) (append_assoc f (b ∷ []) bs))
 
 -- up to the first brace
-pub outside_cut : (w : Setting) (levels line : ℕ) (g : Given) (t before after : List ℕ) (b : ℕ) (k : Numbering) (out : List ℕ) → t ≡ before ++ b ∷ after → list_all (is_neither 123 125) before ≡ true → formatted w levels line g t Outside k out ≡ formatted w levels line g (b ∷ after) Outside k (out ++ before)
+pub outside_cut : (w : Setting) (levels line : ℕ) (g : Arguments) (t before after : List ℕ) (b : ℕ) (k : Numbering) (out : List ℕ) → t ≡ before ++ b ∷ after → list_all (is_neither 123 125) before ≡ true → formatted w levels line g t Outside k out ≡ formatted w levels line g (b ∷ after) Outside k (out ++ before)
 outside_cut w levels line g t before after b k out e h = rw e (outside_before w levels line g before (b ∷ after) k out h)
 
 -- if there is no further brace
-pub outside_last : (w : Setting) (levels line : ℕ) (g : Given) (t : List ℕ) (k : Numbering) (out : List ℕ) (s : State) → list_all (is_neither 123 125) t ≡ true → formatted w levels line g t Outside k out s ≡ Done (out ++ t) s
+pub outside_last : (w : Setting) (levels line : ℕ) (g : Arguments) (t : List ℕ) (k : Numbering) (out : List ℕ) (s : State) → list_all (is_neither 123 125) t ≡ true → formatted w levels line g t Outside k out s ≡ Done (out ++ t) s
 outside_last w levels line g t k out s h = ap (λ u. formatted w levels line g u Outside k out s) (sym (append-nil t)) ∙ ap (λ f. f s) (outside_before w levels line g t [] k out h)
 
 -- a field that does not end
-pub field_open : (w : Setting) (levels line : ℕ) (g : Given) (t : List ℕ) (k : Numbering) (out : List ℕ) (s : State) → list_all (is_neither 123 125) t ≡ true → formatted w levels line g t (Field []) k out s ≡ fail BadValue line s
+pub field_open : (w : Setting) (levels line : ℕ) (g : Arguments) (t : List ℕ) (k : Numbering) (out : List ℕ) (s : State) → list_all (is_neither 123 125) t ≡ true → formatted w levels line g t (Field []) k out s ≡ fail BadValue line s
 field_open w levels line g t k out s h = ap (λ u. formatted w levels line g u (Field []) k out s) (sym (append-nil t)) ∙ ap (λ f. f s) (field_before w levels line g t [] [] k out h)
 
-field_cut : (w : Setting) (levels line : ℕ) (g : Given) (t field more : List ℕ) (b : ℕ) (k : Numbering) (out : List ℕ) → t ≡ field ++ b ∷ more → list_all (is_neither 123 125) field ≡ true → formatted w levels line g t (Field []) k out ≡ formatted w levels line g (b ∷ more) (Field field) k out
+field_cut : (w : Setting) (levels line : ℕ) (g : Arguments) (t field more : List ℕ) (b : ℕ) (k : Numbering) (out : List ℕ) → t ≡ field ++ b ∷ more → list_all (is_neither 123 125) field ≡ true → formatted w levels line g t (Field []) k out ≡ formatted w levels line g (b ∷ more) (Field field) k out
 field_cut w levels line g t field more b k out e h = rw e (field_before w levels line g field (b ∷ more) [] k out h)
 
 -- the end of a field
-put_text : (w : Setting) (levels line : ℕ) (g : Given) (more out : List ℕ) (k : Numbering) (o : Outcome (List ℕ)) → and_then o (λ t. formatted w levels line g more Outside k (out ++ t)) ≡ and_then {A = List ℕ × Numbering} (and_then o (λ t. give (t, k))) (λ r. formatted w levels line g more Outside r.1 (out ++ r.0))
+put_text : (w : Setting) (levels line : ℕ) (g : Arguments) (more out : List ℕ) (k : Numbering) (o : Outcome (List ℕ)) → and_then o (λ t. formatted w levels line g more Outside k (out ++ t)) ≡ and_then {A = List ℕ × Numbering} (and_then o (λ t. give (t, k))) (λ r. formatted w levels line g more Outside r.1 (out ++ r.0))
 put_text w levels line g more out k (Done t s) = refl
 put_text w levels line g more out k (Failed f lines) = refl
 
-put_value : (w : Setting) (levels line : ℕ) (g : Given) (more out : List ℕ) (o : Outcome (Value × Numbering)) → and_then o (λ r. str w levels line r.0 >>= λ t. formatted w levels line g more Outside r.1 (out ++ t)) ≡ and_then {A = List ℕ × Numbering} (and_then o (λ r. str w levels line r.0 >>= λ t. give (t, r.1))) (λ r. formatted w levels line g more Outside r.1 (out ++ r.0))
+put_value : (w : Setting) (levels line : ℕ) (g : Arguments) (more out : List ℕ) (o : Outcome (Value × Numbering)) → and_then o (λ r. str w levels line r.0 >>= λ t. formatted w levels line g more Outside r.1 (out ++ t)) ≡ and_then {A = List ℕ × Numbering} (and_then o (λ r. str w levels line r.0 >>= λ t. give (t, r.1))) (λ r. formatted w levels line g more Outside r.1 (out ++ r.0))
 put_value w levels line g more out (Done r s) = put_text w levels line g more out r.1 (str w levels line r.0 s)
 put_value w levels line g more out (Failed f lines) = refl
 
-pub field_closed : (w : Setting) (levels line : ℕ) (g : Given) (t field more : List ℕ) (b : ℕ) (k : Numbering) (out : List ℕ) (s : State) → t ≡ field ++ b ∷ more → list_all (is_neither 123 125) field ≡ true → b ≡ 125 → formatted w levels line g t (Field []) k out s ≡ and_then (field_text w levels line g field k s) (λ r. formatted w levels line g more Outside r.1 (out ++ r.0))
+pub field_closed : (w : Setting) (levels line : ℕ) (g : Arguments) (t field more : List ℕ) (b : ℕ) (k : Numbering) (out : List ℕ) (s : State) → t ≡ field ++ b ∷ more → list_all (is_neither 123 125) field ≡ true → b ≡ 125 → formatted w levels line g t (Field []) k out s ≡ and_then (field_text w levels line g field k s) (λ r. formatted w levels line g more Outside r.1 (out ++ r.0))
 field_closed w levels line g t field more b k out s e h j =
     ap (λ f. f s) (field_cut w levels line g t field more b k out e h) ∙ rw j (put_value w levels line g more out (field_value line g field k s))
 
@@ -99,11 +79,11 @@ closing b h k =
     grind (arith, nat_tests)
 
 -- a `{` after a `{`
-pub field_opened : (w : Setting) (levels line : ℕ) (g : Given) (t field more : List ℕ) (b : ℕ) (k : Numbering) (out : List ℕ) → t ≡ field ++ b ∷ more → list_all (is_neither 123 125) field ≡ true → b ≡ 123 → formatted w levels line g t (Field []) k out ≡ (if nat_eq (length field) 0 then formatted w levels line g more Outside k (out ++ 123 ∷ []) else fail BadValue line)
+pub field_opened : (w : Setting) (levels line : ℕ) (g : Arguments) (t field more : List ℕ) (b : ℕ) (k : Numbering) (out : List ℕ) → t ≡ field ++ b ∷ more → list_all (is_neither 123 125) field ≡ true → b ≡ 123 → formatted w levels line g t (Field []) k out ≡ (if nat_eq (length field) 0 then formatted w levels line g more Outside k (out ++ 123 ∷ []) else fail BadValue line)
 field_opened w levels line g t field more b k out e h j = field_cut w levels line g t field more b k out e h ∙ rw j refl
 
 -- a byte other than `}` after a `}`
-pub closed_badly : (w : Setting) (levels line : ℕ) (g : Given) (t : List ℕ) (k : Numbering) (out : List ℕ) → begins_plainly t ≡ false → formatted w levels line g t Closing k out ≡ fail BadValue line
+pub closed_badly : (w : Setting) (levels line : ℕ) (g : Arguments) (t : List ℕ) (k : Numbering) (out : List ℕ) → begins_plainly t ≡ false → formatted w levels line g t Closing k out ≡ fail BadValue line
 closed_badly w levels line g [] k out h = refl
 closed_badly w levels line g (b ∷ bs) k out h =
     let p : nat_eq b 125 ≡ false = grind (arith, nat_tests) in

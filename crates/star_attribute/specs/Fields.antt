@@ -1,14 +1,12 @@
--- The fields of `format`, by the next place and by number, and how reading goes on after a brace.
-use Rattle.std.specs.Prelude.{◌≡◌, ℕ, List, Result, Ok, Err}
+-- The fields of `format`, by the next place and by number.
+use Rattle.std.specs.Prelude.{ℕ, List}
 use Rattle.star_store.specs.declared.values.Value.{Value}
-use Rattle.star_machine.specs.declared.fault.Stop.{Stop}
-use Rattle.star_meaning.specs.declared.given.Given.{Given}
-use Rattle.star_meaning.specs.Run.{State, Outcome, Action, ◌>>=◌, give}
+use Rattle.star_meaning.specs.declared.given.Arguments.{Arguments}
+use Rattle.star_meaning.specs.Run.{Action, ◌>>=◌, give}
 use Rattle.star_meaning.specs.Program.{Setting}
 use Rattle.star_meaning.specs.Values.{str}
 use Rattle.star_meaning.specs.Format.{Numbering, Unused, Automatic, ByNumber, next_place, numbered_place, placed_value, field_value}
 use Rattle.star_meaning.specs.BuiltIns.{number_from}
-use Rattle.star_machine.specs.Gives.{Ends}
 use Rattle.star_attribute.specs.declared.fields.Numbering.{Numbering as Counting}
 use Rattle.star_attribute.specs.declared.fields.Numbering.TheVariants as counting
 
@@ -34,10 +32,5 @@ abbrev pub numbered_value : ℕ → List Value → List ℕ → Numbering → Ac
 numbered_value line xs f k = numbered_place line (number_from 0 f) k >>= placed_value line xs
 
 -- the `str` of the value of a field
-abbrev pub field_text : Setting → ℕ → ℕ → Given → List ℕ → Numbering → Action (List ℕ × Numbering)
+abbrev pub field_text : Setting → ℕ → ℕ → Arguments → List ℕ → Numbering → Action (List ℕ × Numbering)
 field_text w levels line g f k = field_value line g f k >>= λ r. str w levels line r.0 >>= λ t. give (t, r.1)
-
--- The text is the one that reading on makes; or the fault is that of its definition.
-abbrev pub ReadsOn : {A : Type 0} → Outcome (List ℕ) → (A → Outcome (List ℕ)) → Result A Stop → State → Type 0
-ReadsOn o rest (Ok r) new = o ≡ rest r
-ReadsOn o rest (Err e) new = Ends o e new

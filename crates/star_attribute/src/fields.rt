@@ -10,14 +10,14 @@ ghost use Rattle.std.specs.Option.{option_map};
 ghost use Rattle.star_attribute.specs.Fields.{as_found, as_numbering, field_text, next_value, numbered_value, text_and_numbering};
 ghost use Rattle.star_meaning.specs.BuiltIns.{is_digit, number_from};
 ghost use Rattle.star_meaning.specs.Format as spec;
-ghost use Rattle.star_machine.specs.Gives.{GivesBy};
+ghost use Rattle.star_machine.specs.Refines.{RefinesBy};
 ghost use Rattle.star_scope.specs.Names.{same_name};
 
 use star_machine::fault::{Stop, faulted};
 use star_machine::machine::Machine;
 use star_machine::setting::Setting;
-use star_meaning::fault::Code;
-use star_meaning::given::{Given, NamedValue};
+use star_meaning::fault::FaultCode;
+use star_meaning::given::{Arguments, KeywordArgument};
 use star_store::values::Value;
 use star_text::Text;
 
@@ -102,7 +102,7 @@ fn value_at(values: &[Value], digits: &[u8]) -> Option<Value>
 }
 
 /// The first of the values with a name.
-fn value_named(values: &[NamedValue], name: &str) -> Option<Value>
+fn value_named(values: &[KeywordArgument], name: &str) -> Option<Value>
     ensures { result ≡ option_map (λ n. n.value) (find (λ n. same_name n.name name.now) values.now) }
 {
     for named in values {
@@ -120,15 +120,15 @@ fn next_value(
     values: &[Value],
     numbering: Numbering,
 ) -> Result<(Value, Numbering), Stop>
-    ensures { GivesBy as_found (next_value line values.now (as_numbering numbering) machine.now) result machine.now }
+    ensures { RefinesBy as_found (next_value line values.now (as_numbering numbering) machine.now) result machine.now }
 {
     let place = match numbering {
         Numbering::Unused => 0,
         Numbering::Automatic(place) => place,
-        Numbering::ByNumber => return Err(faulted(Code::BadValue, line)),
+        Numbering::ByNumber => return Err(faulted(FaultCode::BadValue, line)),
     };
     let Some(value) = value_in(values, place) else {
-        return Err(faulted(Code::Index, line));
+        return Err(faulted(FaultCode::Index, line));
     };
     Ok((value, Numbering::Automatic(place + 1)))
 }
@@ -141,14 +141,14 @@ fn numbered_value(
     digits: &[u8],
     numbering: Numbering,
 ) -> Result<(Value, Numbering), Stop>
-    ensures { GivesBy as_found (numbered_value line values.now digits.now (as_numbering numbering) machine.now)
+    ensures { RefinesBy as_found (numbered_value line values.now digits.now (as_numbering numbering) machine.now)
         result machine.now }
 {
     if let Numbering::Automatic(_) = numbering {
-        return Err(faulted(Code::BadValue, line));
+        return Err(faulted(FaultCode::BadValue, line));
     }
     let Some(value) = value_at(values, digits) else {
-        return Err(faulted(Code::Index, line));
+        return Err(faulted(FaultCode::Index, line));
     };
     Ok((value, Numbering::ByNumber))
 }
@@ -157,16 +157,16 @@ fn numbered_value(
 fn named_value(
     machine: &Machine,
     line: usize,
-    values: &[NamedValue],
+    values: &[KeywordArgument],
     name: &str,
     numbering: Numbering,
 ) -> Result<(Value, Numbering), Stop>
-    ensures { GivesBy as_found (spec.named_value line values.now name.now (as_numbering numbering) machine.now)
+    ensures { RefinesBy as_found (spec.named_value line values.now name.now (as_numbering numbering) machine.now)
         result machine.now }
 {
     match value_named(values, name) {
         Some(value) => Ok((value, numbering)),
-        None => Err(faulted(Code::Key, line)),
+        None => Err(faulted(FaultCode::Key, line)),
     }
 }
 
@@ -176,24 +176,30 @@ fn named_value(
 fn field_value(
     machine: &Machine,
     line: usize,
-    given: &Given,
+    given: &Arguments,
     field: &str,
     numbering: Numbering,
 ) -> Result<(Value, Numbering), Stop>
-    ensures { GivesBy as_found (spec.field_value line given.now field.now (as_numbering numbering) machine.now)
+    ensures { RefinesBy as_found (spec.field_value line given.now field.now (as_numbering numbering) machine.now)
         result machine.now }
 {
     if field.is_empty() {
-        return next_value(machine, line, given.plain.as_slice(), numbering);
+        return next_value(machine, line, given.positional.as_slice(), numbering);
     }
     if are_digits(field.as_bytes()) {
         let digits = field.as_bytes();
-        return numbered_value(machine, line, given.plain.as_slice(), digits, numbering);
+        return numbered_value(
+            machine,
+            line,
+            given.positional.as_slice(),
+            digits,
+            numbering,
+        );
     }
     if is_field_name(field.as_bytes()) {
         return named_value(machine, line, given.named.as_slice(), field, numbering);
     }
-    Err(faulted(Code::BadValue, line))
+    Err(faulted(FaultCode::BadValue, line))
 }
 
 /// The `str` of the value of a field, and how fields find their values from then on. The faults are those of the field
@@ -203,11 +209,11 @@ pub fn field_text(
     setting: &Setting,
     levels: u32,
     line: usize,
-    given: &Given,
+    given: &Arguments,
     field: &str,
     numbering: Numbering,
 ) -> Result<(Text, Numbering), Stop>
-    ensures { GivesBy text_and_numbering
+    ensures { RefinesBy text_and_numbering
         (field_text setting.now levels line given.now field.now (as_numbering numbering) machine.old)
         result machine.new }
 {

@@ -4,10 +4,10 @@
 //! texts of fields change the machine.
 
 ghost use Rattle.std.specs.Prelude.{◌≡◌, ◌≤◌, ◌∷◌, [], IfOk, false, length, string_bytes};
-ghost use Rattle.star_attribute.specs.Fields.{ReadsOn, as_numbering};
+ghost use Rattle.star_attribute.specs.Formats.{ReadsOn, formatting};
 ghost use Rattle.star_machine.specs.Cuts.{is_neither};
 ghost use Rattle.star_meaning.specs.Format as spec;
-ghost use Rattle.star_machine.specs.Gives.{Gives};
+ghost use Rattle.star_machine.specs.Refines.{Refines};
 ghost use Rattle.star_machine.specs.Kinds.{bytes_of};
 ghost use Rattle.star_meaning.specs.TextMethods as methods;
 ghost use Rattle.star_meaning.specs.Values.{content};
@@ -17,41 +17,54 @@ use star_machine::cuts::{cut_at, first_ascii};
 use star_machine::fault::{Stop, faulted};
 use star_machine::machine::Machine;
 use star_machine::setting::Setting;
-use star_meaning::fault::Code;
-use star_meaning::given::Given;
+use star_meaning::fault::FaultCode;
+use star_meaning::given::Arguments;
 use star_method::texts::pay_for_bytes;
 use star_store::values::Value;
 use star_text::Text;
+
+/// A call of `format`: its arguments, and what the texts of its fields need.
+#[derive(Clone, Copy)]
+struct FormatCall<'a> {
+    setting: &'a Setting<'a>,
+    levels: u32,
+    line: usize,
+    given: &'a Arguments,
+}
 
 /// Puts the text for the braces after a `{`: that of a field's value, or a `{` for another `{`. Returns the rest of the
 /// format, and how fields find their values from then on. `BadValue` if no brace follows, and for a `{` inside of a
 /// field.
 fn read_field<'a>(
     machine: &mut Machine,
-    setting: &Setting,
-    levels: u32,
-    line: usize,
-    given: &Given,
+    call: FormatCall<'_>,
     out: &mut String,
     after: &'a str,
     numbering: Numbering,
 ) -> Result<(&'a str, Numbering), Stop>
-    ensures reads { ReadsOn (spec.formatted setting.now levels line given.now after.now (spec.Field [])
-        (as_numbering numbering) (string_bytes out.old) machine.old)
-        (λ r. spec.formatted setting.now levels line given.now r.0.now spec.Outside (as_numbering r.1)
-        (string_bytes out.new) machine.new) result machine.new }
+    ensures reads { ReadsOn call.entry
+        (formatting call.entry after.now (spec.Field []) numbering (string_bytes out.old) machine.old)
+        result out.new machine.new }
     ensures shorter { IfOk result (λ r. length r.0.now ≤ length after.now) }
 {
     let Some((field, brace, more)) = cut_at(after, b'{', b'}') else {
-        return Err(faulted(Code::BadValue, line));
+        return Err(faulted(FaultCode::BadValue, call.line));
     };
     if brace == b'}' {
-        let (text, next) = field_text(machine, setting, levels, line, given, field, numbering)?;
+        let (text, next) = field_text(
+            machine,
+            call.setting,
+            call.levels,
+            call.line,
+            call.given,
+            field,
+            numbering,
+        )?;
         out.push_str(text.as_str())?;
         return Ok((more, next));
     }
     if !field.is_empty() {
-        return Err(faulted(Code::BadValue, line));
+        return Err(faulted(FaultCode::BadValue, call.line));
     }
     out.push('{')?;
     Ok((more, numbering))
@@ -61,55 +74,42 @@ fn read_field<'a>(
 /// values from then on. `BadValue` for a `{` that is not closed and for a `}` that closes nothing.
 fn read_brace<'a>(
     machine: &mut Machine,
-    setting: &Setting,
-    levels: u32,
-    line: usize,
-    given: &Given,
+    call: FormatCall<'_>,
     out: &mut String,
     brace: u8,
     after: &'a str,
     numbering: Numbering,
 ) -> Result<(&'a str, Numbering), Stop>
     requires { is_neither 123 125 brace ≡ false }
-    ensures reads { ReadsOn (spec.formatted setting.now levels line given.now (brace ∷ after.now) spec.Outside
-        (as_numbering numbering) (string_bytes out.old) machine.old)
-        (λ r. spec.formatted setting.now levels line given.now r.0.now spec.Outside (as_numbering r.1)
-        (string_bytes out.new) machine.new) result machine.new }
+    ensures reads { ReadsOn call.entry
+        (formatting call.entry (brace ∷ after.now) spec.Outside numbering (string_bytes out.old) machine.old)
+        result out.new machine.new }
     ensures shorter { IfOk result (λ r. length r.0.now ≤ length after.now) }
 {
     if brace == b'{' {
-        return read_field(machine, setting, levels, line, given, out, after, numbering);
+        return read_field(machine, call, out, after, numbering);
     }
     match first_ascii(after) {
         Some((b'}', more)) => {
             out.push('}')?;
             Ok((more, numbering))
         }
-        _ => Err(faulted(Code::BadValue, line)),
+        _ => Err(faulted(FaultCode::BadValue, call.line)),
     }
 }
 
 /// The format from left to right, with the texts of the values in the places of its fields. `BadValue` for braces that
 /// are not paired, and the faults of the fields.
-fn formatted(
-    machine: &mut Machine,
-    setting: &Setting,
-    levels: u32,
-    line: usize,
-    given: &Given,
-    format: &str,
-) -> Result<Text, Stop>
-    ensures { Gives (spec.formatted setting.now levels line given.now format.now spec.Outside spec.Unused []
-        machine.old) result machine.new }
+fn formatted(machine: &mut Machine, call: FormatCall<'_>, format: &str) -> Result<Text, Stop>
+    ensures { Refines (formatting call.entry format.now spec.Outside Numbering.Unused [] machine.old)
+        result machine.new }
 {
     let mut out = String::new(machine.alloc());
     let mut rest = format;
     let mut numbering = Numbering::Unused;
     while let Some((before, brace, after)) = cut_at(rest, b'{', b'}') {
         out.push_str(before)?;
-        let (more, next) = read_brace(
-            machine, setting, levels, line, given, &mut out, brace, after, numbering,
-        )?;
+        let (more, next) = read_brace(machine, call, &mut out, brace, after, numbering)?;
         rest = more;
         numbering = next;
     }
@@ -126,13 +126,19 @@ pub fn call_format(
     levels: u32,
     line: usize,
     text: Value,
-    given: &Given,
+    given: &Arguments,
 ) -> Result<Value, Stop>
-    ensures { Gives (methods.call_format setting.now levels line (bytes_of (content setting.now machine.old text))
+    ensures { Refines (methods.call_format setting.now levels line (bytes_of (content setting.now machine.old text))
         given.now machine.old) result machine.new }
 {
     let format = machine.copied_text(setting, text)?;
     pay_for_bytes(machine, setting, line, text)?;
-    let made = formatted(machine, setting, levels, line, given, format.as_str())?;
+    let call = FormatCall {
+        setting,
+        levels,
+        line,
+        given,
+    };
+    let made = formatted(machine, call, format.as_str())?;
     machine.new_text(line, made)
 }

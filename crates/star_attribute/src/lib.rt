@@ -8,7 +8,7 @@
 //! Begin at `methods.rt`. A bound method is a heap object with its receiver. The work of all methods but `format` is in
 //! `star_method`.
 //!
-//! The promise is `Gives` of `star_machine`, by `Methods` and `Format` of `star_meaning`. See `docs/LANGUAGE.md`,
+//! The promise is `Refines` of `star_machine`, by `Methods` and `Format` of `star_meaning`. See `docs/LANGUAGE.md`,
 //! "Methods".
 #![tactic(auto)]
 

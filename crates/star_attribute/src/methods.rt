@@ -2,7 +2,7 @@
 
 ghost use Rattle.std.specs.Prelude.{◌≡◌};
 ghost use Rattle.std.specs.List.{find};
-ghost use Rattle.star_machine.specs.Gives.{Gives};
+ghost use Rattle.star_machine.specs.Refines.{Refines};
 ghost use Rattle.star_meaning.specs.Methods as spec;
 ghost use Rattle.star_meaning.specs.Run.{and_then};
 ghost use Rattle.star_machine.specs.Shown.{shown};
@@ -15,8 +15,8 @@ use star_machine::content::Content;
 use star_machine::fault::{Stop, faulted};
 use star_machine::machine::Machine;
 use star_machine::setting::Setting;
-use star_meaning::fault::Code;
-use star_meaning::given::Given;
+use star_meaning::fault::FaultCode;
+use star_meaning::given::Arguments;
 use star_method::dicts::{
     call_dict_pop, call_get, call_items, call_keys, call_popitem, call_setdefault, call_update,
     call_values,
@@ -25,9 +25,7 @@ use star_method::lists::{
     call_append, call_clear, call_extend, call_index, call_insert, call_pop, call_remove,
 };
 use star_method::parts::{call_replace, call_split};
-use star_method::texts::{
-    call_endswith, call_find, call_join, call_lower, call_startswith, call_strip, call_upper,
-};
+use star_method::texts::{Case, Edge, call_case, call_edge, call_find, call_join, call_strip};
 use star_store::names::Method;
 use star_store::values::{Cell, Value};
 
@@ -104,10 +102,10 @@ pub fn attribute(
     value: Value,
     name: &str,
 ) -> Result<Value, Stop>
-    ensures { Gives (spec.attribute setting.now line value name.now machine.old) result machine.new }
+    ensures { Refines (spec.attribute setting.now line value name.now machine.old) result machine.new }
 {
     let Some(method) = method_of(machine.content(setting, value), name) else {
-        return Err(faulted(Code::BadType, line));
+        return Err(faulted(FaultCode::BadType, line));
     };
     machine.build(line, 1, Cell::Bound(method, value))
 }
@@ -120,26 +118,26 @@ fn call_on_text(
     line: usize,
     method: Method,
     text: Value,
-    given: &Given,
+    given: &Arguments,
 ) -> Result<Value, Stop>
-    ensures { Gives (and_then (want_text setting.now line text machine.old)
+    ensures { Refines (and_then (want_text setting.now line text machine.old)
         (λ t. spec.on_text setting.now levels line method t given.now)) result machine.new }
 {
     machine.check_text(setting, line, text)?;
     match method {
-        Method::StringEndswith => call_endswith(machine, setting, line, text, given),
+        Method::StringEndswith => call_edge(machine, setting, line, Edge::End, text, given),
         Method::StringFind => call_find(machine, setting, line, text, given),
         Method::StringFormat => call_format(machine, setting, levels, line, text, given),
         Method::StringJoin => call_join(machine, setting, line, text, given),
-        Method::StringLower => call_lower(machine, setting, line, text, given),
+        Method::StringLower => call_case(machine, setting, line, Case::Lower, text, given),
         Method::StringLstrip => call_strip(machine, setting, line, true, false, text, given),
         Method::StringReplace => call_replace(machine, setting, line, text, given),
         Method::StringRstrip => call_strip(machine, setting, line, false, true, text, given),
         Method::StringSplit => call_split(machine, setting, line, text, given),
-        Method::StringStartswith => call_startswith(machine, setting, line, text, given),
+        Method::StringStartswith => call_edge(machine, setting, line, Edge::Front, text, given),
         Method::StringStrip => call_strip(machine, setting, line, true, true, text, given),
-        Method::StringUpper => call_upper(machine, setting, line, text, given),
-        _ => Err(faulted(Code::BadType, line)),
+        Method::StringUpper => call_case(machine, setting, line, Case::Upper, text, given),
+        _ => Err(faulted(FaultCode::BadType, line)),
     }
 }
 
@@ -153,9 +151,9 @@ pub fn call_method(
     line: usize,
     method: Method,
     receiver: Value,
-    given: &Given,
+    given: &Arguments,
 ) -> Result<Value, Stop>
-    ensures { Gives (spec.call_method setting.now levels line method receiver given.now machine.old)
+    ensures { Refines (spec.call_method setting.now levels line method receiver given.now machine.old)
         result machine.new }
 {
     match method {

@@ -6,7 +6,7 @@ use Rattle.star_meaning.specs.declared.fault.Fault.{Fault}
 use Rattle.star_meaning.specs.Run.{State, Outcome, Done, Failed, Action, and_then, give, pay, each}
 use Rattle.std.proofs.lemmas.List.{take_more}
 use Rattle.star_store.specs.declared.values.Value.TheVariants as value
-use Rattle.star_machine.specs.Gives.{with_front}
+use Rattle.star_machine.specs.Refines.{with_front}
 use Rattle.star_meaning.specs.BuiltIns.{joined, least}
 use Rattle.star_meaning.specs.Pairs.{taken_entries}
 

@@ -4,7 +4,7 @@ use Rattle.std.proofs.lemmas.List.{drop_more}
 use Rattle.star_store.specs.declared.values.Value.{Value}
 use Rattle.star_machine.specs.declared.fault.Stop.{Stop}
 use Rattle.star_machine.specs.declared.fault.Stop.TheVariants.{Memory, Faulted}
-use Rattle.star_machine.specs.Gives.{Ends}
+use Rattle.star_machine.specs.Refines.{Ends}
 use Rattle.star_meaning.specs.Pairs.{with_pair, with_pairs}
 use Rattle.star_meaning.specs.Program.{Setting}
 use Rattle.star_meaning.specs.Run.{State, Outcome, and_then}

@@ -6,9 +6,9 @@ use Rattle.star_machine.specs.declared.fault.Stop.{Stop}
 use Rattle.star_meaning.specs.Arguments.{key_for}
 use Rattle.star_meaning.specs.Operators.{with_entry}
 use Rattle.star_meaning.specs.Program.{Setting}
-use Rattle.star_meaning.specs.declared.given.NamedValue.{NamedValue}
+use Rattle.star_meaning.specs.declared.given.KeywordArgument.{KeywordArgument}
 use Rattle.star_meaning.specs.Run.{State, Action, Outcome, Done, ◌>>=◌, give, seeing}
-use Rattle.star_machine.specs.Gives.{Ends}
+use Rattle.star_machine.specs.Refines.{Ends}
 use Rattle.star_meaning.specs.Pairs.{Pairs}
 
 abbrev pub as_pairs : HeldPairs → Pairs
@@ -20,5 +20,5 @@ Puts o (Ok x) entries new = o ≡ Done entries new
 Puts o (Err e) entries new = Ends o e new
 
 -- the entries with a named value put in, under its name as a key
-abbrev pub put_named : Setting → ℕ → List (Value × Value) → NamedValue → Action (List (Value × Value))
+abbrev pub put_named : Setting → ℕ → List (Value × Value) → KeywordArgument → Action (List (Value × Value))
 put_named w line es n = key_for line n >>= λ k. seeing (λ s. give (with_entry w s es (k, n.value)))

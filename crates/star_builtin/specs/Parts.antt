@@ -1,7 +1,7 @@
 -- The built-in functions after their arguments have been unpacked.
 use Rattle.std.specs.Prelude.{ℕ, ◌+◌, ◌^◌, min, List, [], ◌∷◌, length, ℤ, pos}
 use Rattle.star_store.specs.declared.values.Value.{Value}
-use Rattle.star_meaning.specs.declared.fault.Code.TheVariants as code
+use Rattle.star_meaning.specs.declared.fault.FaultCode.TheVariants as code
 use Rattle.star_meaning.specs.Run.{Action, ◌>>=◌, pay, check, found, each, collect, add_line}
 use Rattle.star_meaning.specs.Program.{Setting}
 use Rattle.star_meaning.specs.Values.{with_content, want_int, new_int, new_tuple, new_list, count_of, str}

@@ -2,14 +2,14 @@
 
 ghost use Rattle.std.specs.Prelude.{◌≡◌};
 ghost use Rattle.star_meaning.specs.BuiltIns as spec;
-ghost use Rattle.star_machine.specs.Gives.{Gives};
+ghost use Rattle.star_machine.specs.Refines.{Refines};
 ghost use Rattle.star_builtin.specs.Best.{better, best_among};
 
 use star_machine::fault::{Stop, faulted};
 use star_machine::machine::Machine;
 use star_machine::setting::Setting;
-use star_meaning::fault::Code;
-use star_meaning::given::Given;
+use star_meaning::fault::FaultCode;
+use star_meaning::given::Arguments;
 use star_store::values::Value;
 use std::cmp::Ordering;
 
@@ -42,7 +42,7 @@ fn best_of(
     first: Value,
     rest: &[Value],
 ) -> Result<Value, Stop>
-    ensures { Gives (spec.best_of setting.now levels line (better wanted) first rest.now machine.old)
+    ensures { Refines (spec.best_of setting.now levels line (better wanted) first rest.now machine.old)
         result machine.new }
 {
     let mut best = first;
@@ -64,11 +64,11 @@ fn best_in(
     wanted: Best,
     values: &[Value],
 ) -> Result<Value, Stop>
-    ensures { Gives (spec.best_in setting.now levels line (better wanted) values.now machine.old) result machine.new }
+    ensures { Refines (spec.best_in setting.now levels line (better wanted) values.now machine.old) result machine.new }
 {
     match values {
         [first, rest @ ..] => best_of(machine, setting, levels, line, wanted, *first, rest),
-        [] => Err(faulted(Code::BadValue, line)),
+        [] => Err(faulted(FaultCode::BadValue, line)),
     }
 }
 
@@ -82,10 +82,10 @@ fn best_among(
     wanted: Best,
     values: &[Value],
 ) -> Result<Value, Stop>
-    ensures { Gives (best_among setting.now levels line (better wanted) values.now machine.old) result machine.new }
+    ensures { Refines (best_among setting.now levels line (better wanted) values.now machine.old) result machine.new }
 {
     match values {
-        [] => Err(faulted(Code::Args, line)),
+        [] => Err(faulted(FaultCode::Args, line)),
         [value] => {
             let items = machine.take_all(setting, line, *value)?;
             best_in(machine, setting, levels, line, wanted, items.as_slice())
@@ -103,10 +103,11 @@ pub fn call_best(
     levels: u32,
     line: usize,
     wanted: Best,
-    given: &Given,
+    given: &Arguments,
 ) -> Result<Value, Stop>
-    ensures { Gives (spec.call_best setting.now levels line (better wanted) given.now machine.old) result machine.new }
+    ensures { Refines (spec.call_best setting.now levels line (better wanted) given.now machine.old)
+        result machine.new }
 {
-    let values = machine.by_place(line, given)?;
+    let values = machine.positional(line, given)?;
     best_among(machine, setting, levels, line, wanted, values)
 }

@@ -1,20 +1,20 @@
 //! The `match` over all built-in functions. To see one of them, follow its arm.
 
 ghost use Rattle.star_meaning.specs.BuiltIns.{call_built_in};
-ghost use Rattle.star_machine.specs.Gives.{Gives};
+ghost use Rattle.star_machine.specs.Refines.{Refines};
 
 use crate::best::{Best, call_best};
 use crate::dicts::call_dict;
 use crate::numbers::{call_abs, call_int, call_len};
+use crate::print::{call_fail, call_print, call_repr, call_str, call_type};
 use crate::ranges::call_range;
 use crate::rows::{call_enumerate, call_list, call_reversed, call_tuple, call_zip};
-use crate::say::{call_fail, call_print, call_repr, call_str, call_type};
 use crate::sorted::call_sorted;
 use crate::truths::{call_all, call_any, call_bool};
 use star_machine::fault::Stop;
 use star_machine::machine::Machine;
 use star_machine::setting::Setting;
-use star_meaning::given::Given;
+use star_meaning::given::Arguments;
 use star_store::names::BuiltIn;
 use star_store::values::Value;
 
@@ -27,9 +27,9 @@ pub fn call_built_in(
     levels: u32,
     line: usize,
     built_in: BuiltIn,
-    given: &Given,
+    given: &Arguments,
 ) -> Result<Value, Stop>
-    ensures { Gives (call_built_in setting.now levels line built_in given.now machine.old) result machine.new }
+    ensures { Refines (call_built_in setting.now levels line built_in given.now machine.old) result machine.new }
 {
     match built_in {
         BuiltIn::Abs => call_abs(machine, setting, line, given),

@@ -2,8 +2,8 @@
 
 ghost use Rattle.std.specs.Prelude.{◌≡◌, [], IfOk, OnOk};
 ghost use Rattle.star_meaning.specs.BuiltIns.{call_dict};
-ghost use Rattle.star_machine.specs.Gathered.{IsGathered};
-ghost use Rattle.star_machine.specs.Gives.{Gives, GivesBy};
+ghost use Rattle.star_machine.specs.DictBuilder.{IsGathered};
+ghost use Rattle.star_machine.specs.Refines.{Refines, RefinesBy};
 ghost use Rattle.star_meaning.specs.Pairs as spec;
 ghost use Rattle.star_meaning.specs.Run.{each};
 ghost use Rattle.star_meaning.specs.Subscript.{entries_in};
@@ -12,11 +12,11 @@ ghost use Rattle.star_builtin.specs.Dicts.{Puts, as_pairs, put_named};
 
 use star_machine::content::{Content, Kind};
 use star_machine::fault::{Stop, faulted};
-use star_machine::gathered::Gathered;
+use star_machine::gathered::DictBuilder;
 use star_machine::machine::Machine;
 use star_machine::setting::Setting;
-use star_meaning::fault::Code;
-use star_meaning::given::{Given, NamedValue};
+use star_meaning::fault::FaultCode;
+use star_meaning::given::{Arguments, KeywordArgument};
 use star_store::values::{Cell, Entries, Value};
 use std::alloc::AllocError;
 
@@ -34,7 +34,7 @@ fn pairs_count(
     line: usize,
     value: Option<Value>,
 ) -> Result<usize, Stop>
-    ensures { Gives (spec.pairs_count setting.now line value machine.now) result machine.now }
+    ensures { Refines (spec.pairs_count setting.now line value machine.now) result machine.now }
 {
     match value {
         Some(value) => machine.count_of(setting, line, value),
@@ -49,12 +49,12 @@ fn pair_of(
     line: usize,
     value: Value,
 ) -> Result<(Value, Value), Stop>
-    ensures { Gives (spec.pair_of setting.now line value machine.old) result machine.new }
+    ensures { Refines (spec.pair_of setting.now line value machine.old) result machine.new }
 {
     let items = machine.take_all(setting, line, value)?;
     match items.as_slice() {
         [key, value] => Ok((*key, *value)),
-        _ => Err(faulted(Code::BadValue, line)),
+        _ => Err(faulted(FaultCode::BadValue, line)),
     }
 }
 
@@ -65,7 +65,8 @@ fn pairs_among(
     line: usize,
     values: &[Value],
 ) -> Result<Vec<(Value, Value)>, Stop>
-    ensures { GivesBy (λ v. v.items) (each (spec.pair_of setting.now line) values.now machine.old) result machine.new }
+    ensures { RefinesBy (λ v. v.items) (each (spec.pair_of setting.now line) values.now machine.old)
+        result machine.new }
 {
     let mut pairs = Vec::new(machine.alloc());
     for value in values {
@@ -95,7 +96,7 @@ fn taken_entries(
     line: usize,
     entries: Vec<(Value, Value)>,
 ) -> Result<Vec<(Value, Value)>, Stop>
-    ensures { GivesBy (λ v. v.items) (spec.taken_entries line entries.items machine.old) result machine.new }
+    ensures { RefinesBy (λ v. v.items) (spec.taken_entries line entries.items machine.old) result machine.new }
 {
     for _entry in &entries {
         machine.pay(line, 1)?;
@@ -112,7 +113,7 @@ fn pairs_in(
     value: Value,
     count: usize,
 ) -> Result<Pairs, Stop>
-    ensures { GivesBy as_pairs (spec.pairs_in setting.now line value count (content setting.now machine.old value)
+    ensures { RefinesBy as_pairs (spec.pairs_in setting.now line value count (content setting.now machine.old value)
         machine.old) result machine.new }
 {
     if let Kind::Dict = machine.kind(setting, value) {
@@ -141,7 +142,7 @@ fn pairs_of(
     value: Option<Value>,
     count: usize,
 ) -> Result<Pairs, Stop>
-    ensures { GivesBy as_pairs (spec.pairs_of setting.now line value count machine.old) result machine.new }
+    ensures { RefinesBy as_pairs (spec.pairs_of setting.now line value count machine.old) result machine.new }
 {
     match value {
         Some(value) => pairs_in(machine, setting, line, value, count),
@@ -161,7 +162,7 @@ fn check_pair(
     are_keys: bool,
     key: Value,
 ) -> Result<(), Stop>
-    ensures answer { Gives (spec.check_pair setting.now levels line are_keys key machine.old) result machine.new }
+    ensures answer { Refines (spec.check_pair setting.now levels line are_keys key machine.old) result machine.new }
     ensures kept { machine.new.store ≡ machine.old.store }
 {
     if are_keys {
@@ -177,7 +178,7 @@ fn put_pair(
     levels: u32,
     line: usize,
     are_keys: bool,
-    gathered: &mut Gathered,
+    gathered: &mut DictBuilder,
     pair: (Value, Value),
 ) -> Result<(), Stop>
     requires { IsGathered setting.now machine.old.store gathered.old }
@@ -197,13 +198,13 @@ fn with_pairs(
     levels: u32,
     line: usize,
     pairs: &Pairs,
-) -> Result<Gathered, Stop>
-    ensures answer { GivesBy (λ g. g.entries)
+) -> Result<DictBuilder, Stop>
+    ensures answer { RefinesBy (λ g. g.entries)
         (spec.with_pairs setting.now levels line pairs.now.are_keys [] pairs.now.pairs.items machine.old)
         result machine.new }
     ensures gathered { IfOk result (λ g. IsGathered setting.now machine.new.store g) }
 {
-    let mut gathered = Gathered::new(machine.alloc());
+    let mut gathered = DictBuilder::new(machine.alloc());
     for pair in &pairs.pairs {
         put_pair(
             machine,
@@ -223,8 +224,8 @@ fn put_named(
     machine: &mut Machine,
     setting: &Setting,
     line: usize,
-    gathered: &mut Gathered,
-    named: &NamedValue,
+    gathered: &mut DictBuilder,
+    named: &KeywordArgument,
 ) -> Result<(), Stop>
     requires { IsGathered setting.now machine.old.store gathered.old }
     ensures put { Puts (put_named setting.now line gathered.old.entries named.now machine.old)
@@ -241,11 +242,11 @@ fn with_named(
     machine: &mut Machine,
     setting: &Setting,
     line: usize,
-    gathered: Gathered,
-    named: &[NamedValue],
+    gathered: DictBuilder,
+    named: &[KeywordArgument],
 ) -> Result<Entries, Stop>
     requires { IsGathered setting.now machine.old.store gathered }
-    ensures { Gives (spec.with_named setting.now line gathered.entries named.now machine.old) result machine.new }
+    ensures { Refines (spec.with_named setting.now line gathered.entries named.now machine.old) result machine.new }
 {
     let mut gathered = gathered;
     for value in named {
@@ -262,9 +263,9 @@ fn dict_of(
     levels: u32,
     line: usize,
     pairs: &Pairs,
-    named: &[NamedValue],
+    named: &[KeywordArgument],
 ) -> Result<Value, Stop>
-    ensures { Gives (spec.dict_of setting.now levels line (as_pairs pairs.now) named.now machine.old)
+    ensures { Refines (spec.dict_of setting.now levels line (as_pairs pairs.now) named.now machine.old)
         result machine.new }
 {
     let gathered = with_pairs(machine, setting, levels, line, pairs)?;
@@ -280,11 +281,11 @@ pub fn call_dict(
     setting: &Setting,
     levels: u32,
     line: usize,
-    given: &Given,
+    given: &Arguments,
 ) -> Result<Value, Stop>
-    ensures { Gives (call_dict setting.now levels line given.now machine.old) result machine.new }
+    ensures { Refines (call_dict setting.now levels line given.now machine.old) result machine.new }
 {
-    let value = machine.none_or_one(line, given.plain.as_slice())?;
+    let value = machine.none_or_one(line, given.positional.as_slice())?;
     let count = pairs_count(machine, setting, line, value)?;
     let pairs = pairs_of(machine, setting, line, value, count)?;
     dict_of(

@@ -6,7 +6,7 @@
 //! No built-in function runs a function of the program: `sorted` takes `reverse` and no `key`. It has no types of its
 //! own and no state.
 //!
-//! The promise of each `call_..` is `Gives` of `star_machine`: it has the result of its definition in
+//! The promise of each `call_..` is `Refines` of `star_machine`: it has the result of its definition in
 //! `star_meaning/specs/BuiltIns`, the fault, the payments and the printed lines included.
 #![tactic(auto)]
 
@@ -15,9 +15,9 @@ pub mod calls;
 pub mod dicts;
 mod ints;
 pub mod numbers;
+pub mod print;
 pub mod ranges;
 pub mod rows;
-pub mod say;
 pub mod sorted;
 mod spelling;
 pub mod truths;

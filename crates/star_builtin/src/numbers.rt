@@ -2,7 +2,7 @@
 
 ghost use Rattle.std.specs.Prelude.{◌≡◌, unsigned_abs};
 ghost use Rattle.star_meaning.specs.BuiltIns as spec;
-ghost use Rattle.star_machine.specs.Gives.{Gives};
+ghost use Rattle.star_machine.specs.Refines.{Refines};
 ghost use Rattle.star_machine.specs.Shown.{shown};
 ghost use Rattle.star_builtin.specs.Parts as part;
 
@@ -12,13 +12,13 @@ use star_machine::content::Content;
 use star_machine::fault::{Stop, faulted};
 use star_machine::machine::Machine;
 use star_machine::setting::Setting;
-use star_meaning::fault::Code;
-use star_meaning::given::Given;
+use star_meaning::fault::FaultCode;
+use star_meaning::given::Arguments;
 use star_store::values::{Cell, Value};
 
 /// How far an int lies from 0. `Overflow` for the least one.
 fn absolute(machine: &Machine, line: usize, int: i64) -> Result<Value, Stop>
-    ensures { Gives (spec.absolute line int machine.now) result machine.now }
+    ensures { Refines (spec.absolute line int machine.now) result machine.now }
 {
     machine.new_int(line, narrow(int.unsigned_abs() as i128))
 }
@@ -26,16 +26,16 @@ fn absolute(machine: &Machine, line: usize, int: i64) -> Result<Value, Stop>
 /// The int of a content: an int itself, a bool as 1 or 0, or the int that a string spells. `BadValue` for a string that
 /// spells no int, `Overflow` for one outside 64 bits, `BadType` for another content.
 fn to_int(machine: &Machine, line: usize, content: Content) -> Result<Value, Stop>
-    ensures { Gives (spec.to_int line (shown content.entry) machine.now) result machine.now }
+    ensures { Refines (spec.to_int line (shown content.entry) machine.now) result machine.now }
 {
     match content {
         Content::Number(int) => Ok(Value::Int(int)),
         Content::Truth(truth) => Ok(Value::Int(if truth { 1 } else { 0 })),
         Content::Held(Cell::Text(text)) => match spelled(text.as_str().as_bytes()) {
             Some(int) => machine.new_int(line, int),
-            None => Err(faulted(Code::BadValue, line)),
+            None => Err(faulted(FaultCode::BadValue, line)),
         },
-        _ => Err(faulted(Code::BadType, line)),
+        _ => Err(faulted(FaultCode::BadType, line)),
     }
 }
 
@@ -51,11 +51,11 @@ fn length_in(content: Content) -> Option<usize>
 
 /// How many bytes a string has, or items an iterable. `BadType` for another value, `Overflow` for more than 2^63 - 1.
 fn length_of(machine: &Machine, setting: &Setting, line: usize, value: Value) -> Result<Value, Stop>
-    ensures { Gives (part.length_of setting.now line value machine.now) result machine.now }
+    ensures { Refines (part.length_of setting.now line value machine.now) result machine.now }
 {
     match length_in(machine.content(setting, value)) {
         Some(length) => machine.new_int(line, narrow(length as i128)),
-        None => Err(faulted(Code::BadType, line)),
+        None => Err(faulted(FaultCode::BadType, line)),
     }
 }
 
@@ -65,11 +65,11 @@ pub fn call_abs(
     machine: &Machine,
     setting: &Setting,
     line: usize,
-    given: &Given,
+    given: &Arguments,
 ) -> Result<Value, Stop>
-    ensures { Gives (spec.call_abs setting.now line given.now machine.now) result machine.now }
+    ensures { Refines (spec.call_abs setting.now line given.now machine.now) result machine.now }
 {
-    let value = machine.only_one(line, machine.by_place(line, given)?)?;
+    let value = machine.only_one(line, machine.positional(line, given)?)?;
     let int = machine.want_int(setting, line, value)?;
     absolute(machine, line, int)
 }
@@ -81,11 +81,11 @@ pub fn call_int(
     machine: &Machine,
     setting: &Setting,
     line: usize,
-    given: &Given,
+    given: &Arguments,
 ) -> Result<Value, Stop>
-    ensures { Gives (spec.call_int setting.now line given.now machine.now) result machine.now }
+    ensures { Refines (spec.call_int setting.now line given.now machine.now) result machine.now }
 {
-    let value = machine.only_one(line, machine.by_place(line, given)?)?;
+    let value = machine.only_one(line, machine.positional(line, given)?)?;
     to_int(machine, line, machine.content(setting, value))
 }
 
@@ -95,10 +95,10 @@ pub fn call_len(
     machine: &Machine,
     setting: &Setting,
     line: usize,
-    given: &Given,
+    given: &Arguments,
 ) -> Result<Value, Stop>
-    ensures { Gives (spec.call_len setting.now line given.now machine.now) result machine.now }
+    ensures { Refines (spec.call_len setting.now line given.now machine.now) result machine.now }
 {
-    let value = machine.only_one(line, machine.by_place(line, given)?)?;
+    let value = machine.only_one(line, machine.positional(line, given)?)?;
     length_of(machine, setting, line, value)
 }

@@ -1,26 +1,26 @@
 //! `range`.
 
 ghost use Rattle.star_meaning.specs.BuiltIns as spec;
-ghost use Rattle.star_machine.specs.Gives.{Gives};
+ghost use Rattle.star_machine.specs.Refines.{Refines};
 ghost use Rattle.star_builtin.specs.Parts as part;
 
 use star_machine::fault::{Stop, faulted};
 use star_machine::machine::Machine;
 use star_machine::setting::Setting;
-use star_meaning::fault::Code;
-use star_meaning::given::Given;
+use star_meaning::fault::FaultCode;
+use star_meaning::given::Arguments;
 use star_store::range::Range;
 use star_store::values::{Cell, Value};
 
 /// A new range. `BadValue` for a step of 0, `Overflow` for more than 2^63 - 1 ints.
 fn new_range(machine: &mut Machine, line: usize, range: Range) -> Result<Value, Stop>
-    ensures { Gives (spec.new_range line range machine.old) result machine.new }
+    ensures { Refines (spec.new_range line range machine.old) result machine.new }
 {
     if range.step == 0 {
-        return Err(faulted(Code::BadValue, line));
+        return Err(faulted(FaultCode::BadValue, line));
     }
     if range.len() > i64::MAX as u64 {
-        return Err(faulted(Code::Overflow, line));
+        return Err(faulted(FaultCode::Overflow, line));
     }
     machine.build(line, 1, Cell::Range(range))
 }
@@ -33,7 +33,7 @@ fn range_of(
     line: usize,
     values: &[Value],
 ) -> Result<Value, Stop>
-    ensures { Gives (part.range_from setting.now line values.now machine.old) result machine.new }
+    ensures { Refines (part.range_from setting.now line values.now machine.old) result machine.new }
 {
     match values {
         [stop] => {
@@ -61,7 +61,7 @@ fn range_of(
             let step = machine.want_int(setting, line, *step)?;
             new_range(machine, line, Range { start, stop, step })
         }
-        _ => Err(faulted(Code::Args, line)),
+        _ => Err(faulted(FaultCode::Args, line)),
     }
 }
 
@@ -71,10 +71,10 @@ pub fn call_range(
     machine: &mut Machine,
     setting: &Setting,
     line: usize,
-    given: &Given,
+    given: &Arguments,
 ) -> Result<Value, Stop>
-    ensures { Gives (spec.call_range setting.now line given.now machine.old) result machine.new }
+    ensures { Refines (spec.call_range setting.now line given.now machine.old) result machine.new }
 {
-    let values = machine.by_place(line, given)?;
+    let values = machine.positional(line, given)?;
     range_of(machine, setting, line, values)
 }

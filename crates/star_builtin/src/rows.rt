@@ -4,7 +4,7 @@
 
 ghost use Rattle.std.specs.Prelude.{◌≡◌, [], ◌∷◌, IfOk, reverse};
 ghost use Rattle.star_meaning.specs.BuiltIns as spec;
-ghost use Rattle.star_machine.specs.Gives.{Gives, GivesBy};
+ghost use Rattle.star_machine.specs.Refines.{Refines, RefinesBy};
 ghost use Rattle.star_meaning.specs.Run.{collect, each};
 ghost use Rattle.star_meaning.specs.Values.{count_of, take_item};
 ghost use Rattle.star_builtin.specs.Parts as part;
@@ -13,7 +13,7 @@ use crate::ints::narrow;
 use star_machine::fault::Stop;
 use star_machine::machine::Machine;
 use star_machine::setting::Setting;
-use star_meaning::given::Given;
+use star_meaning::given::Arguments;
 use star_store::values::{Value, Values};
 use std::alloc::{AllocError, Global};
 
@@ -24,7 +24,7 @@ fn taken_from(
     line: usize,
     value: Option<Value>,
 ) -> Result<Values, Stop>
-    ensures { Gives (spec.taken_from setting.now line value machine.old) result machine.new }
+    ensures { Refines (spec.taken_from setting.now line value machine.old) result machine.new }
 {
     match value {
         Some(value) => machine.take_all(setting, line, value),
@@ -48,7 +48,7 @@ fn numbered_item(
     number: i128,
     item: Value,
 ) -> Result<Value, Stop>
-    ensures { Gives (part.numbered_item line number item machine.old) result machine.new }
+    ensures { Refines (part.numbered_item line number item machine.old) result machine.new }
 {
     let number = machine.new_int(line, narrow(number))?;
     let pair = Vec::from_slice(machine.alloc(), &[number, item])?;
@@ -57,7 +57,7 @@ fn numbered_item(
 
 /// Each item with its number, from one on, as a new tuple. `Overflow` for a number outside 64 bits.
 fn numbered(machine: &mut Machine, line: usize, start: i64, items: &[Value]) -> Result<Values, Stop>
-    ensures { Gives (spec.numbered line start items.now machine.old) result machine.new }
+    ensures { Refines (spec.numbered line start items.now machine.old) result machine.new }
 {
     let mut pairs = Vec::new(machine.alloc());
     let mut number = start as i128;
@@ -75,7 +75,7 @@ fn counts(
     line: usize,
     values: &[Value],
 ) -> Result<Vec<usize>, Stop>
-    ensures { GivesBy (λ v. v.items) (each (count_of setting.now line) values.now machine.now) result machine.now }
+    ensures { RefinesBy (λ v. v.items) (each (count_of setting.now line) values.now machine.now) result machine.now }
 {
     let mut counts = Vec::new(machine.alloc());
     for value in values {
@@ -114,7 +114,7 @@ fn items_at(
     values: &[Value],
     at: usize,
 ) -> Result<Values, Stop>
-    ensures { Gives (each (λ v. take_item setting.now line v at) values.now machine.old) result machine.new }
+    ensures { Refines (each (λ v. take_item setting.now line v at) values.now machine.old) result machine.new }
 {
     let mut items = Vec::new(machine.alloc());
     for value in values {
@@ -131,7 +131,7 @@ fn row_at(
     values: &[Value],
     at: usize,
 ) -> Result<Value, Stop>
-    ensures { Gives (spec.row_at setting.now line values.now at machine.old) result machine.new }
+    ensures { Refines (spec.row_at setting.now line values.now at machine.old) result machine.new }
 {
     let items = items_at(machine, setting, line, values, at)?;
     machine.new_tuple(line, items)
@@ -146,7 +146,7 @@ fn rows(
     values: &[Value],
     count: usize,
 ) -> Result<Values, Stop>
-    ensures { Gives (collect (spec.row_at setting.now line values.now) count 0 machine.old) result machine.new }
+    ensures { Refines (collect (spec.row_at setting.now line values.now) count 0 machine.old) result machine.new }
 {
     let mut rows = Vec::new(machine.alloc());
     for i in 0..count {
@@ -163,7 +163,7 @@ fn zipped(
     line: usize,
     values: &[Value],
 ) -> Result<Value, Stop>
-    ensures { Gives (part.zipped setting.now line values.now machine.old) result machine.new }
+    ensures { Refines (part.zipped setting.now line values.now machine.old) result machine.new }
 {
     let counts = counts(machine, setting, line, values)?;
     let rows = rows(machine, setting, line, values, least(&counts))?;
@@ -176,11 +176,11 @@ pub fn call_list(
     machine: &mut Machine,
     setting: &Setting,
     line: usize,
-    given: &Given,
+    given: &Arguments,
 ) -> Result<Value, Stop>
-    ensures { Gives (spec.call_list setting.now line given.now machine.old) result machine.new }
+    ensures { Refines (spec.call_list setting.now line given.now machine.old) result machine.new }
 {
-    let value = machine.none_or_one(line, machine.by_place(line, given)?)?;
+    let value = machine.none_or_one(line, machine.positional(line, given)?)?;
     let items = taken_from(machine, setting, line, value)?;
     machine.new_list(line, items)
 }
@@ -191,11 +191,11 @@ pub fn call_tuple(
     machine: &mut Machine,
     setting: &Setting,
     line: usize,
-    given: &Given,
+    given: &Arguments,
 ) -> Result<Value, Stop>
-    ensures { Gives (spec.call_tuple setting.now line given.now machine.old) result machine.new }
+    ensures { Refines (spec.call_tuple setting.now line given.now machine.old) result machine.new }
 {
-    let value = machine.none_or_one(line, machine.by_place(line, given)?)?;
+    let value = machine.none_or_one(line, machine.positional(line, given)?)?;
     let items = taken_from(machine, setting, line, value)?;
     machine.new_tuple(line, items)
 }
@@ -206,11 +206,11 @@ pub fn call_reversed(
     machine: &mut Machine,
     setting: &Setting,
     line: usize,
-    given: &Given,
+    given: &Arguments,
 ) -> Result<Value, Stop>
-    ensures { Gives (spec.call_reversed setting.now line given.now machine.old) result machine.new }
+    ensures { Refines (spec.call_reversed setting.now line given.now machine.old) result machine.new }
 {
-    let value = machine.only_one(line, machine.by_place(line, given)?)?;
+    let value = machine.only_one(line, machine.positional(line, given)?)?;
     let items = machine.take_all(setting, line, value)?;
     let turned = turned_round(machine.alloc(), items.as_slice())?;
     machine.new_list(line, turned)
@@ -223,7 +223,7 @@ fn want_start(
     line: usize,
     start: Option<Value>,
 ) -> Result<i64, Stop>
-    ensures { Gives (spec.want_start setting.now line start machine.now) result machine.now }
+    ensures { Refines (spec.want_start setting.now line start machine.now) result machine.now }
 {
     match start {
         Some(value) => machine.want_int(setting, line, value),
@@ -238,11 +238,11 @@ pub fn call_enumerate(
     machine: &mut Machine,
     setting: &Setting,
     line: usize,
-    given: &Given,
+    given: &Arguments,
 ) -> Result<Value, Stop>
-    ensures { Gives (spec.call_enumerate setting.now line given.now machine.old) result machine.new }
+    ensures { Refines (spec.call_enumerate setting.now line given.now machine.old) result machine.new }
 {
-    let (value, start) = machine.one_or_two(line, machine.by_place(line, given)?)?;
+    let (value, start) = machine.one_or_two(line, machine.positional(line, given)?)?;
     let count = machine.count_of(setting, line, value)?;
     let start = want_start(machine, setting, line, start)?;
     let items = machine.take_items(setting, line, value, count)?;
@@ -256,10 +256,10 @@ pub fn call_zip(
     machine: &mut Machine,
     setting: &Setting,
     line: usize,
-    given: &Given,
+    given: &Arguments,
 ) -> Result<Value, Stop>
-    ensures { Gives (spec.call_zip setting.now line given.now machine.old) result machine.new }
+    ensures { Refines (spec.call_zip setting.now line given.now machine.old) result machine.new }
 {
-    let values = machine.by_place(line, given)?;
+    let values = machine.positional(line, given)?;
     zipped(machine, setting, line, values)
 }

@@ -7,7 +7,7 @@
 ghost use Rattle.std.specs.Prelude.{◌≡◌, IfOk, map, true};
 ghost use Rattle.std.specs.List.{list_all};
 ghost use Rattle.star_meaning.specs.BuiltIns as spec;
-ghost use Rattle.star_machine.specs.Gives.{Gives};
+ghost use Rattle.star_machine.specs.Refines.{Refines};
 ghost use Rattle.star_meaning.specs.Values.{content};
 ghost use Rattle.star_builtin.specs.Orders.{by_contents, int_in};
 
@@ -15,8 +15,8 @@ use star_machine::content::Content;
 use star_machine::fault::{Stop, faulted};
 use star_machine::machine::Machine;
 use star_machine::setting::Setting;
-use star_meaning::fault::Code;
-use star_meaning::given::Given;
+use star_meaning::fault::FaultCode;
+use star_meaning::given::Arguments;
 use star_store::values::{Cell, Value, Values};
 use std::alloc::AllocError;
 use std::cmp::Ordering;
@@ -120,10 +120,10 @@ fn sort(
     backwards: bool,
     values: &[Value],
 ) -> Result<Value, Stop>
-    ensures { Gives (spec.sort setting.now line backwards values.now machine.old) result machine.new }
+    ensures { Refines (spec.sort setting.now line backwards values.now machine.old) result machine.new }
 {
     if !can_sort(machine, setting, values) {
-        return Err(faulted(Code::BadType, line));
+        return Err(faulted(FaultCode::BadType, line));
     }
     let items = in_order(machine, setting, values)?;
     machine.new_list(line, turned(backwards, items))
@@ -136,7 +136,7 @@ fn want_reverse(
     line: usize,
     reverse: Option<Value>,
 ) -> Result<bool, Stop>
-    ensures { Gives (spec.want_reverse setting.now line reverse machine.now) result machine.now }
+    ensures { Refines (spec.want_reverse setting.now line reverse machine.now) result machine.now }
 {
     match reverse {
         Some(value) => machine.want_bool(setting, line, value),
@@ -151,9 +151,9 @@ pub fn call_sorted(
     machine: &mut Machine,
     setting: &Setting,
     line: usize,
-    given: &Given,
+    given: &Arguments,
 ) -> Result<Value, Stop>
-    ensures { Gives (spec.call_sorted setting.now line given.now machine.old) result machine.new }
+    ensures { Refines (spec.call_sorted setting.now line given.now machine.old) result machine.new }
 {
     let (values, reverse) = machine.with_name(line, "reverse", given)?;
     let value = machine.only_one(line, values)?;

@@ -2,13 +2,13 @@
 
 ghost use Rattle.std.specs.Prelude.{◌≡◌};
 ghost use Rattle.star_meaning.specs.BuiltIns as spec;
-ghost use Rattle.star_machine.specs.Gives.{Gives};
+ghost use Rattle.star_machine.specs.Refines.{Refines};
 ghost use Rattle.star_meaning.specs.Run.{Done, until};
 
 use star_machine::fault::Stop;
 use star_machine::machine::Machine;
 use star_machine::setting::Setting;
-use star_meaning::given::Given;
+use star_meaning::given::Arguments;
 use star_store::values::Value;
 
 /// Takes an item: whether its truth is the one looked for.
@@ -20,7 +20,7 @@ fn is_decided(
     value: Value,
     at: usize,
 ) -> Result<bool, Stop>
-    ensures { Gives (spec.is_decided setting.now line wanted value at machine.old) result machine.new }
+    ensures { Refines (spec.is_decided setting.now line wanted value at machine.old) result machine.new }
 {
     let item = machine.take_item(setting, line, value, at)?;
     let truth = machine.is_true(setting, item);
@@ -37,7 +37,7 @@ fn some_of(
     value: Value,
     count: usize,
 ) -> Result<bool, Stop>
-    ensures { Gives (until (spec.is_decided setting.now line wanted value) count 0 machine.old) result machine.new }
+    ensures { Refines (until (spec.is_decided setting.now line wanted value) count 0 machine.old) result machine.new }
 {
     for i in 0..count {
         if is_decided(machine, setting, line, wanted, value, i)? {
@@ -64,11 +64,11 @@ fn some_item(
     setting: &Setting,
     line: usize,
     wanted: bool,
-    given: &Given,
+    given: &Arguments,
 ) -> Result<bool, Stop>
-    ensures { Gives (spec.some_item setting.now line wanted given.now machine.old) result machine.new }
+    ensures { Refines (spec.some_item setting.now line wanted given.now machine.old) result machine.new }
 {
-    let value = machine.only_one(line, machine.by_place(line, given)?)?;
+    let value = machine.only_one(line, machine.positional(line, given)?)?;
     let count = machine.count_of(setting, line, value)?;
     some_of(machine, setting, line, wanted, value, count)
 }
@@ -79,9 +79,9 @@ pub fn call_all(
     machine: &mut Machine,
     setting: &Setting,
     line: usize,
-    given: &Given,
+    given: &Arguments,
 ) -> Result<Value, Stop>
-    ensures { Gives (spec.call_all setting.now line given.now machine.old) result machine.new }
+    ensures { Refines (spec.call_all setting.now line given.now machine.old) result machine.new }
 {
     let some = some_item(machine, setting, line, false, given)?;
     Ok(Value::Bool(!some))
@@ -93,9 +93,9 @@ pub fn call_any(
     machine: &mut Machine,
     setting: &Setting,
     line: usize,
-    given: &Given,
+    given: &Arguments,
 ) -> Result<Value, Stop>
-    ensures { Gives (spec.call_any setting.now line given.now machine.old) result machine.new }
+    ensures { Refines (spec.call_any setting.now line given.now machine.old) result machine.new }
 {
     let some = some_item(machine, setting, line, true, given)?;
     Ok(Value::Bool(some))
@@ -106,10 +106,10 @@ pub fn call_bool(
     machine: &Machine,
     setting: &Setting,
     line: usize,
-    given: &Given,
+    given: &Arguments,
 ) -> Result<Value, Stop>
-    ensures { Gives (spec.call_bool setting.now line given.now machine.now) result machine.now }
+    ensures { Refines (spec.call_bool setting.now line given.now machine.now) result machine.now }
 {
-    let value = machine.none_or_one(line, machine.by_place(line, given)?)?;
+    let value = machine.none_or_one(line, machine.positional(line, given)?)?;
     Ok(truth_of(machine, setting, value))
 }

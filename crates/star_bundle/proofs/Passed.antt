@@ -9,41 +9,13 @@ use Rattle.star_bundle.specs.declared.error.ServeError.TheVariants.{BadRoot, NoR
 use Rattle.star_bundle.specs.declared.error.ServeError.TheVariants as error
 
 pub fails_so : {Y : Type 0} (e : ServeError) (given : Result Y ServeError) → IsNamed e → given ≡ Err e → Fails e given
-fails_so error.Read given h k = k
-fails_so error.TooBig given h k = k
-fails_so error.BadDir given h k = k
-fails_so error.BadFile given h k = k
-fails_so error.NotText given h k = k
-fails_so error.BadBundle given h k = k
-fails_so error.BadKey given h k = k
-fails_so error.TooMany given h k = k
-fails_so error.TooLong given h k = k
-fails_so error.BadRoot given h k = k
-fails_so error.NoRoot given h k = k
-fails_so error.BadPrelude given h k = k
-fails_so error.NoPrelude given h k = k
 fails_so error.Memory given h k = absurd h
-fails_so error.Write given h k = k
-fails_so error.Unpublished given h k = k
+fails_so e given h k = k
 
 -- the whole is refused as its part is
 pub fails_as : {X Y : Type 0} (e : ServeError) (part : Result X ServeError) (whole : Result Y ServeError) → Fails e part → (part ≡ Err e → whole ≡ Err e) → Fails e whole
-fails_as error.Read part whole h k = k h
-fails_as error.TooBig part whole h k = k h
-fails_as error.BadDir part whole h k = k h
-fails_as error.BadFile part whole h k = k h
-fails_as error.NotText part whole h k = k h
-fails_as error.BadBundle part whole h k = k h
-fails_as error.BadKey part whole h k = k h
-fails_as error.TooMany part whole h k = k h
-fails_as error.TooLong part whole h k = k h
-fails_as error.BadRoot part whole h k = k h
-fails_as error.NoRoot part whole h k = k h
-fails_as error.BadPrelude part whole h k = k h
-fails_as error.NoPrelude part whole h k = k h
 fails_as error.Memory part whole h k = tt
-fails_as error.Write part whole h k = k h
-fails_as error.Unpublished part whole h k = k h
+fails_as e part whole h k = k h
 
 -- the numbers of the first roots, and those of the others
 abbrev pub after : List ℕ → Result (List ℕ) ServeError → Result (List ℕ) ServeError

@@ -1,5 +1,5 @@
 -- A table of the book's calls: the answer of each, and the book that it leaves.
-use Rattle.std.specs.Prelude.{◌≡◌, ◌≢◌, ◌<◌, ◌≤◌, ℕ, ◌+◌, Bool, true, false, List, [], ◌∷◌, Option, None, Some, length, slice_set, replicate}
+use Rattle.std.specs.Prelude.{◌≡◌, ◌≢◌, ◌<◌, ◌≤◌, ℕ, ◌+◌, Bool, true, false, List, [], ◌∷◌, MatchResult, Option, None, Some, Result, length, slice_set, replicate}
 use Rattle.star_cache.specs.declared.entry.Entry.{Entry}
 use Rattle.star_cache.specs.declared.entry.Entry.TheVariants.{Fresh, Running, Done, Spoiled as SpoiledEntry}
 use Rattle.star_cache.specs.declared.reply.Reply.{Reply}
@@ -113,6 +113,10 @@ module _ {P : Type 0} where
   IsStanding good entry StandsRunning = entry ≡ Running
   IsStanding good entry (Ended reply) = IsEndReply good entry reply
 
+  -- why the state of an entry is refused: a share of its product was refused memory
+  abbrev pub IsUnshared : Bool → Entry P → BookError → Type 0
+  IsUnshared always entry e = (e ≡ Memory) × ((p : P) × (entry ≡ Done p)) × (always ≢ true)
+
   -- the answer of `ask` and the book that it leaves, if it is not refused
   abbrev pub IsAsked : (P → Bool) → BookState P → ℕ → ℕ → Reply P → BookState P → Type 0
   IsAsked good b s n Begun after = (entry_at b n ≡ Fresh) × (after ≡ after_begin b s n)
@@ -150,3 +154,37 @@ module _ {P : Type 0} where
       ((e : ℕ) × (awaited_by b s ≡ Some e) × ((p : P) × (entry_at b e ≡ Done p))) × (always ≢ true)
   IsWakeRefused always b s Waiting = ⊥
   IsWakeRefused always b s NotTop = ⊥
+
+  -- the seat is there, and awaits this entry, which was begun
+  abbrev pub IsAwaited : BookState P → ℕ → ℕ → Type 0
+  IsAwaited b s e = (s < length b.loaders) × (awaited_by b s ≡ Some e) × (entry_at b e ≢ Fresh) × (e < length b.entries)
+
+  -- ---- a whole call: its result, and the book that it leaves, which is the old one if it is refused
+
+  abbrev pub Asks : (P → Bool) → Bool → BookState P → ℕ → Option ℕ → ℕ → Result (Reply P) BookError → BookState P
+      → Type 0
+  Asks good always b s parent n result after =
+      MatchResult result (λ reply. MayAsk b s parent × IsAsked good b s n reply after)
+      (λ e. IsAskRefused always b s parent n e × (after ≡ b))
+
+  abbrev pub Wakes : (P → Bool) → Bool → BookState P → ℕ → Result (Reply P) BookError → BookState P → Type 0
+  Wakes good always b s result after =
+      MatchResult result (λ reply. (s < length b.loaders) × IsWoken good b s reply after)
+      (λ e. IsWakeRefused always b s e × (after ≡ b))
+
+  -- `wake` of a seat that should await this target
+  abbrev pub WakesFor : (P → Bool) → Bool → BookState P → ℕ → ℕ → Result (Reply P) BookError → BookState P → Type 0
+  WakesFor good always b s n result after =
+      MatchResult result (λ reply. (awaited_by b s ≡ Some n) × IsWoken good b s reply after)
+      (λ e. (always ≡ true → e ≢ Memory) × (after ≡ b))
+
+  -- the product comes back if `finish` is refused
+  abbrev pub Finishes : {T : Type 0} → BookState P → ℕ → ℕ → P → Result T (BookError × P) → BookState P → Type 0
+  Finishes b s n product result after =
+      MatchResult result (λ _. MayAsk b s (Some n) × (after ≡ after_end b s n (Done product)))
+      (λ back. IsTurnRefused b s (Some n) back.0 × (back.1 ≡ product) × (after ≡ b))
+
+  abbrev pub Abandons : {T : Type 0} → BookState P → ℕ → Result T BookError → BookState P → Type 0
+  Abandons b s result after =
+      MatchResult result (λ _. (s < length b.loaders) × (after ≡ after_abandon b s))
+      (λ e. (e ≡ NoSuch) × (length b.loaders ≤ s) × (after ≡ b))

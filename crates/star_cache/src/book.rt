@@ -55,7 +55,7 @@ impl<P: Product> Model for Book<P> {
 impl<P: Product> Book<P> {
     ghost use Rattle.star_cache.specs.State.{BookState, HasEnded, Loads, top_of, stack_of, entry_at, awaited_by, loader_at, begun_count};
     ghost use Rattle.star_cache.specs.Headline.{Headline};
-    ghost use Rattle.star_cache.specs.Step.{IsBook, MayAsk, IsTurnRefused, IsStanding, MeetsSeat, IsAsked, IsAskRefused, IsWoken, IsWakeRefused, after_begin, after_wait, after_wake, after_end, after_abandon, fresh_book};
+    ghost use Rattle.star_cache.specs.Step.{IsBook, MayAsk, IsTurnRefused, IsStanding, IsUnshared, MeetsSeat, IsAwaited, IsWakeRefused, Asks, Wakes, Finishes, Abandons, after_begin, after_wait, after_wake, after_end, fresh_book};
 
     /// The book of `files` files, none of which has been asked for, and of 1 to 64 loaders that have done nothing.
     pub fn new(alloc: Global, files: usize, loaders: usize) -> Result<Self, AllocError>
@@ -121,7 +121,7 @@ impl<P: Product> Book<P> {
     fn standing(&mut self, n: usize) -> Result<Standing<P>, BookError>
         requires { n < length self.old.entries }
         ensures standing { MatchResult result (λ it. IsStanding P.is_good (entry_at self.old n) it)
-            (λ e. (e ≡ BookError.Memory) × ((p : P) × (entry_at self.old n ≡ Entry.Done p)) × (P.always_shares ≢ true)) }
+            (λ e. IsUnshared P.always_shares (entry_at self.old n) e) }
         ensures same { self.new ≡ self.old }
     {
         standing_of(&mut self.entries[n])
@@ -207,9 +207,7 @@ impl<P: Product> Book<P> {
         target: usize,
     ) -> Result<Reply<P>, BookError>
         requires load { MatchOption parent (P.IsReached target) (λ p. Loads P.loads p target) }
-        ensures step { MatchResult result
-            (λ reply. MayAsk self.old seat parent × IsAsked P.is_good self.old seat target reply self.new)
-            (λ e. IsAskRefused P.always_shares self.old seat parent target e × (self.new ≡ self.old)) }
+        ensures step { Asks P.is_good P.always_shares self.old seat parent target result self.new }
         ensures tells { IfOk result (Tells P.IsRight P.IsGood (IsCyclic P.loads parent target)
             (awaited_by self.new seat ≡ Some target) target) }
         ensures alone { length self.old.loaders ≡ 1 → result ≢ Ok Reply.Wait }
@@ -234,9 +232,7 @@ impl<P: Product> Book<P> {
 
     // The entry that the seat awaits.
     fn waiting(&self, seat: usize) -> Result<usize, BookError>
-        ensures awaited { MatchResult result
-            (λ e. (seat < length self.now.loaders) × (awaited_by self.now seat ≡ Some e)
-            × (entry_at self.now e ≢ Entry.Fresh) × (e < length self.now.entries))
+        ensures awaited { MatchResult result (λ e. IsAwaited self.now seat e)
             (λ e. IsWakeRefused P.always_shares self.now seat e) }
         ensures book { IsBook P.loads P.IsReached P.IsRight P.files self.now }
     {
@@ -268,9 +264,7 @@ impl<P: Product> Book<P> {
     /// It is `Wait` while the file runs, and then the seat awaits it still; else the answer is as of `ask`, and the
     /// seat awaits nothing. Refused as `NoSuch`, `NotWaiting` and `Memory`, the first that applies.
     pub fn wake(&mut self, seat: usize) -> Result<Reply<P>, BookError>
-        ensures step { MatchResult result
-            (λ reply. (seat < length self.old.loaders) × IsWoken P.is_good self.old seat reply self.new)
-            (λ e. IsWakeRefused P.always_shares self.old seat e × (self.new ≡ self.old)) }
+        ensures step { Wakes P.is_good P.always_shares self.old seat result self.new }
         ensures tells { (n : ℕ) → awaited_by self.old seat ≡ Some n
             → IfOk result (Tells P.IsRight P.IsGood ⊥ (self.new ≡ self.old) n) }
     {
@@ -309,9 +303,7 @@ impl<P: Product> Book<P> {
     /// Refused as `NoSuch`, `Waiting` and `NotTop`, the first that applies; the product comes back then.
     pub fn finish(&mut self, seat: usize, n: usize, product: P) -> Result<(), (BookError, P)>
         requires right { P.IsRight n product }
-        ensures step { MatchResult result
-            (λ _. MayAsk self.old seat (Some n) × (self.new ≡ after_end self.old seat n (Entry.Done product)))
-            (λ back. IsTurnRefused self.old seat (Some n) back.0 × (back.1 ≡ product) × (self.new ≡ self.old)) }
+        ensures step { Finishes self.old seat n product result self.new }
     {
         if let Err(error) = self.check_turn(seat, Some(n)) {
             return Err((error, product));
@@ -324,9 +316,7 @@ impl<P: Product> Book<P> {
     ///
     /// Refused as `NoSuch`.
     pub fn abandon(&mut self, seat: usize) -> Result<(), BookError>
-        ensures step { MatchResult result
-            (λ _. (seat < length self.old.loaders) × (self.new ≡ after_abandon self.old seat))
-            (λ e. (e ≡ BookError.NoSuch) × (length self.old.loaders ≤ seat) × (self.new ≡ self.old)) }
+        ensures step { Abandons self.old seat result self.new }
     {
         if seat >= self.loaders() {
             return Err(BookError::NoSuch);

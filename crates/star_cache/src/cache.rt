@@ -8,13 +8,12 @@
 //! each step changes the sum at one loader, and none counts entries. "All seats" means as many as there are loaders,
 //! with each number among them. Their shares are merged into an empty one, so `close` needs no first seat.
 
-ghost use Rattle.std.specs.Prelude.{◌≡◌, ◌≢◌, ◌+◌, ◌-◌, ◌<◌, ◌≤◌, ◌↔◌, ◌⊎◌, true, false, All, List, length, sum_by, vec_len, IfOk, IfErr, IsTrue, MatchOption, MatchResult, Option, Some};
+ghost use Rattle.std.specs.Prelude.{◌≡◌, ◌≢◌, ◌+◌, ◌-◌, ◌<◌, ◌≤◌, ◌↔◌, ◌⊎◌, true, false, All, length, sum_by, vec_len, IfOk, IfErr, IsTrue, MatchOption, MatchResult, Option, Some};
 ghost use Rattle.std.specs.List.{Any};
-ghost use Rattle.star_cache.specs.declared.entry.Entry.{Entry};
 ghost use Rattle.star_cache.specs.State.{HasEnded, LoaderState, Loads, awaited_by};
-ghost use Rattle.star_cache.specs.Step.{MayAsk, IsAsked, IsAskRefused, IsTurnRefused, IsWoken, after_end, after_abandon};
+ghost use Rattle.star_cache.specs.Step.{Abandons, Finishes, WakesFor};
 ghost use Rattle.star_cache.specs.Tells.{Tells, IsCyclic, begins};
-ghost use Rattle.star_cache.specs.Seats.{AreAll, AreNew, IsClosing, counts_of};
+ghost use Rattle.star_cache.specs.Seats.{AreAll, AreNew, ClosesAll, IsClosing, SeatAsks, counts_of};
 ghost use Rattle.star_cache.specs.Headline.{Headline};
 
 use crate::book::Book;
@@ -62,11 +61,7 @@ impl<P: Product> State<P> {
         target: usize,
     ) -> Result<Reply<P>, BookError>
         requires load { MatchOption parent (P.IsReached target) (λ p. Loads P.loads p target) }
-        ensures step { MatchResult result
-            (λ reply. MayAsk self.old seat.old.number parent
-            × IsAsked P.is_good self.old seat.old.number target reply self.new)
-            (λ e. IsAskRefused P.always_shares self.old seat.old.number parent target e × (self.new ≡ self.old)
-            × (seat.new ≡ seat.old)) }
+        ensures step { SeatAsks P.is_good P.always_shares self.old seat.old parent target result self.new seat.new }
         ensures tells { IfOk result (Tells P.IsRight P.IsGood (IsCyclic P.loads parent target)
             (awaited_by self.new seat.old.number ≡ Some target) target) }
         ensures begun { IfOk result (λ reply. seat.new.begun ≡ seat.old.begun + begins reply) }
@@ -81,10 +76,7 @@ impl<P: Product> State<P> {
 
     // The book's `wake`, for a seat that awaits this target.
     fn wake(&mut self, seat: &Seat<P>, target: usize) -> Result<Reply<P>, BookError>
-        ensures step { MatchResult result
-            (λ reply. (awaited_by self.old seat.now.number ≡ Some target)
-            × IsWoken P.is_good self.old seat.now.number reply self.new)
-            (λ error. (P.always_shares ≡ true → error ≢ BookError.Memory) × (self.new ≡ self.old)) }
+        ensures step { WakesFor P.is_good P.always_shares self.old seat.now.number target result self.new }
         ensures refused { IfErr result (λ error. (error ≡ BookError.NoSuch) ⊎ (error ≡ BookError.NotWaiting)
             ⊎ (error ≡ BookError.Memory)) }
         ensures awaits { result ≡ Err BookError.NotWaiting → awaited_by self.old seat.now.number ≢ Some target }
@@ -102,19 +94,14 @@ impl<P: Product> State<P> {
     // The book's `finish`.
     fn finish(&mut self, seat: &Seat<P>, n: usize, product: P) -> Result<(), (BookError, P)>
         requires right { P.IsRight n product }
-        ensures step { MatchResult result
-            (λ _. MayAsk self.old seat.now.number (Some n)
-            × (self.new ≡ after_end self.old seat.now.number n (Entry.Done product)))
-            (λ back. IsTurnRefused self.old seat.now.number (Some n) back.0 × (back.1 ≡ product) × (self.new ≡ self.old)) }
+        ensures step { Finishes self.old seat.now.number n product result self.new }
     {
         self.book.finish(seat.number, n, product)
     }
 
     // The book's `abandon`.
     fn abandon(&mut self, seat: &Seat<P>) -> Result<(), BookError>
-        ensures step { MatchResult result
-            (λ _. (seat.now.number < length self.old.loaders) × (self.new ≡ after_abandon self.old seat.now.number))
-            (λ e. (e ≡ BookError.NoSuch) × (length self.old.loaders ≤ seat.now.number) × (self.new ≡ self.old)) }
+        ensures step { Abandons self.old seat.now.number result self.new }
     {
         self.book.abandon(seat.number)
     }
@@ -304,7 +291,7 @@ impl<P: Product> LoadCache<P> {
         seats: Vec<Seat<P>>,
     ) -> Result<(Book<P>, [u32; 64]), (LoadCache<P>, Vec<Seat<P>>)>
         ensures closing { MatchResult result
-            (λ closed. AreAll P.seats seats.items × IsClosing seats.items closed.0 closed.1)
+            (λ closed. ClosesAll P.seats seats.items closed.0 closed.1)
             (λ back. (AreAll P.seats seats.items → ⊥) × (back.1 ≡ seats)) }
         ensures headline { IfOk result (λ closed. Headline P.IsReached P.IsRight closed.0) }
     {

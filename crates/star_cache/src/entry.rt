@@ -1,7 +1,7 @@
 //! The entry of a file in the book: fresh, running, done or spoiled.
 
-ghost use Rattle.std.specs.Prelude.{◌≡◌, ◌≢◌, true, MatchResult};
-ghost use Rattle.star_cache.specs.Step.{IsStanding};
+ghost use Rattle.std.specs.Prelude.{◌≡◌, MatchResult};
+ghost use Rattle.star_cache.specs.Step.{IsStanding, IsUnshared};
 
 use crate::product::Product;
 use crate::reply::{BookError, Reply};
@@ -30,7 +30,7 @@ pub enum Standing<P> {
 // The state of an entry, with a share of its product if it is done.
 pub fn standing_of<P: Product>(entry: &mut Entry<P>) -> Result<Standing<P>, BookError>
     ensures standing { MatchResult result (λ it. IsStanding P.is_good entry.old it)
-        (λ e. (e ≡ BookError.Memory) × ((p : P) × (entry.old ≡ Entry.Done p)) × (P.always_shares ≢ true)) }
+        (λ e. IsUnshared P.always_shares entry.old e) }
     ensures same { entry.new ≡ entry.old }
 {
     match entry {

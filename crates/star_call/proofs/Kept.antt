@@ -1,9 +1,9 @@
 -- Items and names that are taken leave the store as it is.
 use Rattle.std.proofs.Common.{◌≡◌, ℕ, zero, suc, ◌+◌, ◌-◌, List, [], ◌∷◌, Option, Some, None, Bool, true, false, if◌then◌else◌, refl, ◌∙◌, nat_lt, subst}
 use Rattle.star_store.specs.declared.values.Value.{Value}
-use Rattle.star_meaning.specs.declared.fault.Code.{Code}
-use Rattle.star_meaning.specs.declared.fault.Code.TheVariants as code
-use Rattle.star_meaning.specs.declared.given.NamedValue.{NamedValue}
+use Rattle.star_meaning.specs.declared.fault.FaultCode.{FaultCode}
+use Rattle.star_meaning.specs.declared.fault.FaultCode.TheVariants as code
+use Rattle.star_meaning.specs.declared.given.KeywordArgument.{KeywordArgument}
 use Rattle.star_meaning.specs.Run.{State, Outcome, Done, Failed, Action, and_then, ◌>>=◌, give, fail, pay, found, each, collect, seeing}
 use Rattle.star_meaning.specs.Program.{Setting}
 use Rattle.star_meaning.specs.Values.{content, item_in, take_item}
@@ -30,10 +30,10 @@ keeps_then m f k l = record { holds = λ s. followed s (m s) f (k.holds s) l }
 keeps_give : {A : Type 0} (x : A) → Keeps (give x)
 keeps_give x = record { holds = λ s. refl }
 
-keeps_fail : (A : Type 0) (c : Code) (line : ℕ) → Keeps (fail {A = A} c line)
+keeps_fail : (A : Type 0) (c : FaultCode) (line : ℕ) → Keeps (fail {A = A} c line)
 keeps_fail A c line = record { holds = λ s. tt }
 
-keeps_found : {A : Type 0} (c : Code) (line : ℕ) (o : Option A) → Keeps (found c line o)
+keeps_found : {A : Type 0} (c : FaultCode) (line : ℕ) (o : Option A) → Keeps (found c line o)
 keeps_found {A = A} c line None = keeps_fail A c line
 keeps_found {A = A} c line (Some x) = keeps_give x
 
@@ -64,11 +64,11 @@ keeps_take_star : (w : Setting) (line : ℕ) (o : Option Value) (n : ℕ) → Ke
 keeps_take_star w line None n = keeps_give {A = List Value} []
 keeps_take_star w line (Some v) n = keeps_collect (take_item w line v) n 0 (keeps_item w line v)
 
-keeps_names : (line : ℕ) (ns : List NamedValue) → Keeps (take_names line ns)
+keeps_names : (line : ℕ) (ns : List KeywordArgument) → Keeps (take_names line ns)
 keeps_names line ns = keeps_each _ ns (λ n. keeps_then _ _ (keeps_pay line 1) (λ _. keeps_give n))
 
 pub star_kept : (w : Setting) (line : ℕ) (o : Option Value) (n : ℕ) (s : State) (xs : List Value) (t : State) → take_star w line o n s ≡ Done xs t → t.store ≡ s.store
 star_kept w line o n s xs t e = subst (Preserved s) e ((keeps_take_star w line o n).holds s)
 
-pub names_kept : (line : ℕ) (ns : List NamedValue) (s : State) (xs : List NamedValue) (t : State) → take_names line ns s ≡ Done xs t → t.store ≡ s.store
+pub names_kept : (line : ℕ) (ns : List KeywordArgument) (s : State) (xs : List KeywordArgument) (t : State) → take_names line ns s ≡ Done xs t → t.store ≡ s.store
 names_kept line ns s xs t e = subst (Preserved s) e ((keeps_names line ns).holds s)

@@ -11,7 +11,7 @@ use Rattle.std.specs.Map.{lookup}
 use Rattle.std.specs.Str.{bytes_eq}
 use Rattle.std.proofs.lemmas.Map.Text.{btree_map_updates_str}
 use Rattle.std.proofs.lemmas.Slice.Eq.{bytes_eq-Decides}
-use Rattle.star_meaning.specs.declared.given.NamedValue.{NamedValue}
+use Rattle.star_meaning.specs.declared.given.KeywordArgument.{KeywordArgument}
 use Rattle.star_meaning.specs.Arguments.{comes_twice, is_given}
 use Rattle.star_call.specs.Seen.{has, twice_after}
 
@@ -50,20 +50,20 @@ has_more old new name q u =
     ∙ ap (λ b. b || has old q) (same name.now q)
 
 -- if no name was seen
-pub none_seen : (seen : BTreeMap (Bor (List ℕ)) (Unit {0})) (ns : List NamedValue) → IsEmpty seen → twice_after seen ns ≡ comes_twice ns
+pub none_seen : (seen : BTreeMap (Bor (List ℕ)) (Unit {0})) (ns : List KeywordArgument) → IsEmpty seen → twice_after seen ns ≡ comes_twice ns
 none_seen seen ns h =
     let none : (q : List ℕ) → has seen q ≡ false = λ q. ap (λ es. is_some (lookup (is_at (λ k. slice_cmp nat_cmp q k.now)) es)) h in
     ap (λ b. b || comes_twice ns) (none_any (has seen) (λ n. n.name) ns none)
 
 -- one name more was seen, which was not among those before
-pub one_seen : (old new : BTreeMap (Bor (List ℕ)) (Unit {0})) (name : Bor (List ℕ)) (n : NamedValue) (ns : List NamedValue) → name.now ≡ n.name → has old name.now ≡ false
+pub one_seen : (old new : BTreeMap (Bor (List ℕ)) (Unit {0})) (name : Bor (List ℕ)) (n : KeywordArgument) (ns : List KeywordArgument) → name.now ≡ n.name → has old name.now ≡ false
     → Updates (λ x y. slice_cmp nat_cmp x.now y.now) old new name (Some tt) → twice_after old (n ∷ ns) ≡ twice_after new ns
 one_seen old new name n ns e absent u =
     sorted_out (has old n.name) (list_any (λ m. has old m.name) ns) (is_given n.name ns) (comes_twice ns) (ap (has old) (sym e) ∙ absent)
     ∙ ap (λ b. b || comes_twice ns) (sym (any_either (λ m. bytes_eq m.name n.name) (λ m. has old m.name) (λ m. has new m.name) ns (λ m. has_more old new name m.name u ∙ ap (λ k. bytes_eq m.name k || has old m.name) e)))
 
 -- a name comes that was seen before
-pub seen_before : (seen : BTreeMap (Bor (List ℕ)) (Unit {0})) (n : NamedValue) (ns : List NamedValue) → has seen n.name ≡ true → twice_after seen (n ∷ ns) ≡ true
+pub seen_before : (seen : BTreeMap (Bor (List ℕ)) (Unit {0})) (n : KeywordArgument) (ns : List KeywordArgument) → has seen n.name ≡ true → twice_after seen (n ∷ ns) ≡ true
 seen_before seen n ns h = ap (λ b. (b || list_any (λ m. has seen m.name) ns) || comes_twice (n ∷ ns)) h
 
 pub drop_next : {A : Type 0} (ns : List A) (i : ℕ) (n : A) → i < length ns → n ≡ get_or ns i n → drop i ns ≡ n ∷ drop (i + 1) ns

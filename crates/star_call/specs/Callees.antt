@@ -1,16 +1,20 @@
 -- Callees of the code, as contracts see them.
 use Rattle.std.specs.Prelude.{◌≡◌, ℕ, not, Result, List, [], Option, Some, None}
-use Rattle.std.specs.Option.{option_and_then}
+use Rattle.std.specs.Option.{option_and_then, option_map}
 use Rattle.star_store.specs.declared.values.Value.{Value}
 use Rattle.star_store.specs.declared.values.Cell.TheVariants as cell
 use Rattle.star_store.specs.declared.values.Function.{Function}
 use Rattle.star_scope.specs.Definitions.{Definition, definition_of}
-use Rattle.star_meaning.specs.declared.fault.Code.TheVariants as code
+use Rattle.star_scope.specs.declared.outline.Definition.{Definition as HeldDefinition}
+use Rattle.star_tree.specs.declared.tree.Name.{Name}
+use Rattle.star_meaning.specs.declared.fault.FaultCode.TheVariants as code
 use Rattle.star_machine.specs.declared.fault.Stop.{Stop}
-use Rattle.star_machine.specs.Gives.{GivesBy}
+use Rattle.star_machine.specs.Refines.{RefinesBy}
 use Rattle.star_meaning.specs.Run.{State, Outcome, Action, ◌>>=◌, give, fail, check, found, seeing}
 use Rattle.star_meaning.specs.Program.{Setting, definition_of as in_setting}
-use Rattle.star_meaning.specs.Values.{Content, BuiltInFunction, Held}
+use Rattle.star_meaning.specs.Values.{Content, BuiltInFunction, Held, content}
+use Rattle.star_meaning.specs.Binding.{BoundArgument, bound_to}
+use Rattle.star_meaning.specs.declared.given.Arguments.{Arguments}
 use Rattle.star_meaning.specs.Calls.{Callee, AFunction, ABuiltIn, AMethod, is_active}
 use Rattle.star_call.specs.declared.callee.Called.{Called}
 use Rattle.star_call.specs.declared.callee.Callee.{Callee as HeldCallee}
@@ -46,7 +50,7 @@ with_definition line f d = do
 -- The answer of a function is this one in each state in which its value leads to it.
 abbrev pub GivesCallee : Value → Function → Outcome Callee → Result HeldCallee Stop → State → Type 0
 GivesCallee v f o result new =
-    (read : Value → Content) → read v ≡ Held (cell.Func f) → GivesBy (shown read) o result new
+    (read : Value → Content) → read v ≡ Held (cell.Func f) → RefinesBy (shown read) o result new
 
 -- the file and the number of the definition of a function
 abbrev pub number_in : Content → Option (ℕ × ℕ)
@@ -78,3 +82,16 @@ callee_in line d (Held (cell.Func f)) = with_definition line f d
 callee_in line d (BuiltInFunction b) = give (ABuiltIn b)
 callee_in line d (Held (cell.Bound m x)) = give (AMethod m x)
 callee_in line d _ = fail code.BadType line
+
+-- The answer is this callee, and the state stays.
+abbrev pub FindsCallee : Setting → Action Callee → Result HeldCallee Stop → State → Type 0
+FindsCallee w callee result s = RefinesBy (shown (content w s)) (callee s) result s
+
+-- the code has the definition of a value, if it is a function and has one
+abbrev pub IsDefinitionOf : Setting → State → Value → Option HeldDefinition → Type 0
+IsDefinitionOf w s v d = option_map definition_of d ≡ definition_for w (content w s v)
+
+-- the arguments of a call are bound to the parameters of its function, or `args`
+abbrev pub bound_arguments : Setting → ℕ → Called → Arguments → Action (List (Name × BoundArgument))
+bound_arguments w line f g =
+    λ s. found code.Args line (bound_to f.definition.parameters.now (defaults_in (content w s f.value)) g) s

@@ -7,43 +7,44 @@ ghost use Rattle.star_meaning.specs.Binding as spec;
 ghost use Rattle.star_scope.specs.Names.{same_name};
 ghost use Rattle.star_scope.specs.Syntax as form;
 ghost use Rattle.star_call.specs.Seen.{has};
-ghost use Rattle.star_call.specs.Shares.{all_named};
-ghost use Rattle.star_call.specs.Steps.{progress_of, turn_of};
+ghost use Rattle.star_call.specs.BoundArguments.{all_named};
+ghost use Rattle.star_call.specs.Steps.{IsStep, next_default, past_default, progress_of};
 
 use crate::names::{ByName, FEW};
-use crate::shares::{Share, Shares};
-use star_meaning::given::{Given, NamedValue};
+use crate::shares::{BoundArgument, BoundArguments};
+use star_meaning::given::{Arguments, KeywordArgument};
 use star_store::values::Value;
 use star_tree::tree::{Name, Parameter};
 use std::alloc::{AllocError, Global};
 use std::collections::BTreeMap;
+use std::marker::Model;
 
 /// The state of binding between two parameters: whether a star has been passed, so that positional arguments fill no
 /// more parameters; the positional arguments that are left; and the defaults that are left.
 #[derive(Clone, Copy)]
-struct Progress<'g, 'd> {
+struct BindingState<'g, 'd> {
     by_name: bool,
-    plain: &'g [Value],
+    positional: &'g [Value],
     defaults: &'d [Value],
 }
 
 /// A parameter's argument, if it gets one, and the state after it.
 #[derive(Clone, Copy)]
-struct Turn<'t, 'g, 'd> {
-    share: Option<(&'t Name, Share<'g>)>,
-    progress: Progress<'g, 'd>,
+struct BoundParameter<'t, 'g, 'd> {
+    share: Option<(&'t Name, BoundArgument<'g>)>,
+    progress: BindingState<'g, 'd>,
 }
 
 /// The keyword arguments, and those of them that name no parameter.
 #[derive(Drop)]
 struct Names<'g> {
     all: ByName<'g>,
-    left: Vec<&'g NamedValue>,
+    left: Vec<&'g KeywordArgument>,
 }
 
 /// The keyword of a parameter that takes one.
-fn own_name<'t>(parameter: &'t Parameter) -> Option<&'t str>
-    ensures { option_map (λ n. n.now) result ≡ spec.own_name (form.parameter parameter.now) }
+fn keyword_of<'t>(parameter: &'t Parameter) -> Option<&'t str>
+    ensures { option_map (λ n. n.now) result ≡ spec.keyword_of (form.parameter parameter.now) }
 {
     match parameter {
         Parameter::Plain(name) | Parameter::Default { name, .. } => Some(name.text.as_str()),
@@ -52,11 +53,11 @@ fn own_name<'t>(parameter: &'t Parameter) -> Option<&'t str>
 }
 
 /// Whether a parameter can be given by this name.
-fn is_own(parameters: &[Parameter], name: &str) -> bool
-    ensures { result ≡ list_any (same_name name.now) (spec.own_names parameters.now) }
+fn takes_keyword(parameters: &[Parameter], name: &str) -> bool
+    ensures { result ≡ list_any (same_name name.now) (spec.keywords_of parameters.now) }
 {
     for parameter in parameters {
-        match own_name(parameter) {
+        match keyword_of(parameter) {
             Some(own) => {
                 if name == own {
                     return true;
@@ -74,50 +75,78 @@ fn names_of<'t>(
     parameters: &'t [Parameter],
 ) -> Result<BTreeMap<&'t str, ()>, AllocError>
     ensures { IfOk result (λ names. (name : List ℕ) → has names name
-        ≡ list_any (same_name name) (spec.own_names parameters.now)) }
+        ≡ list_any (same_name name) (spec.keywords_of parameters.now)) }
 {
     let mut names = BTreeMap::new(alloc);
     for parameter in parameters {
-        if let Some(name) = own_name(parameter) {
+        if let Some(name) = keyword_of(parameter) {
             names.insert(name, ())?;
         }
     }
     Ok(names)
 }
 
-/// The keyword arguments that name no parameter, if these or the parameters are few: each is compared with all
-/// parameters.
-fn few_unclaimed<'g>(
-    alloc: Global,
-    parameters: &[Parameter],
-    named: &'g [NamedValue],
-) -> Result<Vec<&'g NamedValue>, AllocError>
-    ensures { IfOk result (λ v. all_named v.items ≡ spec.unclaimed parameters.now named.now) }
-{
-    let mut left = Vec::new(alloc);
-    for value in named {
-        if !is_own(parameters, value.name.as_str()) {
-            left.push(value)?;
-        }
-    }
-    Ok(left)
+/// The keywords of parameters, which are looked up: few by going through the parameters, many by a map.
+#[derive(Drop)]
+struct OwnNames<'t> {
+    parameters: &'t [Parameter],
+    names: Option<BTreeMap<&'t str, ()>>,
 }
 
-/// The keyword arguments that name no parameter: many are looked for in a map of the parameters' names.
-fn unclaimed<'g>(
+impl<'t> Model for OwnNames<'t> {
+    ghost use Rattle.std.specs.Prelude.{ℕ, List};
+    ghost use Rattle.star_meaning.specs.Binding.{keywords_of};
+    ghost use Rattle.star_call.specs.Found.{AreOwn};
+
+    ghost Value = { List (List ℕ) };
+
+    ghost view = { λ o. keywords_of o.parameters.now };
+
+    ghost invariant = { λ o. AreOwn (keywords_of o.parameters.now) o.names };
+}
+
+impl<'t> OwnNames<'t> {
+    /// Those of these parameters; `names` names will be looked up.
+    fn of(
+        alloc: Global,
+        parameters: &'t [Parameter],
+        names: usize,
+    ) -> Result<OwnNames<'t>, AllocError>
+        ensures { IfOk result (λ own. own ≡ spec.keywords_of parameters.now) }
+    {
+        if names <= FEW || parameters.len() <= FEW {
+            return Ok(OwnNames {
+                parameters,
+                names: None,
+            });
+        }
+        let names = Some(names_of(alloc, parameters)?);
+        Ok(OwnNames { parameters, names })
+    }
+
+    /// Whether a name is one of them.
+    fn has(&self, name: &str) -> bool
+        ensures { result ≡ list_any (same_name name.now) self.now }
+    {
+        match &self.names {
+            Some(names) => names.contains_key(name),
+            None => takes_keyword(self.parameters, name),
+        }
+    }
+}
+
+/// The keyword arguments that name no parameter.
+fn extra_keywords<'g>(
     alloc: Global,
     parameters: &[Parameter],
-    named: &'g [NamedValue],
-) -> Result<Vec<&'g NamedValue>, AllocError>
-    ensures { IfOk result (λ v. all_named v.items ≡ spec.unclaimed parameters.now named.now) }
+    named: &'g [KeywordArgument],
+) -> Result<Vec<&'g KeywordArgument>, AllocError>
+    ensures { IfOk result (λ v. all_named v.items ≡ spec.extra_keywords parameters.now named.now) }
 {
-    if named.len() <= FEW || parameters.len() <= FEW {
-        return few_unclaimed(alloc, parameters, named);
-    }
-    let names = names_of(alloc, parameters)?;
+    let own = OwnNames::of(alloc, parameters, named.len())?;
     let mut left = Vec::new(alloc);
     for value in named {
-        if !names.contains_key(value.name.as_str()) {
+        if !own.has(value.name.as_str()) {
             left.push(value)?;
         }
     }
@@ -141,15 +170,14 @@ impl<'g> Names<'g> {
     fn shared<'t, 'd>(
         &self,
         name: &'t Name,
-        progress: Progress<'g, 'd>,
+        progress: BindingState<'g, 'd>,
         value: Option<Value>,
-    ) -> Option<Turn<'t, 'g, 'd>>
-        ensures { option_map (turn_of (all_named self.now.left.items)) result
-            ≡ spec.shared name.now (progress_of progress.entry) value }
+    ) -> Option<BoundParameter<'t, 'g, 'd>>
+        ensures { IsStep self.now.left.items result (spec.shared name.now (progress_of progress.entry) value) }
     {
         match value {
-            Some(value) => Some(Turn {
-                share: Some((name, Share::One(value))),
+            Some(value) => Some(BoundParameter {
+                share: Some((name, BoundArgument::One(value))),
                 progress,
             }),
             None => None,
@@ -158,23 +186,23 @@ impl<'g> Names<'g> {
 
     /// The argument of a parameter that takes one value: the next positional one, which must not be given by keyword
     /// too; else the keyword argument; else the default.
-    fn share_by<'t, 'd>(
+    fn argument_by<'t, 'd>(
         &self,
         name: &'t Name,
         default: Option<Value>,
-        progress: Progress<'g, 'd>,
-    ) -> Option<Turn<'t, 'g, 'd>>
-        ensures { option_map (turn_of (all_named self.now.left.items)) result
-            ≡ spec.share_by name.now self.now.all default (progress_of progress.entry) }
+        progress: BindingState<'g, 'd>,
+    ) -> Option<BoundParameter<'t, 'g, 'd>>
+        ensures { IsStep self.now.left.items result
+            (spec.argument_by name.now self.now.all default (progress_of progress.entry)) }
     {
         let own = name.text.as_str();
-        match progress.plain {
+        match progress.positional {
             [first, rest @ ..] if !progress.by_name => {
                 if self.all.has(own) {
                     return None;
                 }
-                let progress = Progress {
-                    plain: rest,
+                let progress = BindingState {
+                    positional: rest,
                     ..progress
                 };
                 self.shared(name, progress, Some(*first))
@@ -187,55 +215,54 @@ impl<'g> Names<'g> {
     fn step<'t, 'd>(
         &self,
         parameter: &'t Parameter,
-        progress: Progress<'g, 'd>,
-    ) -> Option<Turn<'t, 'g, 'd>>
-        ensures { option_map (turn_of (all_named self.now.left.items)) result
-            ≡ spec.step self.now.all (all_named self.now.left.items) (progress_of progress.entry)
-            (form.parameter parameter.now) }
+        progress: BindingState<'g, 'd>,
+    ) -> Option<BoundParameter<'t, 'g, 'd>>
+        ensures { IsStep self.now.left.items result
+            (spec.step self.now.all (all_named self.now.left.items) (progress_of progress.entry)
+            (form.parameter parameter.now)) }
     {
         match parameter {
-            Parameter::Plain(name) => self.share_by(name, None, progress),
-            Parameter::Default { name, .. } => self.share_or_default(name, progress),
-            Parameter::Star(name) => Some(Turn {
-                share: Some((name, Share::Rest(progress.plain))),
-                progress: Progress {
+            Parameter::Plain(name) => self.argument_by(name, None, progress),
+            Parameter::Default { name, .. } => self.argument_or_default(name, progress),
+            Parameter::Star(name) => Some(BoundParameter {
+                share: Some((name, BoundArgument::Rest(progress.positional))),
+                progress: BindingState {
                     by_name: true,
-                    plain: &[],
+                    positional: &[],
                     defaults: progress.defaults,
                 },
             }),
-            Parameter::BareStar => Some(Turn {
+            Parameter::BareStar => Some(BoundParameter {
                 share: None,
-                progress: Progress {
+                progress: BindingState {
                     by_name: true,
                     ..progress
                 },
             }),
-            Parameter::StarStar(name) => Some(Turn {
-                share: Some((name, Share::Names)),
+            Parameter::StarStar(name) => Some(BoundParameter {
+                share: Some((name, BoundArgument::Names)),
                 progress,
             }),
         }
     }
 
     /// The share of a parameter with a default, which is taken off the defaults that are left.
-    fn share_or_default<'t, 'd>(
+    fn argument_or_default<'t, 'd>(
         &self,
         name: &'t Name,
-        progress: Progress<'g, 'd>,
-    ) -> Option<Turn<'t, 'g, 'd>>
-        ensures { option_map (turn_of (all_named self.now.left.items)) result
-            ≡ spec.share_by name.now self.now.all (spec.first_of_row progress.entry.defaults.now)
-            (record (progress_of progress.entry) { defaults = spec.rest_of_row progress.entry.defaults.now }) }
+        progress: BindingState<'g, 'd>,
+    ) -> Option<BoundParameter<'t, 'g, 'd>>
+        ensures { IsStep self.now.left.items result
+            (spec.argument_by name.now self.now.all (next_default progress.entry) (past_default progress.entry)) }
     {
         match progress.defaults {
-            [] => self.share_by(name, None, progress),
+            [] => self.argument_by(name, None, progress),
             [first, rest @ ..] => {
-                let progress = Progress {
+                let progress = BindingState {
                     defaults: rest,
                     ..progress
                 };
-                self.share_by(name, Some(*first), progress)
+                self.argument_by(name, Some(*first), progress)
             }
         }
     }
@@ -245,8 +272,8 @@ impl<'g> Names<'g> {
         self,
         alloc: Global,
         parameters: &'t [Parameter],
-        progress: Progress<'g, 'd>,
-    ) -> Result<Option<Shares<'t, 'g>>, AllocError>
+        progress: BindingState<'g, 'd>,
+    ) -> Result<Option<BoundArguments<'t, 'g>>, AllocError>
         ensures { IfOk result (λ shares. shares ≡ spec.shares self.entry.all (all_named self.entry.left.items)
             parameters.now (progress_of progress.entry)) }
     {
@@ -261,10 +288,10 @@ impl<'g> Names<'g> {
             }
             progress = turn.progress;
         }
-        if !progress.plain.is_empty() {
+        if !progress.positional.is_empty() {
             return Ok(None);
         }
-        Ok(Some(Shares::new(shares, self.left)))
+        Ok(Some(BoundArguments::new(shares, self.left)))
     }
 }
 
@@ -280,7 +307,7 @@ impl<'g> Names<'g> {
 /// `None` if a parameter without a default gets nothing, if one gets a positional and a keyword argument, or if an
 /// argument is left over without a `*rest` or `**names` for it.
 ///
-/// This way takes every call. Two shorter ways are proved to give the same: `enter_by_place` of `star_enter`, if all
+/// This way takes every call. Two shorter ways are proved to give the same: `enter_positional` of `star_enter`, if all
 /// arguments are positional and all parameters plain names, puts them straight into the frame; `bound_of` of
 /// `star_enter`, for definitions with more than 16 parameters, fills a frame that begins with the defaults.
 /// `call_function` of `star_eval` chooses among the three.
@@ -289,18 +316,18 @@ pub fn bound_to<'t, 'g>(
     alloc: Global,
     parameters: &'t [Parameter],
     defaults: &[Value],
-    given: &'g Given,
-) -> Result<Option<Shares<'t, 'g>>, AllocError>
+    given: &'g Arguments,
+) -> Result<Option<BoundArguments<'t, 'g>>, AllocError>
     ensures { IfOk result (λ shares. shares ≡ spec.bound_to parameters.now defaults.now given.now) }
 {
     let all = given.named.as_slice();
-    let left = unclaimed(alloc, parameters, all)?;
+    let left = extra_keywords(alloc, parameters, all)?;
     if !left.is_empty() && !take_names(parameters) {
         return Ok(None);
     }
-    let progress = Progress {
+    let progress = BindingState {
         by_name: false,
-        plain: given.plain.as_slice(),
+        positional: given.positional.as_slice(),
         defaults,
     };
     let all = ByName::of(alloc, all, parameters.len())?;

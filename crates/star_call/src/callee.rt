@@ -6,21 +6,19 @@
 ghost use Rattle.std.specs.Prelude.{◌≡◌, IfOk};
 ghost use Rattle.std.specs.Option.{option_map};
 ghost use Rattle.star_scope.specs.Definitions.{definition_of};
-ghost use Rattle.star_meaning.specs.Binding.{bound_to};
 ghost use Rattle.star_meaning.specs.Calls as spec;
-ghost use Rattle.star_machine.specs.Gives.{Gives, GivesBy};
-ghost use Rattle.star_meaning.specs.Run.{found};
+ghost use Rattle.star_machine.specs.Refines.{Refines};
 ghost use Rattle.star_meaning.specs.Values.{content};
-ghost use Rattle.star_call.specs.Callees.{GivesCallee, HasDefinition, IsFound, callee_in, defaults_in, definition_for, number_in, shown, with_definition};
+ghost use Rattle.star_call.specs.Callees.{FindsCallee, GivesCallee, HasDefinition, IsDefinitionOf, IsFound, bound_arguments, callee_in, defaults_in, number_in, with_definition};
 
 use crate::binding::bound_to;
-use crate::shares::Shares;
+use crate::shares::BoundArguments;
 use star_machine::content::Content;
 use star_machine::fault::{Stop, faulted};
 use star_machine::machine::Machine;
 use star_machine::setting::Setting;
-use star_meaning::fault::Code;
-use star_meaning::given::Given;
+use star_meaning::fault::FaultCode;
+use star_meaning::given::Arguments;
 use star_scope::outline::Definition;
 use star_store::names::{BuiltIn, Method};
 use star_store::values::{Cell, Function, Value};
@@ -63,18 +61,15 @@ impl<'t> Called<'t> {
         machine: &Machine,
         setting: &Setting,
         line: usize,
-        given: &'g Given,
-    ) -> Result<Shares<'t, 'g>, Stop>
-        ensures { Gives (found Code.Args line
-            (bound_to self.now.definition.parameters.now
-            (defaults_in (content setting.now machine.now self.now.value)) given.now) machine.now)
-            result machine.now }
+        given: &'g Arguments,
+    ) -> Result<BoundArguments<'t, 'g>, Stop>
+        ensures { Refines (bound_arguments setting.now line self.now given.now machine.now) result machine.now }
     {
         let defaults = defaults_of(machine, setting, self.value);
         let parameters = self.definition.parameters;
         match bound_to(machine.alloc(), parameters, defaults, given)? {
             Some(shares) => Ok(shares),
-            None => Err(faulted(Code::Args, line)),
+            None => Err(faulted(FaultCode::Args, line)),
         }
     }
 }
@@ -93,7 +88,7 @@ fn function_callee<'t>(
     ensures has { IfOk result (HasDefinition function.now (option_map definition_of definition.entry)) }
 {
     if machine.is_active(function) {
-        return Err(faulted(Code::Recursion, line));
+        return Err(faulted(FaultCode::Recursion, line));
     }
     match definition {
         Some(definition) => Ok(Callee::AFunction(Called {
@@ -103,7 +98,7 @@ fn function_callee<'t>(
             frame: function.frame,
             definition,
         })),
-        None => Err(faulted(Code::BadType, line)),
+        None => Err(faulted(FaultCode::BadType, line)),
     }
 }
 
@@ -131,15 +126,13 @@ impl<'t> Callee<'t> {
         value: Value,
         definition: Option<Definition<'t>>,
     ) -> Result<Callee<'t>, Stop>
-        ensures answer { GivesBy (shown (content setting.now machine.now))
-            (callee_in line (option_map definition_of definition.entry) (content setting.now machine.now value)
-            machine.now) result machine.now }
-        ensures found { option_map definition_of definition.entry
-            ≡ definition_for setting.now (content setting.now machine.now value)
-            → GivesBy (shown (content setting.now machine.now)) (spec.callee setting.now line value machine.now)
-            result machine.now }
-        ensures defined { option_map definition_of definition.entry
-            ≡ definition_for setting.now (content setting.now machine.now value) → IfOk result (IsFound setting.now) }
+        ensures answer { FindsCallee setting.now
+            (callee_in line (option_map definition_of definition.entry) (content setting.now machine.now value)) result
+            machine.now }
+        ensures found { IsDefinitionOf setting.now machine.now value definition.entry
+            → FindsCallee setting.now (spec.callee setting.now line value) result machine.now }
+        ensures defined { IsDefinitionOf setting.now machine.now value definition.entry
+            → IfOk result (IsFound setting.now) }
     {
         match machine.content(setting, value) {
             Content::BuiltInFunction(function) => Ok(Callee::ABuiltIn(function)),
@@ -151,7 +144,7 @@ impl<'t> Callee<'t> {
                 definition,
             ),
             Content::Held(Cell::Bound(method, receiver)) => Ok(Callee::AMethod(*method, *receiver)),
-            _ => Err(faulted(Code::BadType, line)),
+            _ => Err(faulted(FaultCode::BadType, line)),
         }
     }
 }

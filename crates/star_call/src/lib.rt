@@ -2,12 +2,14 @@
 //!
 //!     def f(a, b=1, *rest, c, d=2, **names)
 //!
-//! - `passed::given` makes `Given` of the evaluated arguments: the positional ones, the keyword ones, with those that
+//! - `passed::given` makes `Arguments` of the evaluated arguments: the positional ones, the keyword ones, with those
+//! that
 //!   `*` and `**` add.
 //! - `callee::Callee::of` says what is called: a function, a built-in function, a bound method, or nothing that can be.
-//! - `binding::bound_to` binds the arguments to the parameters; its comment has the rules. The result is `Shares`: for
+//! - `binding::bound_to` binds the arguments to the parameters; its comment has the rules. The result is
+//! `BoundArguments`: for
 //!   each parameter the argument that it is bound to.
-//! - `shares::make_shares` makes the tuple of `*rest` and the dictionary of `**names`.
+//! - `shares::build_arguments` makes the tuple of `*rest` and the dictionary of `**names`.
 //!
 //! Begin at `bound_to`. `star_enter` has two shorter ways for common calls, which are proved to give the same;
 //! `star_eval` chooses.

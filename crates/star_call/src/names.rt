@@ -5,7 +5,7 @@ ghost use Rattle.star_meaning.specs.Arguments as spec;
 ghost use Rattle.star_meaning.specs.Binding.{value_named};
 ghost use Rattle.star_call.specs.Found.{value_in};
 
-use star_meaning::given::NamedValue;
+use star_meaning::given::KeywordArgument;
 use star_store::values::Value;
 use std::alloc::{AllocError, Global};
 use std::collections::BTreeMap;
@@ -15,7 +15,7 @@ use std::marker::Model;
 pub(crate) const FEW: usize = 8;
 
 /// Whether a name is among those given.
-pub(crate) fn is_given(name: &str, named: &[NamedValue]) -> bool
+pub(crate) fn is_given(name: &str, named: &[KeywordArgument]) -> bool
     ensures { result ≡ spec.is_given name.now named.now }
 {
     for value in named {
@@ -27,7 +27,7 @@ pub(crate) fn is_given(name: &str, named: &[NamedValue]) -> bool
 }
 
 /// The keyword argument with this name: the first one.
-pub(crate) fn value_named(name: &str, named: &[NamedValue]) -> Option<Value>
+pub(crate) fn value_named(name: &str, named: &[KeywordArgument]) -> Option<Value>
     ensures { result ≡ value_named name.now named.now }
 {
     for value in named {
@@ -39,7 +39,7 @@ pub(crate) fn value_named(name: &str, named: &[NamedValue]) -> Option<Value>
 }
 
 /// Whether a name comes twice: each is compared with all after it.
-fn few_come_twice(named: &[NamedValue]) -> bool
+fn few_come_twice(named: &[KeywordArgument]) -> bool
     ensures { result ≡ spec.comes_twice named.now }
 {
     let mut rest = named;
@@ -53,7 +53,7 @@ fn few_come_twice(named: &[NamedValue]) -> bool
 }
 
 /// Whether a name comes twice: each of many is looked for among those before it.
-pub(crate) fn comes_twice(alloc: Global, named: &[NamedValue]) -> Result<bool, AllocError>
+pub(crate) fn comes_twice(alloc: Global, named: &[KeywordArgument]) -> Result<bool, AllocError>
     ensures { IfOk result (λ twice. twice ≡ spec.comes_twice named.now) }
 {
     if named.len() <= FEW {
@@ -71,7 +71,7 @@ pub(crate) fn comes_twice(alloc: Global, named: &[NamedValue]) -> Result<bool, A
 /// The first value of each name.
 fn first_values<'g>(
     alloc: Global,
-    named: &'g [NamedValue],
+    named: &'g [KeywordArgument],
 ) -> Result<BTreeMap<&'g str, Value>, AllocError>
     ensures { IfOk result (λ first. (name : List ℕ) → value_in first name ≡ value_named name named.now) }
 {
@@ -88,13 +88,13 @@ fn first_values<'g>(
 /// Keyword arguments that are looked up by their names: few by going through them, many by a map.
 #[derive(Drop)]
 pub(crate) struct ByName<'g> {
-    all: &'g [NamedValue],
+    all: &'g [KeywordArgument],
     first: Option<BTreeMap<&'g str, Value>>,
 }
 
 impl<'g> Model for ByName<'g> {
     ghost use Rattle.std.specs.Prelude.{List};
-    ghost use Rattle.star_meaning.specs.declared.given.NamedValue.{NamedValue as OneNamed};
+    ghost use Rattle.star_meaning.specs.declared.given.KeywordArgument.{KeywordArgument as OneNamed};
     ghost use Rattle.star_call.specs.Found.{AreFound};
 
     ghost Value = { List OneNamed };
@@ -108,7 +108,7 @@ impl<'g> ByName<'g> {
     /// These keyword arguments, in their order; `names` names will be looked up.
     pub(crate) fn of(
         alloc: Global,
-        all: &'g [NamedValue],
+        all: &'g [KeywordArgument],
         names: usize,
     ) -> Result<ByName<'g>, AllocError>
         ensures { IfOk result (λ named. named ≡ all.now) }

@@ -6,9 +6,9 @@
 ghost use Rattle.std.specs.Prelude.{◌≡◌, ◌++◌, IfOk, OnOk};
 ghost use Rattle.std.specs.Option.{option_map};
 ghost use Rattle.star_meaning.specs.Arguments as spec;
-ghost use Rattle.star_machine.specs.Gives.{Gives, GivesBy};
+ghost use Rattle.star_machine.specs.Refines.{Refines, RefinesBy};
 ghost use Rattle.star_meaning.specs.Values.{content, text_of};
-ghost use Rattle.star_call.specs.Passed.{all_shown};
+ghost use Rattle.star_call.specs.EvaluatedArgument.{all_shown};
 
 use crate::names::comes_twice;
 use sqlite_items::Items;
@@ -16,15 +16,15 @@ use star_machine::content::Content;
 use star_machine::fault::{Stop, faulted};
 use star_machine::machine::Machine;
 use star_machine::setting::Setting;
-use star_meaning::fault::Code;
-use star_meaning::given::{Given, NamedValue};
+use star_meaning::fault::FaultCode;
+use star_meaning::given::{Arguments, KeywordArgument};
 use star_store::values::{Cell, Value, Values};
 use star_text::Text;
 use std::alloc::{AllocError, Global};
 
 /// An argument with its value, in its form in the call.
 #[derive(Clone, Copy)]
-pub enum Passed<'a> {
+pub enum EvaluatedArgument<'a> {
     Plain(Value),
     Named(&'a str, Value),
     /// `*value`.
@@ -34,27 +34,27 @@ pub enum Passed<'a> {
 }
 
 /// The positional arguments.
-fn plain_of(alloc: Global, passed: &[Passed]) -> Result<Vec<Value>, AllocError>
-    ensures { IfOk result (λ v. v.items ≡ spec.plain_of (all_shown passed.now)) }
+fn positional_of(alloc: Global, passed: &[EvaluatedArgument]) -> Result<Vec<Value>, AllocError>
+    ensures { IfOk result (λ v. v.items ≡ spec.positional_of (all_shown passed.now)) }
 {
-    let mut plain = Vec::new(alloc);
+    let mut positional = Vec::new(alloc);
     for argument in passed {
-        if let Passed::Plain(value) = argument {
-            plain.push(*value)?;
+        if let EvaluatedArgument::Plain(value) = argument {
+            positional.push(*value)?;
         }
     }
-    Ok(plain)
+    Ok(positional)
 }
 
 /// The keyword arguments.
-fn named_of(alloc: Global, passed: &[Passed]) -> Result<Vec<NamedValue>, AllocError>
+fn named_of(alloc: Global, passed: &[EvaluatedArgument]) -> Result<Vec<KeywordArgument>, AllocError>
     ensures { IfOk result (λ v. v.items ≡ spec.named_of (all_shown passed.now)) }
 {
     let mut named = Vec::new(alloc);
     for argument in passed {
-        if let Passed::Named(name, value) = argument {
+        if let EvaluatedArgument::Named(name, value) = argument {
             let name = Text::new(alloc, *name)?;
-            named.push(NamedValue {
+            named.push(KeywordArgument {
                 name,
                 key: None,
                 value: *value,
@@ -65,11 +65,11 @@ fn named_of(alloc: Global, passed: &[Passed]) -> Result<Vec<NamedValue>, AllocEr
 }
 
 /// The value after `*`.
-fn star_of(passed: &[Passed]) -> Option<Value>
+fn star_of(passed: &[EvaluatedArgument]) -> Option<Value>
     ensures { result ≡ spec.star_of (all_shown passed.now) }
 {
     for argument in passed {
-        if let Passed::Star(value) = argument {
+        if let EvaluatedArgument::Star(value) = argument {
             return Some(*value);
         }
     }
@@ -77,11 +77,11 @@ fn star_of(passed: &[Passed]) -> Option<Value>
 }
 
 /// The value after `**`.
-fn star_star_of(passed: &[Passed]) -> Option<Value>
+fn star_star_of(passed: &[EvaluatedArgument]) -> Option<Value>
     ensures { result ≡ spec.star_star_of (all_shown passed.now) }
 {
     for argument in passed {
-        if let Passed::StarStar(value) = argument {
+        if let EvaluatedArgument::StarStar(value) = argument {
             return Some(*value);
         }
     }
@@ -95,7 +95,7 @@ fn star_count(
     line: usize,
     star: Option<Value>,
 ) -> Result<usize, Stop>
-    ensures { Gives (spec.star_count setting.now line star machine.now) result machine.now }
+    ensures { Refines (spec.star_count setting.now line star machine.now) result machine.now }
 {
     match star {
         Some(star) => machine.count_of(setting, line, star),
@@ -111,7 +111,7 @@ fn take_star(
     star: Option<Value>,
     count: usize,
 ) -> Result<Values, Stop>
-    ensures { Gives (spec.take_star setting.now line star count machine.old) result machine.new }
+    ensures { Refines (spec.take_star setting.now line star count machine.old) result machine.new }
 {
     match star {
         Some(star) => machine.take_items(setting, line, star, count),
@@ -124,7 +124,7 @@ fn named_entry(
     machine: &Machine,
     setting: &Setting,
     entry: (Value, Value),
-) -> Result<Option<NamedValue>, AllocError>
+) -> Result<Option<KeywordArgument>, AllocError>
     ensures { IfOk result (λ n. n ≡ spec.named_entry setting.now machine.now entry
         (text_of (content setting.now machine.now entry.0))) }
 {
@@ -132,7 +132,7 @@ fn named_entry(
     match machine.content(setting, key) {
         Content::Held(Cell::Text(name)) => {
             let name = name.share()?;
-            Ok(Some(NamedValue {
+            Ok(Some(KeywordArgument {
                 name,
                 key: Some(key),
                 value,
@@ -147,7 +147,7 @@ fn named_entries(
     machine: &Machine,
     setting: &Setting,
     entries: &[(Value, Value)],
-) -> Result<Option<Vec<NamedValue>>, AllocError>
+) -> Result<Option<Vec<KeywordArgument>>, AllocError>
     ensures { IfOk result (λ r. option_map (λ v. v.items) r ≡ spec.named_entries setting.now machine.now entries.now) }
 {
     let mut names = Vec::new(machine.alloc());
@@ -165,7 +165,7 @@ fn names_in(
     machine: &Machine,
     setting: &Setting,
     value: Value,
-) -> Result<Option<Vec<NamedValue>>, AllocError>
+) -> Result<Option<Vec<KeywordArgument>>, AllocError>
     ensures { IfOk result (λ r. option_map (λ v. v.items) r
         ≡ spec.names_in setting.now machine.now (content setting.now machine.now value)) }
 {
@@ -181,15 +181,15 @@ fn star_star_names(
     setting: &Setting,
     line: usize,
     value: Option<Value>,
-) -> Result<Vec<NamedValue>, Stop>
-    ensures { GivesBy (λ v. v.items) (spec.star_star_names setting.now line value machine.now) result machine.now }
+) -> Result<Vec<KeywordArgument>, Stop>
+    ensures { RefinesBy (λ v. v.items) (spec.star_star_names setting.now line value machine.now) result machine.now }
 {
     let Some(value) = value else {
         return Ok(Vec::new(machine.alloc()));
     };
     match names_in(machine, setting, value)? {
         Some(names) => Ok(names),
-        None => Err(faulted(Code::BadType, line)),
+        None => Err(faulted(FaultCode::BadType, line)),
     }
 }
 
@@ -197,9 +197,9 @@ fn star_star_names(
 fn take_names(
     machine: &mut Machine,
     line: usize,
-    names: Vec<NamedValue>,
-) -> Result<Vec<NamedValue>, Stop>
-    ensures { GivesBy (λ v. v.items) (spec.take_names line names.items machine.old) result machine.new }
+    names: Vec<KeywordArgument>,
+) -> Result<Vec<KeywordArgument>, Stop>
+    ensures { RefinesBy (λ v. v.items) (spec.take_names line names.items machine.old) result machine.new }
 {
     for _name in &names {
         machine.pay(line, 1)?;
@@ -208,20 +208,24 @@ fn take_names(
 }
 
 /// The positional arguments, and after them these.
-fn with_plain(alloc: Global, passed: &[Passed], items: &Values) -> Result<Values, AllocError>
-    ensures { IfOk result (λ v. v ≡ spec.plain_of (all_shown passed.now) ++ items.now) }
+fn with_plain(
+    alloc: Global,
+    passed: &[EvaluatedArgument],
+    items: &Values,
+) -> Result<Values, AllocError>
+    ensures { IfOk result (λ v. v ≡ spec.positional_of (all_shown passed.now) ++ items.now) }
 {
-    let mut plain = plain_of(alloc, passed)?;
-    plain.extend_from_slice(items.as_slice())?;
-    Ok(Values::new(plain))
+    let mut positional = positional_of(alloc, passed)?;
+    positional.extend_from_slice(items.as_slice())?;
+    Ok(Values::new(positional))
 }
 
 /// The keyword arguments, and after them these.
 fn with_named(
     alloc: Global,
-    passed: &[Passed],
-    names: Vec<NamedValue>,
-) -> Result<Items<NamedValue>, AllocError>
+    passed: &[EvaluatedArgument],
+    names: Vec<KeywordArgument>,
+) -> Result<Items<KeywordArgument>, AllocError>
     ensures { IfOk result (λ v. v ≡ spec.named_of (all_shown passed.now) ++ names.items) }
 {
     let mut names = names;
@@ -238,9 +242,9 @@ pub fn given(
     machine: &mut Machine,
     setting: &Setting,
     line: usize,
-    passed: &[Passed],
-) -> Result<Given, Stop>
-    ensures answer { Gives (spec.given setting.now line (all_shown passed.now) machine.old) result machine.new }
+    passed: &[EvaluatedArgument],
+) -> Result<Arguments, Stop>
+    ensures answer { Refines (spec.given setting.now line (all_shown passed.now) machine.old) result machine.new }
     ensures kept { OnOk result (machine.new.store ≡ machine.old.store) }
 {
     let star = star_of(passed);
@@ -248,10 +252,10 @@ pub fn given(
     let names = star_star_names(machine, setting, line, star_star_of(passed))?;
     let items = take_star(machine, setting, line, star, count)?;
     let names = take_names(machine, line, names)?;
-    let plain = with_plain(machine.alloc(), passed, &items)?;
+    let positional = with_plain(machine.alloc(), passed, &items)?;
     let named = with_named(machine.alloc(), passed, names)?;
     if comes_twice(machine.alloc(), named.as_slice())? {
-        return Err(faulted(Code::Args, line));
+        return Err(faulted(FaultCode::Args, line));
     }
-    Ok(Given { plain, named })
+    Ok(Arguments { positional, named })
 }

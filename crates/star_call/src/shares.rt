@@ -5,20 +5,20 @@
 
 ghost use Rattle.std.specs.Prelude.{◌≡◌, map};
 ghost use Rattle.star_meaning.specs.Binding as spec;
-ghost use Rattle.star_machine.specs.Gives.{Gives, GivesBy};
+ghost use Rattle.star_machine.specs.Refines.{Refines, RefinesBy};
 ghost use Rattle.star_meaning.specs.Run.{each};
-ghost use Rattle.star_call.specs.Shares.{all_named, all_shown, bound_value, share_of};
+ghost use Rattle.star_call.specs.BoundArguments.{all_named, all_shown, bound_value, argument_of};
 
 use star_machine::fault::Stop;
 use star_machine::machine::Machine;
-use star_meaning::given::NamedValue;
+use star_meaning::given::KeywordArgument;
 use star_store::values::{Entries, Value, Values};
 use star_tree::tree::Name;
 use std::marker::Model;
 
 /// The argument that a parameter is bound to.
 #[derive(Clone, Copy)]
-pub enum Share<'g> {
+pub enum BoundArgument<'g> {
     /// A value.
     One(Value),
     /// The positional arguments that are left, for `*name`.
@@ -29,31 +29,31 @@ pub enum Share<'g> {
 
 /// The argument of each parameter, in their order, under its name.
 #[derive(Drop)]
-pub struct Shares<'t, 'g> {
-    shares: Vec<(&'t Name, Share<'g>)>,
-    left: Vec<&'g NamedValue>,
+pub struct BoundArguments<'t, 'g> {
+    shares: Vec<(&'t Name, BoundArgument<'g>)>,
+    left: Vec<&'g KeywordArgument>,
 }
 
-impl<'t, 'g> Model for Shares<'t, 'g> {
+impl<'t, 'g> Model for BoundArguments<'t, 'g> {
     ghost use Rattle.std.specs.Prelude.{List};
     ghost use Rattle.star_tree.specs.declared.tree.Name.{Name as AnyName};
-    ghost use Rattle.star_meaning.specs.Binding.{Share as AnyShare};
-    ghost use Rattle.star_call.specs.Shares.{all_named, all_shown};
+    ghost use Rattle.star_meaning.specs.Binding.{BoundArgument as AnyBoundArgument};
+    ghost use Rattle.star_call.specs.BoundArguments.{all_named, all_shown};
 
-    ghost Value = { List (AnyName × AnyShare) };
+    ghost Value = { List (AnyName × AnyBoundArgument) };
 
     ghost view = { λ s. all_shown (all_named s.left.items) s.shares.items };
 }
 
-impl<'t, 'g> Shares<'t, 'g> {
+impl<'t, 'g> BoundArguments<'t, 'g> {
     /// These arguments, if `left` are the keyword arguments that name no parameter.
     pub(crate) fn new(
-        shares: Vec<(&'t Name, Share<'g>)>,
-        left: Vec<&'g NamedValue>,
-    ) -> Shares<'t, 'g>
+        shares: Vec<(&'t Name, BoundArgument<'g>)>,
+        left: Vec<&'g KeywordArgument>,
+    ) -> BoundArguments<'t, 'g>
         ensures { result ≡ all_shown (all_named left.entry.items) shares.entry.items }
     {
-        Shares { shares, left }
+        BoundArguments { shares, left }
     }
 }
 
@@ -61,9 +61,9 @@ impl<'t, 'g> Shares<'t, 'g> {
 fn keys_and_values(
     machine: &mut Machine,
     line: usize,
-    named: &[&NamedValue],
+    named: &[&KeywordArgument],
 ) -> Result<Entries, Stop>
-    ensures { Gives (each (spec.key_and_value line) (all_named named.now) machine.old) result machine.new }
+    ensures { Refines (each (spec.key_and_value line) (all_named named.now) machine.old) result machine.new }
 {
     let mut entries = Entries::with_capacity(machine.alloc(), named.len())?;
     for value in named {
@@ -75,21 +75,22 @@ fn keys_and_values(
 
 /// The value of a bound argument: `*name` is a new tuple, `**name` a new dictionary of the keyword arguments that are
 /// left.
-pub fn made_of(
+pub fn build_argument(
     machine: &mut Machine,
     line: usize,
-    share: Share<'_>,
-    left: &[&NamedValue],
+    share: BoundArgument<'_>,
+    left: &[&KeywordArgument],
 ) -> Result<Value, Stop>
-    ensures { Gives (spec.made_of line (share_of (all_named left.now) share.entry) machine.old) result machine.new }
+    ensures { Refines (spec.build_argument line (argument_of (all_named left.now) share.entry) machine.old)
+        result machine.new }
 {
     match share {
-        Share::One(value) => Ok(value),
-        Share::Rest(items) => {
+        BoundArgument::One(value) => Ok(value),
+        BoundArgument::Rest(items) => {
             let items = Vec::from_slice(machine.alloc(), items)?;
             machine.new_tuple(line, Values::new(items))
         }
-        Share::Names => {
+        BoundArgument::Names => {
             let entries = keys_and_values(machine, line, left)?;
             machine.new_dict(line, entries)
         }
@@ -97,19 +98,19 @@ pub fn made_of(
 }
 
 /// Each of these shares as a value, in order.
-#[tactic(auto, unfolding(star_meaning::specs::Binding::make_shares))]
-fn all_made<'t>(
+#[tactic(auto, unfolding(star_meaning::specs::Binding::build_arguments))]
+fn build_each<'t>(
     machine: &mut Machine,
     line: usize,
-    shares: &[(&'t Name, Share<'_>)],
-    left: &[&NamedValue],
+    shares: &[(&'t Name, BoundArgument<'_>)],
+    left: &[&KeywordArgument],
 ) -> Result<Vec<(&'t Name, Value)>, Stop>
-    ensures { GivesBy (λ v. map bound_value v.items)
-        (spec.make_shares line (all_shown (all_named left.now) shares.now) machine.old) result machine.new }
+    ensures { RefinesBy (λ v. map bound_value v.items)
+        (spec.build_arguments line (all_shown (all_named left.now) shares.now) machine.old) result machine.new }
 {
     let mut values = Vec::new(machine.alloc());
     for (name, share) in shares {
-        let value = made_of(machine, line, *share, left)?;
+        let value = build_argument(machine, line, *share, left)?;
         values.push((*name, value))?;
     }
     Ok(values)
@@ -117,12 +118,13 @@ fn all_made<'t>(
 
 /// Each share as a value, in order: `*name` is a new tuple, `**name` a new dictionary, whose keys are made first, in
 /// order.
-pub fn make_shares<'t>(
+pub fn build_arguments<'t>(
     machine: &mut Machine,
     line: usize,
-    shares: &Shares<'t, '_>,
+    shares: &BoundArguments<'t, '_>,
 ) -> Result<Vec<(&'t Name, Value)>, Stop>
-    ensures { GivesBy (λ v. map bound_value v.items) (spec.make_shares line shares.now machine.old) result machine.new }
+    ensures { RefinesBy (λ v. map bound_value v.items) (spec.build_arguments line shares.now machine.old)
+        result machine.new }
 {
-    all_made(machine, line, &shares.shares, &shares.left)
+    build_each(machine, line, &shares.shares, &shares.left)
 }

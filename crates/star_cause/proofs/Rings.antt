@@ -9,7 +9,7 @@ use Rattle.star_scope.specs.Definitions.{AllDiffer}
 use Rattle.star_plan.proofs.Follow.{first_or}
 use Rattle.star_cause.specs.declared.ends.End.{End}
 use Rattle.star_cause.specs.declared.ends.End.TheVariants.{Last, Around}
-use Rattle.star_cause.specs.declared.ends.Stop.TheVariants.{Met}
+use Rattle.star_cause.specs.declared.ends.WalkEnd.TheVariants.{Met}
 use Rattle.star_cause.specs.Ends.{AreEnds, Ends, HasEnd, IsFresh, IsKnown, end_on}
 use Rattle.star_cause.specs.Ways.{Goes, Nexts, Way}
 use Rattle.star_cause.proofs.Apart.{differ_back, differ_joined, differ_turned}

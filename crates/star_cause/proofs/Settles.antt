@@ -1,26 +1,13 @@
 -- The ends of the files on a way become known.
-use Rattle.std.proofs.Common.{arith, ◌≡◌, ◌<◌, ◌≤◌, ◌+◌, ◌⊎◌, inl, inr, ℕ, zero, suc, List, [], ◌∷◌, length, replicate, get_or, Option, Some, None, refl, ap, sym, subst, ◌∙◌, length-set}
+use Rattle.std.proofs.Common.{arith, ◌≡◌, ◌<◌, ◌≤◌, ◌+◌, ◌⊎◌, inl, inr, ℕ, zero, suc, List, length, replicate, get_or, Option, Some, None, refl, ap, sym, subst, ◌∙◌, length-set}
 use Rattle.std.specs.Prelude.{Contains, slice_get, slice_set}
 use Rattle.std.proofs.lemmas.Bool.{cases_eq, cases_lt}
 use Rattle.std.proofs.lemmas.List.{get_or_default, length-replicate}
+use Rattle.star_plan.proofs.Rows.{get_set_other, get_set_same}
 use Rattle.star_cause.specs.declared.ends.End.{End}
-use Rattle.star_cause.specs.declared.ends.Stop.{Stop}
+use Rattle.star_cause.specs.declared.ends.WalkEnd.{WalkEnd}
 use Rattle.star_cause.specs.Ends.{AreEnds, AreSettled, Ends, HasEnd, IsKnown, IsWalked, end_on}
 use Rattle.star_cause.specs.Ways.{Goes, Nexts}
-
--- ---- a row after one place is set
-
-pub get_set_same : {X : Type 0} (xs : List X) (i : ℕ) (x : X) → i < length xs → slice_get (slice_set xs i x) i ≡ Some x
-get_set_same [] i x less = absurd (let no : ⊥ = omega (arith, less) in no)
-get_set_same (y ∷ ys) zero x less = refl
-get_set_same (y ∷ ys) (suc i) x less = get_set_same ys i x (omega (arith, less))
-
-pub get_set_other : {X : Type 0} (xs : List X) (i j : ℕ) (x : X) → (j ≡ i → ⊥) → slice_get (slice_set xs i x) j ≡ slice_get xs j
-get_set_other [] i j x other = refl
-get_set_other (y ∷ ys) zero zero x other = absurd (other refl)
-get_set_other (y ∷ ys) zero (suc j) x other = refl
-get_set_other (y ∷ ys) (suc i) zero x other = refl
-get_set_other (y ∷ ys) (suc i) (suc j) x other = get_set_other ys i j x (λ e. other (ap suc e))
 
 -- ---- nothing is known
 
@@ -38,7 +25,7 @@ none_known nexts = record {
 
 -- ---- one end more
 
-pub settled_none : (before : Ends) (files : List ℕ) (stop : Stop) → AreSettled before files stop 0 before
+pub settled_none : (before : Ends) (files : List ℕ) (stop : WalkEnd) → AreSettled before files stop 0 before
 settled_none before files stop = record {
   size = refl;
   kept = λ x h. h;
@@ -46,7 +33,7 @@ settled_none before files stop = record {
   added = λ x e is. inl is;
 }
 
-pub settled_more : (before : Ends) (files : List ℕ) (stop : Stop) (i : ℕ) (now : Ends) (x : ℕ) (e : End) → get_or files i 0 ≡ x → end_on files stop i ≡ e → x < length now → AreSettled before files stop i now
+pub settled_more : (before : Ends) (files : List ℕ) (stop : WalkEnd) (i : ℕ) (now : Ends) (x : ℕ) (e : End) → get_or files i 0 ≡ x → end_on files stop i ≡ e → x < length now → AreSettled before files stop i now
     → AreSettled before files stop (i + 1) (slice_set now x (Some e))
 settled_more before files stop i now x e place end inside was = record {
   size = length-set now x (Some e) ∙ was.size;
@@ -86,7 +73,7 @@ settled_more before files stop i now x e place end inside was = record {
 
 -- ---- the ends of all files of a way are known
 
-pub learned : (nexts : Nexts) (before after : Ends) (n : ℕ) (files : List ℕ) (stop : Stop) → AreEnds nexts before → IsWalked nexts before n files stop → AreSettled before files stop (length files) after → AreEnds nexts after
+pub learned : (nexts : Nexts) (before after : Ends) (n : ℕ) (files : List ℕ) (stop : WalkEnd) → AreEnds nexts before → IsWalked nexts before n files stop → AreSettled before files stop (length files) after → AreEnds nexts after
 learned nexts before after n files stop are walked settled = record {
   size = settled.size ∙ are.size;
   right = λ x e is. right_at x e (settled.added x e is);
@@ -108,7 +95,7 @@ learned nexts before after n files stop are walked settled = record {
     closed_at x m goes e (inl is) = settled.kept m (are.closed x m (e, is) goes)
     closed_at x m goes e (inr (i, less, at, end)) = one_of m (walked.closed x m (i, less, get_or_default files i x 0 less ∙ at) goes)
 
-pub start_known : (before after : Ends) (nexts : Nexts) (n : ℕ) (files : List ℕ) (stop : Stop) → IsWalked nexts before n files stop → AreSettled before files stop (length files) after → IsKnown after n
+pub start_known : (before after : Ends) (nexts : Nexts) (n : ℕ) (files : List ℕ) (stop : WalkEnd) → IsWalked nexts before n files stop → AreSettled before files stop (length files) after → IsKnown after n
 start_known before after nexts n files stop walked settled =
     let at = walked.starts in
     subst (IsKnown after) (get_or_default files at.0 0 n at.1 ∙ at.2) (settled.known at.0 at.1)

@@ -9,7 +9,7 @@ use Rattle.star_scope.proofs.Differ.{differ_pushed}
 use Rattle.star_plan.proofs.Causes.{here}
 use Rattle.star_cause.specs.declared.ends.End.{End}
 use Rattle.star_cause.specs.declared.ends.End.TheVariants.{Last}
-use Rattle.star_cause.specs.declared.ends.Stop.TheVariants.{Known, Met}
+use Rattle.star_cause.specs.declared.ends.WalkEnd.TheVariants.{Known, Met}
 use Rattle.star_cause.specs.Ends.{AreEnds, AreNoted, AreWithin, Ends, IsFresh, IsKnown, IsWalked}
 use Rattle.star_cause.specs.Ways.{Goes, Nexts, Way}
 use Rattle.star_cause.proofs.Apart.{differ_short}

@@ -3,8 +3,8 @@ use Rattle.std.specs.Prelude.{◌≡◌, ◌<◌, ◌-◌, ◌⊎◌, ℕ, List,
 use Rattle.star_plan.specs.Causes.{Culprit, Cycle}
 use Rattle.star_cause.specs.declared.ends.End.{End}
 use Rattle.star_cause.specs.declared.ends.End.TheVariants.{Last, Around}
-use Rattle.star_cause.specs.declared.ends.Stop.{Stop}
-use Rattle.star_cause.specs.declared.ends.Stop.TheVariants.{Known, Met}
+use Rattle.star_cause.specs.declared.ends.WalkEnd.{WalkEnd}
+use Rattle.star_cause.specs.declared.ends.WalkEnd.TheVariants.{Known, Met}
 use Rattle.star_cause.specs.Ways.{EndsIn, Goes, Nexts}
 
 -- each next file is a file
@@ -51,16 +51,16 @@ ring_end files p i =
     else Around (slice_index files i) (length files - p)
 
 -- .. and of a way that stops so
-abbrev pub end_on : List ℕ → Stop → ℕ → End
+abbrev pub end_on : List ℕ → WalkEnd → ℕ → End
 end_on files (Known e) i = e
 end_on files (Met p) i = ring_end files p i
 
-abbrev pub IsPlaceOn : List ℕ → Stop → Type 0
+abbrev pub IsPlaceOn : List ℕ → WalkEnd → Type 0
 IsPlaceOn files (Known e) = Unit {0}
 IsPlaceOn files (Met p) = p < length files
 
 -- a way from a file stops so; with its files each next file is known
-pub record IsWalked (nexts : Nexts) (ends : Ends) (n : ℕ) (files : List ℕ) (stop : Stop) : Type 0 where
+pub record IsWalked (nexts : Nexts) (ends : Ends) (n : ℕ) (files : List ℕ) (stop : WalkEnd) : Type 0 where
   pub starts : Contains files n
   pub within : All (λ x. x < length nexts) files
   pub place : IsPlaceOn files stop
@@ -68,7 +68,7 @@ pub record IsWalked (nexts : Nexts) (ends : Ends) (n : ℕ) (files : List ℕ) (
   pub closed : (x k : ℕ) → Contains files x → Goes nexts x k → Contains files k ⊎ IsKnown ends k
 
 -- the ends of the first `count` files of a path are known as well
-pub record AreSettled (before : Ends) (files : List ℕ) (stop : Stop) (count : ℕ) (after : Ends) : Type 0 where
+pub record AreSettled (before : Ends) (files : List ℕ) (stop : WalkEnd) (count : ℕ) (after : Ends) : Type 0 where
   pub size : length after ≡ length before
   pub kept : (x : ℕ) → IsKnown before x → IsKnown after x
   pub known : (i : ℕ) → i < count → IsKnown after (slice_index files i)

@@ -19,7 +19,7 @@ pub(crate) enum End {
 
 /// Why a way does not go on: the end of its files is known, or it is back at the file that has this place on it.
 #[derive(Clone, Copy, Debug, PartialEq, Eq)]
-pub(crate) enum Stop {
+pub(crate) enum WalkEnd {
     Known(End),
     Met(usize),
 }
@@ -28,7 +28,7 @@ pub(crate) enum Stop {
 #[derive(Drop)]
 pub(crate) struct Walked {
     files: Vec<usize>,
-    stop: Stop,
+    stop: WalkEnd,
 }
 
 /// The end of the file at a place of a way that is back at another place.
@@ -50,7 +50,7 @@ fn ring_end_at(files: &[usize], place: usize, i: usize) -> End
     }
 }
 
-impl Stop {
+impl WalkEnd {
     /// The end of the file at a place of a way that stops so.
     fn end_at(self, files: &[usize], i: usize) -> End
         requires place { IsPlaceOn files.now self }
@@ -58,8 +58,8 @@ impl Stop {
         ensures { result ≡ end_on files.now self i }
     {
         match self {
-            Stop::Known(end) => end,
-            Stop::Met(place) => ring_end_at(files, place, i),
+            WalkEnd::Known(end) => end,
+            WalkEnd::Met(place) => ring_end_at(files, place, i),
         }
     }
 }
@@ -101,11 +101,11 @@ fn walk(
     let mut at = n;
     'way: loop {
         if let Some(end) = ends[at] {
-            let stop = Stop::Known(end);
+            let stop = WalkEnd::Known(end);
             return Ok(Walked { files, stop });
         }
         if let Some(place) = place_of(&files, places.as_slice(), at) {
-            let stop = Stop::Met(place);
+            let stop = WalkEnd::Met(place);
             return Ok(Walked { files, stop });
         }
         places[at] = files.len();
@@ -113,7 +113,7 @@ fn walk(
         match nexts[at] {
             Some(next) => at = next,
             None => {
-                let stop = Stop::Known(End::Last(at));
+                let stop = WalkEnd::Known(End::Last(at));
                 return Ok(Walked { files, stop });
             }
         }
@@ -121,7 +121,7 @@ fn walk(
 }
 
 /// The end of each file of a way is known.
-fn settle(ends: &mut Vec<Option<End>>, files: &[usize], stop: Stop)
+fn settle(ends: &mut Vec<Option<End>>, files: &[usize], stop: WalkEnd)
     requires place { IsPlaceOn files.now stop }
     requires within { All (λ n. n < vec_len ends.old) files.now }
     ensures { AreSettled ends.old.items files.now stop (length files.now) ends.new.items }

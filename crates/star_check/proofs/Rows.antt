@@ -1,13 +1,12 @@
 -- What is told of the files of a row, by what was read.
-use Rattle.std.proofs.Common.{arith, ◌≡◌, ◌<◌, ◌≤◌, ◌+◌, ◌⊎◌, inl, inr, ℕ, List, [], ◌∷◌, ◌++◌, length, length-append, map, get_or, Option, Some, None, refl, ap, sym, subst, ◌∙◌}
+use Rattle.std.proofs.Common.{arith, ◌≡◌, ◌<◌, ◌≤◌, ◌+◌, ◌⊎◌, inl, inr, ℕ, List, [], ◌∷◌, ◌++◌, length, length-append, map, Option, Some, None, refl, ap, sym, subst, ◌∙◌}
 use denote.Ref.{Bor}
-use Rattle.std.specs.Prelude.{All, Contains, IfSome, MatchOption, slice_get}
+use Rattle.std.specs.Prelude.{All, IfSome, MatchOption, slice_get}
 use Rattle.std.specs.List.{HoldsAt}
-use Rattle.std.specs.List.Sorted.{IsStrictlyIncreasing}
 use Rattle.std.specs.Option.{option_flatten, option_map}
-use Rattle.std.proofs.lemmas.Bool.{cases_eq, cases_lt, cases_order}
+use Rattle.std.proofs.lemmas.Bool.{cases_eq, cases_lt}
 use Rattle.std.proofs.lemmas.List.{get_or_append_left, get_or_push, length-map, map_push}
-use Rattle.std.proofs.lemmas.List.Elements.{All-map, All-push, Contains-append_cases, Contains-append_left, Contains-append_right}
+use Rattle.std.proofs.lemmas.List.Elements.{All-map, All-push}
 use Rattle.std.proofs.lemmas.Option.{get_or_from_slice_get, slice_get-get_or, slice_get-map, slice_get_within}
 use Rattle.star_label.specs.Files.{File}
 use Rattle.star_scope.specs.declared.loads.Load.{Load}
@@ -18,18 +17,20 @@ use Rattle.star_cause.specs.declared.cause.Cause.{Cause}
 use Rattle.star_cause.specs.Causes.{cause_of}
 use Rattle.star_cause.specs.Ways.{EndsIn, Goes, Nexts}
 use Rattle.star_reading.specs.Codes.{fault_of}
-use Rattle.star_reading.specs.Readings.{Row, loads_at, read_at, reading_of, readings}
+use Rattle.star_reading.specs.Readings.{InReadPlans, LeadWithin, Row, loads_at, read_at, reading_of, readings}
 use Rattle.star_reading.specs.declared.code.StaticFault.{StaticFault as Fault}
 use Rattle.star_reading.specs.declared.reading.Read.{Read}
 use Rattle.star_reading.specs.declared.reading.Read.TheVariants as read
-use Rattle.star_reading.proofs.Finds.{by_cases, contains_here, contains_one}
+use Rattle.star_reading.proofs.Finds.{by_cases}
+use Rattle.star_reading.specs.Listed.{AreListed}
+use Rattle.star_reading.proofs.Listed.{listed_more, listed_on, none_listed}
 use Rattle.star_reading.proofs.Rows.{loads_are, read_is}
 use Rattle.star_sound.specs.Sound as sound
 use Rattle.star_sound.specs.declared.sound.Prospect.{Prospect}
 use Rattle.star_sound.specs.declared.sound.Prospect.TheVariants as prospect
 use Rattle.star_check.specs.Check as check
 use Rattle.star_check.specs.Check.{FailsBy, IsCheck, IsFirstLack, IsSound, IsVerdict, needs, needs_in}
-use Rattle.star_check.specs.Judged.{AreNexts, AreProspects, InReadPlans, IsCheckBelow, LeadWithin}
+use Rattle.star_check.specs.Judged.{AreNexts, AreProspects, IsCheckBelow}
 use Rattle.star_check.proofs.Judgements.{cause_is, lack_unsound, needs_loaded, unbarred}
 
 -- ---- the load by which a file fails
@@ -174,60 +175,20 @@ files_of ms = map (λ (m : check.Module). m.file) ms
 
 pub check_none : (plan : Plan) → IsCheckBelow plan 0 []
 check_none plan = record {
-  in_order = λ k h. absurd (let no : ⊥ = omega (arith, h) in no);
-  below = λ k d lt. absurd (let no : ⊥ = omega (arith, lt) in no);
-  reached = λ n c. absurd (let less = c.1 in let no : ⊥ = omega (arith, less) in no);
-  all = λ n r h. absurd (let no : ⊥ = omega (arith, h) in no);
+  listed = none_listed plan;
   each = λ k d lt. absurd (let no : ⊥ = omega (arith, lt) in no);
 }
 
 -- a file that is not reached is passed by
 pub check_on : (plan : Plan) (n : ℕ) (ms : List check.Module) → (IsReached plan n → ⊥) → IsCheckBelow plan n ms → IsCheckBelow plan (n + 1) ms
-check_on plan n ms never is = record {
-  in_order = is.in_order;
-  below = λ k d lt. let b = is.below k d lt in omega (arith, b);
-  reached = is.reached;
-  all = λ m r h. by_cases (cases_eq m n) (λ e. absurd (never (subst (IsReached plan) e r))) (λ ne. is.all m r (omega (arith, h, ne)));
-  each = is.each;
-}
-
--- one more number, above all others
-rising_push : (xs : List ℕ) (n : ℕ) → IsStrictlyIncreasing xs → All (λ m. m < n) xs → IsStrictlyIncreasing (xs ++ n ∷ [])
-rising_push xs n up below k h = by_order (cases_order (k + 1) (length xs))
-  where
-    long : length (xs ++ n ∷ []) ≡ length xs + 1
-    long = length-append xs (n ∷ [])
-
-    front : (i : ℕ) → i < length xs → get_or (xs ++ n ∷ []) i 0 ≡ get_or xs i 0
-    front i less = get_or_append_left xs (n ∷ []) 0 i less
-
-    by_order : ((k + 1 ≡ length xs) ⊎ ((k + 1 < length xs) ⊎ (length xs < k + 1))) → get_or (xs ++ n ∷ []) k 0 < get_or (xs ++ n ∷ []) (k + 1) 0
-    by_order (inl same) =
-        let a = front k (omega (arith, same)) in
-        let b : get_or (xs ++ n ∷ []) (k + 1) 0 ≡ n = get_or_push xs n 0 (k + 1) (sym same) in
-        let c = below k 0 (omega (arith, same)) in
-        omega (arith, a, b, c)
-    by_order (inr (inl less)) =
-        let a = front k (omega (arith, less)) in
-        let b = front (k + 1) less in
-        let c = up k less in
-        omega (arith, a, b, c)
-    by_order (inr (inr more)) = absurd (let no : ⊥ = omega (arith, more, h, long) in no)
+check_on plan n ms never is = record { listed = listed_on plan n (files_of ms) never is.listed; each = is.each }
 
 -- a reached file is told of
 pub check_more : (plan : Plan) (n : ℕ) (ms : List check.Module) (m : check.Module) → m.file ≡ n → IsReached plan n → IsVerdict plan m.file m.verdict → IsCheckBelow plan n ms → IsCheckBelow plan (n + 1) (ms ++ m ∷ [])
 check_more plan n ms m at reached verdict is = record {
-  in_order = subst IsStrictlyIncreasing (sym pushed) (rising_push (files_of ms) m.file is.in_order (subst (λ k. All (λ x. x < k) (files_of ms)) (sym at) is.below));
-  below = subst (All (λ k. k < n + 1)) (sym pushed) (All-push (λ k. k < n + 1) (files_of ms) m.file (λ i d lt. let b = is.below i d lt in omega (arith, b)) (omega (arith, at)));
-  reached = λ k c. by_cases (Contains-append_cases (files_of ms) (m.file ∷ []) k (subst (λ ns. Contains ns k) pushed c)) (λ old. is.reached k old) (λ new. subst (IsReached plan) (sym at ∙ contains_one m.file k new) reached);
-  all = λ k r h. subst (λ ns. Contains ns k) (sym pushed) (by_cases (cases_eq k n)
-      (λ e. Contains-append_right (files_of ms) (m.file ∷ []) k (subst (Contains (m.file ∷ [])) (at ∙ sym e) (contains_here m.file)))
-      (λ ne. Contains-append_left (files_of ms) (m.file ∷ []) k (is.all k r (omega (arith, h, ne)))));
+  listed = subst (AreListed plan (n + 1)) (sym (map_push (λ (x : check.Module). x.file) ms m)) (listed_more plan n (files_of ms) m.file at reached is.listed);
   each = All-push (λ (x : check.Module). IsVerdict plan x.file x.verdict) ms m is.each verdict;
 }
-  where
-    pushed : files_of (ms ++ m ∷ []) ≡ files_of ms ++ m.file ∷ []
-    pushed = map_push (λ (x : check.Module). x.file) ms m
 
 -- what was read is reached, and nothing else
 pub is_reached : (files : List File) (row : Row) (plan : Plan) (n : ℕ) (r : Read) → IsPlanOf files plan → readings row ≡ plan.reads → read_at row n ≡ Some r → IsReached plan n
@@ -244,8 +205,8 @@ not_reached files row plan n planned is at reached =
 -- all files were passed
 pub check_all : (files : List File) (row : Row) (plan : Plan) (n : ℕ) (ms : List check.Module) → IsPlanOf files plan → readings row ≡ plan.reads → n ≡ length row → IsCheckBelow plan n ms → IsCheck plan ms
 check_all files row plan n ms planned is end below = record {
-  in_order = below.in_order;
-  all = λ m. (λ r. below.all m r (inside m r), below.reached m);
+  in_order = below.listed.in_order;
+  all = λ m. (λ r. below.listed.all m r (inside m r), below.listed.reached m);
   each = below.each;
 }
   where

@@ -11,15 +11,12 @@ use Rattle.star_plan.specs.Causes.{Cause, Culprit, Cycle}
 use Rattle.star_plan.specs.Plan.{Plan}
 use Rattle.star_plan.specs.Text.{load_data}
 use Rattle.star_check.specs.Check.{AtFault, Fails, IsCheck, IsSound, IsVerdict, Module, Unrun, Verdict}
-use Rattle.star_check.specs.Judged.{judged_view, verdict_view}
+use Rattle.star_check.specs.Judged.{judged_view, shown_of, verdict_view}
 use Rattle.star_check.specs.Text.{IsCheckAnswer, check_text, is_shown, is_unrun, module_data, verdict_data}
 use Rattle.star_check.specs.declared.verdict.Judged.{Judged}
 use Rattle.star_check.proofs.Judgements.{fault_unsound, lack_unsound}
 
 -- ---- the modules that are shown
-
-abbrev pub shown_of : List File → Bool → List ℕ → List Judged → List Data
-shown_of files only roots js = map (module_data files) (filter (is_shown only roots) (map judged_view js))
 
 shown_push : (files : List File) (only : Bool) (roots : List ℕ) (js : List Judged) (j : Judged) → shown_of files only roots (js ++ j ∷ []) ≡ shown_of files only roots js ++ map (module_data files) (cond (is_shown only roots (judged_view j)) (judged_view j ∷ []) [])
 shown_push files only roots js j =

@@ -7,7 +7,7 @@ use Rattle.serde_json.specs.Written.{compact_text}
 use Rattle.star_label.specs.Files.{File, label_at}
 use Rattle.star_plan.specs.Plan.{Plan}
 use Rattle.star_plan.specs.Reached.{IsReached}
-use Rattle.star_plan.specs.Text.{ill_data, load_data, static_line, static_word, texts_data}
+use Rattle.star_plan.specs.Text.{load_data, static_data, texts_data}
 use Rattle.star_check.specs.Check.{AtFault, Fails, IsCheck, IsSound, Module, Unrun, Verdict}
 
 -- a module that was not run, and against which nothing is known
@@ -18,8 +18,7 @@ unrun_data label =
 
 -- the others are those of the report of a run
 abbrev pub verdict_data : List File → List ℕ → Verdict → Data
-verdict_data files label (AtFault f) =
-    ill_data (codes "fault") (string (static_word f)) label (static_line f) [] (codes "static")
+verdict_data files label (AtFault f) = static_data label f
 verdict_data files label (Fails cause line) = load_data files label cause line
 verdict_data files label Unrun = unrun_data label
 
@@ -35,11 +34,14 @@ abbrev pub is_shown : Bool → List ℕ → Module → Bool
 is_shown only_roots roots m = not only_roots || (not (is_unrun m.verdict) || list_any (nat_eq m.file) roots)
 
 -- none was begun
+abbrev pub check_data : List Data → Data
+check_data modules =
+    object (member (codes "begun") (number (unsigned 0))
+    (member (codes "modules") (array (items_of modules)) no_members))
+
 unfoldable pub check_text : Bool → List File → List ℕ → List Module → List ℕ
 check_text only_roots files roots modules =
-    compact_text (object (member (codes "begun") (number (unsigned 0))
-    (member (codes "modules") (array (items_of (map (module_data files) (filter (is_shown only_roots roots) modules))))
-    no_members))) ++ 10 ∷ []
+    compact_text (check_data (map (module_data files) (filter (is_shown only_roots roots) modules))) ++ 10 ∷ []
 
 -- a text is the check of a plan
 abbrev pub IsCheckText : Bool → List File → Plan → List ℕ → Type 0

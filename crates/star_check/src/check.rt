@@ -1,11 +1,9 @@
 //! `check`: from the files that were read to the text of the check.
 
 ghost use Rattle.std.specs.Prelude.{◌≡◌, All, Contains, IfOk, false, length, true};
-ghost use Rattle.star_plan.specs.Plan.{Plan};
-ghost use Rattle.star_plan.specs.Reading.{IsPlanOf};
-ghost use Rattle.star_reading.specs.Readings.{readings};
-ghost use Rattle.star_check.specs.Judged.{LeadWithin, verdict_view};
-ghost use Rattle.star_check.specs.Text.{IsCheckAnswer, IsCheckText, is_unrun};
+ghost use Rattle.star_reading.specs.Readings.{LeadWithin};
+ghost use Rattle.star_check.specs.Judged.{ChecksRead, verdict_view};
+ghost use Rattle.star_check.specs.Text.{is_unrun};
 ghost use Rattle.star_check.specs.declared.verdict.Judged.{Judged as JudgedView};
 
 use crate::judge::judge;
@@ -50,8 +48,7 @@ pub fn check(
 ) -> Result<Checked, AllocError>
     requires sized { length reads.now.all.items ≡ length files.now }
     requires loads { LeadWithin reads.now.all.items }
-    ensures { IfOk result (λ c. (plan : Plan) → IsPlanOf files.now plan → readings reads.now.all.items ≡ plan.reads
-        → plan.roots ≡ roots.now → IsCheckText only_roots files.now plan c.text.items × IsCheckAnswer plan c.all_ok) }
+    ensures { IfOk result (λ c. ChecksRead only_roots files.now roots.now reads.now.all.items c.text.items c.all_ok) }
 {
     let judged = judge(alloc, reads)?;
     let told = judged.as_slice();

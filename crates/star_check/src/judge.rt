@@ -1,18 +1,13 @@
 //! `judge`: what is told of each file that was read.
 
-ghost use Rattle.std.specs.Prelude.{◌≡◌, ◌<◌, ◌+◌, ℕ, All, IfOk, IfSome, List, MatchOption, None, OnOk, Some, length, map, slice_get, vec_len};
+ghost use Rattle.std.specs.Prelude.{◌≡◌, ◌<◌, ℕ, All, IfOk, IfSome, MatchOption, None, OnOk, Some, length, map, slice_get, vec_len};
 ghost use Rattle.std.specs.Option.{option_map};
 ghost use Rattle.star_cause.specs.Ends.{AreWithin};
-ghost use Rattle.star_label.specs.Files.{File};
-ghost use Rattle.star_plan.specs.Plan.{Plan, loads_of};
-ghost use Rattle.star_plan.specs.Reached.{IsReached};
-ghost use Rattle.star_plan.specs.Reading.{IsPlanOf};
-ghost use Rattle.star_reading.specs.Readings.{loads_at, read_at, reading_of, readings};
+ghost use Rattle.star_reading.specs.Readings.{InReadPlans, LeadWithin, loads_at, read_at, reading_of, readings};
 ghost use Rattle.star_sound.specs.Sound.{IsProspect, rows_of};
-ghost use Rattle.star_sound.specs.declared.sound.Prospect.{Prospect as ProspectView};
 ghost use Rattle.star_sound.specs.declared.sound.Prospect.TheVariants.{Lacks};
-ghost use Rattle.star_check.specs.Check.{FailsBy, IsCheck, IsFirstLack, IsVerdict, needs, needs_in};
-ghost use Rattle.star_check.specs.Judged.{AreNexts, AreProspects, InReadPlans, IsCheckBelow, IsJudgedBelow, IsVerdictBelow, LeadWithin, judged_view, verdict_view};
+ghost use Rattle.star_check.specs.Check.{FailsBy, IsCheck, needs, needs_in};
+ghost use Rattle.star_check.specs.Judged.{AreNexts, AreProspects, FailsByLoad, InFilePlans, InToldPlans, IsJudgedBelow, IsVerdictBelow, IsVerdictBy, TellsNext, judged_view};
 
 use crate::verdict::{Judged, Verdict};
 use star_cause::Causes;
@@ -20,16 +15,6 @@ use star_reading::reading::{Read, Reads, numbers};
 use star_scope::loads::Load;
 use star_sound::{Prospect, prospects};
 use std::alloc::{AllocError, Global};
-
-/// The loads of a file: none where it has a static fault or was not read.
-fn loads_in<'s, 't>(reads: &'s Reads<'t>, n: usize) -> &'s [Load]
-    ensures { result.now ≡ loads_at reads.now.all.items n }
-{
-    match reads.all.get(n) {
-        Some(Some(Read::Program(program))) => program.loads(),
-        _ => &[],
-    }
-}
 
 /// The files that a file needs: none where it has a static fault or was not read.
 fn need_of(alloc: Global, entry: &Option<Read>) -> Result<Option<Vec<usize>>, AllocError>
@@ -89,12 +74,12 @@ fn prospect_at(prospects: &[Prospect], n: usize) -> Prospect
 fn load_by<'s, 't>(reads: &'s Reads<'t>, n: usize, prospect: Prospect) -> Option<&'s Load>
     ensures there { IfSome result (λ l. (i : ℕ) × (slice_get (loads_at reads.now.all.items n) i ≡ Some l.now)) }
     ensures load { IfSome result (λ l. InReadPlans reads.now.all.items (λ plan. IsProspect (needs plan) n prospect
-        → (i : ℕ) × IsFirstLack plan n i × (slice_get (loads_of plan n) i ≡ Some l.now))) }
+        → FailsByLoad plan n l.now)) }
     ensures none { result ≡ None → InReadPlans reads.now.all.items (λ plan. IsProspect (needs plan) n prospect
         → (i : ℕ) → prospect ≡ Lacks i → ⊥) }
 {
     match prospect {
-        Prospect::Lacks(place) => loads_in(reads, n).get(place),
+        Prospect::Lacks(place) => reads.loads(n).get(place),
         _ => None,
     }
 }
@@ -145,11 +130,7 @@ fn verdict_of(
 ) -> Result<Verdict, AllocError>
     requires { n < length causes.now }
     ensures within { IfOk result (IsVerdictBelow (length causes.now)) }
-    ensures verdict { IfOk result (λ v. (files : List File) (plan : Plan) (ps : List ProspectView) → IsPlanOf files plan
-        → readings reads.now.all.items ≡ plan.reads → IsReached plan n
-        → read_at reads.now.all.items n ≡ Some read.now → slice_get ps n ≡ Some prospect
-        → length ps ≡ length reads.now.all.items → AreProspects reads.now.all.items ps
-        → AreNexts reads.now.all.items ps causes.now → IsVerdict plan n (verdict_view v)) }
+    ensures verdict { IfOk result (λ v. IsVerdictBy reads.now.all.items causes.now n read.now prospect v) }
 {
     if let Read::Fault(fault) = read {
         return Ok(Verdict::AtFault(*fault));
@@ -177,11 +158,8 @@ fn push_judged(
     requires there { n < length reads.now.all.items }
     ensures within { OnOk result (All (IsJudgedBelow (length reads.now.all.items)) all.old.items
         → All (IsJudgedBelow (length reads.now.all.items)) all.new.items) }
-    ensures check { OnOk result ((files : List File) (plan : Plan) (ps : List ProspectView) → IsPlanOf files plan
-        → readings reads.now.all.items ≡ plan.reads → slice_get ps n ≡ Some prospect
-        → length ps ≡ length reads.now.all.items → AreProspects reads.now.all.items ps
-        → AreNexts reads.now.all.items ps causes.now → IsCheckBelow plan n (map judged_view all.old.items)
-        → IsCheckBelow plan (n + 1) (map judged_view all.new.items)) }
+    ensures check { OnOk result
+        (TellsNext reads.now.all.items causes.now n prospect all.old.items all.new.items) }
 {
     match read_in(reads, n) {
         Some(read) => {
@@ -203,9 +181,8 @@ fn judged_by(
     requires sized { length prospects.now ≡ length reads.now.all.items }
     requires causes { length causes.now ≡ length reads.now.all.items }
     ensures within { IfOk result (λ v. All (IsJudgedBelow (length reads.now.all.items)) v.items) }
-    ensures check { IfOk result (λ v. (files : List File) (plan : Plan) → IsPlanOf files plan
-        → readings reads.now.all.items ≡ plan.reads → AreProspects reads.now.all.items prospects.now
-        → AreNexts reads.now.all.items prospects.now causes.now → IsCheck plan (map judged_view v.items)) }
+    ensures check { IfOk result (λ v. InToldPlans reads.now.all.items prospects.now causes.now
+        (λ plan. IsCheck plan (map judged_view v.items))) }
 {
     let mut all = Vec::new(alloc);
     for n in 0..prospects.len() {
@@ -219,8 +196,8 @@ fn judged_by(
 pub fn judge(alloc: Global, reads: &Reads) -> Result<Vec<Judged>, AllocError>
     requires { LeadWithin reads.now.all.items }
     ensures within { IfOk result (λ v. All (IsJudgedBelow (length reads.now.all.items)) v.items) }
-    ensures check { IfOk result (λ v. (files : List File) (plan : Plan) → IsPlanOf files plan
-        → readings reads.now.all.items ≡ plan.reads → IsCheck plan (map judged_view v.items)) }
+    ensures check { IfOk result (λ v. InFilePlans reads.now.all.items
+        (λ plan. IsCheck plan (map judged_view v.items))) }
 {
     let prospects = prospects_of(alloc, reads)?;
     let told = prospects.as_slice();

@@ -4,7 +4,8 @@
 //! - `check::check` reads the files that roots reach and makes the text. Begin there.
 //! - `judge::judge` says what is told of each (`Judged`, in `verdict`), by what was read: `star_sound` finds the files
 //!   that have all that they need, `star_cause` why the others do not.
-//! - `text` writes it, in the form of the report of a run.
+//! - `text` writes it, in the form of the report of a run. The JSON of a file that fails (`failed`) is that of the
+//!   report too.
 //!
 //! The promise is the contract of `check`: the text is that of the definition (`specs/Check`, `specs/Text`), for any
 //! number of threads, and the answer is whether each reached file is sound. By a law (`law`) a file that is not sound
@@ -12,6 +13,7 @@
 #![tactic(auto)]
 
 pub mod check;
+pub mod failed;
 pub mod judge;
 mod law;
 mod text;

@@ -1,68 +1,17 @@
 //! The text of a check, in the form of the report of a run.
 
-ghost use Rattle.std.specs.Prelude.{◌≡◌, ◌<◌, [], ℕ, All, IfOk, List, codes, filter, length, map, vec_len};
-ghost use Rattle.serde_json.specs.Data.{array, member, no_members, number, object, string, unsigned};
-ghost use Rattle.serde_json.specs.View.{items_of, view};
-ghost use Rattle.star_cause.specs.Causes.{IsBelow, cause_of};
-ghost use Rattle.star_label.specs.Files.{label_at};
-ghost use Rattle.star_plan.specs.Text.{ill_data, load_data, static_line, static_word};
-ghost use Rattle.star_reading.specs.Codes.{fault_of};
-ghost use Rattle.star_check.specs.Judged.{AreMarked, IsJudgedBelow, judged_view, verdict_view};
-ghost use Rattle.star_check.specs.Text.{check_text, is_shown, is_unrun, module_data, unrun_data};
+ghost use Rattle.std.specs.Prelude.{◌≡◌, ◌<◌, ℕ, All, IfOk, List, length, map};
+ghost use Rattle.serde_json.specs.View.{view};
+ghost use Rattle.star_reading.specs.Found.{AreMarked};
+ghost use Rattle.star_check.specs.Judged.{IsJudgedBelow, judged_view, shown_of, verdict_view};
+ghost use Rattle.star_check.specs.Text.{check_data, check_text, is_shown, is_unrun, module_data, unrun_data};
 
+use crate::failed::{load_value, static_value};
 use crate::verdict::{Judged, Verdict};
 use serde_json::{Value, json};
-use star_cause::Cause;
 use star_label::files::Files as Labels;
-use star_reading::code::StaticFault;
+use star_reading::roots::roots_marked;
 use std::alloc::{AllocError, Global};
-
-/// The labels of files.
-fn labels_of(alloc: Global, files: &Labels, numbers: &[usize]) -> Result<Vec<Value>, AllocError>
-    requires { All (λ n. n < length files.now) numbers.now }
-    ensures { IfOk result (λ v. map view v.items ≡ map string (map (label_at files.now) numbers.now)) }
-{
-    let mut labels = Vec::new(alloc);
-    for n in numbers {
-        labels.push(Value::try_from_str(alloc, files.label(*n).text())?)?;
-    }
-    Ok(labels)
-}
-
-/// A file with a static fault.
-fn static_value(alloc: Global, label: &str, fault: StaticFault) -> Result<Value, AllocError>
-    ensures { IfOk result (λ v. view v
-        ≡ ill_data (codes "fault") (string (static_word (fault_of fault))) label.now
-        (static_line (fault_of fault)) [] (codes "static")) }
-{
-    let (code, line) = (fault.code.text(), fault.shown_line());
-    let lines = Value::Array(Vec::new(alloc));
-    json!(in alloc; {"fault": code, "label": label, "line": line as u64, "lines": lines, "status": "static"})
-}
-
-/// A file that fails by its loads.
-fn load_value(
-    alloc: Global,
-    files: &Labels,
-    label: &str,
-    cause: &Cause,
-    line: usize,
-) -> Result<Value, AllocError>
-    requires { IsBelow (length files.now) (cause_of cause.now) }
-    ensures { IfOk result (λ v. view v ≡ load_data files.now label.now (cause_of cause.now) line) }
-{
-    let lines = Value::Array(Vec::new(alloc));
-    match cause {
-        Cause::Culprit(file) => {
-            let cause = files.label(*file).text();
-            json!(in alloc; {"cause": cause, "label": label, "line": line as u64, "lines": lines, "status": "load"})
-        }
-        Cause::Cycle(cycle) => {
-            let cycle = Value::Array(labels_of(alloc, files, cycle.as_slice())?);
-            json!(in alloc; {"cycle": cycle, "label": label, "line": line as u64, "lines": lines, "status": "load"})
-        }
-    }
-}
 
 /// A file against which there is nothing.
 fn unrun_value(alloc: Global, label: &str) -> Result<Value, AllocError>
@@ -83,20 +32,6 @@ fn module_value(alloc: Global, files: &Labels, it: &Judged) -> Result<Value, All
         Verdict::Fails { cause, line } => load_value(alloc, files, label, cause, *line),
         Verdict::Unrun => unrun_value(alloc, label),
     }
-}
-
-/// For each file whether it is a root.
-fn roots_marked(alloc: Global, files: usize, roots: &[usize]) -> Result<Vec<bool>, AllocError>
-    ensures size { IfOk result (λ v. vec_len v ≡ files) }
-    ensures marks { IfOk result (λ v. AreMarked roots.now v.items) }
-{
-    let mut marks = vec![in alloc; false; files]?;
-    for root in roots {
-        if *root < files {
-            marks[*root] = true;
-        }
-    }
-    Ok(marks)
 }
 
 impl Judged {
@@ -130,8 +65,8 @@ fn modules_of(
 ) -> Result<Vec<Value>, AllocError>
     requires marks { length marks.now ≡ length files.now }
     requires below { All (IsJudgedBelow (length files.now)) judged.now }
-    ensures { IfOk result (λ v. (roots : List ℕ) → AreMarked roots marks.now → map view v.items
-        ≡ map (module_data files.now) (filter (is_shown only_roots roots) (map judged_view judged.now))) }
+    ensures { IfOk result (λ v. (roots : List ℕ) → AreMarked roots marks.now
+        → map view v.items ≡ shown_of files.now only_roots roots judged.now) }
 {
     let mut modules = Vec::new(alloc);
     for it in judged {
@@ -144,8 +79,7 @@ fn modules_of(
 
 /// The check as JSON, by its modules: none was begun.
 fn check_value(alloc: Global, modules: Vec<Value>) -> Result<Value, AllocError>
-    ensures { IfOk result (λ v. view v ≡ object (member (codes "begun") (number (unsigned 0))
-        (member (codes "modules") (array (items_of (map view modules.items))) no_members))) }
+    ensures { IfOk result (λ v. view v ≡ check_data (map view modules.items)) }
 {
     let modules = Value::Array(modules);
     json!(in alloc; {"begun": 0u64, "modules": modules})

@@ -1,4 +1,4 @@
-pub mod ByPlace
+pub mod Positional
 pub mod Called
 pub mod Entering
 pub mod OrderedShares

@@ -7,11 +7,11 @@ use Rattle.star_store.specs.declared.values.Value.{Value}
 use Rattle.star_store.specs.Slots.{default_at, row}
 use Rattle.star_store.proofs.Rows.{row_at, row_past, row_same, row_set}
 use Rattle.star_scope.specs.Names.{Names}
-use Rattle.star_meaning.specs.declared.given.Given.{Given}
-use Rattle.star_meaning.specs.declared.given.NamedValue.{NamedValue}
+use Rattle.star_meaning.specs.declared.given.Arguments.{Arguments}
+use Rattle.star_meaning.specs.declared.given.KeywordArgument.{KeywordArgument}
 use Rattle.star_meaning.specs.Places.{joined}
 use Rattle.star_world.specs.Orders.{Layout, is_at}
-use Rattle.star_enter.specs.Ordered.{AreTaken, FitsLayout, IsTaken, bound_at, bound_row, is_set, named_at, own_slot, placed, unplaced, with_named, with_plain, with_slot}
+use Rattle.star_enter.specs.Ordered.{AreTaken, FitsLayout, IsTaken, bound_at, bound_row, is_set, named_at, keyword_slot, placed, unplaced, with_named, with_plain, with_slot}
 use Rattle.star_enter.proofs.OrderedMade.{with_made, with_value}
 use Rattle.star_enter.proofs.OrderedShares.{side}
 
@@ -28,19 +28,19 @@ slot_row None v f n = value_row None (Some v) f n
 slot_row (Some j) v f n = value_row (Some j) (Some v) f n
 
 -- keyword values
-named_first : (b : Bool) (m : NamedValue) (o : Option NamedValue) (x : Option Value)
+named_first : (b : Bool) (m : KeywordArgument) (o : Option KeywordArgument) (x : Option Value)
     → (if b then Some m.value else option_or (option_map (λ n. n.value) o) x) ≡ option_or (option_map (λ n. n.value) (cond b (Some m) o)) x
 named_first true m o x = refl
 named_first false m o x = refl
 
-named_row : (l : Layout) (names : Names) (ns : List NamedValue) (f : ℕ → Option Value) (n : ℕ) → with_named l names ns (row f n) ≡ row (λ i. option_or (named_at l names ns i) (f i)) n
+named_row : (l : Layout) (names : Names) (ns : List KeywordArgument) (f : ℕ → Option Value) (n : ℕ) → with_named l names ns (row f n) ≡ row (λ i. option_or (named_at l names ns i) (f i)) n
 named_row l names [] f n = row_same f (λ i. option_or (named_at l names [] i) (f i)) n (λ i. refl)
 named_row l names (m ∷ ns) f n =
     let rest : ℕ → Option Value = λ i. option_or (named_at l names ns i) (f i) in
-    ap (with_slot (own_slot l names m) m.value) (named_row l names ns f n)
-    ∙ slot_row (own_slot l names m) m.value rest n
-    ∙ row_same (λ i. if is_at (own_slot l names m) i then Some m.value else rest i) (λ i. option_or (named_at l names (m ∷ ns) i) (f i)) n
-    (λ i. named_first (is_at (own_slot l names m) i) m (find (λ n. is_at (own_slot l names n) i) ns) (f i))
+    ap (with_slot (keyword_slot l names m) m.value) (named_row l names ns f n)
+    ∙ slot_row (keyword_slot l names m) m.value rest n
+    ∙ row_same (λ i. if is_at (keyword_slot l names m) i then Some m.value else rest i) (λ i. option_or (named_at l names (m ∷ ns) i) (f i)) n
+    (λ i. named_first (is_at (keyword_slot l names m) i) m (find (λ n. is_at (keyword_slot l names n) i) ns) (f i))
 
 -- positional values
 get_from : ℕ → List Value → ℕ → Option Value
@@ -95,7 +95,7 @@ plain_row vs f n = plain_from 0 vs f n ∙ row_same (λ i. option_or (get_from 0
     ap (λ b. option_or (if b then None else slice_get vs (i - 0)) (f i)) (le-ltb i 0 (omega arith)) ∙ ap (λ m. option_or (slice_get vs m) (f i)) (let z : i - 0 ≡ i = omega arith in z))
 
 -- defaults, then keyword values, then positional ones
-pub bound_slots : (l : Layout) (names : Names) (ds : List Value) (g : Given) → with_plain 0 (placed l g) (with_named l names g.named (row (default_at l.ranks ds) (length names))) ≡ bound_row l names ds g
+pub bound_slots : (l : Layout) (names : Names) (ds : List Value) (g : Arguments) → with_plain 0 (placed l g) (with_named l names g.named (row (default_at l.ranks ds) (length names))) ≡ bound_row l names ds g
 bound_slots l names ds g =
     ap (with_plain 0 (placed l g)) (named_row l names g.named (default_at l.ranks ds) (length names))
     ∙ plain_row (placed l g) (λ i. option_or (named_at l names g.named i) (default_at l.ranks ds i)) (length names)
@@ -134,31 +134,31 @@ all_set test [] h k i e = absurd cc
 all_set test (j ∷ js) h zero i e = let same : j ≡ i = cc in ap test (sym same) ∙ (first_set (test j) (list_all test js) h).0
 all_set test (j ∷ js) h (suc k) i e = all_set test js (first_set (test j) (list_all test js) h).1 k i e
 
-pub fits : (l : Layout) (names : Names) (ds : List Value) (g : Given) → (l.rest ≡ None → unplaced l g ≡ []) → AreTaken l names (length (placed l g)) g.named → l.defaults ≤ length ds
+pub fits : (l : Layout) (names : Names) (ds : List Value) (g : Arguments) → (l.rest ≡ None → unplaced l g ≡ []) → AreTaken l names (length (placed l g)) g.named → l.defaults ≤ length ds
     → list_all (is_set (bound_row l names ds g)) l.needed ≡ true → FitsLayout l names ds g
 fits l names ds g h k d s =
     record { places = h; taken = k; defaults = d; needed = λ k i e. set_in (bound_at l names ds g) (length names) i (all_set (is_set (bound_row l names ds g)) l.needed s k i e) }
 
 -- the last keyword value is given its slot first, if it has one
-pub named_end : (l : Layout) (names : Names) (before : List NamedValue) (m : NamedValue) (i : ℕ) (xs : List (Option Value)) → own_slot l names m ≡ Some i
+pub named_end : (l : Layout) (names : Names) (before : List KeywordArgument) (m : KeywordArgument) (i : ℕ) (xs : List (Option Value)) → keyword_slot l names m ≡ Some i
     → with_named l names (before ++ m ∷ []) xs ≡ with_named l names before (slice_set xs i (Some m.value))
 named_end l names [] m i xs h = ap (λ o. with_slot o m.value xs) h
-named_end l names (n ∷ ns) m i xs h = ap (with_slot (own_slot l names n) n.value) (named_end l names ns m i xs h)
+named_end l names (n ∷ ns) m i xs h = ap (with_slot (keyword_slot l names n) n.value) (named_end l names ns m i xs h)
 
-pub unnamed_end : (l : Layout) (names : Names) (before : List NamedValue) (m : NamedValue) (xs : List (Option Value)) → own_slot l names m ≡ None
+pub unnamed_end : (l : Layout) (names : Names) (before : List KeywordArgument) (m : KeywordArgument) (xs : List (Option Value)) → keyword_slot l names m ≡ None
     → with_named l names (before ++ m ∷ []) xs ≡ with_named l names before xs
 unnamed_end l names [] m xs h = ap (λ o. with_slot o m.value xs) h
-unnamed_end l names (n ∷ ns) m xs h = ap (with_slot (own_slot l names n) n.value) (unnamed_end l names ns m xs h)
+unnamed_end l names (n ∷ ns) m xs h = ap (with_slot (keyword_slot l names n) n.value) (unnamed_end l names ns m xs h)
 
-taken_last : (l : Layout) (names : Names) (from : ℕ) (before : List NamedValue) (m : NamedValue) → IsTaken l from (own_slot l names m) → AreTaken l names from before → AreTaken l names from (before ++ m ∷ [])
+taken_last : (l : Layout) (names : Names) (from : ℕ) (before : List KeywordArgument) (m : KeywordArgument) → IsTaken l from (keyword_slot l names m) → AreTaken l names from before → AreTaken l names from (before ++ m ∷ [])
 taken_last l names from [] m h b = (h, tt)
 taken_last l names from (n ∷ ns) m h b = (b.0, taken_last l names from ns m h b.1)
 
-pub taken_end : (l : Layout) (names : Names) (from : ℕ) (before : List NamedValue) (m : NamedValue) (i : ℕ) → own_slot l names m ≡ Some i → from ≤ i
+pub taken_end : (l : Layout) (names : Names) (from : ℕ) (before : List KeywordArgument) (m : KeywordArgument) (i : ℕ) → keyword_slot l names m ≡ Some i → from ≤ i
     → AreTaken l names from before → AreTaken l names from (before ++ m ∷ [])
 taken_end l names from before m i h k b = taken_last l names from before m (subst (IsTaken l from) (sym h) k) b
 
-pub untaken_end : (l : Layout) (names : Names) (from : ℕ) (before : List NamedValue) (m : NamedValue) → own_slot l names m ≡ None → is_some l.names ≡ true
+pub untaken_end : (l : Layout) (names : Names) (from : ℕ) (before : List KeywordArgument) (m : KeywordArgument) → keyword_slot l names m ≡ None → is_some l.names ≡ true
     → AreTaken l names from before → AreTaken l names from (before ++ m ∷ [])
 untaken_end l names from before m h k b = taken_last l names from before m (subst (IsTaken l from) (sym h) k) b
 

@@ -16,16 +16,16 @@ use Rattle.star_scope.specs.Names.{Names, same_name, slot_of}
 use Rattle.star_scope.specs.Places.{Spots}
 use Rattle.star_scope.specs.Syntax.{ParameterForm, parameter}
 use Rattle.star_scope.proofs.Numbers.{position_next}
-use Rattle.star_meaning.specs.declared.given.Given.{Given}
-use Rattle.star_meaning.specs.declared.given.NamedValue.{NamedValue}
+use Rattle.star_meaning.specs.declared.given.Arguments.{Arguments}
+use Rattle.star_meaning.specs.declared.given.KeywordArgument.{KeywordArgument}
 use Rattle.star_meaning.specs.Arguments.{is_given}
-use Rattle.star_meaning.specs.Binding.{Progress, Share, also, before_names, bound_to, else_default, first_of_row, is_no_own, own_name, own_names, rest_of_row, share_by, share_of, shared, shares, step, takes_names, unclaimed, value_named}
+use Rattle.star_meaning.specs.Binding.{BindingState, BoundArgument, also, before_names, bound_to, else_default, first_of_row, is_extra, keyword_of, keywords_of, rest_of_row, argument_by, argument_of, shared, shares, step, takes_names, extra_keywords, value_named}
 use Rattle.star_meaning.specs.Binding as share
 use Rattle.star_world.specs.declared.layouts.Cursor.{Cursor}
 use Rattle.star_world.specs.declared.layouts.Stage.{Stage}
 use Rattle.star_world.specs.declared.layouts.Stage.TheVariants as stage
-use Rattle.star_world.specs.Orders.{InOrder, Layout, MayEnd, MayStand, PlacesAreOver, PlacesEnd, StandsAt, after, is_at, is_own, start}
-use Rattle.star_enter.specs.Ordered.{AreTaken, FitsLayout, IsTaken, bound_at, named_at, own_in, own_slot, placed, unowned, unplaced}
+use Rattle.star_world.specs.Orders.{InOrder, Layout, MayEnd, MayStand, PlacesAreOver, PlacesEnd, StandsAt, after, is_at, takes_keyword, start}
+use Rattle.star_enter.specs.Ordered.{AreTaken, FitsLayout, IsTaken, bound_at, named_at, own_in, keyword_slot, placed, extra_in_order, unplaced}
 
 -- ---- slots of names
 
@@ -65,16 +65,16 @@ alike : (names : Names) (name other : List ℕ) (i : ℕ) → slot_of name names
 alike names name other i h = alike_by names name other i (same_name other name) (slot_of other names) h refl refl
 
 -- the name with the slot of a parameter takes a keyword argument
-own_same : (l : Layout) (o : Option ℕ) (i : ℕ) → is_own l i ≡ true → is_at o i ≡ is_at (own_in l o) i
+own_same : (l : Layout) (o : Option ℕ) (i : ℕ) → takes_keyword l i ≡ true → is_at o i ≡ is_at (own_in l o) i
 own_same l None i h = refl
-own_same l (Some j) i h = by (nat_eq j i) (is_own l j) refl refl
+own_same l (Some j) i h = by (nat_eq j i) (takes_keyword l j) refl refl
   where
-    by : (b c : Bool) → nat_eq j i ≡ b → is_own l j ≡ c → nat_eq j i ≡ is_at (if is_own l j then Some j else None) i
+    by : (b c : Bool) → nat_eq j i ≡ b → takes_keyword l j ≡ c → nat_eq j i ≡ is_at (if takes_keyword l j then Some j else None) i
     by b true e k = sym (ap (λ c. is_at (if c then Some j else None) i) k)
     by false false e k = e ∙ sym (ap (λ c. is_at (if c then Some j else None) i) k)
-    by true false e k = let q : is_own l j ≡ true = ap (is_own l) (eqb-true j i e) ∙ h in absurd cc
+    by true false e k = let q : takes_keyword l j ≡ true = ap (takes_keyword l) (eqb-true j i e) ∙ h in absurd cc
 
-alike_own : (l : Layout) (names : Names) (name : List ℕ) (m : NamedValue) (i : ℕ) → slot_of name names ≡ Some i → is_own l i ≡ true → same_name m.name name ≡ is_at (own_slot l names m) i
+alike_own : (l : Layout) (names : Names) (name : List ℕ) (m : KeywordArgument) (i : ℕ) → slot_of name names ≡ Some i → takes_keyword l i ≡ true → same_name m.name name ≡ is_at (keyword_slot l names m) i
 alike_own l names name m i h k = alike names name m.name i h ∙ own_same l (slot_of m.name names) i k
 
 -- the value that is given by a name is the one for its slot
@@ -82,26 +82,26 @@ find_same : {A : Type 0} (f g : A → Bool) (xs : List A) → ((x : A) → f x �
 find_same f g [] h = refl
 find_same f g (x ∷ xs) h = ap (λ b. cond b (Some x) (find f xs)) (h x) ∙ ap (λ o. cond (g x) (Some x) o) (find_same f g xs h)
 
-value_there : (l : Layout) (names : Names) (name : List ℕ) (i : ℕ) (ns : List NamedValue) → slot_of name names ≡ Some i → is_own l i ≡ true → value_named name ns ≡ named_at l names ns i
+value_there : (l : Layout) (names : Names) (name : List ℕ) (i : ℕ) (ns : List KeywordArgument) → slot_of name names ≡ Some i → takes_keyword l i ≡ true → value_named name ns ≡ named_at l names ns i
 value_there l names name i ns h k =
-    ap (option_map (λ n. n.value)) (find_same (λ (n : NamedValue). same_name n.name name) (λ (n : NamedValue). is_at (own_slot l names n) i) ns (λ n. alike_own l names name n i h k))
+    ap (option_map (λ n. n.value)) (find_same (λ (n : KeywordArgument). same_name n.name name) (λ (n : KeywordArgument). is_at (keyword_slot l names n) i) ns (λ n. alike_own l names name n i h k))
 
 -- no keyword value is that of a slot which has a positional one
 before_all : (l : Layout) (o : Option ℕ) (from i : ℕ) → IsTaken l from o → i < from → is_at o i ≡ false
 before_all l None from i h k = refl
 before_all l (Some j) from i h k = ne_eqb j i (λ e. omega (arith, e, h, k))
 
-not_given : (l : Layout) (names : Names) (name : List ℕ) (from i : ℕ) (ns : List NamedValue) → AreTaken l names from ns → slot_of name names ≡ Some i → is_own l i ≡ true → i < from → is_given name ns ≡ false
+not_given : (l : Layout) (names : Names) (name : List ℕ) (from i : ℕ) (ns : List KeywordArgument) → AreTaken l names from ns → slot_of name names ≡ Some i → takes_keyword l i ≡ true → i < from → is_given name ns ≡ false
 not_given l names name from i [] h s o k = refl
 not_given l names name from i (n ∷ ns) h s o k =
-    ap (λ b. b || is_given name ns) (alike_own l names name n i s o ∙ before_all l (own_slot l names n) from i h.0 k) ∙ not_given l names name from i ns h.1 s o k
+    ap (λ b. b || is_given name ns) (alike_own l names name n i s o ∙ before_all l (keyword_slot l names n) from i h.0 k) ∙ not_given l names name from i ns h.1 s o k
 
 -- ---- which keyword values are some parameter's
 
 -- whether a slot from a number on is that of a parameter which takes a keyword argument
 own_from : Layout → ℕ → Option ℕ → Bool
 own_from l i None = false
-own_from l i (Some j) = not (nat_lt j i) && is_own l j
+own_from l i (Some j) = not (nat_lt j i) && takes_keyword l j
 
 and_false : (b : Bool) → (b && false) ≡ false
 and_false true = refl
@@ -118,18 +118,18 @@ side (suc i) (suc m) = next (side i m)
     next (inr e) = inr (omega arith)
 
 -- whether it is this slot or a later one
-own_here : (l : Layout) (i : ℕ) (o : Option ℕ) → is_own l i ≡ true → (is_at o i || own_from l (suc i) o) ≡ own_from l i o
+own_here : (l : Layout) (i : ℕ) (o : Option ℕ) → takes_keyword l i ≡ true → (is_at o i || own_from l (suc i) o) ≡ own_from l i o
 unfolding own_from
 own_here l i None h = refl
 own_here l i (Some j) h = by (side j i)
   where
-    later : (i ≡ j) ⊎ (suc i ≤ j) → i ≤ j → (nat_eq j i || (not (nat_lt j (suc i)) && is_own l j)) ≡ (not (nat_lt j i) && is_own l j)
+    later : (i ≡ j) ⊎ (suc i ≤ j) → i ≤ j → (nat_eq j i || (not (nat_lt j (suc i)) && takes_keyword l j)) ≡ (not (nat_lt j i) && takes_keyword l j)
     later (inl e) k =
-        ap (λ b. b || (not (nat_lt j (suc i)) && is_own l j)) (eq-eqb j i (sym e))
-        ∙ sym (ap (λ b. not b && is_own l j) (le-ltb j i k) ∙ ap (is_own l) (sym e) ∙ h)
+        ap (λ b. b || (not (nat_lt j (suc i)) && takes_keyword l j)) (eq-eqb j i (sym e))
+        ∙ sym (ap (λ b. not b && takes_keyword l j) (le-ltb j i k) ∙ ap (takes_keyword l) (sym e) ∙ h)
     later (inr e) k =
-        ap (λ b. b || (not (nat_lt j (suc i)) && is_own l j)) (ne_eqb j i (λ q. omega (arith, q, e)))
-        ∙ ap (λ b. not b && is_own l j) (le-ltb j (suc i) e ∙ sym (le-ltb j i k))
+        ap (λ b. b || (not (nat_lt j (suc i)) && takes_keyword l j)) (ne_eqb j i (λ q. omega (arith, q, e)))
+        ∙ ap (λ b. not b && takes_keyword l j) (le-ltb j (suc i) e ∙ sym (le-ltb j i k))
 
     same_or_more : i ≤ j → (i ≡ j) ⊎ (suc i ≤ j)
     same_or_more k = next (side i j)
@@ -138,23 +138,23 @@ own_here l i (Some j) h = by (side j i)
         next (inl e) = inr (omega (arith, e))
         next (inr e) = inl (omega (arith, e, k))
 
-    by : (j < i) ⊎ (i ≤ j) → (nat_eq j i || (not (nat_lt j (suc i)) && is_own l j)) ≡ (not (nat_lt j i) && is_own l j)
+    by : (j < i) ⊎ (i ≤ j) → (nat_eq j i || (not (nat_lt j (suc i)) && takes_keyword l j)) ≡ (not (nat_lt j i) && takes_keyword l j)
     by (inl e) =
-        ap (λ b. b || (not (nat_lt j (suc i)) && is_own l j)) (ne_eqb j i (λ q. omega (arith, q, e)))
-        ∙ ap (λ b. not b && is_own l j) (lt-ltb j (suc i) (omega (arith, e)) ∙ sym (lt-ltb j i e))
+        ap (λ b. b || (not (nat_lt j (suc i)) && takes_keyword l j)) (ne_eqb j i (λ q. omega (arith, q, e)))
+        ∙ ap (λ b. not b && takes_keyword l j) (lt-ltb j (suc i) (omega (arith, e)) ∙ sym (lt-ltb j i e))
     by (inr e) = later (same_or_more e) e
 
 -- a slot that is not such a parameter's
-own_past : (l : Layout) (i : ℕ) (o : Option ℕ) → is_own l i ≡ false → own_from l (suc i) o ≡ own_from l i o
+own_past : (l : Layout) (i : ℕ) (o : Option ℕ) → takes_keyword l i ≡ false → own_from l (suc i) o ≡ own_from l i o
 unfolding own_from
 own_past l i None h = refl
 own_past l i (Some j) h = by (nat_eq j i) refl
   where
-    by : (b : Bool) → nat_eq j i ≡ b → (not (nat_lt j (suc i)) && is_own l j) ≡ (not (nat_lt j i) && is_own l j)
+    by : (b : Bool) → nat_eq j i ≡ b → (not (nat_lt j (suc i)) && takes_keyword l j) ≡ (not (nat_lt j i) && takes_keyword l j)
     by true e =
-        let q : is_own l j ≡ false = ap (is_own l) (eqb-true j i e) ∙ h in
+        let q : takes_keyword l j ≡ false = ap (takes_keyword l) (eqb-true j i e) ∙ h in
         ap (λ b. not (nat_lt j (suc i)) && b) q ∙ and_false (not (nat_lt j (suc i))) ∙ sym (ap (λ b. not (nat_lt j i) && b) q ∙ and_false (not (nat_lt j i)))
-    by false e = ap (λ b. not b && is_own l j) (other (side j i))
+    by false e = ap (λ b. not b && takes_keyword l j) (other (side j i))
       where
         other : (j < i) ⊎ (i ≤ j) → nat_lt j (suc i) ≡ nat_lt j i
         other (inl k) = lt-ltb j (suc i) (omega (arith, k)) ∙ sym (lt-ltb j i k)
@@ -169,36 +169,36 @@ unfolding own_from
 own_none l None = refl
 own_none l (Some j) = by (nat_lt j l.count) refl
   where
-    by : (b : Bool) → nat_lt j l.count ≡ b → (not (nat_lt j l.count) && is_own l j) ≡ false
-    by true e = ap (λ b. not b && is_own l j) e
+    by : (b : Bool) → nat_lt j l.count ≡ b → (not (nat_lt j l.count) && takes_keyword l j) ≡ false
+    by true e = ap (λ b. not b && takes_keyword l j) e
     by false e = ap (λ b. not (nat_lt j l.count) && (b && (not (is_at l.rest j) && not (is_at l.names j)))) e ∙ and_false (not (nat_lt j l.count))
 
 own_all : (l : Layout) (o : Option ℕ) → own_from l 0 o ≡ is_some (own_in l o)
 unfolding own_from
 own_all l None = refl
-own_all l (Some j) = ap (λ b. not b && is_own l j) (le-ltb j 0 (omega arith)) ∙ by (is_own l j) refl
+own_all l (Some j) = ap (λ b. not b && takes_keyword l j) (le-ltb j 0 (omega arith)) ∙ by (takes_keyword l j) refl
   where
-    by : (b : Bool) → is_own l j ≡ b → is_own l j ≡ is_some (if is_own l j then Some j else None)
+    by : (b : Bool) → takes_keyword l j ≡ b → takes_keyword l j ≡ is_some (if takes_keyword l j then Some j else None)
     by true e = e ∙ sym (ap (λ b. is_some (if b then Some j else None)) e)
     by false e = e ∙ sym (ap (λ b. is_some (if b then Some j else None)) e)
 
-rest_is_no_own : (l : Layout) (i : ℕ) → l.rest ≡ Some i → is_own l i ≡ false
+rest_is_no_own : (l : Layout) (i : ℕ) → l.rest ≡ Some i → takes_keyword l i ≡ false
 rest_is_no_own l i h =
     ap (λ b. nat_lt i l.count && (not b && not (is_at l.names i))) (ap (λ o. is_at o i) h ∙ eq-eqb i i refl) ∙ and_false (nat_lt i l.count)
 
-names_are_no_own : (l : Layout) (i : ℕ) → l.names ≡ Some i → is_own l i ≡ false
+names_are_no_own : (l : Layout) (i : ℕ) → l.names ≡ Some i → takes_keyword l i ≡ false
 names_are_no_own l i h =
     ap (λ b. nat_lt i l.count && (not (is_at l.rest i) && not b)) (ap (λ o. is_at o i) h ∙ eq-eqb i i refl)
     ∙ ap (λ b. nat_lt i l.count && b) (and_false (not (is_at l.rest i))) ∙ and_false (nat_lt i l.count)
 
 -- at the end of those that take positional values, a layout has this slot of `*name`, or none
 pub places_end : (l : Layout) (s : Stage) (i : ℕ) (o : Option ℕ) → PlacesEnd l s i o → l.rest ≡ o
-places_end l stage.ByPlace i o h = h.1
+places_end l stage.Positional i o h = h.1
 places_end l stage.ByName i o h = absurd h
 places_end l stage.Ended i o h = absurd h
 
 own_step : (spots : Spots) (names : Names) (l : Layout) (c : Cursor) (f : ParameterForm) (name : List ℕ) (more : Names) → StandsAt spots names l c f
-    → list_any (same_name name) more ≡ own_from l (after c f).slot (slot_of name names) → list_any (same_name name) (before_names (own_name f) more) ≡ own_from l c.slot (slot_of name names)
+    → list_any (same_name name) more ≡ own_from l (after c f).slot (slot_of name names) → list_any (same_name name) (before_names (keyword_of f) more) ≡ own_from l c.slot (slot_of name names)
 own_step spots names l c (tree.Plain n) name more h k =
     ap (λ b. b || list_any (same_name name) more) (alike names n.text name c.slot h.1.1) ∙ ap (λ b. is_at (slot_of name names) c.slot || b) k ∙ own_here l c.slot (slot_of name names) h.2
 own_step spots names l c (tree.Default n e) name more h k =
@@ -208,37 +208,37 @@ own_step spots names l c (tree.Parameter-F.Parameter::Star n) name more h k =
 own_step spots names l c tree.BareStar name more h k = k
 own_step spots names l c (tree.Parameter-F.Parameter::StarStar n) name more h k = k ∙ own_past l c.slot (slot_of name names) (names_are_no_own l c.slot h.3)
 
-own_any : (spots : Spots) (names : Names) (l : Layout) (c : Cursor) (ps : List Parameter) (name : List ℕ) → InOrder spots names l c ps → list_any (same_name name) (own_names ps) ≡ own_from l c.slot (slot_of name names)
+own_any : (spots : Spots) (names : Names) (l : Layout) (c : Cursor) (ps : List Parameter) (name : List ℕ) → InOrder spots names l c ps → list_any (same_name name) (keywords_of ps) ≡ own_from l c.slot (slot_of name names)
 own_any spots names l c [] name h = sym (ap (λ i. own_from l i (slot_of name names)) h.0 ∙ own_none l (slot_of name names))
-own_any spots names l c (p ∷ ps) name h = own_step spots names l c (parameter p) name (own_names ps) h.0 (own_any spots names l (after c (parameter p)) ps name h.1)
+own_any spots names l c (p ∷ ps) name h = own_step spots names l c (parameter p) name (keywords_of ps) h.0 (own_any spots names l (after c (parameter p)) ps name h.1)
 
 -- the keyword values that are not a parameter's are those without such a slot
-unclaimed_is : (spots : Spots) (names : Names) (l : Layout) (ps : List Parameter) (ns : List NamedValue) → InOrder spots names l start ps → unclaimed ps ns ≡ unowned l names ns
-unclaimed_is spots names l ps [] h = refl
-unclaimed_is spots names l ps (n ∷ ns) h =
-    ap (λ b. cond (not b) (n ∷ unclaimed ps ns) (unclaimed ps ns)) (own_any spots names l start ps n.name h ∙ own_all l (slot_of n.name names))
-    ∙ ap (λ us. cond (not (is_some (own_slot l names n))) (n ∷ us) us) (unclaimed_is spots names l ps ns h)
+extra_keywords_are : (spots : Spots) (names : Names) (l : Layout) (ps : List Parameter) (ns : List KeywordArgument) → InOrder spots names l start ps → extra_keywords ps ns ≡ extra_in_order l names ns
+extra_keywords_are spots names l ps [] h = refl
+extra_keywords_are spots names l ps (n ∷ ns) h =
+    ap (λ b. cond (not b) (n ∷ extra_keywords ps ns) (extra_keywords ps ns)) (own_any spots names l start ps n.name h ∙ own_all l (slot_of n.name names))
+    ∙ ap (λ us. cond (not (is_some (keyword_slot l names n))) (n ∷ us) us) (extra_keywords_are spots names l ps ns h)
 
 -- ---- whether the keyword values are taken
 
 some_names : (i : ℕ) (o : Option ℕ) → o ≡ Some i → o ≡ None → ⊥
 some_names i o h k = let e : Some i ≡ None = sym h ∙ k in cc
 
-pub all_own : (l : Layout) (names : Names) (from : ℕ) (ns : List NamedValue) → l.names ≡ None → AreTaken l names from ns → unowned l names ns ≡ []
+pub all_own : (l : Layout) (names : Names) (from : ℕ) (ns : List KeywordArgument) → l.names ≡ None → AreTaken l names from ns → extra_in_order l names ns ≡ []
 all_own l names from [] e h = refl
-all_own l names from (n ∷ ns) e h = by (own_slot l names n) h.0 ∙ all_own l names from ns e h.1
+all_own l names from (n ∷ ns) e h = by (keyword_slot l names n) h.0 ∙ all_own l names from ns e h.1
   where
-    by : (o : Option ℕ) → IsTaken l from o → cond (not (is_some o)) (n ∷ unowned l names ns) (unowned l names ns) ≡ unowned l names ns
+    by : (o : Option ℕ) → IsTaken l from o → cond (not (is_some o)) (n ∷ extra_in_order l names ns) (extra_in_order l names ns) ≡ extra_in_order l names ns
     by None k = let q : is_some l.names ≡ false = ap (λ (o : Option ℕ). is_some o) e in absurd cc
     by (Some i) k = refl
 
 abbrev IsOpen : Stage → Type 0
-IsOpen stage.ByPlace = Unit {0}
+IsOpen stage.Positional = Unit {0}
 IsOpen stage.ByName = Unit {0}
 IsOpen stage.Ended = ⊥
 
 never_ends : (l : Layout) (s : Stage) (i j : ℕ) → IsOpen s → MayEnd l s i → l.names ≡ Some j → ⊥
-never_ends l stage.ByPlace i j o h k = some_names j l.names k h.2
+never_ends l stage.Positional i j o h k = some_names j l.names k h.2
 never_ends l stage.ByName i j o h k = some_names j l.names k h
 never_ends l stage.Ended i j o h k = o
 
@@ -274,14 +274,14 @@ or_true : (a : Bool) → (a || true) ≡ true
 or_true true = refl
 or_true false = refl
 
-are_taken : (spots : Spots) (names : Names) (l : Layout) (from : ℕ) (ps : List Parameter) (ns : List NamedValue) → InOrder spots names l start ps → AreTaken l names from ns
-    → (nat_eq (length (unowned l names ns)) 0 || list_any (λ p. takes_names (parameter p)) ps) ≡ true
+are_taken : (spots : Spots) (names : Names) (l : Layout) (from : ℕ) (ps : List Parameter) (ns : List KeywordArgument) → InOrder spots names l start ps → AreTaken l names from ns
+    → (nat_eq (length (extra_in_order l names ns)) 0 || list_any (λ p. takes_names (parameter p)) ps) ≡ true
 are_taken spots names l from ps ns h k = by l.names refl
   where
-    by : (o : Option ℕ) → l.names ≡ o → (nat_eq (length (unowned l names ns)) 0 || list_any (λ p. takes_names (parameter p)) ps) ≡ true
-    by None e = ap (λ (us : List NamedValue). nat_eq (length us) 0 || list_any (λ p. takes_names (parameter p)) ps) (all_own l names from ns e k)
+    by : (o : Option ℕ) → l.names ≡ o → (nat_eq (length (extra_in_order l names ns)) 0 || list_any (λ p. takes_names (parameter p)) ps) ≡ true
+    by None e = ap (λ (us : List KeywordArgument). nat_eq (length us) 0 || list_any (λ p. takes_names (parameter p)) ps) (all_own l names from ns e k)
     by (Some j) e =
-        ap (λ b. nat_eq (length (unowned l names ns)) 0 || b) (names_taken spots names l start ps j tt h e) ∙ or_true (nat_eq (length (unowned l names ns)) 0)
+        ap (λ b. nat_eq (length (extra_in_order l names ns)) 0 || b) (names_taken spots names l start ps j tt h e) ∙ or_true (nat_eq (length (extra_in_order l names ns)) 0)
 
 -- ---- rows from a place on
 
@@ -331,34 +331,34 @@ either None b = refl
 either (Some v) b = refl
 
 -- in its turn, positional
-share_at : (l : Layout) (names : Names) (g : Given) (i : ℕ) (n : Name) (d : Option Value) (es xs : List Value) (v : Value) → AreTaken l names (length (placed l g)) g.named
-    → slot_of n.text names ≡ Some i → is_own l i ≡ true → i < l.by_place → drop i g.plain ≡ xs
+share_at : (l : Layout) (names : Names) (g : Arguments) (i : ℕ) (n : Name) (d : Option Value) (es xs : List Value) (v : Value) → AreTaken l names (length (placed l g)) g.named
+    → slot_of n.text names ≡ Some i → takes_keyword l i ≡ true → i < l.positional → drop i g.positional ≡ xs
     → option_or (slice_get (placed l g) i) (option_or (named_at l names g.named i) d) ≡ Some v
-    → share_by n g.named d (record { by_name = false; plain = xs; defaults = es }) ≡ Some ((n, share.One v) ∷ [], record { by_name = false; plain = drop (suc i) g.plain; defaults = es })
+    → argument_by n g.named d (record { by_name = false; positional = xs; defaults = es }) ≡ Some ((n, share.One v) ∷ [], record { by_name = false; positional = drop (suc i) g.positional; defaults = es })
 share_at l names g i n d es [] v known s o k e b =
-    let q = drop_end g.plain i e in
-    let none = taken_here g.plain l.by_place i k ∙ q.0 in
+    let q = drop_end g.positional i e in
+    let none = taken_here g.positional l.positional i k ∙ q.0 in
     let named : else_default (value_named n.text g.named) d ≡ Some v =
     ap (λ o. else_default o d) (value_there l names n.text i g.named s o) ∙ either (named_at l names g.named i) d ∙ ap (λ o. option_or o (option_or (named_at l names g.named i) d)) (sym none) ∙ b in
-    ap (shared n (record { by_name = false; plain = []; defaults = es })) named ∙ ap (λ xs. Some ((n, share.One v) ∷ [], record { by_name = false; plain = xs; defaults = es })) (sym q.1)
+    ap (shared n (record { by_name = false; positional = []; defaults = es })) named ∙ ap (λ xs. Some ((n, share.One v) ∷ [], record { by_name = false; positional = xs; defaults = es })) (sym q.1)
 share_at l names g i n d es (x ∷ xs) v known s o k e b =
-    let q = drop_here g.plain i x xs e in
-    let here = taken_here g.plain l.by_place i k ∙ q.0 in
+    let q = drop_here g.positional i x xs e in
+    let here = taken_here g.positional l.positional i k ∙ q.0 in
     let first : Some x ≡ Some v = ap (λ o. option_or o (option_or (named_at l names g.named i) d)) (sym here) ∙ b in
     let same : x ≡ v = cc in
-    ap (λ c. if c then None else Some ((n, share.One x) ∷ [], record { by_name = false; plain = xs; defaults = es })) (not_given l names n.text (length (placed l g)) i g.named known s o (within_taken g.plain l.by_place i k q.2))
-    ∙ ap (λ y. Some ((n, share.One y) ∷ [], record { by_name = false; plain = xs; defaults = es })) same
-    ∙ ap (λ ys. Some ((n, share.One v) ∷ [], record { by_name = false; plain = ys; defaults = es })) (sym q.1)
+    ap (λ c. if c then None else Some ((n, share.One x) ∷ [], record { by_name = false; positional = xs; defaults = es })) (not_given l names n.text (length (placed l g)) i g.named known s o (within_taken g.positional l.positional i k q.2))
+    ∙ ap (λ y. Some ((n, share.One y) ∷ [], record { by_name = false; positional = xs; defaults = es })) same
+    ∙ ap (λ ys. Some ((n, share.One v) ∷ [], record { by_name = false; positional = ys; defaults = es })) (sym q.1)
 
 -- a keyword one
-share_named : (l : Layout) (names : Names) (g : Given) (i : ℕ) (n : Name) (d : Option Value) (es : List Value) (v : Value) → slot_of n.text names ≡ Some i → is_own l i ≡ true → l.by_place ≤ i
+share_named : (l : Layout) (names : Names) (g : Arguments) (i : ℕ) (n : Name) (d : Option Value) (es : List Value) (v : Value) → slot_of n.text names ≡ Some i → takes_keyword l i ≡ true → l.positional ≤ i
     → option_or (slice_get (placed l g) i) (option_or (named_at l names g.named i) d) ≡ Some v
-    → share_by n g.named d (record { by_name = true; plain = []; defaults = es }) ≡ Some ((n, share.One v) ∷ [], record { by_name = true; plain = []; defaults = es })
+    → argument_by n g.named d (record { by_name = true; positional = []; defaults = es }) ≡ Some ((n, share.One v) ∷ [], record { by_name = true; positional = []; defaults = es })
 share_named l names g i n d es v s o k b =
     let named : else_default (value_named n.text g.named) d ≡ Some v =
     ap (λ o. else_default o d) (value_there l names n.text i g.named s o) ∙ either (named_at l names g.named i) d
-    ∙ ap (λ o. option_or o (option_or (named_at l names g.named i) d)) (sym (taken_past g.plain l.by_place i k)) ∙ b in
-    ap (shared n (record { by_name = true; plain = []; defaults = es })) named
+    ∙ ap (λ o. option_or o (option_or (named_at l names g.named i) d)) (sym (taken_past g.positional l.positional i k)) ∙ b in
+    ap (shared n (record { by_name = true; positional = []; defaults = es })) named
 
 -- ---- the value of a parameter with a name
 
@@ -379,14 +379,14 @@ value_in None h = absurd cc
 abbrev default_for : List Value → Option (Option ℕ) → Option Value
 default_for ds o = option_and_then (λ rank. slice_get ds rank) (option_flatten o)
 
-gets_default : (l : Layout) (names : Names) (ds : List Value) (g : Given) (i r : ℕ) → FitsLayout l names ds g → slice_get l.ranks i ≡ Some (Some r) → r < l.defaults → is_some (bound_at l names ds g i) ≡ true
+gets_default : (l : Layout) (names : Names) (ds : List Value) (g : Arguments) (i r : ℕ) → FitsLayout l names ds g → slice_get l.ranks i ≡ Some (Some r) → r < l.defaults → is_some (bound_at l names ds g i) ≡ true
 gets_default l names ds g i r f e k =
     or_some (slice_get (placed l g) i) (named_at l names g.named i) (default_at l.ranks ds i)
     (ap (λ o. is_some (default_for ds o)) e ∙ some_default ds r (omega (arith, k, f.defaults)))
 
 -- ---- the shares of parameters
 
-abbrev pub share_name : ParameterForm → Option Value → List Value → List NamedValue → List (Name × Share) → List (Name × Share)
+abbrev pub share_name : ParameterForm → Option Value → List Value → List KeywordArgument → List (Name × BoundArgument) → List (Name × BoundArgument)
 share_name (tree.Plain n) (Some v) rest left more = (n, share.One v) ∷ more
 share_name (tree.Plain n) None rest left more = more
 share_name (tree.Default n e) (Some v) rest left more = (n, share.One v) ∷ more
@@ -397,132 +397,132 @@ share_name (tree.Parameter-F.Parameter::StarStar n) o rest left more = (n, share
 
 -- the names of parameters from the cursor on, each with its share: the value for its slot, the positional values that
 -- are left, or the keyword values that are not a parameter's
-abbrev pub share_names : (ℕ → Option Value) → List Value → List NamedValue → Cursor → List Parameter → List (Name × Share)
+abbrev pub share_names : (ℕ → Option Value) → List Value → List KeywordArgument → Cursor → List Parameter → List (Name × BoundArgument)
 share_names f rest left c [] = []
 share_names f rest left c (p ∷ ps) = share_name (parameter p) (f c.slot) rest left (share_names f rest left (after c (parameter p)) ps)
 
 -- the state of binding before a parameter, with these positional values and these defaults left
-abbrev stands : Stage → List Value → List Value → Progress
-stands stage.ByPlace xs es = record { by_name = false; plain = xs; defaults = es }
-stands stage.ByName xs es = record { by_name = true; plain = []; defaults = es }
-stands stage.Ended xs es = record { by_name = true; plain = []; defaults = es }
+abbrev stands : Stage → List Value → List Value → BindingState
+stands stage.Positional xs es = record { by_name = false; positional = xs; defaults = es }
+stands stage.ByName xs es = record { by_name = true; positional = []; defaults = es }
+stands stage.Ended xs es = record { by_name = true; positional = []; defaults = es }
 
-abbrev Stands : Stage → List Value → List Value → Progress → Type 0
-Stands stage.ByPlace xs es q = q ≡ record { by_name = false; plain = xs; defaults = es }
-Stands stage.ByName xs es q = q ≡ record { by_name = true; plain = []; defaults = es }
-Stands stage.Ended xs es q = q.plain ≡ []
+abbrev Stands : Stage → List Value → List Value → BindingState → Type 0
+Stands stage.Positional xs es q = q ≡ record { by_name = false; positional = xs; defaults = es }
+Stands stage.ByName xs es q = q ≡ record { by_name = true; positional = []; defaults = es }
+Stands stage.Ended xs es q = q.positional ≡ []
 
-stands_is : (l : Layout) (s : Stage) (i : ℕ) (xs es : List Value) (q : Progress) → MayStand l s i → Stands s xs es q → q ≡ stands s xs es
-stands_is l stage.ByPlace i xs es q m h = h
+stands_is : (l : Layout) (s : Stage) (i : ℕ) (xs es : List Value) (q : BindingState) → MayStand l s i → Stands s xs es q → q ≡ stands s xs es
+stands_is l stage.Positional i xs es q m h = h
 stands_is l stage.ByName i xs es q m h = h
 stands_is l stage.Ended i xs es q m h = absurd m
 
 so_stands : (s : Stage) (xs es : List Value) → Stands s xs es (stands s xs es)
-so_stands stage.ByPlace xs es = refl
+so_stands stage.Positional xs es = refl
 so_stands stage.ByName xs es = refl
 so_stands stage.Ended xs es = refl
 
 with_defaults : (s : Stage) (xs es fs : List Value) → record (stands s xs es) { defaults = fs } ≡ stands s xs fs
-with_defaults stage.ByPlace xs es fs = refl
+with_defaults stage.Positional xs es fs = refl
 with_defaults stage.ByName xs es fs = refl
 with_defaults stage.Ended xs es fs = refl
 
 own_defaults : (s : Stage) (xs es : List Value) → (stands s xs es).defaults ≡ es
-own_defaults stage.ByPlace xs es = refl
+own_defaults stage.Positional xs es = refl
 own_defaults stage.ByName xs es = refl
 own_defaults stage.Ended xs es = refl
 
 -- no positional value is left if none may be
-none_left : (l : Layout) (names : Names) (ds : List Value) (g : Given) (i : ℕ) → FitsLayout l names ds g → i ≡ l.by_place → l.rest ≡ None → drop i g.plain ≡ []
-none_left l names ds g i f e h = ap (λ j. drop j g.plain) e ∙ f.places h
+none_left : (l : Layout) (names : Names) (ds : List Value) (g : Arguments) (i : ℕ) → FitsLayout l names ds g → i ≡ l.positional → l.rest ≡ None → drop i g.positional ≡ []
+none_left l names ds g i f e h = ap (λ j. drop j g.positional) e ∙ f.places h
 
-none_over : (l : Layout) (names : Names) (ds : List Value) (g : Given) (s : Stage) (i : ℕ) (es : List Value) (q : Progress) → FitsLayout l names ds g → PlacesAreOver l s i → Stands s (drop i g.plain) es q → q.plain ≡ []
-none_over l names ds g stage.ByPlace i es q f o h = ap (λ (q : Progress). q.plain) h ∙ none_left l names ds g i f o.0 o.1
-none_over l names ds g stage.ByName i es q f o h = ap (λ (q : Progress). q.plain) h
+none_over : (l : Layout) (names : Names) (ds : List Value) (g : Arguments) (s : Stage) (i : ℕ) (es : List Value) (q : BindingState) → FitsLayout l names ds g → PlacesAreOver l s i → Stands s (drop i g.positional) es q → q.positional ≡ []
+none_over l names ds g stage.Positional i es q f o h = ap (λ (q : BindingState). q.positional) h ∙ none_left l names ds g i f o.0 o.1
+none_over l names ds g stage.ByName i es q f o h = ap (λ (q : BindingState). q.positional) h
 none_over l names ds g stage.Ended i es q f o h = absurd o
 
-none_after : (l : Layout) (names : Names) (ds : List Value) (g : Given) (s : Stage) (i : ℕ) (es : List Value) (q : Progress) → FitsLayout l names ds g → MayEnd l s i → Stands s (drop i g.plain) es q → q.plain ≡ []
-none_after l names ds g stage.ByPlace i es q f o h = ap (λ (q : Progress). q.plain) h ∙ none_left l names ds g i f o.0 o.1
-none_after l names ds g stage.ByName i es q f o h = ap (λ (q : Progress). q.plain) h
+none_after : (l : Layout) (names : Names) (ds : List Value) (g : Arguments) (s : Stage) (i : ℕ) (es : List Value) (q : BindingState) → FitsLayout l names ds g → MayEnd l s i → Stands s (drop i g.positional) es q → q.positional ≡ []
+none_after l names ds g stage.Positional i es q f o h = ap (λ (q : BindingState). q.positional) h ∙ none_left l names ds g i f o.0 o.1
+none_after l names ds g stage.ByName i es q f o h = ap (λ (q : BindingState). q.positional) h
 none_after l names ds g stage.Ended i es q f o h = h
 
 -- the steps of parameters
-share_in : (l : Layout) (names : Names) (g : Given) (s : Stage) (i : ℕ) (n : Name) (d : Option Value) (es : List Value) (v : Value) → AreTaken l names (length (placed l g)) g.named
-    → MayStand l s i → slot_of n.text names ≡ Some i → is_own l i ≡ true
+share_in : (l : Layout) (names : Names) (g : Arguments) (s : Stage) (i : ℕ) (n : Name) (d : Option Value) (es : List Value) (v : Value) → AreTaken l names (length (placed l g)) g.named
+    → MayStand l s i → slot_of n.text names ≡ Some i → takes_keyword l i ≡ true
     → option_or (slice_get (placed l g) i) (option_or (named_at l names g.named i) d) ≡ Some v
-    → share_by n g.named d (stands s (drop i g.plain) es) ≡ Some ((n, share.One v) ∷ [], stands s (drop (suc i) g.plain) es)
-share_in l names g stage.ByPlace i n d es v known m s o b = share_at l names g i n d es (drop i g.plain) v known s o m refl b
+    → argument_by n g.named d (stands s (drop i g.positional) es) ≡ Some ((n, share.One v) ∷ [], stands s (drop (suc i) g.positional) es)
+share_in l names g stage.Positional i n d es v known m s o b = share_at l names g i n d es (drop i g.positional) v known s o m refl b
 share_in l names g stage.ByName i n d es v known m s o b = share_named l names g i n d es v s o m b
 share_in l names g stage.Ended i n d es v known m s o b = absurd m
 
-step_plain : (spots : Spots) (names : Names) (l : Layout) (ds : List Value) (g : Given) (left : List NamedValue) (c : Cursor) (n : Name) (v : Value) (q : Progress) → StandsAt spots names l c (tree.Plain n) → FitsLayout l names ds g
-    → Stands c.stage (drop c.slot g.plain) (drop c.rank ds) q → bound_at l names ds g c.slot ≡ Some v
-    → step g.named left q (tree.Plain n) ≡ Some ((n, share.One v) ∷ [], stands c.stage (drop (suc c.slot) g.plain) (drop c.rank ds))
+step_plain : (spots : Spots) (names : Names) (l : Layout) (ds : List Value) (g : Arguments) (left : List KeywordArgument) (c : Cursor) (n : Name) (v : Value) (q : BindingState) → StandsAt spots names l c (tree.Plain n) → FitsLayout l names ds g
+    → Stands c.stage (drop c.slot g.positional) (drop c.rank ds) q → bound_at l names ds g c.slot ≡ Some v
+    → step g.named left q (tree.Plain n) ≡ Some ((n, share.One v) ∷ [], stands c.stage (drop (suc c.slot) g.positional) (drop c.rank ds))
 step_plain spots names l ds g left c n v q h f e b =
     let value = ap (λ d. option_or (slice_get (placed l g) c.slot) (option_or (named_at l names g.named c.slot) d)) (sym (ap (default_for ds) h.3)) ∙ b in
-    ap (share_by n g.named None) (stands_is l c.stage c.slot (drop c.slot g.plain) (drop c.rank ds) q h.0 e)
+    ap (argument_by n g.named None) (stands_is l c.stage c.slot (drop c.slot g.positional) (drop c.rank ds) q h.0 e)
     ∙ share_in l names g c.stage c.slot n None (drop c.rank ds) v f.taken h.0 h.1.1 h.2 value
 
-step_default : (spots : Spots) (names : Names) (l : Layout) (ds : List Value) (g : Given) (left : List NamedValue) (c : Cursor) (n : Name) (x : Expression) (v : Value) (q : Progress) → StandsAt spots names l c (tree.Default n x) → FitsLayout l names ds g
-    → Stands c.stage (drop c.slot g.plain) (drop c.rank ds) q → bound_at l names ds g c.slot ≡ Some v
-    → step g.named left q (tree.Default n x) ≡ Some ((n, share.One v) ∷ [], stands c.stage (drop (suc c.slot) g.plain) (drop (suc c.rank) ds))
+step_default : (spots : Spots) (names : Names) (l : Layout) (ds : List Value) (g : Arguments) (left : List KeywordArgument) (c : Cursor) (n : Name) (x : Expression) (v : Value) (q : BindingState) → StandsAt spots names l c (tree.Default n x) → FitsLayout l names ds g
+    → Stands c.stage (drop c.slot g.positional) (drop c.rank ds) q → bound_at l names ds g c.slot ≡ Some v
+    → step g.named left q (tree.Default n x) ≡ Some ((n, share.One v) ∷ [], stands c.stage (drop (suc c.slot) g.positional) (drop (suc c.rank) ds))
 step_default spots names l ds g left c n x v q h f e b =
-    let xs = drop c.slot g.plain in
+    let xs = drop c.slot g.positional in
     let es = drop c.rank ds in
     let first : first_of_row es ≡ default_at l.ranks ds c.slot = first_dropped ds c.rank ∙ sym (ap (default_for ds) h.3) in
     let value = ap (λ d. option_or (slice_get (placed l g) c.slot) (option_or (named_at l names g.named c.slot) d)) first ∙ b in
-    ap (λ (q : Progress). share_by n g.named (first_of_row q.defaults) (record q { defaults = rest_of_row q.defaults })) (stands_is l c.stage c.slot xs es q h.0 e)
-    ∙ ap (λ fs. share_by n g.named (first_of_row fs) (record (stands c.stage xs es) { defaults = rest_of_row fs })) (own_defaults c.stage xs es)
-    ∙ ap (share_by n g.named (first_of_row es)) (with_defaults c.stage xs es (rest_of_row es))
+    ap (λ (q : BindingState). argument_by n g.named (first_of_row q.defaults) (record q { defaults = rest_of_row q.defaults })) (stands_is l c.stage c.slot xs es q h.0 e)
+    ∙ ap (λ fs. argument_by n g.named (first_of_row fs) (record (stands c.stage xs es) { defaults = rest_of_row fs })) (own_defaults c.stage xs es)
+    ∙ ap (argument_by n g.named (first_of_row es)) (with_defaults c.stage xs es (rest_of_row es))
     ∙ share_in l names g c.stage c.slot n (first_of_row es) (rest_of_row es) v f.taken h.0 h.1.1 h.2 value
-    ∙ ap (λ fs. Some ((n, share.One v) ∷ [], stands c.stage (drop (suc c.slot) g.plain) fs)) (rest_dropped ds c.rank)
+    ∙ ap (λ fs. Some ((n, share.One v) ∷ [], stands c.stage (drop (suc c.slot) g.positional) fs)) (rest_dropped ds c.rank)
 
-step_star : (l : Layout) (g : Given) (ns left : List NamedValue) (s : Stage) (i : ℕ) (es : List Value) (n : Name) (q : Progress) → PlacesEnd l s i (Some i) → Stands s (drop i g.plain) es q
-    → step ns left q (tree.Parameter-F.Parameter::Star n) ≡ Some ((n, share.Rest (unplaced l g)) ∷ [], record { by_name = true; plain = []; defaults = es })
-step_star l g ns left stage.ByPlace i es n q p h =
-    ap (λ (q : Progress). step ns left q (tree.Parameter-F.Parameter::Star n)) h
-    ∙ ap (λ j. step ns left (record { by_name = false; plain = drop j g.plain; defaults = es }) (tree.Parameter-F.Parameter::Star n)) p.0
+step_star : (l : Layout) (g : Arguments) (ns left : List KeywordArgument) (s : Stage) (i : ℕ) (es : List Value) (n : Name) (q : BindingState) → PlacesEnd l s i (Some i) → Stands s (drop i g.positional) es q
+    → step ns left q (tree.Parameter-F.Parameter::Star n) ≡ Some ((n, share.Rest (unplaced l g)) ∷ [], record { by_name = true; positional = []; defaults = es })
+step_star l g ns left stage.Positional i es n q p h =
+    ap (λ (q : BindingState). step ns left q (tree.Parameter-F.Parameter::Star n)) h
+    ∙ ap (λ j. step ns left (record { by_name = false; positional = drop j g.positional; defaults = es }) (tree.Parameter-F.Parameter::Star n)) p.0
 step_star l g ns left stage.ByName i es n q p h = absurd p
 step_star l g ns left stage.Ended i es n q p h = absurd p
 
-step_bare : (l : Layout) (names : Names) (ds : List Value) (g : Given) (ns left : List NamedValue) (s : Stage) (i : ℕ) (es : List Value) (q : Progress) → FitsLayout l names ds g → PlacesEnd l s i None → Stands s (drop i g.plain) es q
-    → step ns left q tree.BareStar ≡ Some ([], record { by_name = true; plain = []; defaults = es })
-step_bare l names ds g ns left stage.ByPlace i es q f p h =
-    ap (λ (q : Progress). step ns left q tree.BareStar) h
-    ∙ ap (λ xs. step ns left (record { by_name = false; plain = xs; defaults = es }) tree.BareStar) (none_left l names ds g i f p.0 p.1)
+step_bare : (l : Layout) (names : Names) (ds : List Value) (g : Arguments) (ns left : List KeywordArgument) (s : Stage) (i : ℕ) (es : List Value) (q : BindingState) → FitsLayout l names ds g → PlacesEnd l s i None → Stands s (drop i g.positional) es q
+    → step ns left q tree.BareStar ≡ Some ([], record { by_name = true; positional = []; defaults = es })
+step_bare l names ds g ns left stage.Positional i es q f p h =
+    ap (λ (q : BindingState). step ns left q tree.BareStar) h
+    ∙ ap (λ xs. step ns left (record { by_name = false; positional = xs; defaults = es }) tree.BareStar) (none_left l names ds g i f p.0 p.1)
 step_bare l names ds g ns left stage.ByName i es q f p h = absurd p
 step_bare l names ds g ns left stage.Ended i es q f p h = absurd p
 
 -- the shares from a cursor on, if `rest` makes those after the next parameter
-also_more : (o : Option (List (Name × Share) × Progress)) (xs more : List (Name × Share)) (q : Progress) (rest : Progress → Option (List (Name × Share))) → o ≡ Some (xs, q) → rest q ≡ Some more
+also_more : (o : Option (List (Name × BoundArgument) × BindingState)) (xs more : List (Name × BoundArgument)) (q : BindingState) (rest : BindingState → Option (List (Name × BoundArgument))) → o ≡ Some (xs, q) → rest q ≡ Some more
     → option_and_then (λ r. also r.0 (rest r.1)) o ≡ also xs (Some more)
 also_more o xs more q rest h k = ap (option_and_then (λ r. also r.0 (rest r.1))) h ∙ ap (also xs) k
 
-stepped : (spots : Spots) (names : Names) (l : Layout) (ds : List Value) (g : Given) (left : List NamedValue) (c : Cursor) (f : ParameterForm) (more : List (Name × Share)) (q : Progress)
-    → StandsAt spots names l c f → FitsLayout l names ds g → Stands c.stage (drop c.slot g.plain) (drop c.rank ds) q
-    → (rest : Progress → Option (List (Name × Share))) → ((u : Progress) → Stands (after c f).stage (drop (after c f).slot g.plain) (drop (after c f).rank ds) u → rest u ≡ Some more)
+stepped : (spots : Spots) (names : Names) (l : Layout) (ds : List Value) (g : Arguments) (left : List KeywordArgument) (c : Cursor) (f : ParameterForm) (more : List (Name × BoundArgument)) (q : BindingState)
+    → StandsAt spots names l c f → FitsLayout l names ds g → Stands c.stage (drop c.slot g.positional) (drop c.rank ds) q
+    → (rest : BindingState → Option (List (Name × BoundArgument))) → ((u : BindingState) → Stands (after c f).stage (drop (after c f).slot g.positional) (drop (after c f).rank ds) u → rest u ≡ Some more)
     → option_and_then (λ r. also r.0 (rest r.1)) (step g.named left q f) ≡ Some (share_name f (bound_at l names ds g c.slot) (unplaced l g) left more)
 stepped spots names l ds g left c (tree.Plain n) more q h f e rest k =
     let v = value_in (bound_at l names ds g c.slot) (f.needed c.needed c.slot h.4) in
-    let u = stands c.stage (drop (suc c.slot) g.plain) (drop c.rank ds) in
-    also_more (step g.named left q (tree.Plain n)) ((n, share.One v.0) ∷ []) more u rest (step_plain spots names l ds g left c n v.0 q h f e v.1) (k u (so_stands c.stage (drop (suc c.slot) g.plain) (drop c.rank ds)))
+    let u = stands c.stage (drop (suc c.slot) g.positional) (drop c.rank ds) in
+    also_more (step g.named left q (tree.Plain n)) ((n, share.One v.0) ∷ []) more u rest (step_plain spots names l ds g left c n v.0 q h f e v.1) (k u (so_stands c.stage (drop (suc c.slot) g.positional) (drop c.rank ds)))
     ∙ ap (λ o. Some (share_name (tree.Plain n) o (unplaced l g) left more)) (sym v.1)
 stepped spots names l ds g left c (tree.Default n x) more q h f e rest k =
     let v = value_in (bound_at l names ds g c.slot) (gets_default l names ds g c.slot c.rank f h.3 h.4) in
-    let u = stands c.stage (drop (suc c.slot) g.plain) (drop (suc c.rank) ds) in
-    also_more (step g.named left q (tree.Default n x)) ((n, share.One v.0) ∷ []) more u rest (step_default spots names l ds g left c n x v.0 q h f e v.1) (k u (so_stands c.stage (drop (suc c.slot) g.plain) (drop (suc c.rank) ds)))
+    let u = stands c.stage (drop (suc c.slot) g.positional) (drop (suc c.rank) ds) in
+    also_more (step g.named left q (tree.Default n x)) ((n, share.One v.0) ∷ []) more u rest (step_default spots names l ds g left c n x v.0 q h f e v.1) (k u (so_stands c.stage (drop (suc c.slot) g.positional) (drop (suc c.rank) ds)))
     ∙ ap (λ o. Some (share_name (tree.Default n x) o (unplaced l g) left more)) (sym v.1)
 stepped spots names l ds g left c (tree.Parameter-F.Parameter::Star n) more q h f e rest k =
-    also_more (step g.named left q (tree.Parameter-F.Parameter::Star n)) ((n, share.Rest (unplaced l g)) ∷ []) more (record { by_name = true; plain = []; defaults = drop c.rank ds }) rest
-    (step_star l g g.named left c.stage c.slot (drop c.rank ds) n q h.0 e) (k (record { by_name = true; plain = []; defaults = drop c.rank ds }) refl)
+    also_more (step g.named left q (tree.Parameter-F.Parameter::Star n)) ((n, share.Rest (unplaced l g)) ∷ []) more (record { by_name = true; positional = []; defaults = drop c.rank ds }) rest
+    (step_star l g g.named left c.stage c.slot (drop c.rank ds) n q h.0 e) (k (record { by_name = true; positional = []; defaults = drop c.rank ds }) refl)
 stepped spots names l ds g left c tree.BareStar more q h f e rest k =
-    also_more (step g.named left q tree.BareStar) [] more (record { by_name = true; plain = []; defaults = drop c.rank ds }) rest
-    (step_bare l names ds g g.named left c.stage c.slot (drop c.rank ds) q f h e) (k (record { by_name = true; plain = []; defaults = drop c.rank ds }) refl)
+    also_more (step g.named left q tree.BareStar) [] more (record { by_name = true; positional = []; defaults = drop c.rank ds }) rest
+    (step_bare l names ds g g.named left c.stage c.slot (drop c.rank ds) q f h e) (k (record { by_name = true; positional = []; defaults = drop c.rank ds }) refl)
 stepped spots names l ds g left c (tree.Parameter-F.Parameter::StarStar n) more q h f e rest k =
     also_more (step g.named left q (tree.Parameter-F.Parameter::StarStar n)) ((n, share.Names left) ∷ []) more q rest refl (k q (none_over l names ds g c.stage c.slot (drop c.rank ds) q f h.0 e))
 
-shares_from : (spots : Spots) (names : Names) (l : Layout) (ds : List Value) (g : Given) (left : List NamedValue) (c : Cursor) (ps : List Parameter) (q : Progress)
-    → InOrder spots names l c ps → FitsLayout l names ds g → Stands c.stage (drop c.slot g.plain) (drop c.rank ds) q
+shares_from : (spots : Spots) (names : Names) (l : Layout) (ds : List Value) (g : Arguments) (left : List KeywordArgument) (c : Cursor) (ps : List Parameter) (q : BindingState)
+    → InOrder spots names l c ps → FitsLayout l names ds g → Stands c.stage (drop c.slot g.positional) (drop c.rank ds) q
     → shares g.named left ps q ≡ Some (share_names (bound_at l names ds g) (unplaced l g) left c ps)
 shares_from spots names l ds g left c [] q h f e =
     ap (λ (xs : List Value). if nat_eq (length xs) 0 then Some [] else None) (none_after l names ds g c.stage c.slot (drop c.rank ds) q f h.1 e)
@@ -531,11 +531,11 @@ shares_from spots names l ds g left c (p ∷ ps) q h f e =
     (λ u. shares g.named left ps u) (λ u k. shares_from spots names l ds g left (after c (parameter p)) ps u h.1 f k)
 
 -- the arguments are bound to the parameters
-pub shares_bound : (spots : Spots) (names : Names) (l : Layout) (ps : List Parameter) (ds : List Value) (g : Given) → InOrder spots names l start ps → FitsLayout l names ds g
-    → bound_to ps ds g ≡ Some (share_names (bound_at l names ds g) (unplaced l g) (unowned l names g.named) start ps)
+pub shares_bound : (spots : Spots) (names : Names) (l : Layout) (ps : List Parameter) (ds : List Value) (g : Arguments) → InOrder spots names l start ps → FitsLayout l names ds g
+    → bound_to ps ds g ≡ Some (share_names (bound_at l names ds g) (unplaced l g) (extra_in_order l names g.named) start ps)
 unfolding bound_to
 shares_bound spots names l ps ds g h f =
-    ap (λ us. if nat_eq (length us) 0 || list_any (λ p. takes_names (parameter p)) ps then shares g.named us ps (record { by_name = false; plain = g.plain; defaults = ds }) else None)
-    (unclaimed_is spots names l ps g.named h)
-    ∙ ap (λ b. if b then shares g.named (unowned l names g.named) ps (record { by_name = false; plain = g.plain; defaults = ds }) else None) (are_taken spots names l (length (placed l g)) ps g.named h f.taken)
-    ∙ shares_from spots names l ds g (unowned l names g.named) start ps (record { by_name = false; plain = g.plain; defaults = ds }) h f refl
+    ap (λ us. if nat_eq (length us) 0 || list_any (λ p. takes_names (parameter p)) ps then shares g.named us ps (record { by_name = false; positional = g.positional; defaults = ds }) else None)
+    (extra_keywords_are spots names l ps g.named h)
+    ∙ ap (λ b. if b then shares g.named (extra_in_order l names g.named) ps (record { by_name = false; positional = g.positional; defaults = ds }) else None) (are_taken spots names l (length (placed l g)) ps g.named h f.taken)
+    ∙ shares_from spots names l ds g (extra_in_order l names g.named) start ps (record { by_name = false; positional = g.positional; defaults = ds }) h f refl

@@ -4,25 +4,23 @@ ghost use Rattle.std.specs.Prelude.{◌≡◌, map, true, IfOk};
 ghost use Rattle.std.specs.Option.{option_map};
 ghost use Rattle.star_scope.specs.Definitions.{definition_of};
 ghost use Rattle.star_meaning.specs.Calls as spec;
-ghost use Rattle.star_machine.specs.Gives.{Gives, GivesBy};
-ghost use Rattle.star_meaning.specs.Run.{give};
+ghost use Rattle.star_machine.specs.Refines.{Refines, RefinesBy};
 ghost use Rattle.star_meaning.specs.Values.{content};
 ghost use Rattle.star_call.specs.Callees.{IsFound, definition_for, shown};
-ghost use Rattle.star_call.specs.Shares.{bound_value};
+ghost use Rattle.star_call.specs.BoundArguments.{bound_value};
 ghost use Rattle.std.specs.List.{list_all};
-ghost use Rattle.star_enter.specs.ByPlace.{FitByPlace, by_place, expression_of, is_plain, is_positional};
-ghost use Rattle.star_enter.specs.Entering.{bind_all, entering, framed};
+ghost use Rattle.star_enter.specs.Positional.{FitPositionally, positional, expression_of, is_plain, is_positional};
+ghost use Rattle.star_enter.specs.Entering.{bind_all, entered, entered_with};
 
 use star_call::callee::{Called, Callee, definition_number};
-use star_call::shares::{Shares, make_shares};
+use star_call::shares::{BoundArguments, build_arguments};
 use star_machine::fault::Stop;
 use star_machine::machine::Machine;
-use star_meaning::given::Given;
-use star_meaning::place::Place;
+use star_meaning::given::Arguments;
+use star_meaning::site::Site;
 use star_scope::outline::Definition;
 use star_store::values::Value;
 use star_tree::tree::{Argument, Expression, Name, Parameter};
-use star_world::parts::split_first;
 use star_world::variables::{bind, paid_frame};
 use star_world::world::World;
 
@@ -48,7 +46,7 @@ pub fn callee_of<'t>(
     line: usize,
     value: Value,
 ) -> Result<Callee<'t>, Stop>
-    ensures answer { GivesBy (shown (content world.now.setting machine.now))
+    ensures answer { RefinesBy (shown (content world.now.setting machine.now))
         (spec.callee world.now.setting line value machine.now) result machine.now }
     ensures found { IfOk result (IsFound world.now.setting) }
 {
@@ -60,13 +58,13 @@ pub fn callee_of<'t>(
 pub fn bind_all(
     machine: &mut Machine,
     world: &World,
-    place: &Place,
+    site: &Site,
     values: &[(&Name, Value)],
 ) -> Result<(), Stop>
-    ensures { Gives (bind_all world.now place.now (map bound_value values.now) machine.old) result machine.new }
+    ensures { Refines (bind_all world.now site.now (map bound_value values.now) machine.old) result machine.new }
 {
     for (name, value) in values {
-        bind(machine, world, place, *name, *value)?;
+        bind(machine, world, site, *name, *value)?;
     }
     Ok(())
 }
@@ -106,29 +104,30 @@ fn are_plain(parameters: &[Parameter]) -> bool
 }
 
 /// Whether all parameters are plain names, and the call gives a positional argument for each of them and nothing else.
-pub fn fit_by_place(parameters: &[Parameter], given: &Given) -> bool
-    ensures { result ≡ true → FitByPlace parameters.now given.now }
+pub fn fit_positionally(parameters: &[Parameter], given: &Arguments) -> bool
+    ensures { result ≡ true → FitPositionally parameters.now given.now }
 {
-    given.named.len() == 0 && parameters.len() == given.plain.len() && are_plain(parameters)
+    given.named.len() == 0 && parameters.len() == given.positional.len() && are_plain(parameters)
 }
 
 /// Binds parameters that have names alone to the values at their places, in order.
-fn bind_by_place(
+fn bind_positional(
     machine: &mut Machine,
     world: &World,
-    place: &Place,
+    site: &Site,
     parameters: &[Parameter],
     values: &[Value],
 ) -> Result<(), Stop>
-    ensures { Gives (bind_all world.now place.now (by_place parameters.now values.now) machine.old) result machine.new }
+    ensures { Refines (bind_all world.now site.now (positional parameters.now values.now) machine.old)
+        result machine.new }
 {
     let mut rest = values;
     for parameter in parameters {
-        let Some((value, more)) = split_first(rest) else {
+        let Some((value, more)) = rest.split_first() else {
             return Ok(());
         };
         if let Parameter::Plain(name) = parameter {
-            bind(machine, world, place, name, value)?;
+            bind(machine, world, site, name, *value)?;
         }
         rest = more;
     }
@@ -138,26 +137,26 @@ fn bind_by_place(
 /// Enters a call whose parameters each get the argument at their own position: makes the frame, which pays 1, with the
 /// parameters in it; then the definition is active. Returns the place of the body.
 #[tactic(auto, unfolding(crate::specs::Entering::begin))]
-pub fn enter_by_place(
+pub fn enter_positional(
     machine: &mut Machine,
     world: &World,
     line: usize,
     called: Called<'_>,
     values: &[Value],
-) -> Result<Place, Stop>
-    ensures { Gives (framed world.now line called.entry.file called.entry.number called.entry.frame
-        (by_place called.entry.definition.parameters.now values.now) give machine.old) result machine.new }
+) -> Result<Site, Stop>
+    ensures { Refines (entered_with world.now line called.entry
+        (positional called.entry.definition.parameters.now values.now) machine.old) result machine.new }
 {
     let block = 1 + called.number as usize;
     let frame = paid_frame(machine, world, line, called.file, block, Some(called.frame))?;
-    let place = Place {
+    let site = Site {
         file: called.file,
         frame,
         line,
     };
-    bind_by_place(machine, world, &place, called.definition.parameters, values)?;
-    machine.activate(place.file, called.number)?;
-    Ok(place)
+    bind_positional(machine, world, &site, called.definition.parameters, values)?;
+    machine.activate(site.file, called.number)?;
+    Ok(site)
 }
 
 /// Enters a call whose parameters have these values: makes the frame, which pays 1, with the parameters in it; then the
@@ -169,20 +168,20 @@ fn enter_with(
     line: usize,
     called: Called<'_>,
     values: &[(&Name, Value)],
-) -> Result<Place, Stop>
-    ensures { Gives (framed world.now line called.entry.file called.entry.number called.entry.frame
-        (map bound_value values.now) give machine.old) result machine.new }
+) -> Result<Site, Stop>
+    ensures { Refines (entered_with world.now line called.entry (map bound_value values.now) machine.old)
+        result machine.new }
 {
     let block = 1 + called.number as usize;
     let frame = paid_frame(machine, world, line, called.file, block, Some(called.frame))?;
-    let place = Place {
+    let site = Site {
         file: called.file,
         frame,
         line,
     };
-    bind_all(machine, world, &place, values)?;
+    bind_all(machine, world, &site, values)?;
     machine.activate(called.file, called.number)?;
-    Ok(place)
+    Ok(site)
 }
 
 /// Enters a call: makes the values of its parameters, then the frame, which pays 1; then the definition is active.
@@ -192,11 +191,10 @@ pub fn enter_call(
     world: &World,
     line: usize,
     called: Called<'_>,
-    shares: &Shares<'_, '_>,
-) -> Result<Place, Stop>
-    ensures { Gives (entering world.now line called.entry.file called.entry.number called.entry.frame shares.now give
-        machine.old) result machine.new }
+    shares: &BoundArguments<'_, '_>,
+) -> Result<Site, Stop>
+    ensures { Refines (entered world.now line called.entry shares.now machine.old) result machine.new }
 {
-    let values = make_shares(machine, line, shares)?;
+    let values = build_arguments(machine, line, shares)?;
     enter_with(machine, world, line, called, &values)
 }

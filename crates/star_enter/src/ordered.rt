@@ -4,20 +4,19 @@
 
 ghost use Rattle.std.specs.Prelude.{◌≡◌, ℕ, [], drop, take, true, IfOk, IfSome, None, OnOk};
 ghost use Rattle.std.specs.List.{list_all};
-ghost use Rattle.star_machine.specs.Gives.{Gives};
+ghost use Rattle.star_machine.specs.Refines.{Refines};
 ghost use Rattle.star_meaning.specs.Run.{give};
-ghost use Rattle.star_meaning.specs.Values.{content};
-ghost use Rattle.star_call.specs.Callees.{IsDefined, defaults_in};
-ghost use Rattle.star_call.specs.Shares.{all_named, share_of};
-ghost use Rattle.star_enter.specs.Ordered.{AreBound, AreTaken, IsBoundBy, entering_bound, is_set, own_slot, unowned, with_named, with_plain, with_share};
+ghost use Rattle.star_call.specs.Callees.{IsDefined};
+ghost use Rattle.star_call.specs.BoundArguments.{all_named, argument_of};
+ghost use Rattle.star_enter.specs.Ordered.{AreBoundFor, AreTaken, AreExtraInOrder, IsBoundBy, entering_bound, is_set, keyword_slot, with_named, with_plain, with_share};
 
 use star_call::callee::Called;
-use star_call::shares::{Share, made_of};
+use star_call::shares::{BoundArgument, build_argument};
 use star_machine::content::Content;
 use star_machine::fault::Stop;
 use star_machine::machine::Machine;
-use star_meaning::given::{Given, NamedValue};
-use star_meaning::place::Place;
+use star_meaning::given::{Arguments, KeywordArgument};
+use star_meaning::site::Site;
 use star_store::defaults::Defaults;
 use star_store::slots::Slots;
 use star_store::values::{Cell, Value};
@@ -35,15 +34,15 @@ pub struct Bound<'g> {
     rest: Option<usize>,
     more: &'g [Value],
     names: Option<usize>,
-    left: Vec<&'g NamedValue>,
+    left: Vec<&'g KeywordArgument>,
 }
 
 /// The slot of a keyword argument; `None` if no parameter can be given under that keyword.
-fn own_slot(order: &Order<'_, '_>, value: &NamedValue) -> Option<usize>
-    ensures { result ≡ own_slot order.now.layout.now order.now.names.now value.now }
+fn keyword_slot(order: &Order<'_, '_>, value: &KeywordArgument) -> Option<usize>
+    ensures { result ≡ keyword_slot order.now.layout.now order.now.names.now value.now }
 {
     match order.names.slot(value.name.as_str()) {
-        Some(slot) if order.layout.is_own(slot) => Some(slot),
+        Some(slot) if order.layout.takes_keyword(slot) => Some(slot),
         _ => None,
     }
 }
@@ -54,7 +53,7 @@ fn own_slot(order: &Order<'_, '_>, value: &NamedValue) -> Option<usize>
 fn set_named(
     slots: &mut Slots,
     order: &Order<'_, '_>,
-    named: &[NamedValue],
+    named: &[KeywordArgument],
     from: usize,
 ) -> Result<bool, AllocError>
     ensures taken { IfOk result (λ all. all ≡ true → AreTaken order.now.layout.now order.now.names.now from named.now) }
@@ -63,7 +62,7 @@ fn set_named(
 {
     let mut rest = named;
     while let Some((last, before)) = rest.split_last() {
-        match own_slot(order, last) {
+        match keyword_slot(order, last) {
             Some(slot) => {
                 if slot < from {
                     return Ok(false);
@@ -115,11 +114,11 @@ fn are_set(slots: &Slots, needed: &[usize]) -> bool
 
 /// The positional arguments that parameters get, each its own; and those that are left.
 #[tactic(auto, using(crate::proofs::OrderedRows::all_placed))]
-fn split_plain(values: &[Value], by_place: usize) -> (&[Value], &[Value])
-    ensures placed { result.0.now ≡ take by_place values.now }
-    ensures left { result.1.now ≡ drop by_place values.now }
+fn split_plain(values: &[Value], positional: usize) -> (&[Value], &[Value])
+    ensures placed { result.0.now ≡ take positional values.now }
+    ensures left { result.1.now ≡ drop positional values.now }
 {
-    match values.split_at_checked(by_place) {
+    match values.split_at_checked(positional) {
         Some(parts) => parts,
         None => (values, &[]),
     }
@@ -133,16 +132,16 @@ fn are_all_placed(layout: &Layout, more: &[Value]) -> bool
 }
 
 /// The keyword arguments that name no parameter, in order.
-fn all_unowned<'g>(
+fn all_extra_in_order<'g>(
     alloc: Global,
     order: &Order<'_, '_>,
-    named: &'g [NamedValue],
-) -> Result<Vec<&'g NamedValue>, AllocError>
-    ensures { IfOk result (λ v. all_named v.items ≡ unowned order.now.layout.now order.now.names.now named.now) }
+    named: &'g [KeywordArgument],
+) -> Result<Vec<&'g KeywordArgument>, AllocError>
+    ensures { IfOk result (λ v. AreExtraInOrder order.now named.now v.items) }
 {
     let mut left = Vec::new(alloc);
     for value in named {
-        if own_slot(order, value).is_none() {
+        if keyword_slot(order, value).is_none() {
             left.push(value)?;
         }
     }
@@ -155,13 +154,13 @@ fn all_unowned<'g>(
 fn left_of<'g>(
     alloc: Global,
     order: &Order<'_, '_>,
-    named: &'g [NamedValue],
-) -> Result<Vec<&'g NamedValue>, AllocError>
+    named: &'g [KeywordArgument],
+) -> Result<Vec<&'g KeywordArgument>, AllocError>
     ensures { (from : ℕ) → AreTaken order.now.layout.now order.now.names.now from named.now
-        → IfOk result (λ v. all_named v.items ≡ unowned order.now.layout.now order.now.names.now named.now) }
+        → IfOk result (λ v. AreExtraInOrder order.now named.now v.items) }
 {
     match order.layout.names() {
-        Some(_) => all_unowned(alloc, order, named),
+        Some(_) => all_extra_in_order(alloc, order, named),
         None => Ok(Vec::new(alloc)),
     }
 }
@@ -172,12 +171,12 @@ fn bind_in_order<'g>(
     alloc: Global,
     order: &Order<'_, '_>,
     defaults: &Defaults,
-    given: &'g Given,
+    given: &'g Arguments,
 ) -> Result<Option<Bound<'g>>, AllocError>
     ensures { IfOk result (λ o. IfSome o (IsBoundBy order.now.layout.now order.now.names.now defaults.now given.now)) }
 {
     let layout = order.layout;
-    let (plain, more) = split_plain(given.plain.as_slice(), layout.by_place());
+    let (positional, more) = split_plain(given.positional.as_slice(), layout.positional());
     if !are_all_placed(layout, more) {
         return Ok(None);
     }
@@ -186,10 +185,10 @@ fn bind_in_order<'g>(
     }
     let named = given.named.as_slice();
     let mut slots = Slots::over(alloc, order.names.len(), layout.ranks()?, defaults.share()?)?;
-    if !set_named(&mut slots, order, named, plain.len())? {
+    if !set_named(&mut slots, order, named, positional.len())? {
         return Ok(None);
     }
-    set_plain(&mut slots, plain)?;
+    set_plain(&mut slots, positional)?;
     if !are_set(&slots, layout.needed()) {
         return Ok(None);
     }
@@ -208,12 +207,10 @@ pub fn bound_of<'g>(
     machine: &Machine,
     world: &World,
     called: &Called<'_>,
-    given: &'g Given,
+    given: &'g Arguments,
 ) -> Result<Option<Bound<'g>>, AllocError>
     requires { IsDefined world.now.setting called.now }
-    ensures { IfOk result (λ o. IfSome o
-        (AreBound world.now called.now.file called.now.number called.now.frame called.now.definition.parameters.now
-        (defaults_in (content world.now.setting machine.now called.now.value)) given.now)) }
+    ensures { IfOk result (λ o. IfSome o (AreBoundFor world.now machine.now called.now given.now)) }
 {
     let Some(order) = world.order(called.file, called.number) else {
         return Ok(None);
@@ -234,17 +231,17 @@ fn with_share(
     machine: &mut Machine,
     line: usize,
     slot: Option<usize>,
-    share: Share<'_>,
-    left: &[&NamedValue],
+    share: BoundArgument<'_>,
+    left: &[&KeywordArgument],
     slots: Slots,
 ) -> Result<Slots, Stop>
-    ensures { Gives (with_share line slot (share_of (all_named left.now) share.entry) slots machine.old)
+    ensures { Refines (with_share line slot (argument_of (all_named left.now) share.entry) slots machine.old)
         result machine.new }
 {
     let Some(slot) = slot else {
         return Ok(slots);
     };
-    let value = made_of(machine, line, share, left)?;
+    let value = build_argument(machine, line, share, left)?;
     let mut slots = slots;
     slots.set(slot, value)?;
     Ok(slots)
@@ -258,8 +255,8 @@ pub fn enter_bound(
     line: usize,
     called: Called<'_>,
     bound: Bound<'_>,
-) -> Result<Place, Stop>
-    ensures { Gives (entering_bound line called.entry.file called.entry.number called.entry.frame bound.entry give
+) -> Result<Site, Stop>
+    ensures { Refines (entering_bound line called.entry.file called.entry.number called.entry.frame bound.entry give
         machine.old) result machine.new }
 {
     let Bound {
@@ -269,12 +266,12 @@ pub fn enter_bound(
         names,
         left,
     } = bound;
-    let slots = with_share(machine, line, rest, Share::Rest(more), &left, slots)?;
-    let slots = with_share(machine, line, names, Share::Names, &left, slots)?;
+    let slots = with_share(machine, line, rest, BoundArgument::Rest(more), &left, slots)?;
+    let slots = with_share(machine, line, names, BoundArgument::Names, &left, slots)?;
     let block = 1 + called.number as usize;
     let frame = frame_with(machine, line, called.file, block, Some(called.frame), slots)?;
     machine.activate(called.file, called.number)?;
-    Ok(Place {
+    Ok(Site {
         file: called.file,
         frame,
         line,

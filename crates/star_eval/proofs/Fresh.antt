@@ -5,8 +5,8 @@ use Rattle.std.proofs.lemmas.Bool.{OnTrue_at}
 use Rattle.star_store.specs.declared.values.Value.{Value}
 use Rattle.star_machine.specs.declared.fault.Stop.{Stop}
 use Rattle.star_machine.specs.declared.fault.Stop.TheVariants.{Memory, Faulted}
-use Rattle.star_machine.specs.Gives.{Ends}
-use Rattle.star_meaning.specs.declared.fault.Code.TheVariants.{Key}
+use Rattle.star_machine.specs.Refines.{Ends}
+use Rattle.star_meaning.specs.declared.fault.FaultCode.TheVariants.{Key}
 use Rattle.star_meaning.specs.Expressions.{fresh_entries, fresh_entry}
 use Rattle.star_meaning.specs.Operators.{with_entry}
 use Rattle.star_meaning.specs.Program.{Setting}

@@ -7,9 +7,9 @@ use Rattle.star_scope.specs.declared.spot.Spot.TheVariants as spot
 use Rattle.star_tree.specs.declared.tree.Expression.{Expression}
 use Rattle.star_tree.specs.declared.tree.Target.{Target}
 use Rattle.star_tree.specs.declared.tree.Name.{Name}
-use Rattle.star_meaning.specs.declared.fault.Code.TheVariants as code
+use Rattle.star_meaning.specs.declared.fault.FaultCode.TheVariants as code
 use Rattle.star_meaning.specs.declared.fault.Fault.{Fault}
-use Rattle.star_meaning.specs.declared.place.Place.{Place}
+use Rattle.star_meaning.specs.declared.site.Site.{Site}
 use Rattle.star_meaning.specs.Laws.{Grows, Grown}
 use Rattle.star_meaning.specs.Places.{Tables, at_spot, bind_spot, by_places, frame_above, joined, new_slots, own_spot, read_spot, slot_in}
 use Rattle.star_meaning.specs.Program.{Setting, seen}
@@ -30,7 +30,7 @@ use Rattle.star_meaning.proofs.Runs.{meaning_keeps}
 use Rattle.star_eval.specs.declared.output.Output.{Output}
 use Rattle.star_eval.specs.declared.output.Output.TheVariants as output
 use Rattle.star_eval.specs.Steps.{last}
-use Rattle.star_world.specs.World.{World, meant, variables}
+use Rattle.star_world.specs.World.{World, semantics, variables}
 
 spent : {A : Type 0} (m : Action A) (s t : State) (x : A) → growth.Keeps m → m s ≡ Done x t → t.steps ≤ s.steps
 spent m s t x k e = let g : Grows s t = subst (Grown s) e (k.holds s) in g.steps
@@ -40,20 +40,20 @@ same_above : (w : Setting) (k : ℕ) (s : State) (up : ℕ) (frame : Option Valu
 same_above w k s zero frame = refl
 same_above w k s (suc up) frame = same_above w k s up (option_and_then (λ f. f.parent) (option_and_then (λ v. frame_of (seen w s v)) frame))
 
-same_spot : (w : Setting) (k : ℕ) (s : State) (p : Place) (name : List ℕ) (x : Option Spot) → at_spot w (with_more k s) p name x ≡ at_spot w s p name x
+same_spot : (w : Setting) (k : ℕ) (s : State) (p : Site) (name : List ℕ) (x : Option Spot) → at_spot w (with_more k s) p name x ≡ at_spot w s p name x
 same_spot w k s p name (Some (spot.Frame up slot)) = ap (λ (f : Option Value). joined (slot_in w s slot f)) (same_above w k s up (Some p.frame))
 same_spot w k s p name (Some spot.Prelude) = refl
 same_spot w k s p name (Some spot.Outermost) = refl
 same_spot w k s p name None = refl
 
 -- variables by their places keep the invariants of every run
-keeps-read_spot : (tables : Tables) (w : Setting) (p : Place) (n : Name) → Keeps false (read_spot tables w p n)
+keeps-read_spot : (tables : Tables) (w : Setting) (p : Site) (n : Name) → Keeps false (read_spot tables w p n)
 unfolding read_spot
 keeps-read_spot tables w p n =
     let x = tables.spots p.file n.position.token in
     keeps_seeing (λ s. found code.Unbound p.line (at_spot w s p n.text x)) (λ k s. ap (λ (o : Option Value). found code.Unbound p.line o) (same_spot w k s p n.text x)) (λ s. keeps_found code.Unbound p.line (at_spot w s p n.text x))
 
-keeps-bind_spot : (tables : Tables) (p : Place) (n : Name) (v : Value) → Keeps false (bind_spot tables p n v)
+keeps-bind_spot : (tables : Tables) (p : Site) (n : Name) (v : Value) → Keeps false (bind_spot tables p n v)
 unfolding bind_spot
 keeps-bind_spot tables p n v = keeps-bind_at p.frame v (own_spot (tables.spots p.file n.position.token))
 
@@ -67,18 +67,18 @@ places_keep tables w = record { read = keeps-read_spot tables w; bind = keeps-bi
 variables_keep : (c : World) → VariablesKeep (variables c)
 variables_keep c = places_keep (tables_of c.files) c.setting
 
-all_keep : (c : World) (levels : ℕ) → AllKeep (meant c levels)
+all_keep : (c : World) (levels : ℕ) → AllKeep (semantics c levels)
 all_keep c levels = meaning_keeps (variables c) c.setting levels (variables_keep c)
 
-pub expression_spends : (c : World) (levels : ℕ) (p : Place) (e : Expression) (v : Value) (s t : State) → (meant c levels).expr p e s ≡ Done v t → t.steps ≤ s.steps
-expression_spends c levels p e v s t h = spent ((meant c levels).expr p e) s t v ((all_keep c levels).expr p e).grows h
+pub expression_spends : (c : World) (levels : ℕ) (p : Site) (e : Expression) (v : Value) (s t : State) → (semantics c levels).expr p e s ≡ Done v t → t.steps ≤ s.steps
+expression_spends c levels p e v s t h = spent ((semantics c levels).expr p e) s t v ((all_keep c levels).expr p e).grows h
 
-pub target_spends : (c : World) (levels : ℕ) (p : Place) (g : Target) (v : Value) (s t : State) → to_target (variables c) (meant c levels) p g v s ≡ Done tt t → t.steps ≤ s.steps
-target_spends c levels p g v s t h = spent (to_target (variables c) (meant c levels) p g v) s t tt (keeps-to_target (variables c) (meant c levels) p g v (variables_keep c) (all_keep c levels)).grows h
+pub target_spends : (c : World) (levels : ℕ) (p : Site) (g : Target) (v : Value) (s t : State) → to_target (variables c) (semantics c levels) p g v s ≡ Done tt t → t.steps ≤ s.steps
+target_spends c levels p g v s t h = spent (to_target (variables c) (semantics c levels) p g v) s t tt (keeps-to_target (variables c) (semantics c levels) p g v (variables_keep c) (all_keep c levels)).grows h
 
-pub last_spends : (c : World) (levels : ℕ) (p : Place) (o : Output) (s t : State) → last c levels p o s ≡ Done tt t → t.steps ≤ s.steps
-last_spends c levels p (output.Element e l) s t h = spent (add_element c.setting (meant c levels) p e.now l) s t tt (keeps-add_element c.setting (meant c levels) p e.now l (all_keep c levels)).grows h
-last_spends c levels p (output.Entry e d) s t h = spent (add_entry c.setting levels (meant c levels) p e.now d) s t tt (keeps-add_entry c.setting levels (meant c levels) p e.now d (all_keep c levels)).grows h
+pub last_spends : (c : World) (levels : ℕ) (p : Site) (o : Output) (s t : State) → last c levels p o s ≡ Done tt t → t.steps ≤ s.steps
+last_spends c levels p (output.Element e l) s t h = spent (add_element c.setting (semantics c levels) p e.now l) s t tt (keeps-add_element c.setting (semantics c levels) p e.now l (all_keep c levels)).grows h
+last_spends c levels p (output.Entry e d) s t h = spent (add_entry c.setting levels (semantics c levels) p e.now d) s t tt (keeps-add_entry c.setting levels (semantics c levels) p e.now d (all_keep c levels)).grows h
 
 grows_iterate : (w : Setting) (line : ℕ) (v : Value) → growth.Keeps (iterate w line v)
 unfolding iterate count_of

@@ -1,8 +1,8 @@
 -- Loops go on turn by turn.
 use Rattle.std.proofs.Common.{◌≡◌, ℕ, zero, suc, ◌+◌, ◌-◌, ◌<◌, ap, arith}
-use Rattle.star_meaning.specs.declared.place.Flow.{Flow}
+use Rattle.star_meaning.specs.declared.site.Flow.{Flow}
 use Rattle.star_meaning.specs.Run.{State, Action, and_then}
-use Rattle.star_meaning.specs.Meaning.{turns, then_turn, repeat}
+use Rattle.star_meaning.specs.Semantics.{turns, then_turn, repeat}
 
 turns_more : (f : ℕ → Action Flow) (n m i : ℕ) (s : State) → n ≡ m + 1 → turns f n i s ≡ and_then (f i s) (then_turn (turns f m (i + 1)))
 turns_more f zero m i s h = absurd (omega arith)

@@ -4,10 +4,8 @@
 //! a bound that could be met.
 
 ghost use Rattle.std.specs.Prelude.{◌+◌, ◌<◌, ◌≤◌, OnOk};
-ghost use Rattle.star_machine.specs.Gives.{Gives};
-ghost use Rattle.star_meaning.specs.Comprehensions.{dict_comprehension, list_comprehension};
-ghost use Rattle.star_world.specs.World.{meant, variables};
-ghost use Rattle.star_eval.specs.Steps.{Leads, after, filled, filled_dict, filled_list, last, opened_left, turn_of, turns_left};
+ghost use Rattle.star_machine.specs.Refines.{Refines};
+ghost use Rattle.star_eval.specs.Steps.{Opens, after, filled, last, making_dict, making_list, next_turn, turns_left};
 
 use crate::evaluate::{evaluate, evaluate_entry};
 use crate::execute::assign_to;
@@ -16,11 +14,11 @@ use crate::output::Output;
 use star_machine::fault::Stop;
 use star_machine::machine::Machine;
 use star_machine::subscript::put_entry;
-use star_meaning::place::Place;
+use star_meaning::site::Site;
 use star_store::arena::write::Change;
 use star_store::values::Value;
 use star_tree::tree::{Clause, Clauses, Entry, Expression};
-use star_world::parts::{enter, new_row, new_table};
+use star_world::parts::{enter, new_empty_dict, new_empty_list};
 use star_world::world::World;
 
 /// A list comprehension: the first iterable, its frame, the list, the clauses.
@@ -29,40 +27,19 @@ pub(crate) fn make_list(
     machine: &mut Machine,
     world: &World,
     levels: u32,
-    place: &Place,
+    site: &Site,
     token: usize,
     element: &Expression,
     clauses: &Clauses,
 ) -> Result<Value, Stop>
-    ensures { Gives (list_comprehension (variables world.now) world.now.setting (meant world.now levels) place.now
-        (1 + token) element.now clauses.now machine.old) result machine.new }
-{
-    let value = evaluate(machine, world, levels, place, clauses.iterable.get())?;
-    let line = place.line;
-    let place = enter(machine, world, place, token)?;
-    fill_list(
-        machine, world, levels, &place, line, element, clauses, value,
-    )
-}
-
-/// A new list that the clauses fill, over the first iterable.
-#[cycle(run)]
-fn fill_list(
-    machine: &mut Machine,
-    world: &World,
-    levels: u32,
-    place: &Place,
-    line: usize,
-    element: &Expression,
-    clauses: &Clauses,
-    value: Value,
-) -> Result<Value, Stop>
-    ensures { Gives (filled_list world.now levels line place.now element.entry clauses.now value machine.old)
+    ensures { Refines (making_list world.now levels site.now token element.now clauses.now machine.old)
         result machine.new }
 {
-    let list = new_row(machine, line)?;
+    let value = evaluate(machine, world, levels, site, clauses.iterable.get())?;
+    let inside = enter(machine, world, site, token)?;
+    let list = new_empty_list(machine, site.line)?;
     let output = Output::Element { element, list };
-    fill(machine, world, levels, place, clauses, value, output)
+    fill(machine, world, levels, &inside, clauses, value, output)
 }
 
 /// A dictionary comprehension: the first iterable, its frame, the dictionary, the clauses.
@@ -71,38 +48,19 @@ pub(crate) fn make_dict(
     machine: &mut Machine,
     world: &World,
     levels: u32,
-    place: &Place,
+    site: &Site,
     token: usize,
     entry: &Entry,
     clauses: &Clauses,
 ) -> Result<Value, Stop>
-    ensures { Gives (dict_comprehension (variables world.now) world.now.setting levels (meant world.now levels)
-        place.now (1 + token) entry.now clauses.now machine.old) result machine.new }
-{
-    let value = evaluate(machine, world, levels, place, clauses.iterable.get())?;
-    let line = place.line;
-    let place = enter(machine, world, place, token)?;
-    fill_dict(machine, world, levels, &place, line, entry, clauses, value)
-}
-
-/// A new dictionary that the clauses fill, over the first iterable.
-#[cycle(run)]
-fn fill_dict(
-    machine: &mut Machine,
-    world: &World,
-    levels: u32,
-    place: &Place,
-    line: usize,
-    entry: &Entry,
-    clauses: &Clauses,
-    value: Value,
-) -> Result<Value, Stop>
-    ensures { Gives (filled_dict world.now levels line place.now entry.entry clauses.now value machine.old)
+    ensures { Refines (making_dict world.now levels site.now token entry.now clauses.now machine.old)
         result machine.new }
 {
-    let dict = new_table(machine, line)?;
+    let value = evaluate(machine, world, levels, site, clauses.iterable.get())?;
+    let inside = enter(machine, world, site, token)?;
+    let dict = new_empty_dict(machine, site.line)?;
     let output = Output::Entry { entry, dict };
-    fill(machine, world, levels, place, clauses, value, output)
+    fill(machine, world, levels, &inside, clauses, value, output)
 }
 
 /// All clauses over the first iterable; then the list or dictionary that they fill.
@@ -112,14 +70,14 @@ fn fill(
     machine: &mut Machine,
     world: &World,
     levels: u32,
-    place: &Place,
+    site: &Site,
     clauses: &Clauses,
     value: Value,
     output: Output<'_>,
 ) -> Result<Value, Stop>
-    ensures { Gives (filled world.now levels place.now clauses.now value output.entry machine.old) result machine.new }
+    ensures { Refines (filled world.now levels site.now clauses.now value output.entry machine.old) result machine.new }
 {
-    let count = machine.iterate(world.setting(), place.line, value)?;
+    let count = machine.iterate(world.setting(), site.line, value)?;
     let first = OpenClause {
         target: &clauses.target,
         value,
@@ -127,7 +85,7 @@ fn fill(
         next: 0,
         more: clauses.more.as_slice(),
     };
-    run_turns(machine, world, levels, place, first, output)?;
+    run_turns(machine, world, levels, site, first, output)?;
     Ok(output.container())
 }
 
@@ -138,11 +96,11 @@ fn run_turns<'t>(
     machine: &mut Machine,
     world: &World,
     levels: u32,
-    place: &Place,
+    site: &Site,
     first: OpenClause<'t>,
     output: Output<'_>,
 ) -> Result<(), Stop>
-    ensures { Gives (turns_left world.now levels place.now output.entry first.entry machine.old) result machine.new }
+    ensures { Refines (turns_left world.now levels site.now output.entry first.entry machine.old) result machine.new }
 {
     let mut outer = Vec::new(machine.alloc());
     let mut clause = first;
@@ -155,7 +113,7 @@ fn run_turns<'t>(
             clause = around;
             continue;
         }
-        let opened = run_turn(machine, world, levels, place, clause, output)?;
+        let opened = run_turn(machine, world, levels, site, clause, output)?;
         clause = clause.past_item();
         if let Some(inner) = opened {
             outer.push(clause)?;
@@ -172,19 +130,18 @@ fn run_turn<'t>(
     machine: &mut Machine,
     world: &World,
     levels: u32,
-    place: &Place,
+    site: &Site,
     clause: OpenClause<'t>,
     output: Output<'_>,
 ) -> Result<Option<OpenClause<'t>>, Stop>
-    ensures turn { let rest = opened_left world.now levels place.now output.entry in
-        let turn = turn_of world.now levels place.now output.entry clause.entry in
-        Leads rest (turn clause.entry.next machine.old) result machine.new }
+    ensures turn { Opens world.now levels site.now output.entry
+        (next_turn world.now levels site.now output.entry clause.entry machine.old) result machine.new }
     ensures paid { OnOk result (machine.new.steps < machine.old.steps) }
 {
-    let line = place.line;
+    let line = site.line;
     let item = machine.take_item(world.setting(), line, clause.value, clause.next)?;
-    assign_to(machine, world, levels, place, clause.target, item)?;
-    let opened = run_clauses(machine, world, levels, place, clause.more, output)?;
+    assign_to(machine, world, levels, site, clause.target, item)?;
+    let opened = run_clauses(machine, world, levels, site, clause.more, output)?;
     Ok(opened)
 }
 
@@ -196,20 +153,20 @@ fn run_clauses<'t>(
     machine: &mut Machine,
     world: &World,
     levels: u32,
-    place: &Place,
+    site: &Site,
     clauses: &'t [Clause],
     output: Output<'_>,
 ) -> Result<Option<OpenClause<'t>>, Stop>
-    ensures run { let rest = opened_left world.now levels place.now output.entry in
-        Leads rest (after world.now levels place.now clauses.now output.entry machine.old) result machine.new }
+    ensures run { Opens world.now levels site.now output.entry
+        (after world.now levels site.now clauses.now output.entry machine.old) result machine.new }
     ensures spent { OnOk result (machine.new.steps ≤ machine.old.steps) }
 {
     let mut rest = clauses;
     while let [clause, others @ ..] = rest {
         match clause {
             Clause::For { target, iterable } => {
-                let value = evaluate(machine, world, levels, place, iterable)?;
-                let count = machine.iterate(world.setting(), place.line, value)?;
+                let value = evaluate(machine, world, levels, site, iterable)?;
+                let count = machine.iterate(world.setting(), site.line, value)?;
                 return Ok(Some(OpenClause {
                     target,
                     value,
@@ -219,7 +176,7 @@ fn run_clauses<'t>(
                 }));
             }
             Clause::If(condition) => {
-                let value = evaluate(machine, world, levels, place, condition)?;
+                let value = evaluate(machine, world, levels, site, condition)?;
                 if !machine.is_true(world.setting(), value) {
                     return Ok(None);
                 }
@@ -227,7 +184,7 @@ fn run_clauses<'t>(
         }
         rest = others;
     }
-    add(machine, world, levels, place, output)?;
+    add(machine, world, levels, site, output)?;
     Ok(None)
 }
 
@@ -237,21 +194,21 @@ fn add(
     machine: &mut Machine,
     world: &World,
     levels: u32,
-    place: &Place,
+    site: &Site,
     output: Output<'_>,
 ) -> Result<(), Stop>
-    ensures { Gives (last world.now levels place.now output.entry machine.old) result machine.new }
+    ensures { Refines (last world.now levels site.now output.entry machine.old) result machine.new }
 {
-    let line = place.line;
+    let line = site.line;
     match output {
         Output::Element { element, list } => {
-            let value = evaluate(machine, world, levels, place, element)?;
+            let value = evaluate(machine, world, levels, site, element)?;
             machine.pay(line, 1)?;
             let _old = machine.change(world.setting(), line, list, Change::Append(value))?;
             Ok(())
         }
         Output::Entry { entry, dict } => {
-            let (key, value) = evaluate_entry(machine, world, levels, place, entry)?;
+            let (key, value) = evaluate_entry(machine, world, levels, site, entry)?;
             machine.check_key(world.setting(), levels, line, key)?;
             put_entry(machine, world.setting(), line, dict, key, value)
         }

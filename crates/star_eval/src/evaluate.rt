@@ -5,46 +5,43 @@
 //! leaves do not pay for its large frame. (`execute` and `execute_any` do so for assignments and plain expressions.)
 //! Each `match` has one arm for each form, so these functions are longer than others.
 
-ghost use Rattle.std.specs.Prelude.{◌≡◌, List};
-ghost use Rattle.star_machine.specs.Gives.{Gives, GivesBy};
+ghost use Rattle.std.specs.Prelude.{◌≡◌};
+ghost use Rattle.star_machine.specs.Refines.{Refines, RefinesBy};
 ghost use Rattle.star_meaning.specs.Calls as calls;
-ghost use Rattle.star_meaning.specs.Expressions.{defaults, entry_of, maybe, new_function, node};
+ghost use Rattle.star_meaning.specs.Expressions.{defaults, entry_of, maybe, new_function};
 ghost use Rattle.star_meaning.specs.Run.{each};
 ghost use Rattle.star_scope.specs.Definitions.{body_of, definition_of};
 ghost use Rattle.star_scope.specs.Syntax as form;
-ghost use Rattle.star_meaning.specs.Calls.{AFunction};
-ghost use Rattle.star_enter.specs.ByPlace.{called_by_place, called_with, expression_of, shares_by_place};
+ghost use Rattle.star_enter.specs.Positional.{called_positional, called_with, expression_of};
 ghost use Rattle.star_enter.specs.Entering.{left};
-ghost use Rattle.star_world.specs.World.{meant, variables};
-ghost use Rattle.star_meaning.specs.Values.{content};
-ghost use Rattle.star_call.specs.Callees.{IsDefined, IsFound, function_of, shown};
-ghost use Rattle.star_enter.specs.Ordered.{HasBound};
-ghost use Rattle.star_tree.specs.declared.tree.Name.{Name};
-ghost use Rattle.star_meaning.specs.Binding.{Share as AnyShare};
-ghost use Rattle.star_call.specs.Passed as passing;
+ghost use Rattle.star_world.specs.World.{semantics};
+ghost use Rattle.star_call.specs.Callees.{IsDefined, IsFound};
+ghost use Rattle.star_call.specs.EvaluatedArgument as passing;
+ghost use Rattle.star_eval.specs.Calling.{GivesBound, calling, calling_positional, calling_with};
+ghost use Rattle.star_eval.specs.Forms.{evaluating};
 
 use crate::comprehensions::{make_dict, make_list};
 use crate::execute::execute_each;
 use crate::nodes::{
-    evaluate_and, evaluate_attribute, evaluate_binary, evaluate_choice, evaluate_comparison,
-    evaluate_dict, evaluate_index, evaluate_list, evaluate_or, evaluate_slice, evaluate_tuple,
-    evaluate_unary,
+    SliceParts, evaluate_and, evaluate_attribute, evaluate_binary, evaluate_choice,
+    evaluate_comparison, evaluate_dict, evaluate_index, evaluate_list, evaluate_or, evaluate_slice,
+    evaluate_tuple, evaluate_unary,
 };
 use sqlite_items::{Boxed, Items};
 use star_attribute::methods::call_method;
 use star_builtin::calls::call_built_in;
 use star_call::callee::{Called, Callee};
-use star_call::passed::{Passed, given};
-use star_call::shares::Shares;
+use star_call::passed::{EvaluatedArgument, given};
+use star_call::shares::BoundArguments;
 use star_enter::calls::{
-    are_positional, callee_of, enter_by_place, enter_call, expression_of, fit_by_place,
+    are_positional, callee_of, enter_call, enter_positional, expression_of, fit_positionally,
 };
 use star_enter::ordered::{Bound, bound_of, enter_bound};
 use star_machine::fault::{Stop, faulted};
 use star_machine::machine::Machine;
-use star_meaning::fault::Code;
-use star_meaning::given::Given;
-use star_meaning::place::Place;
+use star_meaning::fault::FaultCode;
+use star_meaning::given::Arguments;
+use star_meaning::site::Site;
 use star_scope::outline::{Body, Definition};
 use star_store::defaults::Defaults;
 use star_store::values::{Entries, Value, Values};
@@ -62,16 +59,16 @@ pub fn evaluate(
     machine: &mut Machine,
     world: &World,
     levels: u32,
-    place: &Place,
+    site: &Site,
     expression: &Expression,
 ) -> Result<Value, Stop>
-    ensures { Gives ((meant world.now levels).expr place.now expression.now machine.old) result machine.new }
+    ensures { Refines ((semantics world.now levels).expr site.now expression.now machine.old) result machine.new }
 {
     if levels == 0 {
-        return Err(faulted(Code::Deep, place.line));
+        return Err(faulted(FaultCode::Deep, site.line));
     }
-    machine.pay_one(place.line)?;
-    evaluate_node(machine, world, levels - 1, place, expression)
+    machine.pay_one(site.line)?;
+    evaluate_node(machine, world, levels - 1, site, expression)
 }
 
 /// Evaluates a node whose parts may open `levels` levels: a name or an int here, all else by `evaluate_any`.
@@ -81,16 +78,16 @@ fn evaluate_node(
     machine: &mut Machine,
     world: &World,
     levels: u32,
-    place: &Place,
+    site: &Site,
     expression: &Expression,
 ) -> Result<Value, Stop>
-    ensures { Gives (node (variables world.now) world.now.setting levels (meant world.now levels) place.now
-        (form.expression expression.now) machine.old) result machine.new }
+    ensures { Refines (evaluating world.now levels site.now (form.expression expression.now) machine.old)
+        result machine.new }
 {
     match expression {
-        Expression::Name(name) => read(machine, world, place, name),
+        Expression::Name(name) => read(machine, world, site, name),
         Expression::Int(int) => Ok(Value::Int(*int)),
-        _ => evaluate_any(machine, world, levels, place, expression),
+        _ => evaluate_any(machine, world, levels, site, expression),
     }
 }
 
@@ -101,23 +98,23 @@ fn evaluate_any(
     machine: &mut Machine,
     world: &World,
     levels: u32,
-    place: &Place,
+    site: &Site,
     expression: &Expression,
 ) -> Result<Value, Stop>
-    ensures { Gives (node (variables world.now) world.now.setting levels (meant world.now levels) place.now
-        (form.expression expression.now) machine.old) result machine.new }
+    ensures { Refines (evaluating world.now levels site.now (form.expression expression.now) machine.old)
+        result machine.new }
 {
     match expression {
-        Expression::Name(name) => read(machine, world, place, name),
+        Expression::Name(name) => read(machine, world, site, name),
         Expression::Int(int) => Ok(Value::Int(*int)),
-        Expression::Text(text) => new_string(machine, place.line, text),
-        Expression::Tuple(items) => evaluate_tuple(machine, world, levels, place, items.as_slice()),
-        Expression::List(items) => evaluate_list(machine, world, levels, place, items.as_slice()),
+        Expression::Text(text) => new_string(machine, site.line, text),
+        Expression::Tuple(items) => evaluate_tuple(machine, world, levels, site, items.as_slice()),
+        Expression::List(items) => evaluate_list(machine, world, levels, site, items.as_slice()),
         Expression::Dict(entries) => evaluate_dict(
             machine,
             world,
             levels,
-            place,
+            site,
             entries.as_slice(),
         ),
         Expression::ListComprehension {
@@ -128,7 +125,7 @@ fn evaluate_any(
             machine,
             world,
             levels,
-            place,
+            site,
             position.token,
             element.get(),
             clauses.get(),
@@ -141,13 +138,13 @@ fn evaluate_any(
             machine,
             world,
             levels,
-            place,
+            site,
             position.token,
             entry.get(),
             clauses.get(),
         ),
         Expression::Unary { operator, operand } => {
-            evaluate_unary(machine, world, levels, place, *operator, operand.get())
+            evaluate_unary(machine, world, levels, site, *operator, operand.get())
         }
         Expression::Binary {
             operator,
@@ -157,7 +154,7 @@ fn evaluate_any(
             machine,
             world,
             levels,
-            place,
+            site,
             *operator,
             left.get(),
             right.get(),
@@ -170,16 +167,16 @@ fn evaluate_any(
             machine,
             world,
             levels,
-            place,
+            site,
             *comparator,
             left.get(),
             right.get(),
         ),
         Expression::And { left, right } => {
-            evaluate_and(machine, world, levels, place, left.get(), right.get())
+            evaluate_and(machine, world, levels, site, left.get(), right.get())
         }
         Expression::Or { left, right } => {
-            evaluate_or(machine, world, levels, place, left.get(), right.get())
+            evaluate_or(machine, world, levels, site, left.get(), right.get())
         }
         Expression::Conditional {
             condition,
@@ -189,7 +186,7 @@ fn evaluate_any(
             machine,
             world,
             levels,
-            place,
+            site,
             condition.get(),
             chosen.get(),
             otherwise.get(),
@@ -202,7 +199,7 @@ fn evaluate_any(
             machine,
             world,
             levels,
-            place,
+            site,
             position.token,
             "lambda",
             parameters.get().as_slice(),
@@ -214,15 +211,15 @@ fn evaluate_any(
             machine,
             world,
             levels,
-            place,
+            site,
             function.get(),
             arguments.as_slice(),
         ),
         Expression::Attribute { value, name } => {
-            evaluate_attribute(machine, world, levels, place, value.get(), name)
+            evaluate_attribute(machine, world, levels, site, value.get(), name)
         }
         Expression::Index { value, index } => {
-            evaluate_index(machine, world, levels, place, value.get(), index.get())
+            evaluate_index(machine, world, levels, site, value.get(), index.get())
         }
         Expression::Slice {
             value,
@@ -233,11 +230,13 @@ fn evaluate_any(
             machine,
             world,
             levels,
-            place,
+            site,
             value.get(),
-            start,
-            stop,
-            stride,
+            SliceParts {
+                start,
+                stop,
+                stride,
+            },
         ),
     }
 }
@@ -248,14 +247,15 @@ pub(crate) fn evaluate_each(
     machine: &mut Machine,
     world: &World,
     levels: u32,
-    place: &Place,
+    site: &Site,
     expressions: &[Expression],
 ) -> Result<Values, Stop>
-    ensures { Gives (each ((meant world.now levels).expr place.now) expressions.now machine.old) result machine.new }
+    ensures { Refines (each ((semantics world.now levels).expr site.now) expressions.now machine.old)
+        result machine.new }
 {
     let mut values = Values::new(Vec::with_capacity(machine.alloc(), expressions.len())?);
     for expression in expressions {
-        let value = evaluate(machine, world, levels, place, expression)?;
+        let value = evaluate(machine, world, levels, site, expression)?;
         values.push(value)?;
     }
     Ok(values)
@@ -267,14 +267,14 @@ pub(crate) fn evaluate_maybe(
     machine: &mut Machine,
     world: &World,
     levels: u32,
-    place: &Place,
+    site: &Site,
     expression: &Option<Boxed<Expression>>,
 ) -> Result<Option<Value>, Stop>
-    ensures { Gives (maybe (meant world.now levels) place.now expression.now machine.old) result machine.new }
+    ensures { Refines (maybe (semantics world.now levels) site.now expression.now machine.old) result machine.new }
 {
     match expression {
         Some(expression) => {
-            let value = evaluate(machine, world, levels, place, expression.get())?;
+            let value = evaluate(machine, world, levels, site, expression.get())?;
             Ok(Some(value))
         }
         None => Ok(None),
@@ -287,13 +287,13 @@ pub(crate) fn evaluate_entry(
     machine: &mut Machine,
     world: &World,
     levels: u32,
-    place: &Place,
+    site: &Site,
     entry: &Entry,
 ) -> Result<(Value, Value), Stop>
-    ensures { Gives (entry_of (meant world.now levels) place.now entry.now machine.old) result machine.new }
+    ensures { Refines (entry_of (semantics world.now levels) site.now entry.now machine.old) result machine.new }
 {
-    let key = evaluate(machine, world, levels, place, &entry.key)?;
-    let value = evaluate(machine, world, levels, place, &entry.value)?;
+    let key = evaluate(machine, world, levels, site, &entry.key)?;
+    let value = evaluate(machine, world, levels, site, &entry.value)?;
     Ok((key, value))
 }
 
@@ -303,14 +303,15 @@ pub(crate) fn evaluate_entries(
     machine: &mut Machine,
     world: &World,
     levels: u32,
-    place: &Place,
+    site: &Site,
     entries: &[Entry],
 ) -> Result<Entries, Stop>
-    ensures { Gives (each (entry_of (meant world.now levels) place.now) entries.now machine.old) result machine.new }
+    ensures { Refines (each (entry_of (semantics world.now levels) site.now) entries.now machine.old)
+        result machine.new }
 {
     let mut found = Entries::with_capacity(machine.alloc(), entries.len())?;
     for entry in entries {
-        let (key, value) = evaluate_entry(machine, world, levels, place, entry)?;
+        let (key, value) = evaluate_entry(machine, world, levels, site, entry)?;
         found.push(key, value)?;
     }
     Ok(found)
@@ -322,15 +323,15 @@ fn evaluate_defaults(
     machine: &mut Machine,
     world: &World,
     levels: u32,
-    place: &Place,
+    site: &Site,
     parameters: &[Parameter],
 ) -> Result<Defaults, Stop>
-    ensures { Gives (defaults (meant world.now levels) place.now parameters.now machine.old) result machine.new }
+    ensures { Refines (defaults (semantics world.now levels) site.now parameters.now machine.old) result machine.new }
 {
     let mut values = Vec::new(machine.alloc());
     for parameter in parameters {
         if let Parameter::Default { default, .. } = parameter {
-            let value = evaluate(machine, world, levels, place, default)?;
+            let value = evaluate(machine, world, levels, site, default)?;
             values.push(value)?;
         }
     }
@@ -343,16 +344,16 @@ pub(crate) fn make_function(
     machine: &mut Machine,
     world: &World,
     levels: u32,
-    place: &Place,
+    site: &Site,
     token: usize,
     name: &str,
     parameters: &[Parameter],
 ) -> Result<Value, Stop>
-    ensures { Gives (new_function (meant world.now levels) place.now token name.now parameters.now machine.old)
+    ensures { Refines (new_function (semantics world.now levels) site.now token name.now parameters.now machine.old)
         result machine.new }
 {
-    let defaults = evaluate_defaults(machine, world, levels, place, parameters)?;
-    new_closure(machine, place, token, name, defaults)
+    let defaults = evaluate_defaults(machine, world, levels, site, parameters)?;
+    new_closure(machine, site, token, name, defaults)
 }
 
 /// The value of an argument.
@@ -361,23 +362,25 @@ fn pass<'t>(
     machine: &mut Machine,
     world: &World,
     levels: u32,
-    place: &Place,
+    site: &Site,
     argument: &'t Argument,
-) -> Result<Passed<'t>, Stop>
-    ensures { GivesBy passing.shown (calls.pass (meant world.now levels) place.now argument.now machine.old)
+) -> Result<EvaluatedArgument<'t>, Stop>
+    ensures { RefinesBy passing.shown (calls.pass (semantics world.now levels) site.now argument.now machine.old)
         result machine.new }
 {
     match argument {
-        Argument::Positional(value) => Ok(Passed::Plain(evaluate(
-            machine, world, levels, place, value,
+        Argument::Positional(value) => Ok(EvaluatedArgument::Plain(evaluate(
+            machine, world, levels, site, value,
         )?)),
         Argument::Named { name, value } => {
-            let value = evaluate(machine, world, levels, place, value)?;
-            Ok(Passed::Named(name.text.as_str(), value))
+            let value = evaluate(machine, world, levels, site, value)?;
+            Ok(EvaluatedArgument::Named(name.text.as_str(), value))
         }
-        Argument::Star(value) => Ok(Passed::Star(evaluate(machine, world, levels, place, value)?)),
-        Argument::StarStar(value) => Ok(Passed::StarStar(evaluate(
-            machine, world, levels, place, value,
+        Argument::Star(value) => Ok(EvaluatedArgument::Star(evaluate(
+            machine, world, levels, site, value,
+        )?)),
+        Argument::StarStar(value) => Ok(EvaluatedArgument::StarStar(evaluate(
+            machine, world, levels, site, value,
         )?)),
     }
 }
@@ -388,15 +391,16 @@ fn evaluate_arguments(
     machine: &mut Machine,
     world: &World,
     levels: u32,
-    place: &Place,
+    site: &Site,
     arguments: &[Argument],
 ) -> Result<Values, Stop>
-    ensures { Gives (each (λ a. (meant world.now levels).expr place.now (expression_of a)) arguments.now machine.old)
+    ensures { Refines (each (λ a. (semantics world.now levels).expr site.now
+        (expression_of a)) arguments.now machine.old)
         result machine.new }
 {
     let mut values = Values::new(Vec::new(machine.alloc()));
     for argument in arguments {
-        let value = evaluate(machine, world, levels, place, expression_of(argument))?;
+        let value = evaluate(machine, world, levels, site, expression_of(argument))?;
         values.push(value)?;
     }
     Ok(values)
@@ -408,15 +412,15 @@ fn pass_each<'t>(
     machine: &mut Machine,
     world: &World,
     levels: u32,
-    place: &Place,
+    site: &Site,
     arguments: &'t [Argument],
-) -> Result<Vec<Passed<'t>>, Stop>
-    ensures { GivesBy (λ ps. passing.all_shown ps.items)
-        (each (calls.pass (meant world.now levels) place.now) arguments.now machine.old) result machine.new }
+) -> Result<Vec<EvaluatedArgument<'t>>, Stop>
+    ensures { RefinesBy (λ ps. passing.all_shown ps.items)
+        (each (calls.pass (semantics world.now levels) site.now) arguments.now machine.old) result machine.new }
 {
     let mut values = Vec::new(machine.alloc());
     for argument in arguments {
-        let value = pass(machine, world, levels, place, argument)?;
+        let value = pass(machine, world, levels, site, argument)?;
         values.push(value)?;
     }
     Ok(values)
@@ -424,11 +428,11 @@ fn pass_each<'t>(
 
 /// A fault leaves a call of the function that this expression names.
 #[inline(never)]
-fn leave_call(machine: &mut Machine, place: &Place, function: &Expression)
+fn leave_call(machine: &mut Machine, site: &Site, function: &Expression)
     ensures { machine.new ≡ machine.old }
 {
     if let Expression::Name(name) | Expression::Attribute { name, .. } = function {
-        machine.leave_call(place.file, name.position.token);
+        machine.leave_call(site.file, name.position.token);
     }
 }
 
@@ -438,42 +442,42 @@ fn call(
     machine: &mut Machine,
     world: &World,
     levels: u32,
-    place: &Place,
+    site: &Site,
     function: &Expression,
     arguments: &[Argument],
 ) -> Result<Value, Stop>
-    ensures { Gives (calls.call_node world.now.setting levels (meant world.now levels) place.now function.now
+    ensures { Refines (calls.call_node world.now.setting levels (semantics world.now levels) site.now function.now
         arguments.now machine.old) result machine.new }
 {
-    let value = evaluate(machine, world, levels, place, function)?;
+    let value = evaluate(machine, world, levels, site, function)?;
     if are_positional(arguments) {
-        return call_by_place(machine, world, levels, place, function, value, arguments);
+        return call_positional(machine, world, levels, site, function, value, arguments);
     }
-    call_with(machine, world, levels, place, function, value, arguments)
+    call_with(machine, world, levels, site, function, value, arguments)
 }
 
 /// A call of a value, named by `function`, with positional arguments alone, which need no unpacking. A fault leaves it.
 #[cycle(run)]
-fn call_by_place(
+fn call_positional(
     machine: &mut Machine,
     world: &World,
     levels: u32,
-    place: &Place,
+    site: &Site,
     function: &Expression,
     value: Value,
     arguments: &[Argument],
 ) -> Result<Value, Stop>
-    ensures { Gives (called_by_place world.now levels place.now value arguments.now machine.old) result machine.new }
+    ensures { Refines (called_positional world.now levels site.now value arguments.now machine.old) result machine.new }
 {
-    let plain = evaluate_arguments(machine, world, levels, place, arguments)?;
-    let callee = callee_of(machine, world, place.line, value)?;
-    let given = Given {
-        plain,
+    let positional = evaluate_arguments(machine, world, levels, site, arguments)?;
+    let callee = callee_of(machine, world, site.line, value)?;
+    let given = Arguments {
+        positional,
         named: Items::new(machine.alloc()),
     };
-    let answer = call_on(machine, world, levels, place, callee, &given);
+    let answer = call_on(machine, world, levels, site, callee, &given);
     if answer.is_err() {
-        leave_call(machine, place, function);
+        leave_call(machine, site, function);
     }
     answer
 }
@@ -485,20 +489,20 @@ fn call_with(
     machine: &mut Machine,
     world: &World,
     levels: u32,
-    place: &Place,
+    site: &Site,
     function: &Expression,
     value: Value,
     arguments: &[Argument],
 ) -> Result<Value, Stop>
-    ensures { Gives (called_with world.now levels place.now value arguments.now machine.old) result machine.new }
+    ensures { Refines (called_with world.now levels site.now value arguments.now machine.old) result machine.new }
 {
-    let line = place.line;
-    let passed = pass_each(machine, world, levels, place, arguments)?;
+    let line = site.line;
+    let passed = pass_each(machine, world, levels, site, arguments)?;
     let callee = callee_of(machine, world, line, value)?;
     let given = given(machine, world.setting(), line, &passed)?;
-    let answer = call_on(machine, world, levels, place, callee, &given);
+    let answer = call_on(machine, world, levels, site, callee, &given);
     if answer.is_err() {
-        leave_call(machine, place, function);
+        leave_call(machine, site, function);
     }
     answer
 }
@@ -509,17 +513,16 @@ fn call_on(
     machine: &mut Machine,
     world: &World,
     levels: u32,
-    place: &Place,
+    site: &Site,
     callee: Callee<'_>,
-    given: &Given,
+    given: &Arguments,
 ) -> Result<Value, Stop>
     requires { IsFound world.now.setting callee }
-    ensures { Gives (calls.called world.now.setting levels (meant world.now levels) place.now
-        (shown (content world.now.setting machine.old) callee.entry) given.now machine.old) result machine.new }
+    ensures { Refines (calling_with world.now levels site.now callee.entry given.now machine.old) result machine.new }
 {
-    let line = place.line;
+    let line = site.line;
     match callee {
-        Callee::AFunction(called) => call_function(machine, world, levels, place, called, given),
+        Callee::AFunction(called) => call_function(machine, world, levels, site, called, given),
         Callee::ABuiltIn(function) => {
             call_built_in(machine, world.setting(), levels, line, function, given)
         }
@@ -540,58 +543,55 @@ fn call_on(
 /// A call of a function: its arguments are bound, or `Args`; then it runs. Where each parameter gets the value at its
 /// own place, or the parameters have a layout, they are not bound one by one.
 #[cycle(run)]
-#[tactic(auto, using(star_enter::proofs::ByPlace::bound_by_place))]
+#[tactic(auto, using(star_enter::proofs::Positional::bound_positional))]
 fn call_function(
     machine: &mut Machine,
     world: &World,
     levels: u32,
-    place: &Place,
+    site: &Site,
     called: Called<'_>,
-    given: &Given,
+    given: &Arguments,
 ) -> Result<Value, Stop>
     requires { IsDefined world.now.setting called }
-    ensures { Gives (calls.called world.now.setting levels (meant world.now levels) place.now
-        (AFunction (function_of (content world.now.setting machine.old called.entry.value) called.entry)
-        (definition_of called.entry.definition)) given.now machine.old) result machine.new }
+    ensures { Refines (calling_with world.now levels site.now (Callee.AFunction called.entry) given.now machine.old)
+        result machine.new }
 {
-    if fit_by_place(called.definition.parameters, given) {
-        return run_by_place(
+    if fit_positionally(called.definition.parameters, given) {
+        return run_positional(
             machine,
             world,
             levels,
-            place,
+            site,
             called,
-            given.plain.as_slice(),
+            given.positional.as_slice(),
         );
     }
     if let Some(bound) = bound_of(machine, world, &called, given)? {
-        return run_bound(machine, world, levels, place, called, bound);
+        return run_bound(machine, world, levels, site, called, bound);
     }
-    let shares = called.bind(machine, world.setting(), place.line, given)?;
-    run_function(machine, world, levels, place, called, &shares)
+    let shares = called.bind(machine, world.setting(), site.line, given)?;
+    run_function(machine, world, levels, site, called, &shares)
 }
 
 /// The run of a function each of whose parameters gets the value at its own position. `Deep` if no level is left.
 #[cycle(run)]
-#[tactic(auto, using(star_meaning::proofs::Levels::call_at, star_meaning::proofs::Levels::call_at_none, star_enter::proofs::ByPlace::run_by_place_is))]
-fn run_by_place(
+#[tactic(auto, using(star_meaning::proofs::Levels::call_at, star_meaning::proofs::Levels::call_at_none, star_enter::proofs::Positional::run_positional_is))]
+fn run_positional(
     machine: &mut Machine,
     world: &World,
     levels: u32,
-    place: &Place,
+    site: &Site,
     called: Called<'_>,
     values: &[Value],
 ) -> Result<Value, Stop>
-    ensures { Gives ((meant world.now levels).call place.now
-        (function_of (content world.now.setting machine.old called.entry.value) called.entry)
-        (definition_of called.entry.definition) (shares_by_place called.entry.definition.parameters.now values.now)
-        machine.old) result machine.new }
+    ensures { Refines (calling_positional world.now levels site.now called.entry values.now machine.old)
+        result machine.new }
 {
     if levels == 0 {
-        return Err(faulted(Code::Deep, place.line));
+        return Err(faulted(FaultCode::Deep, site.line));
     }
-    let place = enter_by_place(machine, world, place.line, called, values)?;
-    run_left(machine, world, levels - 1, &place, called.definition)
+    let site = enter_positional(machine, world, site.line, called, values)?;
+    run_left(machine, world, levels - 1, &site, called.definition)
 }
 
 /// The run of a function whose parameters are bound to these arguments. `Deep` if no level is left.
@@ -601,21 +601,17 @@ fn run_bound(
     machine: &mut Machine,
     world: &World,
     levels: u32,
-    place: &Place,
+    site: &Site,
     called: Called<'_>,
     bound: Bound<'_>,
 ) -> Result<Value, Stop>
-    ensures { (shares : List (Name × AnyShare))
-        → HasBound world.now called.entry.file called.entry.number called.entry.frame shares bound.entry
-        → Gives ((meant world.now levels).call place.now
-        (function_of (content world.now.setting machine.old called.entry.value) called.entry)
-        (definition_of called.entry.definition) shares machine.old) result machine.new }
+    ensures { GivesBound world.now levels site.now called.entry bound.entry machine.old result machine.new }
 {
     if levels == 0 {
-        return Err(faulted(Code::Deep, place.line));
+        return Err(faulted(FaultCode::Deep, site.line));
     }
-    let place = enter_bound(machine, place.line, called, bound)?;
-    run_left(machine, world, levels - 1, &place, called.definition)
+    let site = enter_bound(machine, site.line, called, bound)?;
+    run_left(machine, world, levels - 1, &site, called.definition)
 }
 
 /// The run of a function: the values of its parameters, its frame, the parameters in it, its body. `Deep` if no level
@@ -626,19 +622,17 @@ fn run_function(
     machine: &mut Machine,
     world: &World,
     levels: u32,
-    place: &Place,
+    site: &Site,
     called: Called<'_>,
-    shares: &Shares<'_, '_>,
+    shares: &BoundArguments<'_, '_>,
 ) -> Result<Value, Stop>
-    ensures { Gives ((meant world.now levels).call place.now
-        (function_of (content world.now.setting machine.old called.entry.value) called.entry)
-        (definition_of called.entry.definition) shares.now machine.old) result machine.new }
+    ensures { Refines (calling world.now levels site.now called.entry shares.now machine.old) result machine.new }
 {
     if levels == 0 {
-        return Err(faulted(Code::Deep, place.line));
+        return Err(faulted(FaultCode::Deep, site.line));
     }
-    let place = enter_call(machine, world, place.line, called, shares)?;
-    run_left(machine, world, levels - 1, &place, called.definition)
+    let site = enter_call(machine, world, site.line, called, shares)?;
+    run_left(machine, world, levels - 1, &site, called.definition)
 }
 
 /// The rest of a call: the body runs, and its definition ceases to be active; or a fault leaves it.
@@ -647,15 +641,15 @@ fn run_left(
     machine: &mut Machine,
     world: &World,
     levels: u32,
-    place: &Place,
+    site: &Site,
     definition: Definition<'_>,
 ) -> Result<Value, Stop>
-    ensures { Gives (left (meant world.now levels) (definition_of definition.entry) place.now machine.old)
+    ensures { Refines (left (semantics world.now levels) (definition_of definition.entry) site.now machine.old)
         result machine.new }
 {
-    let answer = run_body(machine, world, levels, place, definition.body);
+    let answer = run_body(machine, world, levels, site, definition.body);
     if answer.is_err() {
-        machine.leave_body(place.file, definition.number);
+        machine.leave_body(site.file, definition.number);
     } else {
         machine.deactivate();
     }
@@ -668,17 +662,17 @@ fn run_body(
     machine: &mut Machine,
     world: &World,
     levels: u32,
-    place: &Place,
+    site: &Site,
     body: Body<'_>,
 ) -> Result<Value, Stop>
-    ensures { Gives (calls.run_body (meant world.now levels) place.now (body_of body.entry) machine.old)
+    ensures { Refines (calls.run_body (semantics world.now levels) site.now (body_of body.entry) machine.old)
         result machine.new }
 {
     match body {
         Body::Statements(statements) => {
-            let flow = execute_each(machine, world, levels, place, statements)?;
+            let flow = execute_each(machine, world, levels, site, statements)?;
             Ok(answer_of(flow))
         }
-        Body::Answer(expression) => evaluate(machine, world, levels, place, expression),
+        Body::Answer(expression) => evaluate(machine, world, levels, site, expression),
     }
 }

@@ -1,31 +1,38 @@
 //! Statements, and assignment to targets. Begin at `execute`; `execute_for` has the loop.
 
 ghost use Rattle.std.specs.Prelude.{Some};
-ghost use Rattle.star_machine.specs.Gives.{Gives, GivesBy};
-ghost use Rattle.star_meaning.specs.Meaning.{block, turns};
+ghost use Rattle.star_machine.specs.Refines.{Refines, RefinesBy};
+ghost use Rattle.star_meaning.specs.Semantics.{block, turns};
 ghost use Rattle.star_meaning.specs.Statements as spec;
-ghost use Rattle.star_meaning.specs.Targets.{target_node, to_each, to_target, unpack};
-ghost use Rattle.star_scope.specs.Syntax as form;
-ghost use Rattle.star_world.specs.World.{meant, variables};
-ghost use Rattle.star_eval.specs.Steps.{shown_parts};
-ghost use Rattle.star_eval.specs.Forms.{alone, assigned, augmented_by, defined, loaded, looped};
+ghost use Rattle.star_meaning.specs.Targets.{to_each, to_target, unpack};
+ghost use Rattle.star_world.specs.World.{semantics, variables};
+ghost use Rattle.star_eval.specs.Forms.{alone, assigned, assigning, augmented_by, augmenting, choosing, defined, executing, loaded, looped};
+ghost use Rattle.star_eval.specs.Steps.{looping, shown_parts, turn_in};
 
 use crate::evaluate::{evaluate, make_function};
 use crate::parts::augmented;
 use crate::targets::TargetParts;
 use star_machine::fault::{Stop, faulted};
 use star_machine::machine::Machine;
-use star_meaning::fault::Code;
-use star_meaning::place::{Flow, Place};
+use star_meaning::fault::FaultCode;
+use star_meaning::site::{Flow, Site};
 use star_operators::subscript::{index, set_index};
 use star_store::values::Value;
 use star_tree::tree::{
     Arm, BinaryOperator, Expression, Form, LoadedName, Name, Parameter, Position, Statement, Target,
 };
 use star_world::loads::load_names;
-use star_world::parts::{place_of, split_first};
+use star_world::parts::site_of;
 use star_world::variables::{bind, read};
 use star_world::world::World;
+
+/// A `for` loop over a value that is known: the target that gets the items, the body, and the value.
+#[derive(Clone, Copy)]
+struct ForLoop<'t> {
+    target: &'t Target,
+    body: &'t [Statement],
+    value: Value,
+}
 
 /// Executes a statement, and returns how it ends. `Deep` if no level is left; it pays 1 as it begins. A fault gets the
 /// line of the innermost statement of the running module's own file.
@@ -35,17 +42,17 @@ pub fn execute(
     machine: &mut Machine,
     world: &World,
     levels: u32,
-    place: &Place,
+    site: &Site,
     statement: &Statement,
 ) -> Result<Flow, Stop>
-    ensures { Gives ((meant world.now levels).stmt place.now statement.now machine.old) result machine.new }
+    ensures { Refines ((semantics world.now levels).stmt site.now statement.now machine.old) result machine.new }
 {
-    let place = place_of(world, place, statement);
+    let site = site_of(world, site, statement);
     if levels == 0 {
-        return Err(faulted(Code::Deep, place.line));
+        return Err(faulted(FaultCode::Deep, site.line));
     }
-    machine.pay(place.line, 1)?;
-    execute_form(machine, world, levels - 1, &place, statement)
+    machine.pay(site.line, 1)?;
+    execute_form(machine, world, levels - 1, &site, statement)
 }
 
 /// Executes a statement whose parts may open `levels` levels: an expression statement or an assignment here, all else
@@ -56,18 +63,17 @@ fn execute_form(
     machine: &mut Machine,
     world: &World,
     levels: u32,
-    place: &Place,
+    site: &Site,
     statement: &Statement,
 ) -> Result<Flow, Stop>
-    ensures { Gives (spec.statement (variables world.now) world.now.setting levels (meant world.now levels) place.now
-        (form.position_of statement.now) (form.form_of statement.now) machine.old) result machine.new }
+    ensures { Refines (executing world.now levels site.now statement.now machine.old) result machine.new }
 {
     match &statement.form {
-        Form::Expression(value) => execute_expression(machine, world, levels, place, value),
+        Form::Expression(value) => execute_expression(machine, world, levels, site, value),
         Form::Assign { target, value } => execute_assign(
-            machine, world, levels, place, target, value,
+            machine, world, levels, site, target, value,
         ),
-        _ => execute_any(machine, world, levels, place, statement),
+        _ => execute_any(machine, world, levels, site, statement),
     }
 }
 
@@ -78,36 +84,35 @@ fn execute_any(
     machine: &mut Machine,
     world: &World,
     levels: u32,
-    place: &Place,
+    site: &Site,
     statement: &Statement,
 ) -> Result<Flow, Stop>
-    ensures { Gives (spec.statement (variables world.now) world.now.setting levels (meant world.now levels) place.now
-        (form.position_of statement.now) (form.form_of statement.now) machine.old) result machine.new }
+    ensures { Refines (executing world.now levels site.now statement.now machine.old) result machine.new }
 {
     match &statement.form {
-        Form::Expression(value) => execute_expression(machine, world, levels, place, value),
+        Form::Expression(value) => execute_expression(machine, world, levels, site, value),
         Form::Assign { target, value } => execute_assign(
-            machine, world, levels, place, target, value,
+            machine, world, levels, site, target, value,
         ),
         Form::Augment {
             target,
             operator,
             value,
-        } => execute_augment(machine, world, levels, place, *operator, value, target),
+        } => execute_augment(machine, world, levels, site, *operator, value, target),
         Form::Pass => Ok(Flow::Next),
         Form::Break => Ok(Flow::Break),
         Form::Continue => Ok(Flow::Continue),
-        Form::Return(Some(value)) => execute_return(machine, world, levels, place, value),
+        Form::Return(Some(value)) => execute_return(machine, world, levels, site, value),
         Form::Return(None) => Ok(Flow::Return(Value::NoneValue)),
         Form::Load { names, .. } => {
-            execute_load(machine, world, place, statement.position, names.as_slice())
+            execute_load(machine, world, site, statement.position, names.as_slice())
         }
         Form::If { arms, otherwise } => {
             execute_arms(
                 machine,
                 world,
                 levels,
-                place,
+                site,
                 arms.as_slice(),
                 otherwise.as_slice(),
             )
@@ -120,7 +125,7 @@ fn execute_any(
             machine,
             world,
             levels,
-            place,
+            site,
             target,
             iterable,
             body.as_slice(),
@@ -135,7 +140,7 @@ fn execute_any(
                 machine,
                 world,
                 levels,
-                place,
+                site,
                 token,
                 name,
                 parameters.as_slice(),
@@ -151,12 +156,12 @@ fn execute_expression(
     machine: &mut Machine,
     world: &World,
     levels: u32,
-    place: &Place,
+    site: &Site,
     value: &Expression,
 ) -> Result<Flow, Stop>
-    ensures { Gives (alone world.now levels place.now value.now machine.old) result machine.new }
+    ensures { Refines (alone world.now levels site.now value.now machine.old) result machine.new }
 {
-    let _value = evaluate(machine, world, levels, place, value)?;
+    let _value = evaluate(machine, world, levels, site, value)?;
     Ok(Flow::Next)
 }
 
@@ -167,14 +172,14 @@ fn execute_assign(
     machine: &mut Machine,
     world: &World,
     levels: u32,
-    place: &Place,
+    site: &Site,
     target: &Target,
     value: &Expression,
 ) -> Result<Flow, Stop>
-    ensures { Gives (assigned world.now levels place.now target.now value.now machine.old) result machine.new }
+    ensures { Refines (assigned world.now levels site.now target.now value.now machine.old) result machine.new }
 {
-    let value = evaluate(machine, world, levels, place, value)?;
-    assign_to(machine, world, levels, place, target, value)?;
+    let value = evaluate(machine, world, levels, site, value)?;
+    assign_to(machine, world, levels, site, target, value)?;
     Ok(Flow::Next)
 }
 
@@ -184,15 +189,15 @@ fn execute_augment(
     machine: &mut Machine,
     world: &World,
     levels: u32,
-    place: &Place,
+    site: &Site,
     operator: BinaryOperator,
     value: &Expression,
     target: &Target,
 ) -> Result<Flow, Stop>
-    ensures { Gives (augmented_by world.now levels place.now operator value.now target.now machine.old)
+    ensures { Refines (augmented_by world.now levels site.now operator value.now target.now machine.old)
         result machine.new }
 {
-    augment_target(machine, world, levels, place, operator, value, target)?;
+    augment_target(machine, world, levels, site, operator, value, target)?;
     Ok(Flow::Next)
 }
 
@@ -202,12 +207,13 @@ fn execute_return(
     machine: &mut Machine,
     world: &World,
     levels: u32,
-    place: &Place,
+    site: &Site,
     value: &Expression,
 ) -> Result<Flow, Stop>
-    ensures { Gives (spec.returned (meant world.now levels) place.now (Some value.now) machine.old) result machine.new }
+    ensures { Refines (spec.returned (semantics world.now levels) site.now (Some value.now) machine.old)
+        result machine.new }
 {
-    let value = evaluate(machine, world, levels, place, value)?;
+    let value = evaluate(machine, world, levels, site, value)?;
     Ok(Flow::Return(value))
 }
 
@@ -215,13 +221,13 @@ fn execute_return(
 fn execute_load(
     machine: &mut Machine,
     world: &World,
-    place: &Place,
+    site: &Site,
     position: Position,
     names: &[LoadedName],
 ) -> Result<Flow, Stop>
-    ensures { Gives (loaded world.now place.now position names.now machine.old) result machine.new }
+    ensures { Refines (loaded world.now site.now position names.now machine.old) result machine.new }
 {
-    load_names(machine, world, place, position, names)?;
+    load_names(machine, world, site, position, names)?;
     Ok(Flow::Next)
 }
 
@@ -231,16 +237,21 @@ fn execute_for(
     machine: &mut Machine,
     world: &World,
     levels: u32,
-    place: &Place,
+    site: &Site,
     target: &Target,
     iterable: &Expression,
     body: &[Statement],
 ) -> Result<Flow, Stop>
-    ensures { Gives (looped world.now levels place.now target.now iterable.now body.now machine.old)
+    ensures { Refines (looped world.now levels site.now target.now iterable.now body.now machine.old)
         result machine.new }
 {
-    let value = evaluate(machine, world, levels, place, iterable)?;
-    execute_loop(machine, world, levels, place, target, body, value)
+    let value = evaluate(machine, world, levels, site, iterable)?;
+    let for_loop = ForLoop {
+        target,
+        body,
+        value,
+    };
+    execute_loop(machine, world, levels, site, for_loop)
 }
 
 /// `def`: the function that begins at a token, which its name is bound to.
@@ -249,16 +260,16 @@ fn execute_def(
     machine: &mut Machine,
     world: &World,
     levels: u32,
-    place: &Place,
+    site: &Site,
     token: usize,
     name: &Name,
     parameters: &[Parameter],
 ) -> Result<Flow, Stop>
-    ensures { Gives (defined world.now levels place.now token name.now parameters.now machine.old) result machine.new }
+    ensures { Refines (defined world.now levels site.now token name.now parameters.now machine.old) result machine.new }
 {
     let text = name.text.as_str();
-    let value = make_function(machine, world, levels, place, token, text, parameters)?;
-    bind(machine, world, place, name, value)?;
+    let value = make_function(machine, world, levels, site, token, text, parameters)?;
+    bind(machine, world, site, name, value)?;
     Ok(Flow::Next)
 }
 
@@ -268,18 +279,19 @@ pub fn execute_each(
     machine: &mut Machine,
     world: &World,
     levels: u32,
-    place: &Place,
+    site: &Site,
     statements: &[Statement],
 ) -> Result<Flow, Stop>
-    ensures { Gives (block ((meant world.now levels).stmt place.now) statements.now machine.old) result machine.new }
+    ensures { Refines (block ((semantics world.now levels).stmt site.now) statements.now machine.old)
+        result machine.new }
 {
     for statement in statements {
-        match execute(machine, world, levels, place, statement) {
+        match execute(machine, world, levels, site, statement) {
             Ok(Flow::Next) => {}
             Ok(flow) => return Ok(flow),
             Err(stop) => {
                 let position = statement.position;
-                machine.leave_statement(place.file, position.line, position.token);
+                machine.leave_statement(site.file, position.line, position.token);
                 return Err(stop);
             }
         }
@@ -293,20 +305,19 @@ fn execute_arms(
     machine: &mut Machine,
     world: &World,
     levels: u32,
-    place: &Place,
+    site: &Site,
     arms: &[Arm],
     otherwise: &[Statement],
 ) -> Result<Flow, Stop>
-    ensures { Gives (spec.arms world.now.setting (meant world.now levels) place.now arms.now
-        (block ((meant world.now levels).stmt place.now) otherwise.now) machine.old) result machine.new }
+    ensures { Refines (choosing world.now levels site.now arms.now otherwise.now machine.old) result machine.new }
 {
     for arm in arms {
-        let value = evaluate(machine, world, levels, place, &arm.condition)?;
+        let value = evaluate(machine, world, levels, site, &arm.condition)?;
         if machine.is_true(world.setting(), value) {
-            return execute_each(machine, world, levels, place, arm.body.as_slice());
+            return execute_each(machine, world, levels, site, arm.body.as_slice());
         }
     }
-    execute_each(machine, world, levels, place, otherwise)
+    execute_each(machine, world, levels, site, otherwise)
 }
 
 /// `for`: the value is being iterated while the turns run.
@@ -315,17 +326,14 @@ fn execute_loop(
     machine: &mut Machine,
     world: &World,
     levels: u32,
-    place: &Place,
-    target: &Target,
-    body: &[Statement],
-    value: Value,
+    site: &Site,
+    for_loop: ForLoop<'_>,
 ) -> Result<Flow, Stop>
-    ensures { Gives (spec.loop (variables world.now) world.now.setting (meant world.now levels) place.now target.now
-        body.now value machine.old) result machine.new }
+    ensures { Refines (looping world.now levels site.now for_loop.entry machine.old) result machine.new }
 {
-    let count = machine.iterate(world.setting(), place.line, value)?;
-    let flow = execute_turns(machine, world, levels, place, target, body, value, count)?;
-    machine.leave(value);
+    let count = machine.iterate(world.setting(), site.line, for_loop.value)?;
+    let flow = execute_turns(machine, world, levels, site, for_loop, count)?;
+    machine.leave(for_loop.value);
     Ok(flow)
 }
 
@@ -336,17 +344,15 @@ fn execute_turns(
     machine: &mut Machine,
     world: &World,
     levels: u32,
-    place: &Place,
-    target: &Target,
-    body: &[Statement],
-    value: Value,
+    site: &Site,
+    for_loop: ForLoop<'_>,
     count: usize,
 ) -> Result<Flow, Stop>
-    ensures { Gives (turns (spec.loop_turn (variables world.now) world.now.setting (meant world.now levels) place.now
-        target.now body.now value) count 0 machine.old) result machine.new }
+    ensures { Refines (turns (turn_in world.now levels site.now for_loop.entry) count 0 machine.old)
+        result machine.new }
 {
     for i in 0..count {
-        match execute_turn(machine, world, levels, place, target, body, value, i)? {
+        match execute_turn(machine, world, levels, site, for_loop, i)? {
             Flow::Next | Flow::Continue => {}
             Flow::Break => return Ok(Flow::Next),
             Flow::Return(answer) => return Ok(Flow::Return(answer)),
@@ -362,18 +368,15 @@ fn execute_turn(
     machine: &mut Machine,
     world: &World,
     levels: u32,
-    place: &Place,
-    target: &Target,
-    body: &[Statement],
-    value: Value,
+    site: &Site,
+    for_loop: ForLoop<'_>,
     i: usize,
 ) -> Result<Flow, Stop>
-    ensures { Gives (spec.loop_turn (variables world.now) world.now.setting (meant world.now levels) place.now
-        target.now body.now value i machine.old) result machine.new }
+    ensures { Refines (turn_in world.now levels site.now for_loop.entry i machine.old) result machine.new }
 {
-    let item = machine.take_item(world.setting(), place.line, value, i)?;
-    assign_to(machine, world, levels, place, target, item)?;
-    execute_each(machine, world, levels, place, body)
+    let item = machine.take_item(world.setting(), site.line, for_loop.value, i)?;
+    assign_to(machine, world, levels, site, for_loop.target, item)?;
+    execute_each(machine, world, levels, site, for_loop.body)
 }
 
 /// `target operator= value`: the target's parts are evaluated once, it is read, the value is evaluated, then it is
@@ -383,26 +386,26 @@ fn augment_target(
     machine: &mut Machine,
     world: &World,
     levels: u32,
-    place: &Place,
+    site: &Site,
     operator: BinaryOperator,
     value: &Expression,
     target: &Target,
 ) -> Result<(), Stop>
-    ensures { Gives (spec.augment (variables world.now) world.now.setting levels (meant world.now levels) place.now
-        operator value.now (form.target target.now) machine.old) result machine.new }
+    ensures { Refines (augmenting world.now levels site.now operator value.now target.now machine.old)
+        result machine.new }
 {
     match target {
         Target::Name(name) => {
-            let old = read(machine, world, place, name)?;
-            let by = evaluate(machine, world, levels, place, value)?;
-            let new = augmented(machine, world, levels, place.line, operator, old, by)?;
-            bind(machine, world, place, name, new)
+            let old = read(machine, world, site, name)?;
+            let by = evaluate(machine, world, levels, site, value)?;
+            let new = augmented(machine, world, levels, site.line, operator, old, by)?;
+            bind(machine, world, site, name, new)
         }
         Target::Index { value: base, index } => {
-            let parts = read_target(machine, world, levels, place, base.get(), index.get())?;
-            let by = evaluate(machine, world, levels, place, value)?;
-            let new = augmented(machine, world, levels, place.line, operator, parts.old, by)?;
-            let line = place.line;
+            let parts = read_target(machine, world, levels, site, base.get(), index.get())?;
+            let by = evaluate(machine, world, levels, site, value)?;
+            let new = augmented(machine, world, levels, site.line, operator, parts.old, by)?;
+            let line = site.line;
             set_index(
                 machine,
                 world.setting(),
@@ -413,7 +416,7 @@ fn augment_target(
                 new,
             )
         }
-        _ => Err(faulted(Code::BadType, place.line)),
+        _ => Err(faulted(FaultCode::BadType, site.line)),
     }
 }
 
@@ -424,17 +427,18 @@ pub(crate) fn assign_to(
     machine: &mut Machine,
     world: &World,
     levels: u32,
-    place: &Place,
+    site: &Site,
     target: &Target,
     value: Value,
 ) -> Result<(), Stop>
-    ensures { Gives (to_target (variables world.now) (meant world.now levels) place.now target.now value machine.old)
+    ensures { Refines (to_target (variables world.now) (semantics world.now levels) site.now target.now value
+        machine.old)
         result machine.new }
 {
     if let Target::Name(name) = target {
-        return bind(machine, world, place, name, value);
+        return bind(machine, world, site, name, value);
     }
-    assign(machine, world, levels, place, target, value)
+    assign(machine, world, levels, site, target, value)
 }
 
 /// Assigns a value to a target that is not a plain name. `Deep` if no level is left; it pays 1 as it begins.
@@ -444,17 +448,17 @@ fn assign(
     machine: &mut Machine,
     world: &World,
     levels: u32,
-    place: &Place,
+    site: &Site,
     target: &Target,
     value: Value,
 ) -> Result<(), Stop>
-    ensures { Gives ((meant world.now levels).assign place.now target.now value machine.old) result machine.new }
+    ensures { Refines ((semantics world.now levels).assign site.now target.now value machine.old) result machine.new }
 {
     if levels == 0 {
-        return Err(faulted(Code::Deep, place.line));
+        return Err(faulted(FaultCode::Deep, site.line));
     }
-    machine.pay(place.line, 1)?;
-    assign_node(machine, world, levels - 1, place, target, value)
+    machine.pay(site.line, 1)?;
+    assign_node(machine, world, levels - 1, site, target, value)
 }
 
 /// Assigns a value to the node of a target that is not a plain name.
@@ -463,30 +467,21 @@ fn assign_node(
     machine: &mut Machine,
     world: &World,
     levels: u32,
-    place: &Place,
+    site: &Site,
     target: &Target,
     value: Value,
 ) -> Result<(), Stop>
-    ensures { Gives (target_node (variables world.now) world.now.setting levels (meant world.now levels) place.now
-        (form.target target.now) value machine.old) result machine.new }
+    ensures { Refines (assigning world.now levels site.now target.now value machine.old) result machine.new }
 {
     match target {
-        Target::Name(name) => { bind(machine, world, place, name, value) }
+        Target::Name(name) => { bind(machine, world, site, name, value) }
         Target::Index { value: base, index } => {
-            let base = evaluate(machine, world, levels, place, base.get())?;
-            let at = evaluate(machine, world, levels, place, index.get())?;
-            set_index(
-                machine,
-                world.setting(),
-                levels,
-                place.line,
-                base,
-                at,
-                value,
-            )
+            let base = evaluate(machine, world, levels, site, base.get())?;
+            let at = evaluate(machine, world, levels, site, index.get())?;
+            set_index(machine, world.setting(), levels, site.line, base, at, value)
         }
         Target::Tuple(targets) | Target::List(targets) => {
-            unpack_to(machine, world, levels, place, targets.as_slice(), value)
+            unpack_to(machine, world, levels, site, targets.as_slice(), value)
         }
     }
 }
@@ -498,18 +493,19 @@ fn unpack_to(
     machine: &mut Machine,
     world: &World,
     levels: u32,
-    place: &Place,
+    site: &Site,
     targets: &[Target],
     value: Value,
 ) -> Result<(), Stop>
-    ensures { Gives (unpack (variables world.now) world.now.setting (meant world.now levels) place.now targets.now value
+    ensures { Refines (unpack (variables world.now) world.now.setting
+        (semantics world.now levels) site.now targets.now value
         machine.old) result machine.new }
 {
-    let items = machine.take_all(world.setting(), place.line, value)?;
+    let items = machine.take_all(world.setting(), site.line, value)?;
     if items.len() != targets.len() {
-        return Err(faulted(Code::BadValue, place.line));
+        return Err(faulted(FaultCode::BadValue, site.line));
     }
-    assign_each(machine, world, levels, place, targets, items.as_slice())
+    assign_each(machine, world, levels, site, targets, items.as_slice())
 }
 
 /// Values to as many targets, in order. `BadValue` for another number.
@@ -518,23 +514,23 @@ fn assign_each(
     machine: &mut Machine,
     world: &World,
     levels: u32,
-    place: &Place,
+    site: &Site,
     targets: &[Target],
     values: &[Value],
 ) -> Result<(), Stop>
-    ensures { Gives (to_each (variables world.now) (meant world.now levels) place.now targets.now values.now
+    ensures { Refines (to_each (variables world.now) (semantics world.now levels) site.now targets.now values.now
         machine.old) result machine.new }
 {
     let mut rest = values;
     for target in targets {
-        let Some((value, more)) = split_first(rest) else {
-            return Err(faulted(Code::BadValue, place.line));
+        let Some((value, more)) = rest.split_first() else {
+            return Err(faulted(FaultCode::BadValue, site.line));
         };
-        assign_to(machine, world, levels, place, target, value)?;
+        assign_to(machine, world, levels, site, target, *value)?;
         rest = more;
     }
     if !rest.is_empty() {
-        return Err(faulted(Code::BadValue, place.line));
+        return Err(faulted(FaultCode::BadValue, site.line));
     }
     Ok(())
 }
@@ -546,21 +542,21 @@ fn read_target(
     machine: &mut Machine,
     world: &World,
     levels: u32,
-    place: &Place,
+    site: &Site,
     base: &Expression,
     at: &Expression,
 ) -> Result<TargetParts, Stop>
-    ensures { GivesBy shown_parts ((meant world.now levels).parts place.now base.now at.now machine.old)
+    ensures { RefinesBy shown_parts ((semantics world.now levels).parts site.now base.now at.now machine.old)
         result machine.new }
 {
     if levels == 0 {
-        return Err(faulted(Code::Deep, place.line));
+        return Err(faulted(FaultCode::Deep, site.line));
     }
-    machine.pay(place.line, 1)?;
+    machine.pay(site.line, 1)?;
     let levels = levels - 1;
-    let base = evaluate(machine, world, levels, place, base)?;
-    let at = evaluate(machine, world, levels, place, at)?;
-    let old = index(machine, world.setting(), levels, place.line, base, at)?;
+    let base = evaluate(machine, world, levels, site, base)?;
+    let at = evaluate(machine, world, levels, site, at)?;
+    let old = index(machine, world.setting(), levels, site.line, base, at)?;
     Ok(TargetParts {
         base,
         index: at,

@@ -9,11 +9,11 @@
 //! Begin at `execute.rt`, with `execute_for`, then `evaluate.rt` from its end.
 //!
 //! Every function takes the `Machine` (the state), the `World` (the environment), the levels, that is the depth that is
-//! left, and the `Place` (file, frame, line). The functions call one another, and end because the levels decrease
+//! left, and the `Site` (file, frame, line). The functions call one another, and end because the levels decrease
 //! (`#[cycle(run)]`).
 //!
-//! The promise of each is `Gives` of `star_machine`: it does what the definition of that part in `star_meaning` does,
-//! with variables by their spots (`meant`, in `star_world/specs/World`). See `docs/LANGUAGE.md`, "Statements" and
+//! The promise of each is `Refines` of `star_machine`: it does what the definition of that part in `star_meaning` does,
+//! with variables by their spots (`semantics`, in `star_world/specs/World`). See `docs/LANGUAGE.md`, "Statements" and
 //! "Expressions".
 #![tactic(auto)]
 

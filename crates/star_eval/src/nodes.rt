@@ -1,9 +1,9 @@
 //! The forms of expressions, a function for each: it evaluates the operands in order and then does the operation.
 
-ghost use Rattle.star_machine.specs.Gives.{Gives};
-ghost use Rattle.star_meaning.specs.Expressions.{node};
+ghost use Rattle.star_machine.specs.Refines.{Refines};
 ghost use Rattle.star_tree.specs.declared.tree.Argument.TheOpen as tree;
-ghost use Rattle.star_world.specs.World.{meant, variables};
+ghost use Rattle.star_eval.specs.Forms.{evaluating};
+ghost use Rattle.star_eval.specs.Steps.{slice_of};
 
 use crate::evaluate::{evaluate, evaluate_each, evaluate_entries, evaluate_maybe};
 use crate::parts::fresh_entries;
@@ -11,7 +11,7 @@ use sqlite_items::Boxed;
 use star_attribute::methods::attribute;
 use star_machine::fault::Stop;
 use star_machine::machine::Machine;
-use star_meaning::place::Place;
+use star_meaning::site::Site;
 use star_operators::comparisons::compared;
 use star_operators::operators::{operate, prefix};
 use star_operators::slices::slice;
@@ -20,20 +20,28 @@ use star_store::values::Value;
 use star_tree::tree::{BinaryOperator, Comparator, Entry, Expression, Name, UnaryOperator};
 use star_world::world::World;
 
+/// What is between the brackets of a slice, `[start:stop:stride]`: each part may be absent.
+#[derive(Clone, Copy)]
+pub struct SliceParts<'t> {
+    pub start: &'t Option<Boxed<Expression>>,
+    pub stop: &'t Option<Boxed<Expression>>,
+    pub stride: &'t Option<Boxed<Expression>>,
+}
+
 /// A tuple: its items in order, then 1 and one for each.
 #[cycle(run)]
 pub(crate) fn evaluate_tuple(
     machine: &mut Machine,
     world: &World,
     levels: u32,
-    place: &Place,
+    site: &Site,
     items: &[Expression],
 ) -> Result<Value, Stop>
-    ensures { Gives (node (variables world.now) world.now.setting levels (meant world.now levels) place.now
-        (tree.Expression-F.Expression::Tuple items.now) machine.old) result machine.new }
+    ensures { Refines (evaluating world.now levels site.now (tree.Expression-F.Expression::Tuple items.now) machine.old)
+        result machine.new }
 {
-    let values = evaluate_each(machine, world, levels, place, items)?;
-    machine.new_tuple(place.line, values)
+    let values = evaluate_each(machine, world, levels, site, items)?;
+    machine.new_tuple(site.line, values)
 }
 
 /// A list: its items in order, then 1 and one for each.
@@ -42,14 +50,14 @@ pub(crate) fn evaluate_list(
     machine: &mut Machine,
     world: &World,
     levels: u32,
-    place: &Place,
+    site: &Site,
     items: &[Expression],
 ) -> Result<Value, Stop>
-    ensures { Gives (node (variables world.now) world.now.setting levels (meant world.now levels) place.now
-        (tree.Expression-F.Expression::List items.now) machine.old) result machine.new }
+    ensures { Refines (evaluating world.now levels site.now (tree.Expression-F.Expression::List items.now) machine.old)
+        result machine.new }
 {
-    let values = evaluate_each(machine, world, levels, place, items)?;
-    machine.new_list(place.line, values)
+    let values = evaluate_each(machine, world, levels, site, items)?;
+    machine.new_list(site.line, values)
 }
 
 /// A dictionary: its entries in order, whose keys are then checked and must differ, then 1 and one for each.
@@ -58,15 +66,15 @@ pub(crate) fn evaluate_dict(
     machine: &mut Machine,
     world: &World,
     levels: u32,
-    place: &Place,
+    site: &Site,
     entries: &[Entry],
 ) -> Result<Value, Stop>
-    ensures { Gives (node (variables world.now) world.now.setting levels (meant world.now levels) place.now
-        (tree.Dict entries.now) machine.old) result machine.new }
+    ensures { Refines (evaluating world.now levels site.now (tree.Dict entries.now) machine.old)
+        result machine.new }
 {
-    let found = evaluate_entries(machine, world, levels, place, entries)?;
-    let fresh = fresh_entries(machine, world, levels, place.line, &found)?;
-    machine.new_dict(place.line, fresh)
+    let found = evaluate_entries(machine, world, levels, site, entries)?;
+    let fresh = fresh_entries(machine, world, levels, site.line, &found)?;
+    machine.new_dict(site.line, fresh)
 }
 
 /// A sign before an operand.
@@ -75,15 +83,15 @@ pub(crate) fn evaluate_unary(
     machine: &mut Machine,
     world: &World,
     levels: u32,
-    place: &Place,
+    site: &Site,
     operator: UnaryOperator,
     operand: &Expression,
 ) -> Result<Value, Stop>
-    ensures { Gives (node (variables world.now) world.now.setting levels (meant world.now levels) place.now
-        (tree.Unary operator operand.now) machine.old) result machine.new }
+    ensures { Refines (evaluating world.now levels site.now (tree.Unary operator operand.now) machine.old)
+        result machine.new }
 {
-    let value = evaluate(machine, world, levels, place, operand)?;
-    prefix(machine, world.setting(), place.line, operator, value)
+    let value = evaluate(machine, world, levels, site, operand)?;
+    prefix(machine, world.setting(), site.line, operator, value)
 }
 
 /// A sign between two operands: the left one first.
@@ -92,17 +100,17 @@ pub(crate) fn evaluate_binary(
     machine: &mut Machine,
     world: &World,
     levels: u32,
-    place: &Place,
+    site: &Site,
     operator: BinaryOperator,
     left: &Expression,
     right: &Expression,
 ) -> Result<Value, Stop>
-    ensures { Gives (node (variables world.now) world.now.setting levels (meant world.now levels) place.now
-        (tree.Binary operator left.now right.now) machine.old) result machine.new }
+    ensures { Refines (evaluating world.now levels site.now (tree.Binary operator left.now right.now) machine.old)
+        result machine.new }
 {
-    let x = evaluate(machine, world, levels, place, left)?;
-    let y = evaluate(machine, world, levels, place, right)?;
-    let line = place.line;
+    let x = evaluate(machine, world, levels, site, left)?;
+    let y = evaluate(machine, world, levels, site, right)?;
+    let line = site.line;
     operate(machine, world.setting(), levels, line, operator, x, y)
 }
 
@@ -112,17 +120,17 @@ pub(crate) fn evaluate_comparison(
     machine: &mut Machine,
     world: &World,
     levels: u32,
-    place: &Place,
+    site: &Site,
     comparator: Comparator,
     left: &Expression,
     right: &Expression,
 ) -> Result<Value, Stop>
-    ensures { Gives (node (variables world.now) world.now.setting levels (meant world.now levels) place.now
-        (tree.Compare comparator left.now right.now) machine.old) result machine.new }
+    ensures { Refines (evaluating world.now levels site.now (tree.Compare comparator left.now right.now) machine.old)
+        result machine.new }
 {
-    let x = evaluate(machine, world, levels, place, left)?;
-    let y = evaluate(machine, world, levels, place, right)?;
-    let line = place.line;
+    let x = evaluate(machine, world, levels, site, left)?;
+    let y = evaluate(machine, world, levels, site, right)?;
+    let line = site.line;
     compared(machine, world.setting(), levels, line, comparator, x, y)
 }
 
@@ -132,16 +140,16 @@ pub(crate) fn evaluate_and(
     machine: &mut Machine,
     world: &World,
     levels: u32,
-    place: &Place,
+    site: &Site,
     left: &Expression,
     right: &Expression,
 ) -> Result<Value, Stop>
-    ensures { Gives (node (variables world.now) world.now.setting levels (meant world.now levels) place.now
-        (tree.And left.now right.now) machine.old) result machine.new }
+    ensures { Refines (evaluating world.now levels site.now (tree.And left.now right.now) machine.old)
+        result machine.new }
 {
-    let x = evaluate(machine, world, levels, place, left)?;
+    let x = evaluate(machine, world, levels, site, left)?;
     if machine.is_true(world.setting(), x) {
-        return evaluate(machine, world, levels, place, right);
+        return evaluate(machine, world, levels, site, right);
     }
     Ok(x)
 }
@@ -152,18 +160,18 @@ pub(crate) fn evaluate_or(
     machine: &mut Machine,
     world: &World,
     levels: u32,
-    place: &Place,
+    site: &Site,
     left: &Expression,
     right: &Expression,
 ) -> Result<Value, Stop>
-    ensures { Gives (node (variables world.now) world.now.setting levels (meant world.now levels) place.now
-        (tree.Or left.now right.now) machine.old) result machine.new }
+    ensures { Refines (evaluating world.now levels site.now (tree.Or left.now right.now) machine.old)
+        result machine.new }
 {
-    let x = evaluate(machine, world, levels, place, left)?;
+    let x = evaluate(machine, world, levels, site, left)?;
     if machine.is_true(world.setting(), x) {
         return Ok(x);
     }
-    evaluate(machine, world, levels, place, right)
+    evaluate(machine, world, levels, site, right)
 }
 
 /// `chosen if condition else otherwise`: the condition, then one of the two.
@@ -172,19 +180,19 @@ pub(crate) fn evaluate_choice(
     machine: &mut Machine,
     world: &World,
     levels: u32,
-    place: &Place,
+    site: &Site,
     condition: &Expression,
     chosen: &Expression,
     otherwise: &Expression,
 ) -> Result<Value, Stop>
-    ensures { Gives (node (variables world.now) world.now.setting levels (meant world.now levels) place.now
-        (tree.Conditional condition.now chosen.now otherwise.now) machine.old) result machine.new }
+    ensures { Refines (evaluating world.now levels site.now (tree.Conditional condition.now chosen.now otherwise.now)
+        machine.old) result machine.new }
 {
-    let x = evaluate(machine, world, levels, place, condition)?;
+    let x = evaluate(machine, world, levels, site, condition)?;
     if machine.is_true(world.setting(), x) {
-        return evaluate(machine, world, levels, place, chosen);
+        return evaluate(machine, world, levels, site, chosen);
     }
-    evaluate(machine, world, levels, place, otherwise)
+    evaluate(machine, world, levels, site, otherwise)
 }
 
 /// `value[at]`: the value first.
@@ -193,16 +201,16 @@ pub(crate) fn evaluate_index(
     machine: &mut Machine,
     world: &World,
     levels: u32,
-    place: &Place,
+    site: &Site,
     value: &Expression,
     at: &Expression,
 ) -> Result<Value, Stop>
-    ensures { Gives (node (variables world.now) world.now.setting levels (meant world.now levels) place.now
-        (tree.Expression-F.Expression::Index value.now at.now) machine.old) result machine.new }
+    ensures { Refines (evaluating world.now levels site.now (tree.Expression-F.Expression::Index value.now at.now)
+        machine.old) result machine.new }
 {
-    let value = evaluate(machine, world, levels, place, value)?;
-    let at = evaluate(machine, world, levels, place, at)?;
-    index(machine, world.setting(), levels, place.line, value, at)
+    let value = evaluate(machine, world, levels, site, value)?;
+    let at = evaluate(machine, world, levels, site, at)?;
+    index(machine, world.setting(), levels, site.line, value, at)
 }
 
 /// `value[start:stop:stride]`: the value, then the parts that are there, in order.
@@ -211,20 +219,18 @@ pub(crate) fn evaluate_slice(
     machine: &mut Machine,
     world: &World,
     levels: u32,
-    place: &Place,
+    site: &Site,
     value: &Expression,
-    start: &Option<Boxed<Expression>>,
-    stop: &Option<Boxed<Expression>>,
-    stride: &Option<Boxed<Expression>>,
+    parts: SliceParts<'_>,
 ) -> Result<Value, Stop>
-    ensures { Gives (node (variables world.now) world.now.setting levels (meant world.now levels) place.now
-        (tree.Slice value.now start.now stop.now stride.now) machine.old) result machine.new }
+    ensures { Refines (evaluating world.now levels site.now (slice_of value.now parts.entry) machine.old)
+        result machine.new }
 {
-    let value = evaluate(machine, world, levels, place, value)?;
-    let start = evaluate_maybe(machine, world, levels, place, start)?;
-    let stop = evaluate_maybe(machine, world, levels, place, stop)?;
-    let stride = evaluate_maybe(machine, world, levels, place, stride)?;
-    let line = place.line;
+    let value = evaluate(machine, world, levels, site, value)?;
+    let start = evaluate_maybe(machine, world, levels, site, parts.start)?;
+    let stop = evaluate_maybe(machine, world, levels, site, parts.stop)?;
+    let stride = evaluate_maybe(machine, world, levels, site, parts.stride)?;
+    let line = site.line;
     slice(machine, world.setting(), line, value, start, stop, stride)
 }
 
@@ -234,18 +240,18 @@ pub(crate) fn evaluate_attribute(
     machine: &mut Machine,
     world: &World,
     levels: u32,
-    place: &Place,
+    site: &Site,
     value: &Expression,
     name: &Name,
 ) -> Result<Value, Stop>
-    ensures { Gives (node (variables world.now) world.now.setting levels (meant world.now levels) place.now
-        (tree.Attribute value.now name.now) machine.old) result machine.new }
+    ensures { Refines (evaluating world.now levels site.now (tree.Attribute value.now name.now) machine.old)
+        result machine.new }
 {
-    let value = evaluate(machine, world, levels, place, value)?;
+    let value = evaluate(machine, world, levels, site, value)?;
     attribute(
         machine,
         world.setting(),
-        place.line,
+        site.line,
         value,
         name.text.as_str(),
     )

@@ -2,16 +2,16 @@
 
 ghost use Rattle.std.specs.Prelude.{[], OnOk};
 ghost use Rattle.star_builtin.specs.Dicts.{Puts};
-ghost use Rattle.star_machine.specs.Gathered.{IsGathered};
-ghost use Rattle.star_machine.specs.Gives.{Gives};
+ghost use Rattle.star_machine.specs.DictBuilder.{IsGathered};
+ghost use Rattle.star_machine.specs.Refines.{Refines};
 ghost use Rattle.star_meaning.specs.Expressions.{fresh_entries, fresh_entry};
 ghost use Rattle.star_meaning.specs.Statements as spec;
 
 use star_machine::content::Kind;
 use star_machine::fault::{Stop, faulted};
-use star_machine::gathered::Gathered;
+use star_machine::gathered::DictBuilder;
 use star_machine::machine::Machine;
-use star_meaning::fault::Code;
+use star_meaning::fault::FaultCode;
 use star_method::lists::extend;
 use star_method::pairs::update_with;
 use star_operators::operators::operate;
@@ -25,7 +25,7 @@ fn put_fresh(
     world: &World,
     levels: u32,
     line: usize,
-    gathered: &mut Gathered,
+    gathered: &mut DictBuilder,
     entry: (Value, Value),
 ) -> Result<(), Stop>
     requires { IsGathered world.now.setting machine.old.store gathered.old }
@@ -39,7 +39,7 @@ fn put_fresh(
     if new {
         Ok(())
     } else {
-        Err(faulted(Code::Key, line))
+        Err(faulted(FaultCode::Key, line))
     }
 }
 
@@ -51,9 +51,9 @@ pub(crate) fn fresh_entries(
     line: usize,
     found: &Entries,
 ) -> Result<Entries, Stop>
-    ensures { Gives (fresh_entries world.now.setting levels line [] found.now machine.old) result machine.new }
+    ensures { Refines (fresh_entries world.now.setting levels line [] found.now machine.old) result machine.new }
 {
-    let mut gathered = Gathered::with_capacity(machine.alloc(), found.len())?;
+    let mut gathered = DictBuilder::with_capacity(machine.alloc(), found.len())?;
     for entry in found.as_slice() {
         put_fresh(machine, world, levels, line, &mut gathered, *entry)?;
     }
@@ -71,7 +71,7 @@ pub(crate) fn augmented(
     x: Value,
     y: Value,
 ) -> Result<Value, Stop>
-    ensures { Gives (spec.augmented world.now.setting levels line operator x y machine.old) result machine.new }
+    ensures { Refines (spec.augmented world.now.setting levels line operator x y machine.old) result machine.new }
 {
     let setting = world.setting();
     match (operator, machine.kind(setting, x)) {

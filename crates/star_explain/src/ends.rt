@@ -7,13 +7,13 @@ use crate::words::{Words, tokens_of};
 use star_check::verdict::{Judged, Verdict};
 use star_found::about::Found;
 use star_label::files::Files;
-use star_meaning::fault::Code;
+use star_meaning::fault::FaultCode;
 use star_meaning::story::Step;
 use star_mistakes::place::{Mark, shown, text_of};
 use star_outcome::module::{Ended, Left, Module};
 use star_outcome::outcome::Run;
 use star_reading::code::StaticFault;
-use star_reading::reading::{Read, Reads};
+use star_reading::reading::Reads;
 use star_scope::loads::Load;
 use star_trail::steps_there;
 use std::alloc::{AllocError, Global};
@@ -29,7 +29,7 @@ pub(crate) enum End {
     /// It ran to its end; or it was not run, and there is nothing against it.
     Good,
     Static(StaticFault),
-    Stopped { code: Code, line: usize },
+    Stopped { code: FaultCode, line: usize },
     /// It fails by this file, which the statement on this line loads.
     Load { next: usize, line: usize },
 }
@@ -71,7 +71,7 @@ impl Stop {
         &mut self,
         alloc: Global,
         files: &Files,
-        code: Code,
+        code: FaultCode,
         found: &Found,
     ) -> Result<(), AllocError> {
         let Some((file, tokens)) = tokens_of(alloc, files, self.steps())? else {
@@ -138,14 +138,6 @@ fn end_of(module: &Module) -> End {
     }
 }
 
-/// The loads of a file that was read: none where it has a static fault.
-fn loads_in<'s, 't>(reads: &'s Reads<'t>, n: usize) -> &'s [Load] {
-    match reads.all.get(n) {
-        Some(Some(Read::Program(program))) => program.loads(),
-        _ => &[],
-    }
-}
-
 /// The remains of the run of a module. The words of `fail` are its last line.
 fn stop_of(
     alloc: Global,
@@ -165,7 +157,7 @@ fn stop_of(
     };
     let steps = steps_there(reads, trail.as_slice());
     stop.trail = Some(Trail::of(alloc, module.number, *line, steps)?);
-    if *code == Code::Fail {
+    if *code == FaultCode::Fail {
         if let Some(line) = lines.last() {
             stop.said = Some(shown(alloc, line.as_str())?);
         }
@@ -241,7 +233,7 @@ impl Ends {
         all.are_run = false;
         all.set_unrun(judged);
         for it in judged {
-            all.add_judged(loads_in(reads, it.file), it)?;
+            all.add_judged(reads.loads(it.file), it)?;
         }
         Ok(all)
     }

@@ -7,7 +7,7 @@ use crate::pages::page_of;
 use crate::trail::{callers, mark_of_line};
 use star_check::verdict::Judged;
 use star_label::files::Files;
-use star_meaning::fault::Code;
+use star_meaning::fault::FaultCode;
 use star_mistakes::message::{Part, message, push_message};
 use star_mistakes::place::{Mark, Naming};
 use star_mistakes::statics::Sources;
@@ -53,16 +53,16 @@ struct Message<'s> {
 }
 
 /// The cure of a fault whose word is named, if its code has one.
-fn cure_of(code: Code) -> Option<&'static str> {
+fn cure_of(code: FaultCode) -> Option<&'static str> {
     let has_cure = matches!(
         code,
-        Code::Frozen
-            | Code::Iterating
-            | Code::Overflow
-            | Code::Unbound
-            | Code::Recursion
-            | Code::Zero
-            | Code::Cut
+        FaultCode::Frozen
+            | FaultCode::Iterating
+            | FaultCode::Overflow
+            | FaultCode::Unbound
+            | FaultCode::Recursion
+            | FaultCode::Zero
+            | FaultCode::Cut
     );
     match page_of(code_text(code)) {
         Some(page) if has_cure => Some(page.cure),
@@ -84,7 +84,7 @@ fn by_code(code: &'static str) -> Message<'static> {
 }
 
 /// What is told of a run that stopped, and the cure.
-fn told_of<'s>(code: Code, stop: &'s Stop) -> Message<'s> {
+fn told_of<'s>(code: FaultCode, stop: &'s Stop) -> Message<'s> {
     match (&stop.told, &stop.said) {
         (Some(told), _) => Message {
             front: "",
@@ -128,7 +128,7 @@ impl<'a> Telling<'a> {
     fn stopped(
         &mut self,
         n: usize,
-        code: Code,
+        code: FaultCode,
         line: usize,
         stop: &Stop,
     ) -> Result<(), AllocError> {

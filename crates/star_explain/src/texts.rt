@@ -3,7 +3,7 @@
 use crate::built_ins::{Wanted, count, methods, wanted_by};
 use crate::words::unquoted;
 use star_found::about::{About, Found, Misfit, Shown, Type};
-use star_meaning::fault::Code;
+use star_meaning::fault::FaultCode;
 use star_mistakes::message::{Part, message, push_message};
 use star_mistakes::near::did_you_mean;
 use std::alloc::{AllocError, Global};
@@ -22,7 +22,7 @@ pub(crate) struct Said {
 #[derive(Clone, Copy)]
 pub(crate) struct Saying<'a> {
     pub alloc: Global,
-    pub code: Code,
+    pub code: FaultCode,
     pub found: &'a Found,
     /// The string of the load statement, where the fault is in one.
     pub module: &'a str,
@@ -126,8 +126,8 @@ impl<'a> Saying<'a> {
     /// The text on a write to a value.
     fn written(self, value: &Shown) -> Result<Option<String>, AllocError> {
         let text = match self.code {
-            Code::Frozen => " of another file is frozen, and cannot be changed",
-            Code::Iterating => " cannot be changed while a loop goes over it",
+            FaultCode::Frozen => " of another file is frozen, and cannot be changed",
+            FaultCode::Iterating => " cannot be changed while a loop goes over it",
             _ => return Ok(None),
         };
         self.text_of(&[Part::Plain(with_article(value)), Part::Plain(text)])
@@ -177,8 +177,8 @@ impl<'a> Saying<'a> {
         items: usize,
     ) -> Result<Option<String>, AllocError> {
         match self.code {
-            Code::Key => self.with_value("no such key", at),
-            Code::Index => self.text_of(&[
+            FaultCode::Key => self.with_value("no such key", at),
+            FaultCode::Index => self.text_of(&[
                 Part::Plain("index "),
                 Part::Shown(at.text.as_str()),
                 Part::Plain(" of "),
@@ -187,14 +187,14 @@ impl<'a> Saying<'a> {
                 Part::Number(items),
                 Part::Plain(if items == 1 { " item" } else { " items" }),
             ]),
-            Code::Cut => self.text_of(&[
+            FaultCode::Cut => self.text_of(&[
                 Part::Plain("index "),
                 Part::Shown(at.text.as_str()),
                 Part::Plain(" cuts a character"),
                 Part::Plain(colon(value)),
                 Part::Shown(told_text(value)),
             ]),
-            Code::BadType => self.index_of_type(value, at),
+            FaultCode::BadType => self.index_of_type(value, at),
             _ => self.written(value),
         }
     }
@@ -206,12 +206,14 @@ impl<'a> Saying<'a> {
             Type::List | Type::Tuple | Type::Text | Type::Range
         );
         match self.code {
-            Code::BadValue => self.text_of(&[Part::Plain("the stride of a slice cannot be 0")]),
-            Code::Cut => self.with_value("a slice cuts a character", value),
-            Code::BadType if has_slices => {
+            FaultCode::BadValue => self.text_of(&[Part::Plain(
+                "the stride of a slice cannot be 0",
+            )]),
+            FaultCode::Cut => self.with_value("a slice cuts a character", value),
+            FaultCode::BadType if has_slices => {
                 self.text_of(&[Part::Plain("the bounds of a slice have to be ints")])
             }
-            Code::BadType => self.of_kind(value, " cannot be sliced"),
+            FaultCode::BadType => self.of_kind(value, " cannot be sliced"),
             _ => Ok(None),
         }
     }
@@ -250,8 +252,8 @@ impl<'a> Saying<'a> {
     ) -> Result<Option<String>, AllocError> {
         let of_string = left.of == Type::Text;
         let text = match self.code {
-            Code::BadType if sign == "%" && of_string => "the values do not fit the format",
-            Code::BadType => {
+            FaultCode::BadType if sign == "%" && of_string => "the values do not fit the format",
+            FaultCode::BadType => {
                 let text = [
                     Part::Plain("`"),
                     Part::Plain(sign),
@@ -262,10 +264,10 @@ impl<'a> Saying<'a> {
                 ];
                 return self.with_both(&text, sign, left, right);
             }
-            Code::Zero => "a division by zero",
-            Code::Overflow => "an int outside of 64 bits",
-            Code::BadValue if of_string => "the values do not fit the format",
-            Code::BadValue => "a shift by a negative number",
+            FaultCode::Zero => "a division by zero",
+            FaultCode::Overflow => "an int outside of 64 bits",
+            FaultCode::BadValue if of_string => "the values do not fit the format",
+            FaultCode::BadValue => "a shift by a negative number",
             _ => return self.written(left),
         };
         self.with_both(&[Part::Plain(text)], sign, left, right)
@@ -274,14 +276,14 @@ impl<'a> Saying<'a> {
     /// `sign value`
     fn operand<'x>(self, sign: &'x str, value: &'x Shown) -> Result<Option<String>, AllocError> {
         match (self.code, sign) {
-            (Code::BadType, "*") => {
+            (FaultCode::BadType, "*") => {
                 self.with_typed("what stands after `*` has to be an iterable, not ", value)
             }
-            (Code::BadType, "**") => self.with_typed(
+            (FaultCode::BadType, "**") => self.with_typed(
                 "what stands after `**` has to be a dict whose keys are strings, not ",
                 value,
             ),
-            (Code::BadType, _) => self.text_of(&[
+            (FaultCode::BadType, _) => self.text_of(&[
                 Part::Plain("`"),
                 Part::Plain(sign),
                 Part::Plain("` has no meaning before "),
@@ -289,7 +291,7 @@ impl<'a> Saying<'a> {
                 Part::Plain(colon(value)),
                 Part::Shown(told_text(value)),
             ]),
-            (Code::Overflow, _) => self.text_of(&[
+            (FaultCode::Overflow, _) => self.text_of(&[
                 Part::Plain("an int outside of 64 bits: "),
                 Part::Plain(sign),
                 Part::Plain(" before "),
@@ -343,7 +345,7 @@ impl<'a> Saying<'a> {
                 Part::Plain(" by place, and is given "),
                 Part::Number(*given),
             ]),
-            None if self.code == Code::Recursion => self.with_word(
+            None if self.code == FaultCode::Recursion => self.with_word(
                 "the function `",
                 callee.text.as_str(),
                 "` is called while it runs: there is no recursion",
@@ -503,15 +505,18 @@ impl<'a> Saying<'a> {
         given: usize,
     ) -> Result<Option<String>, AllocError> {
         match (self.code, receiver, first) {
-            (Code::Args, _, _) => self.built_in_count(name, receiver, given),
-            (Code::BadType, _, _) => self.built_in_type(name, receiver, first, second),
-            (Code::BadValue, _, _) => self.built_in_value(name, receiver, first),
-            (Code::Overflow, _, Some(first)) => self.with_value("an int outside of 64 bits", first),
-            (Code::Overflow, _, None) => Ok(None),
-            (Code::Index | Code::Key, Some(receiver), _) => {
+            (FaultCode::Args, _, _) => self.built_in_count(name, receiver, given),
+            (FaultCode::BadType, _, _) => self.built_in_type(name, receiver, first, second),
+            (FaultCode::BadValue, _, _) => self.built_in_value(name, receiver, first),
+            (FaultCode::Overflow, _, Some(first)) => self.with_value(
+                "an int outside of 64 bits",
+                first,
+            ),
+            (FaultCode::Overflow, _, None) => Ok(None),
+            (FaultCode::Index | FaultCode::Key, Some(receiver), _) => {
                 self.built_in_lack(name, receiver, first)
             }
-            (Code::Index | Code::Key, None, _) => Ok(None),
+            (FaultCode::Index | FaultCode::Key, None, _) => Ok(None),
             (_, Some(receiver), _) => self.written(receiver),
             _ => Ok(None),
         }
@@ -519,7 +524,7 @@ impl<'a> Saying<'a> {
 
     /// The text on a key, in a display or of a value that cannot be one.
     fn key(self, key: &Shown) -> Result<Option<String>, AllocError> {
-        if self.code != Code::Key {
+        if self.code != FaultCode::Key {
             return self.no_key(key);
         }
         self.with_word("the key ", key.text.as_str(), " comes twice in this dict")
@@ -628,7 +633,7 @@ impl<'a> Saying<'a> {
     fn lacking(self) -> Result<Option<String>, AllocError> {
         let help = match &self.found.about {
             About::Key { .. } => "take one of the two entries out",
-            About::Index { .. } if self.code == Code::Index => {
+            About::Index { .. } if self.code == FaultCode::Index => {
                 "indexes go from 0 to the length less 1, or from -1 down to minus the length"
             }
             About::Index { .. } => "ask by `get(key, default)` or `key in d`",
@@ -648,7 +653,7 @@ impl<'a> Saying<'a> {
             (left.of, right.of),
             (Type::Text, Type::Int) | (Type::Int, Type::Text)
         );
-        if self.code != Code::BadType || !sign.starts_with('+') || !are_mixed {
+        if self.code != FaultCode::BadType || !sign.starts_with('+') || !are_mixed {
             return Ok(None);
         }
         let help = "`str(x)` makes a string of a value, `int(x)` an int of a string";
@@ -672,7 +677,7 @@ impl<'a> Saying<'a> {
             About::Attribute { name, value, .. } => {
                 did_you_mean(self.alloc, name.as_str(), methods(value.of))
             }
-            About::Index { at, .. } if self.code == Code::Key && at.of == Type::Text => {
+            About::Index { at, .. } if self.code == FaultCode::Key && at.of == Type::Text => {
                 match self.near(unquoted(at.text.as_str()))? {
                     Some(help) => Ok(Some(help)),
                     None => self.lacking(),
@@ -683,7 +688,7 @@ impl<'a> Saying<'a> {
                 misfit: Some(misfit),
                 ..
             } => self.fitting(misfit),
-            _ if matches!(self.code, Code::Key | Code::Index) => self.lacking(),
+            _ if matches!(self.code, FaultCode::Key | FaultCode::Index) => self.lacking(),
             _ => Ok(None),
         }
     }

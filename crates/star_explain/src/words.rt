@@ -3,7 +3,7 @@
 use star_found::about::{About, Found};
 use star_label::files::Files;
 use star_lex::lex;
-use star_lex::token::{Keyword, Kind, Sign, Token};
+use star_lex::token::{Keyword, Kind, Punctuator, Token};
 use star_meaning::story::Step;
 use star_mistakes::place::{Mark, mark_of, text_of, word_of};
 use std::alloc::{AllocError, Global};
@@ -20,14 +20,14 @@ pub(crate) struct Words<'a> {
 fn opens(kind: Kind) -> bool {
     matches!(
         kind,
-        Kind::Sign(Sign::LeftParen | Sign::LeftBracket | Sign::LeftBrace)
+        Kind::Punctuator(Punctuator::LeftParen | Punctuator::LeftBracket | Punctuator::LeftBrace)
     )
 }
 
 fn closes(kind: Kind) -> bool {
     matches!(
         kind,
-        Kind::Sign(Sign::RightParen | Sign::RightBracket | Sign::RightBrace)
+        Kind::Punctuator(Punctuator::RightParen | Punctuator::RightBracket | Punctuator::RightBrace)
     )
 }
 
@@ -35,7 +35,7 @@ fn closes(kind: Kind) -> bool {
 fn ends_part(kind: Kind) -> bool {
     matches!(
         kind,
-        Kind::Sign(Sign::Colon | Sign::Assign | Sign::Comma)
+        Kind::Punctuator(Punctuator::Colon | Punctuator::Assign | Punctuator::Comma)
             | Kind::Keyword(Keyword::In | Keyword::For | Keyword::If)
             | Kind::Newline
             | Kind::End

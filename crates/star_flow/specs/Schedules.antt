@@ -27,3 +27,7 @@ IsReadyOf old more new = (n : ℕ) → Contains new n → Contains old n ⊎ Con
 pub record GraphView : Type 0 where
   pub loads : List ℕ
   pub files : List ℕ
+
+-- how many loads a file has
+abbrev pub loads_of : GraphView → ℕ → ℕ
+loads_of g n = slice_index_or g.loads n 0

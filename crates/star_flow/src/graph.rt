@@ -1,7 +1,7 @@
 //! The graph of loads: for each file how many loads it has, and which files load it.
 
-ghost use Rattle.std.specs.Prelude.{◌≡◌, ◌+◌, ◌<◌, ◌^◌, ◌-◌, ◌++◌, ◌∷◌, [], All, IfOk, OnOk, length, min, replicate, slice_index_or};
-ghost use Rattle.star_flow.specs.Schedules.{HasAll, IsReadyOf};
+ghost use Rattle.std.specs.Prelude.{◌≡◌, ◌+◌, ◌<◌, ◌^◌, ◌-◌, ◌++◌, ◌∷◌, [], All, IfOk, OnOk, length, min, replicate};
+ghost use Rattle.star_flow.specs.Schedules.{HasAll, IsReadyOf, loads_of};
 
 use crate::flow::Flow;
 use crate::schedule::Schedule;
@@ -56,7 +56,7 @@ impl Graph {
         ensures files { self.new.files ≡ self.old.files }
         ensures size { length self.new.loads ≡ length self.old.loads }
         ensures loads { OnOk result (n < length self.old.loads → m < length self.old.loads
-            → slice_index_or self.new.loads n 0 ≡ min (slice_index_or self.old.loads n 0 + 1) (2 ^ 64 - 1)) }
+            → loads_of self.new n ≡ min (loads_of self.old n + 1) (2 ^ 64 - 1)) }
     {
         if n >= self.missing.len() || m >= self.importers.len() {
             return Ok(());

@@ -6,3 +6,4 @@ pub mod Steps
 pub mod StopKinds
 pub mod MemoryRows
 pub mod Reaches
+pub mod Fronts

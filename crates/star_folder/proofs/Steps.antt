@@ -75,18 +75,7 @@ unread_stops held count size label error.BadFile h u = (h, u)
 unread_stops held count size label error.TooLong h u = (h, u)
 unread_stops held count size label error.NotText h u = (h, u)
 unread_stops held count size label error.Memory h u = (h, u)
-unread_stops held count size label error.TooMany h u = absurd u
-unread_stops held count size label error.TooBig h u = absurd u
-unread_stops held count size label error.Read h u = absurd u
-unread_stops held count size label error.BadDir h u = absurd u
-unread_stops held count size label error.BadBundle h u = absurd u
-unread_stops held count size label error.BadKey h u = absurd u
-unread_stops held count size label error.BadRoot h u = absurd u
-unread_stops held count size label error.NoRoot h u = absurd u
-unread_stops held count size label error.BadPrelude h u = absurd u
-unread_stops held count size label error.NoPrelude h u = absurd u
-unread_stops held count size label error.Write h u = absurd u
-unread_stops held count size label error.Unpublished h u = absurd u
+unread_stops held count size label e h u = absurd u
 
 -- want of memory
 pub folder_memory : (held : Contents) (listed : ℕ) (path : List ℕ) (e : ServeError) → e ≡ error.Memory → FolderStops held listed path e

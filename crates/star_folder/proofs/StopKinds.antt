@@ -2,64 +2,40 @@
 use Rattle.std.proofs.Common.{ℕ, List, [], ◌∷◌, sym, subst}
 use Rattle.std.specs.Prelude.{⊤}
 use Rattle.star_bundle.specs.declared.error.ServeError.{ServeError}
-use Rattle.star_bundle.specs.declared.error.ServeError.TheVariants.{Read, TooBig, BadDir, BadFile, NotText, BadBundle, BadKey, TooMany, TooLong, BadRoot, NoRoot, BadPrelude, NoPrelude, Memory, Write, Unpublished}
+use Rattle.star_bundle.specs.declared.error.ServeError.TheVariants.{TooBig, BadDir, BadFile, NotText, TooMany, TooLong, Memory}
 use Rattle.star_folder.specs.Folder.{Contents}
 use Rattle.star_folder.specs.Refusal.{FileStops, FolderStops, IsStopped, Stops}
 use Rattle.star_folder.specs.Walk.{FileOf, FolderAt, Place, Visit}
 
 abbrev pub IsOfWalk : ServeError → Type 0
-IsOfWalk Read = ⊥
 IsOfWalk TooBig = ⊤
 IsOfWalk BadDir = ⊤
 IsOfWalk BadFile = ⊤
 IsOfWalk NotText = ⊤
-IsOfWalk BadBundle = ⊥
-IsOfWalk BadKey = ⊥
 IsOfWalk TooMany = ⊤
 IsOfWalk TooLong = ⊤
-IsOfWalk BadRoot = ⊥
-IsOfWalk NoRoot = ⊥
-IsOfWalk BadPrelude = ⊥
-IsOfWalk NoPrelude = ⊥
 IsOfWalk Memory = ⊤
-IsOfWalk Write = ⊥
-IsOfWalk Unpublished = ⊥
+IsOfWalk e = ⊥
 
 of_folder : (held : Contents) (listed : ℕ) (path : List ℕ) (e : ServeError) → FolderStops held listed path e → IsOfWalk e
-of_folder held listed path Read h = h
 of_folder held listed path TooBig h = tt
 of_folder held listed path BadDir h = tt
 of_folder held listed path BadFile h = tt
 of_folder held listed path NotText h = tt
-of_folder held listed path BadBundle h = h
-of_folder held listed path BadKey h = h
 of_folder held listed path TooMany h = tt
 of_folder held listed path TooLong h = tt
-of_folder held listed path BadRoot h = h
-of_folder held listed path NoRoot h = h
-of_folder held listed path BadPrelude h = h
-of_folder held listed path NoPrelude h = h
 of_folder held listed path Memory h = tt
-of_folder held listed path Write h = h
-of_folder held listed path Unpublished h = h
+of_folder held listed path e h = h
 
 of_file : (held : Contents) (count size : ℕ) (label : List ℕ) (e : ServeError) → FileStops held count size label e → IsOfWalk e
-of_file held count size label Read h = h.1
 of_file held count size label TooBig h = tt
 of_file held count size label BadDir h = tt
 of_file held count size label BadFile h = tt
 of_file held count size label NotText h = tt
-of_file held count size label BadBundle h = h.1
-of_file held count size label BadKey h = h.1
 of_file held count size label TooMany h = tt
 of_file held count size label TooLong h = tt
-of_file held count size label BadRoot h = h.1
-of_file held count size label NoRoot h = h.1
-of_file held count size label BadPrelude h = h.1
-of_file held count size label NoPrelude h = h.1
 of_file held count size label Memory h = tt
-of_file held count size label Write h = h.1
-of_file held count size label Unpublished h = h.1
+of_file held count size label e h = h.1
 
 of_place : (held : Contents) (visits : List Visit) (left : List Place) (e : ServeError) → Stops held visits left e → IsOfWalk e
 of_place held visits [] e h = subst IsOfWalk (sym h) tt

@@ -11,6 +11,7 @@ ghost use Rattle.star_folder.specs.Disk.{file_at, folder_at, kind_of};
 ghost use Rattle.star_folder.specs.Folder.{unsaid};
 
 use crate::folder::{FRONT, Folder, FolderError, Kind};
+use crate::path::inside;
 use star_label::label::Label;
 use std::alloc::{AllocError, Global};
 use std::collections::BTreeMap;
@@ -85,19 +86,6 @@ impl<'a, R: Files + AllocGlobal + Clone + Drop> Folder for DiskFolder<'a, R> {
     }
 }
 
-/// The path of a folder in the folder at `top`. No folder has the empty path.
-fn below(alloc: Global, top: &str, path: &str) -> Result<String, AllocError>
-    ensures { IfOk result (λ text. string_bytes text ≡ folder_at top.now path.now) }
-{
-    if top == "" {
-        return String::from_str(alloc, path);
-    }
-    let mut text = String::from_str(alloc, top)?;
-    text.push('/')?;
-    text.push_str(path)?;
-    Ok(text)
-}
-
 /// The kind of an entry, by its type.
 fn kind_of(found: FileType) -> Kind
     ensures { result ≡ kind_of found }
@@ -150,7 +138,7 @@ fn entries_of<R: Files + AllocGlobal + Clone + Drop>(
 ) -> io::Result<Listing>
     ensures { IfOk result (λ listing. string_bytes listing.path ≡ folder_at top.now path.now) }
 {
-    let path = below(rt.alloc(), top, path)?;
+    let path = inside(rt.alloc(), top, path)?;
     listed_at(rt, path)
 }
 
@@ -158,7 +146,7 @@ fn entries_of<R: Files + AllocGlobal + Clone + Drop>(
 pub fn path_of(alloc: Global, top: &str, label: &Label) -> Result<String, AllocError>
     ensures { IfOk result (λ path. string_bytes path ≡ file_at top.now (text_of label.now)) }
 {
-    let mut path = below(alloc, top, label.package())?;
+    let mut path = inside(alloc, top, label.package())?;
     path.push('/')?;
     path.push_str(name_of(label))?;
     Ok(path)

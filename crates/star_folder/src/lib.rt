@@ -14,7 +14,7 @@ pub mod disk;
 pub mod folder;
 pub mod law;
 pub mod memory;
-mod path;
+pub mod path;
 mod places;
 mod state;
 pub mod walk;

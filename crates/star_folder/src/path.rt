@@ -29,7 +29,7 @@ impl FolderPath {
         requires { is_segment name.now ≡ true }
         ensures { IfOk result (λ p. path_of p ≡ with_folder (path_of self.now) name.now) }
     {
-        let text = joined(alloc, self.text.as_str(), name)?;
+        let text = inside(alloc, self.text.as_str(), name)?;
         Ok(FolderPath { text })
     }
 
@@ -42,8 +42,8 @@ impl FolderPath {
     }
 }
 
-/// The folder after the others.
-fn joined(alloc: Global, path: &str, name: &str) -> Result<String, AllocError>
+/// The path of a folder in the folder at a path: its name alone where that is the top.
+pub fn inside(alloc: Global, path: &str, name: &str) -> Result<String, AllocError>
     ensures { IfOk result (λ t. string_bytes t ≡ with_folder path.now name.now) }
 {
     if path == "" {

@@ -19,7 +19,7 @@ use Rattle.star_meaning.specs.Programs.{ArePrograms, Files, load_files, trees_of
 use Rattle.star_module.specs.declared.module.Outcome.{Outcome}
 use Rattle.star_module.specs.declared.module.Outcome.TheVariants as outcome
 use Rattle.star_module.specs.Globals.{owned}
-use Rattle.star_module.specs.Outcomes.{AreReady, IsOutcome as IsRun, meant, run_by_names}
+use Rattle.star_module.specs.Outcomes.{AreReady, IsOutcome as IsRun, semantics, run_by_names}
 use Rattle.star_plan.specs.Plan.{Plan, loaded, loads_in, loads_of, read_of, tree_in, trees}
 use Rattle.star_plan.specs.Reading.{IsPlanOf}
 use Rattle.star_plan.specs.Results.{AreGood, IsGood, IsOutcome, Ran}
@@ -58,7 +58,7 @@ same_setting plan table n home shelf ls prelude e f g =
     ∙ ap (λ xs. (world_over n shelf table xs prelude).setting) f
     ∙ ap (λ o. (world_over n shelf table (loads_of plan n) o).setting) g
 
-own_in : (plan : Plan) (table : Files) (n : ℕ) (ss : List Statement) (shelf : Shelf) (o : Outcome) → MayRun plan table n ss shelf → meant (given_over table plan n shelf) o ≡ local (given_over table plan n shelf) plan.steps ss → IsOwnIn plan n o
+own_in : (plan : Plan) (table : Files) (n : ℕ) (ss : List Statement) (shelf : Shelf) (o : Outcome) → MayRun plan table n ss shelf → semantics (given_over table plan n shelf) o ≡ local (given_over table plan n shelf) plan.steps ss → IsOwnIn plan n o
 own_in plan table n ss shelf (outcome.Good frozen texts lines left) may e = may.own frozen frozen.globals (owned texts.items) lines.items (sym e)
 own_in plan table n ss shelf (outcome.Fault code line lines remains) may e = tt
 
@@ -92,10 +92,10 @@ pub body_pays : (files : List File) (plan : Plan) (table : Files) (row : Row) (n
 body_pays files plan table row n p shelf ms placed is e loads tight holds o h =
     paid_in plan table n p.statements.now shelf o placed.statements (ap tree_in (read_is plan row n is ∙ ap (option_map reading_of) e)) (loads_good plan n ms loads) tight holds h
 
-ran_is : (plan : Plan) (table : Files) (n : ℕ) (ss : List Statement) (shelf : Shelf) (w : Setting) (steps : ℕ) (o : Outcome) → MayRun plan table n ss shelf → Pays plan table n ss shelf → w ≡ given_over table plan n shelf → steps ≡ plan.steps → meant w o ≡ local w steps ss → IsRun (run_by_names w steps ss) o → IsRan plan n o
+ran_is : (plan : Plan) (table : Files) (n : ℕ) (ss : List Statement) (shelf : Shelf) (w : Setting) (steps : ℕ) (o : Outcome) → MayRun plan table n ss shelf → Pays plan table n ss shelf → w ≡ given_over table plan n shelf → steps ≡ plan.steps → semantics w o ≡ local w steps ss → IsRun (run_by_names w steps ss) o → IsRan plan n o
 ran_is plan table n ss shelf w steps o may pays same count e named =
-    let f : meant w o ≡ local w plan.steps ss = e ∙ ap (λ k. local w k ss) count in
-    let g : meant (given_over table plan n shelf) o ≡ local (given_over table plan n shelf) plan.steps ss = subst (λ (v : Setting). meant v o ≡ local v plan.steps ss) same f in
+    let f : semantics w o ≡ local w plan.steps ss = e ∙ ap (λ k. local w k ss) count in
+    let g : semantics (given_over table plan n shelf) o ≡ local (given_over table plan n shelf) plan.steps ss = subst (λ (v : Setting). semantics v o ≡ local v plan.steps ss) same f in
     record {
       over = given_over table plan n shelf;
       outcome = subst (λ m. IsOutcome plan n (Ran m)) (sym g) may.outcome;
@@ -106,7 +106,7 @@ ran_is plan table n ss shelf w steps o may pays same count e named =
 -- the outcome of the run of a body is the file's outcome
 pub ran_so : (plan : Plan) (table : Files) (n home : ℕ) (ss : List Statement) (shelf : Shelf) (ls : List Load) (prelude : Option ℕ) (steps : ℕ) (r : Result Outcome AllocError) → MayRun plan table n ss shelf → Pays plan table n ss shelf
     → home ≡ n → ls ≡ loads_of plan n → prelude ≡ plan.prelude → steps ≡ plan.steps
-    → (AreReady (world_over home shelf table ls prelude) steps → IfOk r (λ o. meant (world_over home shelf table ls prelude).setting o ≡ local (world_over home shelf table ls prelude).setting steps ss))
+    → (AreReady (world_over home shelf table ls prelude) steps → IfOk r (λ o. semantics (world_over home shelf table ls prelude).setting o ≡ local (world_over home shelf table ls prelude).setting steps ss))
     → (AreReady (world_over home shelf table ls prelude) steps → IfOk r (λ o. IsRun (run_by_names (world_over home shelf table ls prelude).setting steps ss) o)) → IfOk r (IsRan plan n)
 ran_so plan table n home ss shelf ls prelude steps r may pays at loads is count names named = by_result r (names ready) (named ready)
   where
@@ -122,7 +122,7 @@ ran_so plan table n home ss shelf ls prelude steps r may pays at loads is count 
       functions = subst (λ k. AllFit (trees_of table) w (start w k)) (sym count) (subst (λ (v : Setting). AllFit (trees_of table) v (start v plan.steps)) (sym same) may.functions);
     }
 
-    by_result : (q : Result Outcome AllocError) → IfOk q (λ o. meant w o ≡ local w steps ss) → IfOk q (λ o. IsRun (run_by_names w steps ss) o) → IfOk q (IsRan plan n)
+    by_result : (q : Result Outcome AllocError) → IfOk q (λ o. semantics w o ≡ local w steps ss) → IfOk q (λ o. IsRun (run_by_names w steps ss) o) → IfOk q (IsRan plan n)
     by_result (Ok o) e h = ran_is plan table n ss shelf w steps o may pays same count e h
     by_result (Err x) e h = tt
 

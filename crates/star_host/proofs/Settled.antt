@@ -1,14 +1,12 @@
 -- The modules of all reached files, as they are kept in order.
-use Rattle.std.proofs.Common.{◌≡◌, ◌+◌, ◌<◌, ◌⊎◌, inl, inr, ℕ, zero, suc, List, [], ◌∷◌, ◌++◌, ◌-◌, map, length, replicate, get_or, take, Option, Some, None, Result, Ok, Err, IfOk, refl, ap, sym, ◌∙◌, subst, arith, length-append}
+use Rattle.std.proofs.Common.{◌≡◌, ◌+◌, ◌<◌, ℕ, zero, suc, List, [], ◌∷◌, ◌++◌, ◌-◌, map, length, replicate, get_or, take, Option, Some, None, Result, Ok, Err, IfOk, refl, ap, sym, ◌∙◌, subst, arith}
 use Rattle.std.specs.Prelude.{All, Contains, IsSome, cond}
 use Rattle.std.specs.List.{count_by, sum_by}
 use Rattle.std.specs.Option.{option_map}
 use Rattle.std.specs.List.Sorted.{IsStrictlyIncreasing}
-use Rattle.std.proofs.lemmas.Bool.{cases_order}
-use Rattle.std.proofs.lemmas.List.{get_or_append_left, length-map, map-append, map-id}
+use Rattle.std.proofs.lemmas.List.{length-map, map-append, map-id}
 use Rattle.std.proofs.lemmas.List.Elements.{All-append, Contains-append_left, Contains-append_right}
 use Rattle.std.proofs.lemmas.List.Sums.{sum-map, sum_by_more}
-use Rattle.std.proofs.Math.Seq.{get_or-append_seam}
 use Rattle.star_cache.specs.Seats.{AreAll, AreNew, SeatState, counts_of}
 use Rattle.star_cache.specs.State.{BookState, LoaderState, begun_count, is_begun}
 use Rattle.star_cache.specs.declared.entry.Entry.{Entry}
@@ -16,6 +14,7 @@ use Rattle.star_label.specs.Files.{File}
 use Rattle.star_plan.specs.Plan.{Plan}
 use Rattle.star_plan.specs.Reached.{IsReached}
 use Rattle.star_plan.specs.Reading.{IsPlanOf}
+use Rattle.star_plan.proofs.Rising.{rising_push}
 use Rattle.star_outcome.specs.Fits.{IsWithin, reached_below}
 use Rattle.star_outcome.specs.Kept.{AreModules, AreModulesBelow, IsModuleKept, KeptView}
 use Rattle.star_reading.specs.Readings.{Row, read_at, reading_of, readings}
@@ -32,32 +31,6 @@ numbers ks = map (λ (k : KeptView). k.number) ks
 
 numbers_push : (ks : List KeptView) (k : KeptView) → numbers (ks ++ k ∷ []) ≡ numbers ks ++ k.number ∷ []
 numbers_push ks k = map-append (λ (x : KeptView). x.number) ks (k ∷ [])
-
--- one more number, above all others
-rising_push : (xs : List ℕ) (n : ℕ) → IsStrictlyIncreasing xs → All (λ m. m < n) xs → IsStrictlyIncreasing (xs ++ n ∷ [])
-rising_push xs n up below k h = by_order (cases_order (k + 1) (length xs))
-  where
-    long : length (xs ++ n ∷ []) ≡ length xs + 1
-    long = length-append xs (n ∷ [])
-
-    front : (i : ℕ) → i < length xs → get_or (xs ++ n ∷ []) i 0 ≡ get_or xs i 0
-    front i less = get_or_append_left xs (n ∷ []) 0 i less
-
-    last : get_or (xs ++ n ∷ []) (length xs) 0 ≡ n
-    last = get_or-append_seam xs n [] 0
-
-    by_order : ((k + 1 ≡ length xs) ⊎ ((k + 1 < length xs) ⊎ (length xs < k + 1))) → get_or (xs ++ n ∷ []) k 0 < get_or (xs ++ n ∷ []) (k + 1) 0
-    by_order (inl same) =
-        let a = front k (omega (arith, same)) in
-        let b : get_or (xs ++ n ∷ []) (k + 1) 0 ≡ n = ap (λ i. get_or (xs ++ n ∷ []) i 0) same ∙ last in
-        let c = below k 0 (omega (arith, same)) in
-        omega (arith, a, b, c)
-    by_order (inr (inl less)) =
-        let a = front k (omega (arith, less)) in
-        let b = front (k + 1) less in
-        let c = up k less in
-        omega (arith, a, b, c)
-    by_order (inr (inr more)) = absurd (let no : ⊥ = omega (arith, more, h, long) in no)
 
 pub none_kept : (plan : Plan) → AreModulesBelow plan 0 []
 none_kept plan = record {

@@ -1,14 +1,16 @@
 -- The world of a body, and the outcome of its run.
-use Rattle.std.specs.Prelude.{◌≡◌, ◌-◌, ℕ, List, Option}
+use Rattle.std.specs.Prelude.{◌≡◌, ◌-◌, ℕ, IfOk, List, Option, Result}
+use Rattle.star_tree.specs.declared.tree.Statement.{Statement}
 use Rattle.star_scope.specs.declared.loads.Load.{Load}
 use Rattle.star_store.specs.Store.{Shelf}
 use Rattle.star_meaning.specs.Local.{outlines}
+use Rattle.star_meaning.specs.Module.{local}
 use Rattle.star_meaning.specs.Program.{Setting}
 use Rattle.star_meaning.specs.Programs.{Files, load_files, trees_of}
 use Rattle.star_world.specs.World.{World}
 use Rattle.star_module.specs.declared.module.Outcome.{Outcome}
 use Rattle.star_module.specs.declared.module.Outcome.TheVariants as outcome
-use Rattle.star_module.specs.Outcomes.{meant}
+use Rattle.star_module.specs.Outcomes.{AreReady, IsOutcome as IsRunOutcome, semantics, run_by_names}
 use Rattle.star_outcome.specs.Paid.{HasPaid}
 use Rattle.star_plan.specs.Plan.{Plan}
 use Rattle.star_plan.specs.Results.{IsOutcome, Ran}
@@ -28,6 +30,14 @@ world_over home shelf files loads prelude =
       files = files;
     }
 
+-- where the world is ready, this is what a file of these statements means
+abbrev pub MeansLocal : {E : Type 0} → World → ℕ → List Statement → Result Outcome E → Type 0
+MeansLocal w steps ss result = AreReady w steps → IfOk result (λ o. semantics w.setting o ≡ local w.setting steps ss)
+
+-- and the outcome of their run by names
+abbrev pub IsRunOf : {E : Type 0} → World → ℕ → List Statement → Result Outcome E → Type 0
+IsRunOf w steps ss result = AreReady w steps → IfOk result (λ o. IsRunOutcome (run_by_names w.setting steps ss) o)
+
 -- the module that a good run left is the file's own
 abbrev pub IsOwnIn : Plan → ℕ → Outcome → Type 0
 IsOwnIn plan n (outcome.Good frozen texts lines left) = IsOwn plan n frozen
@@ -41,6 +51,6 @@ IsPaidIn plan n (outcome.Fault code line lines remains) = Unit {0}
 -- this is the outcome of a run of the file n: the file's outcome
 pub record IsRan (plan : Plan) (n : ℕ) (o : Outcome) : Type 0 where
   pub over : Setting
-  pub outcome : IsOutcome plan n (Ran (meant over o))
+  pub outcome : IsOutcome plan n (Ran (semantics over o))
   pub own : IsOwnIn plan n o
   pub paid : IsPaidIn plan n o

@@ -11,7 +11,7 @@ use Rattle.star_plan.specs.Plan.{Plan, loaded, loads_of}
 use Rattle.star_plan.specs.Reading.{IsPlanOf}
 use Rattle.star_plan.specs.Runs.{ArePlaced}
 use Rattle.star_reading.specs.Readings.{readings, table_of}
-use Rattle.star_outcome.specs.Fits.{IsAsked}
+use Rattle.star_outcome.specs.Fits.{IsAsked, IsWithin}
 use Rattle.star_outcome.specs.GoodEnds.{AreGoodEnds}
 use Rattle.star_outcome.specs.Refusals.{IsRefusal}
 use Rattle.star_outcome.specs.declared.good_end.GoodEnd.{GoodEnd}
@@ -35,6 +35,12 @@ pub record IsWorld (files : List File) (plan : Plan) (shelf : List ℕ) (c : Com
   pub planned : IsPlanOf files plan
   pub placed : ArePlaced files plan c.programs.now
   pub ends_are : AreGoodEnds plan c.ends.now
+
+-- so it is, and the loaders may work for the roots of the plan
+abbrev pub MayWork : List File → Plan → List ℕ → Common → Type 0
+MayWork files plan shelf c =
+    IsWorld files plan shelf c × IsWithin files plan × (c.roots.now ≡ plan.roots)
+    × ((1 ≤ c.loaders) × (c.loaders ≤ 64))
 
 -- the plan of loaders that share this data
 abbrev pub plan_in : Common → Plan

@@ -8,12 +8,11 @@ ghost use Rattle.star_reading.specs.Found.{IsReadOf};
 ghost use Rattle.star_reading.specs.Readings.{loads_at, table_of};
 
 use crate::options::RunOptions;
-use crate::table::loads_in;
 use star_label::files::Files as Labels;
 use star_outcome::good_end::GoodEnd;
 use star_outcome::module::{Body, Module};
 use star_outcome::shelf::Shelf;
-use star_reading::reading::{Read, Reads};
+use star_reading::reading::{Read, Reads, loads_in};
 use star_scope::loads::Load;
 use star_world::files::Files;
 use std::alloc::{AllocError, Global};

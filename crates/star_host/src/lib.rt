@@ -39,7 +39,7 @@ pub use star_outcome::naming::Naming;
 pub use star_outcome::outcome::Run;
 pub use star_outcome::shelf::Shelf;
 pub use star_outcome::told::Told;
-pub use star_outcome::trace::{OnCycle, Refused, Token, Trace};
+pub use star_outcome::trace::{CyclicLoad, OnCycle, Token, Trace};
 pub use star_reading::files::{Texts, read_files, read_parsed};
 pub use star_reading::parses::Parsed;
 pub use star_reading::reading::{Reads, Trees};

@@ -12,11 +12,11 @@ use crate::gate::Gate;
 use crate::table::{fault_at, program_at};
 use crate::work::body_end;
 use star_cache::{LoadCache, Reply, Seat};
-use star_outcome::frame::Frame;
 use star_outcome::module::{Ended, Module};
 use star_outcome::naming::Naming;
+use star_outcome::open_file::OpenFile;
 use star_outcome::told::Told;
-use star_outcome::trace::{Refused, Trace};
+use star_outcome::trace::{CyclicLoad, Trace};
 use star_reading::reading::numbers;
 use star_scope::loads::Load;
 use std::alloc::{AllocError, Global};
@@ -47,11 +47,11 @@ pub enum Turn {
 }
 
 /// The result of a file after all its loads have been answered.
-pub fn ended<'s, 'r, 'p, 't, J: Naming, G: Gate>(
+fn ended<'s, 'r, 'p, 't, J: Naming, G: Gate>(
     common: &Common<'s, 'r, 'p, 't>,
     gate: &G,
     loader: usize,
-    frame: &Frame<'s, J>,
+    frame: &OpenFile<'s, J>,
 ) -> Result<Ended, AllocError>
     requires world { IsWorld J.files J.plan J.shelf common.now }
     requires told { frame.now.told ≡ length (loads_of J.plan frame.now.n) }
@@ -79,7 +79,7 @@ pub fn ended<'s, 'r, 'p, 't, J: Naming, G: Gate>(
 }
 
 /// The module of a file with this end.
-pub fn module_of<'s, 'r, 'p, 't, J: Naming>(
+fn module_of<'s, 'r, 'p, 't, J: Naming>(
     common: &Common<'s, 'r, 'p, 't>,
     n: usize,
     ended: Ended,
@@ -97,10 +97,32 @@ pub fn module_of<'s, 'r, 'p, 't, J: Naming>(
 }
 
 /// A module in a heap block.
-pub fn boxed(alloc: Global, made: Module) -> Result<Box<Module>, AllocError>
+fn boxed(alloc: Global, made: Module) -> Result<Box<Module>, AllocError>
     ensures { IfOk result (λ b. b.value ≡ made) }
 {
     Box::new(alloc, made).map_err(AllocError::from)
+}
+
+/// Publishes the module of a file, all of whose loads have been answered: what the cache is told of it.
+pub fn published<'s, 'r, 'p, 't, J: Naming, G: Gate>(
+    common: &Common<'s, 'r, 'p, 't>,
+    gate: &G,
+    loader: usize,
+    frame: &OpenFile<'s, J>,
+) -> Result<Told<J>, LoadError>
+    requires world { IsWorld J.files J.plan J.shelf common.now }
+    requires told { frame.now.told ≡ length (loads_of J.plan frame.now.n) }
+    ensures { IfOk result (IsTold J.files J.plan frame.now.n) }
+{
+    let n = frame.number();
+    let ended = ended::<J, G>(common, gate, loader, frame)?;
+    let made = module_of::<J>(common, n, ended)?;
+    let good = made.is_good();
+    let module = boxed(common.alloc, made)?;
+    let Ok(note) = common.modules.publish(n, module) else {
+        return Err(LoadError::Unpublished);
+    };
+    Ok(Told::new(n, good, note))
 }
 
 /// Publishes the module of a file, and then tells the cache that the file has ended.
@@ -110,21 +132,15 @@ fn end<'s, 'r, 'p, 't, J: Naming, R: Wait, G: Gate>(
     gate: &G,
     cache: &LoadCache<Told<J>>,
     seat: &mut Seat<Told<J>>,
-    frame: &Frame<'s, J>,
+    frame: &OpenFile<'s, J>,
 ) -> Result<(), LoadError>
     requires world { IsWorld J.files J.plan J.shelf common.now }
     requires told { frame.now.told ≡ length (loads_of J.plan frame.now.n) }
     ensures { seat.new ≡ seat.old }
 {
     let n = frame.number();
-    let ended = ended::<J, G>(common, gate, seat.number(), frame)?;
-    let made = module_of::<J>(common, n, ended)?;
-    let good = made.is_good();
-    let module = boxed(common.alloc, made)?;
-    let Ok(note) = common.modules.publish(n, module) else {
-        return Err(LoadError::Unpublished);
-    };
-    match cache.finish(rt, seat, n, Told::new(n, good, note)) {
+    let told = published::<J, G>(common, gate, seat.number(), frame)?;
+    match cache.finish(rt, seat, n, told) {
         Ok(()) => Ok(()),
         Err(_) => Err(LoadError::Spoiled),
     }
@@ -133,7 +149,7 @@ fn end<'s, 'r, 'p, 't, J: Naming, R: Wait, G: Gate>(
 /// The next load of a file to ask for; `None` if all were answered.
 pub fn next_load<'s, 'r, 'p, 't, J: Naming>(
     common: &Common<'s, 'r, 'p, 't>,
-    frame: &Frame<'s, J>,
+    frame: &OpenFile<'s, J>,
 ) -> Option<Load>
     requires world { IsWorld J.files J.plan J.shelf common.now }
     ensures { MatchOption result
@@ -165,7 +181,7 @@ fn take_turn<'s, 'r, 'p, 't, J: Naming, R: Wait, G: Gate>(
     gate: &G,
     cache: &LoadCache<Told<J>>,
     seat: &mut Seat<Told<J>>,
-    top: &mut Frame<'s, J>,
+    top: &mut OpenFile<'s, J>,
     trace: &Trace<J>,
 ) -> Result<Turn, LoadError>
     requires world { IsWorld J.files J.plan J.shelf common.now }
@@ -186,7 +202,7 @@ fn take_turn<'s, 'r, 'p, 't, J: Naming, R: Wait, G: Gate>(
             let loaded = load.file;
             let _ = trace.push(
                 rt,
-                Refused {
+                CyclicLoad {
                     file,
                     index,
                     loaded,
@@ -239,13 +255,13 @@ fn turns<'s, 'r, 'p, 't, J: Naming, R: Wait, G: Gate>(
     ensures told { IfOk result (IsTold J.files J.plan root) }
     ensures number { seat.new.number ≡ seat.old.number }
 {
-    let mut stack: Vec<Frame<'s, J>> = Vec::new(common.alloc);
+    let mut stack: Vec<OpenFile<'s, J>> = Vec::new(common.alloc);
     for _ in rt.forever() {
         let Some(top) = stack.last_mut() else {
             match ask_root(rt, cache, seat, root)? {
                 Some(told) => return Ok(told),
                 None => stack
-                    .push(Frame::new(common.alloc, root))
+                    .push(OpenFile::new(common.alloc, root))
                     .map_err(AllocError::from)?,
             }
             continue;
@@ -253,7 +269,7 @@ fn turns<'s, 'r, 'p, 't, J: Naming, R: Wait, G: Gate>(
         match take_turn(rt, common, gate, cache, seat, top, trace)? {
             Turn::Again => {}
             Turn::Enter(m) => stack
-                .push(Frame::new(common.alloc, m))
+                .push(OpenFile::new(common.alloc, m))
                 .map_err(AllocError::from)?,
             Turn::Ended => {
                 let _ = stack.pop();

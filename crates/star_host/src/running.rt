@@ -5,7 +5,7 @@ ghost use Rattle.star_outcome.specs.Fits.{IsAsked, IsWithin};
 ghost use Rattle.star_outcome.specs.GoodEnds.{AreGoodEndsOf};
 ghost use Rattle.star_reading.specs.Found.{IsReadOf, Within};
 ghost use Rattle.star_host.specs.Counts.{AreCounts};
-ghost use Rattle.star_host.specs.Worlds.{IsWorld, plan_in};
+ghost use Rattle.star_host.specs.Worlds.{IsWorld, MayWork, plan_in};
 ghost use Rattle.star_outcome.specs.Kept.{AllKept, AreModules, AreModulesOf};
 ghost use Rattle.star_reading.specs.Parsed.{AreParsesOf};
 ghost use Rattle.star_outcome.specs.Refusals.{AreRefusals, AreRefusalsOf};
@@ -27,7 +27,7 @@ use star_outcome::naming::Naming;
 use star_outcome::outcome::{Kept, Run};
 use star_outcome::shelf::Shelf;
 use star_outcome::told::Told;
-use star_outcome::trace::{Refused, Trace};
+use star_outcome::trace::{CyclicLoad, Trace};
 use star_reading::files::{Texts, read_parsed};
 use star_reading::reading::{Reads, Trees};
 use std::alloc::{AllocError, Global};
@@ -65,7 +65,7 @@ impl From<LoadError> for RunError {
 
 /// The result of a loader: its seat, and the first of its errors that is a cause, if it met an error.
 #[derive(Drop)]
-pub(crate) struct Worked<J: Naming> {
+pub(crate) struct LoaderResult<J: Naming> {
     seat: Seat<Told<J>>,
     error: Option<LoadError>,
 }
@@ -144,7 +144,7 @@ fn work<'s, 'r, 'p, 't, J: Naming, R: Wait, G: Gate>(
     seat: Seat<Told<J>>,
     trace: &Trace<J>,
     flow: &Flow,
-) -> Worked<J>
+) -> LoaderResult<J>
     requires world { IsWorld J.files J.plan J.shelf common.now }
     requires within { IsWithin J.files J.plan }
     requires roots { common.now.roots.now ≡ J.plan.roots }
@@ -159,7 +159,7 @@ fn work<'s, 'r, 'p, 't, J: Naming, R: Wait, G: Gate>(
     let roots = common.roots;
     let count = roots.len();
     if count == 0 {
-        return Worked { seat, error };
+        return LoaderResult { seat, error };
     }
     let first = first_place(seat.number(), common.loaders, count);
     for i in 0..count {
@@ -167,12 +167,12 @@ fn work<'s, 'r, 'p, 't, J: Naming, R: Wait, G: Gate>(
         let told = load(rt, common, gate, cache, &mut seat, root, trace);
         error = reason(error, told.err());
     }
-    Worked { seat, error }
+    LoaderResult { seat, error }
 }
 
 /// Starts a loader in its own thread for each seat: the results of all loaders, in the order of the seats.
 #[tactic(auto, using(crate::proofs::SeatsBack::numbers_back))]
-fn spread<'s, 'r, 'p, 't, J: Naming + Send + Sync, R: Threads + Wait + Sync, G: Gate + Sync>(
+fn spawn_loaders<'s, 'r, 'p, 't, J: Naming + Send + Sync, R: Threads + Wait + Sync, G: Gate + Sync>(
     rt: &R,
     common: &Common<'s, 'r, 'p, 't>,
     gate: &G,
@@ -180,7 +180,7 @@ fn spread<'s, 'r, 'p, 't, J: Naming + Send + Sync, R: Threads + Wait + Sync, G: 
     seats: Vec<Seat<Told<J>>>,
     trace: &Trace<J>,
     flow: &Flow,
-) -> Result<Vec<Worked<J>>, AllocError>
+) -> Result<Vec<LoaderResult<J>>, AllocError>
     requires world { IsWorld J.files J.plan J.shelf common.now }
     requires within { IsWithin J.files J.plan }
     requires roots { common.now.roots.now ≡ J.plan.roots }
@@ -190,9 +190,8 @@ fn spread<'s, 'r, 'p, 't, J: Naming + Send + Sync, R: Threads + Wait + Sync, G: 
     thread::map_vec(
         rt,
         seats,
-        &|seat: Seat<Told<J>>| -> Worked<J>
-            requires { IsWorld J.files J.plan J.shelf common.now × IsWithin J.files J.plan
-                × (common.now.roots.now ≡ J.plan.roots) × ((1 ≤ common.now.loaders) × (common.now.loaders ≤ 64)) }
+        &|seat: Seat<Told<J>>| -> LoaderResult<J>
+            requires { MayWork J.files J.plan J.shelf common.now }
             ensures { result.seat.number ≡ seat.number }
         { work(rt, common, gate, cache, seat, trace, flow) },
     )
@@ -215,14 +214,14 @@ fn reason(first: Option<LoadError>, next: Option<LoadError>) -> Option<LoadError
 /// The seats of the loaders, in order, and the first of their errors that is a cause, if they met an error.
 fn taken<J: Naming>(
     alloc: Global,
-    worked: Vec<Worked<J>>,
+    worked: Vec<LoaderResult<J>>,
 ) -> Result<(Vec<Seat<Told<J>>>, Option<LoadError>), AllocError>
     ensures { IfOk result (λ r. r.0.items ≡ map (λ w. w.seat) worked.items) }
 {
     let mut seats = Vec::new(alloc);
     let mut why = None;
     for each in worked {
-        let Worked { seat, error } = each;
+        let LoaderResult { seat, error } = each;
         seats.push(seat)?;
         why = reason(why, error);
     }
@@ -235,7 +234,7 @@ pub(crate) struct Closed {
     kept: Vec<Kept>,
     begun: u32,
     per_loader: [u32; 64],
-    refused: Vec<Refused>,
+    refused: Vec<CyclicLoad>,
 }
 
 fn run_named<'s, 'r, 'p, 't, J: Naming + Send + Sync, R: Threads + Wait + Sync, G: Gate + Sync>(
@@ -262,7 +261,7 @@ fn run_named<'s, 'r, 'p, 't, J: Naming + Send + Sync, R: Threads + Wait + Sync, 
     let files = common.files.len();
     let (cache, seats) = LoadCache::<Told<J>>::new(alloc, blank, files, common.loaders)?;
     let flow = flow_of(common)?;
-    let worked = spread(rt, common, gate, &cache, seats, &trace, &flow)?;
+    let worked = spawn_loaders(rt, common, gate, &cache, seats, &trace, &flow)?;
     let (seats, error) = taken(alloc, worked)?;
     if let Some(error) = error {
         return Err(RunError::from(error));

@@ -1,4 +1,4 @@
-//! The programs of all read files, and the loads of each, by number.
+//! The programs of all read files, by number.
 
 ghost use Rattle.std.specs.Prelude.{◌≡◌, All, IfOk, IsFalse, IsSome, IsTrue, MatchOption, None, Some, count_by, is_some, ⊤};
 ghost use Rattle.std.specs.Option.{option_map};
@@ -6,11 +6,10 @@ ghost use Rattle.star_meaning.specs.Programs.{IsOfFile, placed_file};
 ghost use Rattle.star_scope.specs.declared.program.Program.{Program as ProgramView};
 ghost use Rattle.star_reading.specs.declared.code.StaticFault.{StaticFault as FaultView};
 ghost use Rattle.star_reading.specs.declared.reading.Read.TheVariants as read;
-ghost use Rattle.star_reading.specs.Readings.{IsPlaceable, loads_at, placed_in, read_at, table_of};
+ghost use Rattle.star_reading.specs.Readings.{IsPlaceable, placed_in, read_at, table_of};
 
 use star_reading::code::StaticFault;
 use star_reading::reading::{Read, Reads};
-use star_scope::loads::Load;
 use star_scope::program::Program;
 use star_world::files::Files;
 use std::alloc::{AllocError, Global};
@@ -62,16 +61,6 @@ pub(crate) fn fault_at(reads: &[Option<Read>], n: usize) -> Option<StaticFault>
     match reads.get(n) {
         Some(Some(Read::Fault(fault))) => Some(*fault),
         _ => None,
-    }
-}
-
-/// The loads of a file; none if it has a static fault.
-pub(crate) fn loads_in<'s, 't>(reads: &'s [Option<Read<'t>>], n: usize) -> &'s [Load]
-    ensures { result.now ≡ loads_at reads.now n }
-{
-    match reads.get(n) {
-        Some(Some(Read::Program(program))) => program.loads(),
-        _ => &[],
     }
 }
 

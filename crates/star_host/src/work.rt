@@ -1,15 +1,13 @@
 //! The run of one file: its body, over the stores of all files that it needs; or its end, if that is known already.
 
 ghost use Rattle.std.specs.Prelude.{◌≡◌, ◌<◌, ◌≤◌, Some, IfOk, ℕ, Contains, length, map};
-ghost use Rattle.star_meaning.specs.Module.{local};
 ghost use Rattle.star_meaning.specs.Programs.{file_in, placed_file};
-ghost use Rattle.star_module.specs.Outcomes.{AreReady, IsOutcome, meant, run_by_names};
 ghost use Rattle.star_plan.specs.Plan.{loads_of};
 ghost use Rattle.star_plan.specs.Shelves.{Needs};
 ghost use Rattle.star_host.specs.Worlds.{IsWorld};
 ghost use Rattle.star_outcome.specs.Fits.{IsAsked};
 ghost use Rattle.star_outcome.specs.Gathered.{AreNeeded};
-ghost use Rattle.star_host.specs.Bodies.{IsRan, world_over};
+ghost use Rattle.star_host.specs.Bodies.{IsRan, IsRunOf, MeansLocal, world_over};
 ghost use Rattle.star_outcome.specs.Reaches.{row_of};
 ghost use Rattle.star_reading.specs.Readings.{read_at};
 ghost use Rattle.star_outcome.specs.Views.{AreGoodLoads, IsEnd};
@@ -20,9 +18,9 @@ use crate::gate::Gate;
 use star_about::look::{Fault, seek};
 use star_found::about::Found;
 use star_module::{Outcome, Remains, run_body};
-use star_outcome::given::{gathered, stores_of};
 use star_outcome::module::{Body, Ended, Left, Module};
 use star_outcome::naming::Naming;
+use star_outcome::reachable::{gathered, stores_of};
 use star_outcome::store_row::StoreRow;
 use star_scope::loads::Load;
 use star_scope::program::Program;
@@ -42,12 +40,10 @@ fn outcome_in<'s, 'r, 'p, 't>(
 ) -> Result<Outcome, AllocError>
     requires stands { file_in common.now.programs.now home ≡ Some (placed_file program.now) }
     requires steps { (1 ≤ common.now.steps) × (common.now.steps ≤ 100000000) }
-    ensures names { let w = world_over home homes.now common.now.programs.now program.now.loads.items prelude in
-        AreReady w common.now.steps
-        → IfOk result (λ o. meant w.setting o ≡ local w.setting common.now.steps program.now.statements.now) }
-    ensures named { let w = world_over home homes.now common.now.programs.now program.now.loads.items prelude in
-        AreReady w common.now.steps
-        → IfOk result (λ o. IsOutcome (run_by_names w.setting common.now.steps program.now.statements.now) o) }
+    ensures names { MeansLocal (world_over home homes.now common.now.programs.now program.now.loads.items prelude)
+        common.now.steps program.now.statements.now result }
+    ensures named { IsRunOf (world_over home homes.now common.now.programs.now program.now.loads.items prelude)
+        common.now.steps program.now.statements.now result }
 {
     let world = World::new(home, homes, common.programs, program.loads(), prelude);
     run_body(common.alloc, &world, program, common.steps, common.seed)

@@ -10,10 +10,10 @@ use Rattle.star_tree.specs.declared.tree.Parameter.{Parameter}
 use Rattle.star_tree.specs.declared.tree.Argument.TheOpen as tree
 use Rattle.star_scope.specs.Syntax.{ParameterForm, parameter}
 use Rattle.star_scope.specs.Names.{same_name}
-use Rattle.star_meaning.specs.declared.given.Given.{Given}
-use Rattle.star_meaning.specs.declared.given.NamedValue.{NamedValue}
+use Rattle.star_meaning.specs.declared.given.Arguments.{Arguments}
+use Rattle.star_meaning.specs.declared.given.KeywordArgument.{KeywordArgument}
 use Rattle.star_meaning.specs.Arguments.{is_given}
-use Rattle.star_meaning.specs.Binding.{Names, One, Progress, Rest, Share, also, before_names, bound_to, else_default, first_of_row, is_no_own, own_name, own_names, rest_of_row, shared, shares, step, takes_names, unclaimed, value_named}
+use Rattle.star_meaning.specs.Binding.{Names, One, BindingState, Rest, BoundArgument, also, before_names, bound_to, else_default, first_of_row, is_extra, keyword_of, keywords_of, rest_of_row, shared, shares, step, takes_names, extra_keywords, value_named}
 use Rattle.star_laws.specs.Calls.{Fits, before_star, has_default, is_star, named_at, parameter_at, takes_rest}
 
 -- tests
@@ -49,21 +49,21 @@ open_of true ps = []
 open_of false ps = before_star ps
 
 unfoldable pub Placed : Bool → List Parameter → List Value → ℕ → Type 0
-Placed b ps vs i = (i < length (open_of b ps)) × (length (own_names (take i ps)) < length vs)
+Placed b ps vs i = (i < length (open_of b ps)) × (length (keywords_of (take i ps)) < length vs)
 
 unfoldable pub Room : Bool → List Parameter → List Value → Type 0
-Room b ps vs = (length vs ≤ length (own_names (open_of b ps))) ⊎ (list_any (λ p. takes_rest (parameter p)) ps ≡ true)
+Room b ps vs = (length vs ≤ length (keywords_of (open_of b ps))) ⊎ (list_any (λ p. takes_rest (parameter p)) ps ≡ true)
 
 -- as `Fits`, from some parameter on
-record FitsFrom (ns : List NamedValue) (b : Bool) (ps : List Parameter) (vs : List Value) : Type 0 where
+record FitsFrom (ns : List KeywordArgument) (b : Bool) (ps : List Parameter) (vs : List Value) : Type 0 where
   needed : (i : ℕ) (n : Name) → parameter_at ps i ≡ Some (tree.Plain n) → Placed b ps vs i ⊎ (is_given n.text ns ≡ true)
   once : (i : ℕ) (name : List ℕ) → named_at ps i ≡ Some name → Placed b ps vs i → is_given name ns ≡ false
   room : Room b ps vs
 
 -- `FitsFrom`, for the first parameter
-record Head (ns : List NamedValue) (b : Bool) (p : Parameter) (ps : List Parameter) (vs : List Value) : Type 0 where
+record Head (ns : List KeywordArgument) (b : Bool) (p : Parameter) (ps : List Parameter) (vs : List Value) : Type 0 where
   needed : (n : Name) → parameter p ≡ tree.Plain n → Placed b (p ∷ ps) vs 0 ⊎ (is_given n.text ns ≡ true)
-  once : (name : List ℕ) → own_name (parameter p) ≡ Some name → Placed b (p ∷ ps) vs 0 → is_given name ns ≡ false
+  once : (name : List ℕ) → keyword_of (parameter p) ≡ Some name → Placed b (p ∷ ps) vs 0 → is_given name ns ≡ false
 
 -- a step from the first parameter to those after it, and to the arguments left for them
 pub record Goes (p : Parameter) (ps : List Parameter) (b c : Bool) (vs ws : List Value) : Type 0 where
@@ -72,7 +72,7 @@ pub record Goes (p : Parameter) (ps : List Parameter) (b c : Bool) (vs ws : List
   pub lower : Room b (p ∷ ps) vs → Room c ps ws
   pub higher : Room c ps ws → Room b (p ∷ ps) vs
 
-cons : (ns : List NamedValue) (p : Parameter) (ps : List Parameter) (b c : Bool) (vs ws : List Value) → Goes p ps b c vs ws → Head ns b p ps vs → FitsFrom ns c ps ws → FitsFrom ns b (p ∷ ps) vs
+cons : (ns : List KeywordArgument) (p : Parameter) (ps : List Parameter) (b c : Bool) (vs ws : List Value) → Goes p ps b c vs ws → Head ns b p ps vs → FitsFrom ns c ps ws → FitsFrom ns b (p ∷ ps) vs
 cons ns p ps b c vs ws g h r = record { needed = needed; once = once; room = g.higher r.room }
   where
     needed : (i : ℕ) (n : Name) → parameter_at (p ∷ ps) i ≡ Some (tree.Plain n) → Placed b (p ∷ ps) vs i ⊎ (is_given n.text ns ≡ true)
@@ -87,10 +87,10 @@ cons ns p ps b c vs ws g h r = record { needed = needed; once = once; room = g.h
     once zero name e q = h.once name e q
     once (suc i) name e q = r.once i name e (g.down i q)
 
-head_of : (ns : List NamedValue) (p : Parameter) (ps : List Parameter) (b : Bool) (vs : List Value) → FitsFrom ns b (p ∷ ps) vs → Head ns b p ps vs
+head_of : (ns : List KeywordArgument) (p : Parameter) (ps : List Parameter) (b : Bool) (vs : List Value) → FitsFrom ns b (p ∷ ps) vs → Head ns b p ps vs
 head_of ns p ps b vs r = record { needed = λ n e. r.needed 0 n (ap Some e); once = λ name e q. r.once 0 name e q }
 
-tail_of : (ns : List NamedValue) (p : Parameter) (ps : List Parameter) (b c : Bool) (vs ws : List Value) → Goes p ps b c vs ws → FitsFrom ns b (p ∷ ps) vs → FitsFrom ns c ps ws
+tail_of : (ns : List KeywordArgument) (p : Parameter) (ps : List Parameter) (b c : Bool) (vs ws : List Value) → Goes p ps b c vs ws → FitsFrom ns b (p ∷ ps) vs → FitsFrom ns c ps ws
 tail_of ns p ps b c vs ws g r = record { needed = λ i n e. by i n (r.needed (suc i) n e); once = λ i name e q. r.once (suc i) name e (g.up i q); room = g.lower r.room }
   where
     by : (i : ℕ) (n : Name) → Placed b (p ∷ ps) vs (suc i) ⊎ (is_given n.text ns ≡ true) → Placed c ps ws i ⊎ (is_given n.text ns ≡ true)
@@ -105,7 +105,7 @@ no_star p ps h = ap (λ b. if b then [] else p ∷ before_star ps) h
 star : (p : Parameter) (ps : List Parameter) → is_star (parameter p) ≡ true → before_star (p ∷ ps) ≡ []
 star p ps h = ap (λ b. if b then [] else p ∷ before_star ps) h
 
-pub goes_taken : (p : Parameter) (ps : List Parameter) (v : Value) (vs : List Value) (name : List ℕ) → own_name (parameter p) ≡ Some name → is_star (parameter p) ≡ false → takes_rest (parameter p) ≡ false → Goes p ps false false (v ∷ vs) vs
+pub goes_taken : (p : Parameter) (ps : List Parameter) (v : Value) (vs : List Value) (name : List ℕ) → keyword_of (parameter p) ≡ Some name → is_star (parameter p) ≡ false → takes_rest (parameter p) ≡ false → Goes p ps false false (v ∷ vs) vs
 unfolding Placed Room open_of
 goes_taken p ps v vs name k h t = record {
   down = λ i q. (omega (arith, a, q.0), omega (arith, c i, q.1));
@@ -117,17 +117,17 @@ goes_taken p ps v vs name k h t = record {
     a : length (before_star (p ∷ ps)) ≡ suc (length (before_star ps))
     a = ap (λ (xs : List Parameter). length xs) (no_star p ps h)
 
-    c : (i : ℕ) → length (own_names (take (suc i) (p ∷ ps))) ≡ suc (length (own_names (take i ps)))
-    c i = ap (λ o. length (before_names o (own_names (take i ps)))) k
+    c : (i : ℕ) → length (keywords_of (take (suc i) (p ∷ ps))) ≡ suc (length (keywords_of (take i ps)))
+    c i = ap (λ o. length (before_names o (keywords_of (take i ps)))) k
 
-    d : length (own_names (before_star (p ∷ ps))) ≡ suc (length (own_names (before_star ps)))
-    d = ap (λ xs. length (own_names xs)) (no_star p ps h) ∙ ap (λ o. length (before_names o (own_names (before_star ps)))) k
+    d : length (keywords_of (before_star (p ∷ ps))) ≡ suc (length (keywords_of (before_star ps)))
+    d = ap (λ xs. length (keywords_of xs)) (no_star p ps h) ∙ ap (λ o. length (before_names o (keywords_of (before_star ps)))) k
 
-    lower : (length (v ∷ vs) ≤ length (own_names (before_star (p ∷ ps)))) ⊎ (list_any (λ p. takes_rest (parameter p)) (p ∷ ps) ≡ true) → (length vs ≤ length (own_names (before_star ps))) ⊎ (list_any (λ p. takes_rest (parameter p)) ps ≡ true)
+    lower : (length (v ∷ vs) ≤ length (keywords_of (before_star (p ∷ ps)))) ⊎ (list_any (λ p. takes_rest (parameter p)) (p ∷ ps) ≡ true) → (length vs ≤ length (keywords_of (before_star ps))) ⊎ (list_any (λ p. takes_rest (parameter p)) ps ≡ true)
     lower (inl q) = inl (omega (arith, d))
     lower (inr q) = inr (or_rest (takes_rest (parameter p)) (list_any (λ p. takes_rest (parameter p)) ps) q t)
 
-    higher : (length vs ≤ length (own_names (before_star ps))) ⊎ (list_any (λ p. takes_rest (parameter p)) ps ≡ true) → (length (v ∷ vs) ≤ length (own_names (before_star (p ∷ ps)))) ⊎ (list_any (λ p. takes_rest (parameter p)) (p ∷ ps) ≡ true)
+    higher : (length vs ≤ length (keywords_of (before_star ps))) ⊎ (list_any (λ p. takes_rest (parameter p)) ps ≡ true) → (length (v ∷ vs) ≤ length (keywords_of (before_star (p ∷ ps)))) ⊎ (list_any (λ p. takes_rest (parameter p)) (p ∷ ps) ≡ true)
     higher (inl q) = inl (omega (arith, d))
     higher (inr q) = inr (or_right (takes_rest (parameter p)) (list_any (λ p. takes_rest (parameter p)) ps) q)
 
@@ -180,18 +180,18 @@ goes_bare p ps vs h t = record {
   higher = higher;
 }
   where
-    d : length (own_names (before_star (p ∷ ps))) ≡ 0
-    d = ap (λ xs. length (own_names xs)) (star p ps h)
+    d : length (keywords_of (before_star (p ∷ ps))) ≡ 0
+    d = ap (λ xs. length (keywords_of xs)) (star p ps h)
 
-    lower : (length vs ≤ length (own_names (before_star (p ∷ ps)))) ⊎ (list_any (λ p. takes_rest (parameter p)) (p ∷ ps) ≡ true) → (length vs ≤ 0) ⊎ (list_any (λ p. takes_rest (parameter p)) ps ≡ true)
+    lower : (length vs ≤ length (keywords_of (before_star (p ∷ ps)))) ⊎ (list_any (λ p. takes_rest (parameter p)) (p ∷ ps) ≡ true) → (length vs ≤ 0) ⊎ (list_any (λ p. takes_rest (parameter p)) ps ≡ true)
     lower (inl q) = inl (omega (arith, d))
     lower (inr q) = inr (or_rest (takes_rest (parameter p)) (list_any (λ p. takes_rest (parameter p)) ps) q t)
 
-    higher : (length vs ≤ 0) ⊎ (list_any (λ p. takes_rest (parameter p)) ps ≡ true) → (length vs ≤ length (own_names (before_star (p ∷ ps)))) ⊎ (list_any (λ p. takes_rest (parameter p)) (p ∷ ps) ≡ true)
+    higher : (length vs ≤ 0) ⊎ (list_any (λ p. takes_rest (parameter p)) ps ≡ true) → (length vs ≤ length (keywords_of (before_star (p ∷ ps)))) ⊎ (list_any (λ p. takes_rest (parameter p)) (p ∷ ps) ≡ true)
     higher (inl q) = inl (omega (arith, d))
     higher (inr q) = inr (or_right (takes_rest (parameter p)) (list_any (λ p. takes_rest (parameter p)) ps) q)
 
-pub goes_past : (p : Parameter) (ps : List Parameter) (vs : List Value) → own_name (parameter p) ≡ None → is_star (parameter p) ≡ false → takes_rest (parameter p) ≡ false → Goes p ps false false vs vs
+pub goes_past : (p : Parameter) (ps : List Parameter) (vs : List Value) → keyword_of (parameter p) ≡ None → is_star (parameter p) ≡ false → takes_rest (parameter p) ≡ false → Goes p ps false false vs vs
 unfolding Placed Room open_of
 goes_past p ps vs k h t = record {
   down = λ i q. (omega (arith, a, q.0), omega (arith, c i, q.1));
@@ -203,56 +203,56 @@ goes_past p ps vs k h t = record {
     a : length (before_star (p ∷ ps)) ≡ suc (length (before_star ps))
     a = ap (λ (xs : List Parameter). length xs) (no_star p ps h)
 
-    c : (i : ℕ) → length (own_names (take (suc i) (p ∷ ps))) ≡ length (own_names (take i ps))
-    c i = ap (λ o. length (before_names o (own_names (take i ps)))) k
+    c : (i : ℕ) → length (keywords_of (take (suc i) (p ∷ ps))) ≡ length (keywords_of (take i ps))
+    c i = ap (λ o. length (before_names o (keywords_of (take i ps)))) k
 
-    d : length (own_names (before_star (p ∷ ps))) ≡ length (own_names (before_star ps))
-    d = ap (λ xs. length (own_names xs)) (no_star p ps h) ∙ ap (λ o. length (before_names o (own_names (before_star ps)))) k
+    d : length (keywords_of (before_star (p ∷ ps))) ≡ length (keywords_of (before_star ps))
+    d = ap (λ xs. length (keywords_of xs)) (no_star p ps h) ∙ ap (λ o. length (before_names o (keywords_of (before_star ps)))) k
 
-    lower : (length vs ≤ length (own_names (before_star (p ∷ ps)))) ⊎ (list_any (λ p. takes_rest (parameter p)) (p ∷ ps) ≡ true) → (length vs ≤ length (own_names (before_star ps))) ⊎ (list_any (λ p. takes_rest (parameter p)) ps ≡ true)
+    lower : (length vs ≤ length (keywords_of (before_star (p ∷ ps)))) ⊎ (list_any (λ p. takes_rest (parameter p)) (p ∷ ps) ≡ true) → (length vs ≤ length (keywords_of (before_star ps))) ⊎ (list_any (λ p. takes_rest (parameter p)) ps ≡ true)
     lower (inl q) = inl (omega (arith, d))
     lower (inr q) = inr (or_rest (takes_rest (parameter p)) (list_any (λ p. takes_rest (parameter p)) ps) q t)
 
-    higher : (length vs ≤ length (own_names (before_star ps))) ⊎ (list_any (λ p. takes_rest (parameter p)) ps ≡ true) → (length vs ≤ length (own_names (before_star (p ∷ ps)))) ⊎ (list_any (λ p. takes_rest (parameter p)) (p ∷ ps) ≡ true)
+    higher : (length vs ≤ length (keywords_of (before_star ps))) ⊎ (list_any (λ p. takes_rest (parameter p)) ps ≡ true) → (length vs ≤ length (keywords_of (before_star (p ∷ ps)))) ⊎ (list_any (λ p. takes_rest (parameter p)) (p ∷ ps) ≡ true)
     higher (inl q) = inl (omega (arith, d))
     higher (inr q) = inr (or_right (takes_rest (parameter p)) (list_any (λ p. takes_rest (parameter p)) ps) q)
 
 -- one parameter's share
 
-unfoldable pub prog : Bool → List Value → List Value → Progress
-prog b vs ds = record { by_name = b; plain = vs; defaults = ds }
+unfoldable pub prog : Bool → List Value → List Value → BindingState
+prog b vs ds = record { by_name = b; positional = vs; defaults = ds }
 
-also_some : (xs : List (Name × Share)) (o : Option (List (Name × Share))) → is_some (also xs o) ≡ is_some o
+also_some : (xs : List (Name × BoundArgument)) (o : Option (List (Name × BoundArgument))) → is_some (also xs o) ≡ is_some o
 also_some xs (Some ys) = refl
 also_some xs None = refl
 
 -- the shares after a step
-unfoldable pub After : List NamedValue → List NamedValue → List Parameter → Option (List (Name × Share) × Progress) → Option (List (Name × Share))
+unfoldable pub After : List KeywordArgument → List KeywordArgument → List Parameter → Option (List (Name × BoundArgument) × BindingState) → Option (List (Name × BoundArgument))
 After ns left ps o = option_and_then (λ r. also r.0 (shares ns left ps r.1)) o
 
-pub by_form : (ns left : List NamedValue) (p : Parameter) (ps : List Parameter) (q : Progress) (f : ParameterForm) → parameter p ≡ f → shares ns left (p ∷ ps) q ≡ After ns left ps (step ns left q f)
+pub by_form : (ns left : List KeywordArgument) (p : Parameter) (ps : List Parameter) (q : BindingState) (f : ParameterForm) → parameter p ≡ f → shares ns left (p ∷ ps) q ≡ After ns left ps (step ns left q f)
 unfolding After
 by_form ns left p ps q f e = ap (λ f. After ns left ps (step ns left q f)) e
 
-after_some : (ns left : List NamedValue) (ps : List Parameter) (xs : List (Name × Share)) (q : Progress) → is_some (After ns left ps (Some (xs, q))) ≡ is_some (shares ns left ps q)
+after_some : (ns left : List KeywordArgument) (ps : List Parameter) (xs : List (Name × BoundArgument)) (q : BindingState) → is_some (After ns left ps (Some (xs, q))) ≡ is_some (shares ns left ps q)
 unfolding After
 after_some ns left ps xs q = also_some xs (shares ns left ps q)
 
-after_shared : (ns left : List NamedValue) (ps : List Parameter) (n : Name) (q : Progress) (o : Option Value) → is_some (After ns left ps (shared n q o)) ≡ (is_some o && is_some (shares ns left ps q))
+after_shared : (ns left : List KeywordArgument) (ps : List Parameter) (n : Name) (q : BindingState) (o : Option Value) → is_some (After ns left ps (shared n q o)) ≡ (is_some o && is_some (shares ns left ps q))
 unfolding After
 after_shared ns left ps n q (Some v) = also_some ((n, One v) ∷ []) (shares ns left ps q)
 after_shared ns left ps n q None = refl
 
-after_given : (ns left : List NamedValue) (ps : List Parameter) (n : Name) (v : Value) (q : Progress) (b : Bool) → is_some (After ns left ps (if b then None else Some ((n, One v) ∷ [], q))) ≡ (not b && is_some (shares ns left ps q))
+after_given : (ns left : List KeywordArgument) (ps : List Parameter) (n : Name) (v : Value) (q : BindingState) (b : Bool) → is_some (After ns left ps (if b then None else Some ((n, One v) ∷ [], q))) ≡ (not b && is_some (shares ns left ps q))
 unfolding After
 after_given ns left ps n v q true = refl
 after_given ns left ps n v q false = also_some ((n, One v) ∷ []) (shares ns left ps q)
 
-found_any : (name : List ℕ) (n : NamedValue) (ns : List NamedValue) (b : Bool) → is_some (option_map (λ (m : NamedValue). m.value) (find (λ m. same_name m.name name) ns)) ≡ is_given name ns → is_some (option_map (λ (m : NamedValue). m.value) (cond b (Some n) (find (λ m. same_name m.name name) ns))) ≡ (b || is_given name ns)
+found_any : (name : List ℕ) (n : KeywordArgument) (ns : List KeywordArgument) (b : Bool) → is_some (option_map (λ (m : KeywordArgument). m.value) (find (λ m. same_name m.name name) ns)) ≡ is_given name ns → is_some (option_map (λ (m : KeywordArgument). m.value) (cond b (Some n) (find (λ m. same_name m.name name) ns))) ≡ (b || is_given name ns)
 found_any name n ns true h = refl
 found_any name n ns false h = h
 
-named_is_given : (name : List ℕ) (ns : List NamedValue) → is_some (value_named name ns) ≡ is_given name ns
+named_is_given : (name : List ℕ) (ns : List KeywordArgument) → is_some (value_named name ns) ≡ is_given name ns
 named_is_given name [] = refl
 named_is_given name (n ∷ ns) = found_any name n ns (same_name n.name name) (named_is_given name ns)
 
@@ -266,10 +266,10 @@ given_or None d h = h
 
 -- arguments are bound exactly if they fit
 
-Suits : List NamedValue → List NamedValue → List Parameter → Bool → List Value → List Value → Type 0
+Suits : List KeywordArgument → List KeywordArgument → List Parameter → Bool → List Value → List Value → Type 0
 Suits ns left ps b vs ds = (is_some (shares ns left ps (prog b vs ds)) ≡ true) ↔ FitsFrom ns b ps vs
 
-next : (ns left : List NamedValue) (p : Parameter) (ps : List Parameter) (b c : Bool) (vs ws ds es : List Value) (head : Bool) → Goes p ps b c vs ws
+next : (ns left : List KeywordArgument) (p : Parameter) (ps : List Parameter) (b c : Bool) (vs ws ds es : List Value) (head : Bool) → Goes p ps b c vs ws
     → is_some (shares ns left (p ∷ ps) (prog b vs ds)) ≡ (head && is_some (shares ns left ps (prog c ws es))) → (head ≡ true → Head ns b p ps vs) → (Head ns b p ps vs → head ≡ true) → Suits ns left ps c ws es → Suits ns left (p ∷ ps) b vs ds
 unfolding Suits
 next ns left p ps b c vs ws ds es head g e to from r = (
@@ -278,7 +278,7 @@ next ns left p ps b c vs ws ds es head g e to from r = (
 )
 
 -- a parameter that has no name, or does not need one
-free_head : (ns : List NamedValue) (p : Parameter) (ps : List Parameter) (b : Bool) (vs : List Value) → ((n : Name) → parameter p ≢ tree.Plain n) → ((name : List ℕ) → own_name (parameter p) ≡ Some name → Placed b (p ∷ ps) vs 0 → ⊥) → Head ns b p ps vs
+free_head : (ns : List KeywordArgument) (p : Parameter) (ps : List Parameter) (b : Bool) (vs : List Value) → ((n : Name) → parameter p ≢ tree.Plain n) → ((name : List ℕ) → keyword_of (parameter p) ≡ Some name → Placed b (p ∷ ps) vs 0 → ⊥) → Head ns b p ps vs
 free_head ns p ps b vs h k = record { needed = λ n e. absurd (h n e); once = λ name e q. absurd (k name e q) }
 
 not_true : (b : Bool) → b ≡ false → not b ≡ true
@@ -289,21 +289,21 @@ true_not true h = absurd cc
 true_not false h = refl
 
 -- a parameter that takes the next positional argument
-taken_head : (ns : List NamedValue) (p : Parameter) (ps : List Parameter) (v : Value) (vs : List Value) (name : List ℕ) → own_name (parameter p) ≡ Some name → is_star (parameter p) ≡ false → (not (is_given name ns) ≡ true → Head ns false p ps (v ∷ vs)) × (Head ns false p ps (v ∷ vs) → not (is_given name ns) ≡ true)
+taken_head : (ns : List KeywordArgument) (p : Parameter) (ps : List Parameter) (v : Value) (vs : List Value) (name : List ℕ) → keyword_of (parameter p) ≡ Some name → is_star (parameter p) ≡ false → (not (is_given name ns) ≡ true → Head ns false p ps (v ∷ vs)) × (Head ns false p ps (v ∷ vs) → not (is_given name ns) ≡ true)
 unfolding Placed open_of
 taken_head ns p ps v vs name k h = (there, (λ r. not_true (is_given name ns) (r.once name k at)))
   where
     a : length (before_star (p ∷ ps)) ≡ suc (length (before_star ps))
     a = ap (λ (xs : List Parameter). length xs) (no_star p ps h)
 
-    at : (0 < length (before_star (p ∷ ps))) × (length (own_names (take 0 (p ∷ ps))) < length (v ∷ vs))
+    at : (0 < length (before_star (p ∷ ps))) × (length (keywords_of (take 0 (p ∷ ps))) < length (v ∷ vs))
     at = (omega (arith, a), omega arith)
 
     there : not (is_given name ns) ≡ true → Head ns false p ps (v ∷ vs)
     there q = record { needed = λ n e. inl at; once = λ m e r. let s : name ≡ m = cc in ap (λ m. is_given m ns) (sym s) ∙ true_not (is_given name ns) q }
 
 -- a parameter without a default, when no positional argument is left for it
-plain_head : (ns : List NamedValue) (p : Parameter) (ps : List Parameter) (b : Bool) (vs : List Value) (n : Name) → parameter p ≡ tree.Plain n → (Placed b (p ∷ ps) vs 0 → ⊥) → (is_given n.text ns ≡ true → Head ns b p ps vs) × (Head ns b p ps vs → is_given n.text ns ≡ true)
+plain_head : (ns : List KeywordArgument) (p : Parameter) (ps : List Parameter) (b : Bool) (vs : List Value) (n : Name) → parameter p ≡ tree.Plain n → (Placed b (p ∷ ps) vs 0 → ⊥) → (is_given n.text ns ≡ true → Head ns b p ps vs) × (Head ns b p ps vs → is_given n.text ns ≡ true)
 plain_head ns p ps b vs n e k = (there, (λ r. by (r.needed n e)))
   where
     there : is_given n.text ns ≡ true → Head ns b p ps vs
@@ -340,15 +340,15 @@ one_fewer : (p : Parameter) (ps : List Parameter) (ds : List Value) → has_defa
 unfolding Enough
 one_fewer p ps ds e h = let w : length (filter (λ p. has_default (parameter p)) (p ∷ ps)) ≡ suc (length (filter (λ p. has_default (parameter p)) ps)) = ap (λ b. length (cond b (p ∷ filter (λ p. has_default (parameter p)) ps) (filter (λ p. has_default (parameter p)) ps))) e in (omega (arith, w), omega (arith, w, rest_length ds))
 
-none_named : (b : Bool) → length (own_names (open_of b [])) ≡ 0
+none_named : (b : Bool) → length (keywords_of (open_of b [])) ≡ 0
 unfolding open_of
 none_named true = refl
 none_named false = refl
 
-some_if : Bool → Option (List (Name × Share))
+some_if : Bool → Option (List (Name × BoundArgument))
 some_if b = if b then Some [] else None
 
-ended_there : (ns left : List NamedValue) (b : Bool) (vs ds : List Value) → is_some (shares ns left [] (prog b vs ds)) ≡ true → length vs ≡ 0
+ended_there : (ns left : List KeywordArgument) (b : Bool) (vs ds : List Value) → is_some (shares ns left [] (prog b vs ds)) ≡ true → length vs ≡ 0
 unfolding prog some_if
 ended_there ns left b vs ds h = by (nat_eq (length vs) 0) refl h
   where
@@ -356,7 +356,7 @@ ended_there ns left b vs ds h = by (nat_eq (length vs) 0) refl h
     by true f k = eqb-true (length vs) 0 f
     by false f k = absurd cc
 
-ended_back : (ns left : List NamedValue) (b : Bool) (vs ds : List Value) → length vs ≡ 0 → is_some (shares ns left [] (prog b vs ds)) ≡ true
+ended_back : (ns left : List KeywordArgument) (b : Bool) (vs ds : List Value) → length vs ≡ 0 → is_some (shares ns left [] (prog b vs ds)) ≡ true
 unfolding prog some_if
 ended_back ns left b vs ds h = ap (λ c. is_some (some_if c)) (eq-eqb (length vs) 0 h)
 
@@ -369,21 +369,21 @@ none_room : (b : Bool) (vs : List Value) → length vs ≡ 0 → Room b [] vs
 unfolding Room
 none_room b vs h = inl (omega arith)
 
-ended : (ns left : List NamedValue) (b : Bool) (vs ds : List Value) → Suits ns left [] b vs ds
+ended : (ns left : List KeywordArgument) (b : Bool) (vs ds : List Value) → Suits ns left [] b vs ds
 unfolding Suits
 ended ns left b vs ds = (
   (λ h. record { needed = λ i n f. absurd cc; once = λ i name f q. absurd cc; room = none_room b vs (ended_there ns left b vs ds h) }),
   (λ f. ended_back ns left b vs ds (room_none b vs f.room)),
 )
 
-nameless : (p : Parameter) (name : List ℕ) → own_name (parameter p) ≡ None → own_name (parameter p) ≡ Some name → ⊥
+nameless : (p : Parameter) (name : List ℕ) → keyword_of (parameter p) ≡ None → keyword_of (parameter p) ≡ Some name → ⊥
 nameless p name h k = cc
 
-one : (ns left : List NamedValue) (p : Parameter) (ps : List Parameter) (b : Bool) (vs ds : List Value) → ((c : Bool) (ws es : List Value) → Enough ps es → Suits ns left ps c ws es) → Enough (p ∷ ps) ds → (f : ParameterForm) → parameter p ≡ f → Suits ns left (p ∷ ps) b vs ds
+one : (ns left : List KeywordArgument) (p : Parameter) (ps : List Parameter) (b : Bool) (vs ds : List Value) → ((c : Bool) (ws es : List Value) → Enough ps es → Suits ns left ps c ws es) → Enough (p ∷ ps) ds → (f : ParameterForm) → parameter p ≡ f → Suits ns left (p ∷ ps) b vs ds
 unfolding prog
 one ns left p ps false (v ∷ vs) ds r h (tree.Plain n) e =
-    let w = taken_head ns p ps v vs n.text (ap own_name e) (ap is_star e) in
-    next ns left p ps false false (v ∷ vs) vs ds ds (not (is_given n.text ns)) (goes_taken p ps v vs n.text (ap own_name e) (ap is_star e) (ap takes_rest e))
+    let w = taken_head ns p ps v vs n.text (ap keyword_of e) (ap is_star e) in
+    next ns left p ps false false (v ∷ vs) vs ds ds (not (is_given n.text ns)) (goes_taken p ps v vs n.text (ap keyword_of e) (ap is_star e) (ap takes_rest e))
     (ap (λ o. is_some o) (by_form ns left p ps (prog false (v ∷ vs) ds) (tree.Plain n) e) ∙ after_given ns left ps n v (prog false vs ds) (is_given n.text ns))
     (w.0) (w.1) (r false vs ds (fewer p ps ds (ap has_default e) h))
 one ns left p ps false [] ds r h (tree.Plain n) e =
@@ -397,8 +397,8 @@ one ns left p ps true vs ds r h (tree.Plain n) e =
     (ap (λ o. is_some o) (by_form ns left p ps (prog true vs ds) (tree.Plain n) e) ∙ after_shared ns left ps n (prog true vs ds) (else_default (value_named n.text ns) None) ∙ ap (λ b. b && is_some (shares ns left ps (prog true vs ds))) (given_alone (value_named n.text ns) ∙ named_is_given n.text ns))
     (w.0) (w.1) (r true vs ds (fewer p ps ds (ap has_default e) h))
 one ns left p ps false (v ∷ vs) ds r h (tree.Default n x) e =
-    let w = taken_head ns p ps v vs n.text (ap own_name e) (ap is_star e) in
-    next ns left p ps false false (v ∷ vs) vs ds (rest_of_row ds) (not (is_given n.text ns)) (goes_taken p ps v vs n.text (ap own_name e) (ap is_star e) (ap takes_rest e))
+    let w = taken_head ns p ps v vs n.text (ap keyword_of e) (ap is_star e) in
+    next ns left p ps false false (v ∷ vs) vs ds (rest_of_row ds) (not (is_given n.text ns)) (goes_taken p ps v vs n.text (ap keyword_of e) (ap is_star e) (ap takes_rest e))
     (ap (λ o. is_some o) (by_form ns left p ps (prog false (v ∷ vs) ds) (tree.Default n x) e) ∙ after_given ns left ps n v (prog false vs (rest_of_row ds)) (is_given n.text ns))
     (w.0) (w.1) (r false vs (rest_of_row ds) ((one_fewer p ps ds (ap has_default e) h).1))
 one ns left p ps false [] ds r h (tree.Default n x) e =
@@ -414,116 +414,116 @@ one ns left p ps true vs ds r h (tree.Default n x) e =
 one ns left p ps b vs ds r h (tree.Parameter-F.Parameter::Star n) e =
     next ns left p ps b true vs [] ds ds true (goes_star p ps b vs (ap is_star e) (ap takes_rest e))
     (ap (λ o. is_some o) (by_form ns left p ps (prog b vs ds) (tree.Parameter-F.Parameter::Star n) e) ∙ after_some ns left ps ((n, Rest vs) ∷ []) (prog true [] ds))
-    (λ q. free_head ns p ps b vs (λ m f. cc) (λ name f q. nameless p name (ap own_name e) f)) (λ q. refl) (r true [] ds (fewer p ps ds (ap has_default e) h))
+    (λ q. free_head ns p ps b vs (λ m f. cc) (λ name f q. nameless p name (ap keyword_of e) f)) (λ q. refl) (r true [] ds (fewer p ps ds (ap has_default e) h))
 one ns left p ps false vs ds r h tree.BareStar e =
     next ns left p ps false true vs vs ds ds true (goes_bare p ps vs (ap is_star e) (ap takes_rest e))
     (ap (λ o. is_some o) (by_form ns left p ps (prog false vs ds) tree.BareStar e) ∙ after_some ns left ps [] (prog true vs ds))
-    (λ q. free_head ns p ps false vs (λ m f. cc) (λ name f q. nameless p name (ap own_name e) f)) (λ q. refl) (r true vs ds (fewer p ps ds (ap has_default e) h))
+    (λ q. free_head ns p ps false vs (λ m f. cc) (λ name f q. nameless p name (ap keyword_of e) f)) (λ q. refl) (r true vs ds (fewer p ps ds (ap has_default e) h))
 one ns left p ps true vs ds r h tree.BareStar e =
     next ns left p ps true true vs vs ds ds true (goes_closed p ps vs (ap takes_rest e))
     (ap (λ o. is_some o) (by_form ns left p ps (prog true vs ds) tree.BareStar e) ∙ after_some ns left ps [] (prog true vs ds))
-    (λ q. free_head ns p ps true vs (λ m f. cc) (λ name f q. nameless p name (ap own_name e) f)) (λ q. refl) (r true vs ds (fewer p ps ds (ap has_default e) h))
+    (λ q. free_head ns p ps true vs (λ m f. cc) (λ name f q. nameless p name (ap keyword_of e) f)) (λ q. refl) (r true vs ds (fewer p ps ds (ap has_default e) h))
 one ns left p ps false vs ds r h (tree.Parameter-F.Parameter::StarStar n) e =
-    next ns left p ps false false vs vs ds ds true (goes_past p ps vs (ap own_name e) (ap is_star e) (ap takes_rest e))
+    next ns left p ps false false vs vs ds ds true (goes_past p ps vs (ap keyword_of e) (ap is_star e) (ap takes_rest e))
     (ap (λ o. is_some o) (by_form ns left p ps (prog false vs ds) (tree.Parameter-F.Parameter::StarStar n) e) ∙ after_some ns left ps ((n, Names left) ∷ []) (prog false vs ds))
-    (λ q. free_head ns p ps false vs (λ m f. cc) (λ name f q. nameless p name (ap own_name e) f)) (λ q. refl) (r false vs ds (fewer p ps ds (ap has_default e) h))
+    (λ q. free_head ns p ps false vs (λ m f. cc) (λ name f q. nameless p name (ap keyword_of e) f)) (λ q. refl) (r false vs ds (fewer p ps ds (ap has_default e) h))
 one ns left p ps true vs ds r h (tree.Parameter-F.Parameter::StarStar n) e =
     next ns left p ps true true vs vs ds ds true (goes_closed p ps vs (ap takes_rest e))
     (ap (λ o. is_some o) (by_form ns left p ps (prog true vs ds) (tree.Parameter-F.Parameter::StarStar n) e) ∙ after_some ns left ps ((n, Names left) ∷ []) (prog true vs ds))
-    (λ q. free_head ns p ps true vs (λ m f. cc) (λ name f q. nameless p name (ap own_name e) f)) (λ q. refl) (r true vs ds (fewer p ps ds (ap has_default e) h))
+    (λ q. free_head ns p ps true vs (λ m f. cc) (λ name f q. nameless p name (ap keyword_of e) f)) (λ q. refl) (r true vs ds (fewer p ps ds (ap has_default e) h))
 
-suits : (ns left : List NamedValue) (ps : List Parameter) (b : Bool) (vs ds : List Value) → Enough ps ds → Suits ns left ps b vs ds
+suits : (ns left : List KeywordArgument) (ps : List Parameter) (b : Bool) (vs ds : List Value) → Enough ps ds → Suits ns left ps b vs ds
 suits ns left [] b vs ds h = ended ns left b vs ds
 suits ns left (p ∷ ps) b vs ds h = one ns left p ps b vs ds (λ c ws es k. suits ns left ps c ws es k) h (parameter p) refl
 
 -- keyword arguments
 
-named_before : (o : Option (List ℕ)) (name : List ℕ) (p : Parameter) (ps : List Parameter) → own_name (parameter p) ≡ o → (list_any (same_name name) (own_names ps) ≡ true → (i : ℕ) × (named_at ps i ≡ Some name)) → list_any (same_name name) (before_names o (own_names ps)) ≡ true → (i : ℕ) × (named_at (p ∷ ps) i ≡ Some name)
+named_before : (o : Option (List ℕ)) (name : List ℕ) (p : Parameter) (ps : List Parameter) → keyword_of (parameter p) ≡ o → (list_any (same_name name) (keywords_of ps) ≡ true → (i : ℕ) × (named_at ps i ≡ Some name)) → list_any (same_name name) (before_names o (keywords_of ps)) ≡ true → (i : ℕ) × (named_at (p ∷ ps) i ≡ Some name)
 named_before None name p ps e r h = let w : (i : ℕ) × (named_at ps i ≡ Some name) = r h in (suc (w.0), w.1)
 named_before (Some m) name p ps e r h = by (same_name name m) refl h
   where
-    by : (b : Bool) → same_name name m ≡ b → (b || list_any (same_name name) (own_names ps)) ≡ true → (i : ℕ) × (named_at (p ∷ ps) i ≡ Some name)
+    by : (b : Bool) → same_name name m ≡ b → (b || list_any (same_name name) (keywords_of ps)) ≡ true → (i : ℕ) × (named_at (p ∷ ps) i ≡ Some name)
     by true f k = (0, e ∙ ap Some (sym ((bytes_eq-Decides name m).0 f)))
     by false f k = let w : (i : ℕ) × (named_at ps i ≡ Some name) = r k in (suc (w.0), w.1)
 
-own_somewhere : (ps : List Parameter) (name : List ℕ) → list_any (same_name name) (own_names ps) ≡ true → (i : ℕ) × (named_at ps i ≡ Some name)
+own_somewhere : (ps : List Parameter) (name : List ℕ) → list_any (same_name name) (keywords_of ps) ≡ true → (i : ℕ) × (named_at ps i ≡ Some name)
 own_somewhere [] name h = absurd cc
-own_somewhere (p ∷ ps) name h = named_before (own_name (parameter p)) name p ps refl (own_somewhere ps name) h
+own_somewhere (p ∷ ps) name h = named_before (keyword_of (parameter p)) name p ps refl (own_somewhere ps name) h
 
 more_names : (o : Option (List ℕ)) (name : List ℕ) (names : List (List ℕ)) → list_any (same_name name) names ≡ true → list_any (same_name name) (before_names o names) ≡ true
 more_names None name names h = h
 more_names (Some m) name names h = or_right (same_name name m) (list_any (same_name name) names) h
 
-somewhere_own : (ps : List Parameter) (name : List ℕ) (i : ℕ) → named_at ps i ≡ Some name → list_any (same_name name) (own_names ps) ≡ true
+somewhere_own : (ps : List Parameter) (name : List ℕ) (i : ℕ) → named_at ps i ≡ Some name → list_any (same_name name) (keywords_of ps) ≡ true
 somewhere_own [] name i h = absurd cc
-somewhere_own (p ∷ ps) name zero h = ap (λ o. list_any (same_name name) (before_names o (own_names ps))) h ∙ or_left (same_name name name) (list_any (same_name name) (own_names ps)) ((bytes_eq-Decides name name).1 refl)
-somewhere_own (p ∷ ps) name (suc i) h = more_names (own_name (parameter p)) name (own_names ps) (somewhere_own ps name i h)
+somewhere_own (p ∷ ps) name zero h = ap (λ o. list_any (same_name name) (before_names o (keywords_of ps))) h ∙ or_left (same_name name name) (list_any (same_name name) (keywords_of ps)) ((bytes_eq-Decides name name).1 refl)
+somewhere_own (p ∷ ps) name (suc i) h = more_names (keyword_of (parameter p)) name (keywords_of ps) (somewhere_own ps name i h)
 
 not_false : (b : Bool) → not b ≡ false → b ≡ true
 not_false true h = refl
 not_false false h = absurd cc
 
-claimed_first : (b : Bool) (m : NamedValue) (ms : List NamedValue) → length (cond b (m ∷ ms) ms) ≡ 0 → (b ≡ false) × (length ms ≡ 0)
+claimed_first : (b : Bool) (m : KeywordArgument) (ms : List KeywordArgument) → length (cond b (m ∷ ms) ms) ≡ 0 → (b ≡ false) × (length ms ≡ 0)
 claimed_first true m ms h = absurd (omega arith)
 claimed_first false m ms h = (refl, h)
 
-all_claimed : (names : List (List ℕ)) (ns : List NamedValue) → length (filter (is_no_own names) ns) ≡ 0 → (j : ℕ) (n : NamedValue) → slice_get ns j ≡ Some n → list_any (same_name n.name) names ≡ true
+all_claimed : (names : List (List ℕ)) (ns : List KeywordArgument) → length (filter (is_extra names) ns) ≡ 0 → (j : ℕ) (n : KeywordArgument) → slice_get ns j ≡ Some n → list_any (same_name n.name) names ≡ true
 all_claimed names [] h j n e = absurd cc
 all_claimed names (m ∷ ms) h zero n e =
-    let w : (is_no_own names m ≡ false) × (length (filter (is_no_own names) ms) ≡ 0) = claimed_first (is_no_own names m) m (filter (is_no_own names) ms) h in
+    let w : (is_extra names m ≡ false) × (length (filter (is_extra names) ms) ≡ 0) = claimed_first (is_extra names m) m (filter (is_extra names) ms) h in
     let s : m ≡ n = cc in
-    ap (λ (n : NamedValue). list_any (same_name n.name) names) (sym s) ∙ not_false (list_any (same_name m.name) names) (w.0)
-all_claimed names (m ∷ ms) h (suc j) n e = all_claimed names ms ((claimed_first (is_no_own names m) m (filter (is_no_own names) ms) h).1) j n e
+    ap (λ (n : KeywordArgument). list_any (same_name n.name) names) (sym s) ∙ not_false (list_any (same_name m.name) names) (w.0)
+all_claimed names (m ∷ ms) h (suc j) n e = all_claimed names ms ((claimed_first (is_extra names m) m (filter (is_extra names) ms) h).1) j n e
 
-claimed_all : (names : List (List ℕ)) (ns : List NamedValue) → ((j : ℕ) (n : NamedValue) → slice_get ns j ≡ Some n → list_any (same_name n.name) names ≡ true) → length (filter (is_no_own names) ns) ≡ 0
+claimed_all : (names : List (List ℕ)) (ns : List KeywordArgument) → ((j : ℕ) (n : KeywordArgument) → slice_get ns j ≡ Some n → list_any (same_name n.name) names ≡ true) → length (filter (is_extra names) ns) ≡ 0
 claimed_all names [] h = refl
-claimed_all names (m ∷ ms) h = ap (λ b. length (cond b (m ∷ filter (is_no_own names) ms) (filter (is_no_own names) ms))) (ap not (h 0 m refl)) ∙ claimed_all names ms (λ j n e. h (suc j) n e)
+claimed_all names (m ∷ ms) h = ap (λ b. length (cond b (m ∷ filter (is_extra names) ms) (filter (is_extra names) ms))) (ap not (h 0 m refl)) ∙ claimed_all names ms (λ j n e. h (suc j) n e)
 
-Known : List Parameter → List NamedValue → Type 0
-Known ps ns = ((j : ℕ) (n : NamedValue) → slice_get ns j ≡ Some n → (i : ℕ) × (named_at ps i ≡ Some n.name)) ⊎ (list_any (λ p. takes_names (parameter p)) ps ≡ true)
+Known : List Parameter → List KeywordArgument → Type 0
+Known ps ns = ((j : ℕ) (n : KeywordArgument) → slice_get ns j ≡ Some n → (i : ℕ) × (named_at ps i ≡ Some n.name)) ⊎ (list_any (λ p. takes_names (parameter p)) ps ≡ true)
 
-known_there : (ps : List Parameter) (ns : List NamedValue) → (nat_eq (length (unclaimed ps ns)) 0 || list_any (λ p. takes_names (parameter p)) ps) ≡ true → Known ps ns
+known_there : (ps : List Parameter) (ns : List KeywordArgument) → (nat_eq (length (extra_keywords ps ns)) 0 || list_any (λ p. takes_names (parameter p)) ps) ≡ true → Known ps ns
 unfolding Known
-known_there ps ns h = by (nat_eq (length (unclaimed ps ns)) 0) refl h
+known_there ps ns h = by (nat_eq (length (extra_keywords ps ns)) 0) refl h
   where
-    by : (b : Bool) → nat_eq (length (unclaimed ps ns)) 0 ≡ b → (b || list_any (λ p. takes_names (parameter p)) ps) ≡ true → ((j : ℕ) (n : NamedValue) → slice_get ns j ≡ Some n → (i : ℕ) × (named_at ps i ≡ Some n.name)) ⊎ (list_any (λ p. takes_names (parameter p)) ps ≡ true)
-    by true f k = inl (λ j n e. own_somewhere ps n.name (all_claimed (own_names ps) ns (eqb-true (length (unclaimed ps ns)) 0 f) j n e))
+    by : (b : Bool) → nat_eq (length (extra_keywords ps ns)) 0 ≡ b → (b || list_any (λ p. takes_names (parameter p)) ps) ≡ true → ((j : ℕ) (n : KeywordArgument) → slice_get ns j ≡ Some n → (i : ℕ) × (named_at ps i ≡ Some n.name)) ⊎ (list_any (λ p. takes_names (parameter p)) ps ≡ true)
+    by true f k = inl (λ j n e. own_somewhere ps n.name (all_claimed (keywords_of ps) ns (eqb-true (length (extra_keywords ps ns)) 0 f) j n e))
     by false f k = inr k
 
-known_back : (ps : List Parameter) (ns : List NamedValue) → Known ps ns → (nat_eq (length (unclaimed ps ns)) 0 || list_any (λ p. takes_names (parameter p)) ps) ≡ true
+known_back : (ps : List Parameter) (ns : List KeywordArgument) → Known ps ns → (nat_eq (length (extra_keywords ps ns)) 0 || list_any (λ p. takes_names (parameter p)) ps) ≡ true
 unfolding Known
-known_back ps ns (inl h) = or_left (nat_eq (length (unclaimed ps ns)) 0) (list_any (λ p. takes_names (parameter p)) ps) (eq-eqb (length (unclaimed ps ns)) 0 (claimed_all (own_names ps) ns (λ j n e. let w : (i : ℕ) × (named_at ps i ≡ Some n.name) = h j n e in somewhere_own ps n.name (w.0) (w.1))))
-known_back ps ns (inr h) = or_right (nat_eq (length (unclaimed ps ns)) 0) (list_any (λ p. takes_names (parameter p)) ps) h
+known_back ps ns (inl h) = or_left (nat_eq (length (extra_keywords ps ns)) 0) (list_any (λ p. takes_names (parameter p)) ps) (eq-eqb (length (extra_keywords ps ns)) 0 (claimed_all (keywords_of ps) ns (λ j n e. let w : (i : ℕ) × (named_at ps i ≡ Some n.name) = h j n e in somewhere_own ps n.name (w.0) (w.1))))
+known_back ps ns (inr h) = or_right (nat_eq (length (extra_keywords ps ns)) 0) (list_any (λ p. takes_names (parameter p)) ps) h
 
-where_known : (c : Bool) (o : Option (List (Name × Share))) → is_some (if c then o else None) ≡ (c && is_some o)
+where_known : (c : Bool) (o : Option (List (Name × BoundArgument))) → is_some (if c then o else None) ≡ (c && is_some o)
 where_known true o = refl
 where_known false o = refl
 
-bound_is : (ps : List Parameter) (ds : List Value) (g : Given) → is_some (bound_to ps ds g) ≡ ((nat_eq (length (unclaimed ps g.named)) 0 || list_any (λ p. takes_names (parameter p)) ps) && is_some (shares g.named (unclaimed ps g.named) ps (prog false g.plain ds)))
+bound_is : (ps : List Parameter) (ds : List Value) (g : Arguments) → is_some (bound_to ps ds g) ≡ ((nat_eq (length (extra_keywords ps g.named)) 0 || list_any (λ p. takes_names (parameter p)) ps) && is_some (shares g.named (extra_keywords ps g.named) ps (prog false g.positional ds)))
 unfolding bound_to prog
-bound_is ps ds g = where_known (nat_eq (length (unclaimed ps g.named)) 0 || list_any (λ p. takes_names (parameter p)) ps) (shares g.named (unclaimed ps g.named) ps (record { by_name = false; plain = g.plain; defaults = ds }))
+bound_is ps ds g = where_known (nat_eq (length (extra_keywords ps g.named)) 0 || list_any (λ p. takes_names (parameter p)) ps) (shares g.named (extra_keywords ps g.named) ps (record { by_name = false; positional = g.positional; defaults = ds }))
 
-whole : (ps : List Parameter) (g : Given) → Known ps g.named → FitsFrom g.named false ps g.plain → Fits ps g
+whole : (ps : List Parameter) (g : Arguments) → Known ps g.named → FitsFrom g.named false ps g.positional → Fits ps g
 unfolding Known Placed Room open_of
 whole ps g k f = record { needed = f.needed; once = f.once; placed = f.room; known = k }
 
-parts : (ps : List Parameter) (g : Given) → Fits ps g → Known ps g.named × FitsFrom g.named false ps g.plain
+parts : (ps : List Parameter) (g : Arguments) → Fits ps g → Known ps g.named × FitsFrom g.named false ps g.positional
 unfolding Known Placed Room open_of
 parts ps g f = (f.known, record { needed = f.needed; once = f.once; room = f.placed })
 
-pub bound_where_they_fit : (ps : List Parameter) (defaults : List Value) (g : Given) → length (filter (λ p. has_default (parameter p)) ps) ≤ length defaults → is_some (bound_to ps defaults g) ≡ true ↔ Fits ps g
+pub bound_where_they_fit : (ps : List Parameter) (defaults : List Value) (g : Arguments) → length (filter (λ p. has_default (parameter p)) ps) ≤ length defaults → is_some (bound_to ps defaults g) ≡ true ↔ Fits ps g
 unfolding Suits Enough
 bound_where_they_fit ps defaults g h = (there, back)
   where
-    r : (is_some (shares g.named (unclaimed ps g.named) ps (prog false g.plain defaults)) ≡ true) ↔ FitsFrom g.named false ps g.plain
-    r = suits g.named (unclaimed ps g.named) ps false g.plain defaults h
+    r : (is_some (shares g.named (extra_keywords ps g.named) ps (prog false g.positional defaults)) ≡ true) ↔ FitsFrom g.named false ps g.positional
+    r = suits g.named (extra_keywords ps g.named) ps false g.positional defaults h
 
     there : is_some (bound_to ps defaults g) ≡ true → Fits ps g
     there q =
-        let w = both (nat_eq (length (unclaimed ps g.named)) 0 || list_any (λ p. takes_names (parameter p)) ps) (is_some (shares g.named (unclaimed ps g.named) ps (prog false g.plain defaults))) (sym (bound_is ps defaults g) ∙ q) in
+        let w = both (nat_eq (length (extra_keywords ps g.named)) 0 || list_any (λ p. takes_names (parameter p)) ps) (is_some (shares g.named (extra_keywords ps g.named) ps (prog false g.positional defaults))) (sym (bound_is ps defaults g) ∙ q) in
         whole ps g (known_there ps g.named (w.0)) (r.0 (w.1))
 
     back : Fits ps g → is_some (bound_to ps defaults g) ≡ true
     back f =
         bound_is ps defaults g
-        ∙ and_both (nat_eq (length (unclaimed ps g.named)) 0 || list_any (λ p. takes_names (parameter p)) ps) (is_some (shares g.named (unclaimed ps g.named) ps (prog false g.plain defaults))) (known_back ps g.named ((parts ps g f).0)) (r.1 ((parts ps g f).1))
+        ∙ and_both (nat_eq (length (extra_keywords ps g.named)) 0 || list_any (λ p. takes_names (parameter p)) ps) (is_some (shares g.named (extra_keywords ps g.named) ps (prog false g.positional defaults))) (known_back ps g.named ((parts ps g f).0)) (r.1 ((parts ps g f).1))

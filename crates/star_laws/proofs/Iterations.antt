@@ -4,12 +4,12 @@ use Rattle.star_store.specs.declared.values.Value.{Value}
 use Rattle.star_store.specs.declared.values.Value.TheVariants as value
 use Rattle.star_store.specs.declared.values.Cell.{Cell}
 use Rattle.star_store.specs.declared.values.Cell.TheVariants as cell
-use Rattle.star_store.specs.declared.values.Counted.{Counted}
+use Rattle.star_store.specs.declared.values.HeapCell.{HeapCell}
 use Rattle.star_store.specs.Store.{Store, changed, closed, closed_in, counted_at, is_container, iterations_in, iterations_of, opened, opened_in}
 use Rattle.star_tree.specs.declared.tree.Expression.{Expression}
 use Rattle.star_tree.specs.declared.tree.Statement.{Statement}
-use Rattle.star_meaning.specs.declared.place.Flow.{Flow}
-use Rattle.star_meaning.specs.declared.fault.Code.TheVariants as code
+use Rattle.star_meaning.specs.declared.site.Flow.{Flow}
+use Rattle.star_meaning.specs.declared.fault.FaultCode.TheVariants as code
 use Rattle.star_meaning.specs.Laws.{Kept}
 use Rattle.star_meaning.specs.Run.{State, Outcome, Done, Failed, Action, and_then, ◌>>=◌, found, give, storing}
 use Rattle.star_meaning.specs.Program.{Setting}
@@ -32,11 +32,11 @@ none_is false n h = refl
 
 -- runs
 
-there_before : (s t : State) → Kept s t → (at : ℕ) (o : Option Counted) → slice_get s.store.cells at ≡ o → slice_get t.store.cells at ≡ None → slice_get s.store.cells at ≡ None
+there_before : (s t : State) → Kept s t → (at : ℕ) (o : Option HeapCell) → slice_get s.store.cells at ≡ o → slice_get t.store.cells at ≡ None → slice_get s.store.cells at ≡ None
 there_before s t k at None e h = e
 there_before s t k at (Some a) e h = let b = k.cells at a e in let no : Some b.0 ≡ None = sym b.1 ∙ h in cc
 
-kept_at : (s t : State) (loops : List Value) → Kept s t → AreCounted s.store loops → (at : ℕ) (b : Counted) (o : Option Counted) → slice_get s.store.cells at ≡ o → slice_get t.store.cells at ≡ Some b → b.iterations ≡ of_container b.cell (loops_over s.store.home at loops)
+kept_at : (s t : State) (loops : List Value) → Kept s t → AreCounted s.store loops → (at : ℕ) (b : HeapCell) (o : Option HeapCell) → slice_get s.store.cells at ≡ o → slice_get t.store.cells at ≡ Some b → b.iterations ≡ of_container b.cell (loops_over s.store.home at loops)
 kept_at s t loops k c at b None e h = k.fresh at b e h ∙ none_is (is_container b.cell) (loops_over s.store.home at loops) (c.there at e)
 kept_at s t loops k c at b (Some a) e h =
     let d = k.cells at a e in
@@ -67,11 +67,11 @@ other_place : (m n : ℕ) → one_place m n ≡ false → m ≡ n → ⊥
 other_place m n h e = let one : true ≡ false = sym (self_place m) ∙ ap (one_place m) e ∙ h in cc
 
 place_is : (m n : ℕ) → one_place m n ≡ nat_eq m n
-place_is m n = by_place (one_place m n) refl
+place_is m n = positional (one_place m n) refl
   where
-    by_place : (b : Bool) → one_place m n ≡ b → one_place m n ≡ nat_eq m n
-    by_place true h = h ∙ sym (eq-eqb m n (same_place m n h))
-    by_place false h = h ∙ sym (ne_eqb m n (other_place m n h))
+    positional : (b : Bool) → one_place m n ≡ b → one_place m n ≡ nat_eq m n
+    positional true h = h ∙ sym (eq-eqb m n (same_place m n h))
+    positional false h = h ∙ sym (ne_eqb m n (other_place m n h))
 
 at_is : (v : Value) (home at : ℕ) → is_at v home at ≡ leads_to v home at
 at_is (value.Ref h i) home at = ap (λ b. nat_eq h home && b) (place_is i at)
@@ -79,19 +79,19 @@ at_is _ home at = refl
 
 -- a store with one cell changed
 
-was_there : (f : Counted → Counted) (v : Value) (s : Store) (at : ℕ) (o : Option Counted) → slice_get s.cells at ≡ o → slice_get (changed f v s).cells at ≡ None → slice_get s.cells at ≡ None
+was_there : (f : HeapCell → HeapCell) (v : Value) (s : Store) (at : ℕ) (o : Option HeapCell) → slice_get s.cells at ≡ o → slice_get (changed f v s).cells at ≡ None → slice_get s.cells at ≡ None
 was_there f v s at None e h = e
 was_there f v s at (Some a) e h = let no : Some (if is_at v s.home at then f a else a) ≡ None = sym (get_in_changed f v s at a e) ∙ h in cc
 
 -- a loop that begins
 
-opened_right : (b x : Bool) (a : Counted) (n : ℕ) → is_container a.cell ≡ x → a.iterations ≡ (if x then n else 0) → (if b then opened_in a else a).iterations ≡ of_container (if b then opened_in a else a).cell ((if b then 1 else 0) + n)
+opened_right : (b x : Bool) (a : HeapCell) (n : ℕ) → is_container a.cell ≡ x → a.iterations ≡ (if x then n else 0) → (if b then opened_in a else a).iterations ≡ of_container (if b then opened_in a else a).cell ((if b then 1 else 0) + n)
 opened_right true true a n e h = rw e (rw e (omega (arith, h)))
 opened_right true false a n e h = rw e (rw e h)
 opened_right false true a n e h = rw e (omega (arith, h))
 opened_right false false a n e h = rw e h
 
-opened_at : (v : Value) (s : Store) (loops : List Value) (at : ℕ) (b : Counted) (o : Option Counted) → AreCounted s loops → slice_get s.cells at ≡ o → slice_get (opened v s).cells at ≡ Some b → b.iterations ≡ of_container b.cell (loops_over s.home at (v ∷ loops))
+opened_at : (v : Value) (s : Store) (loops : List Value) (at : ℕ) (b : HeapCell) (o : Option HeapCell) → AreCounted s loops → slice_get s.cells at ≡ o → slice_get (opened v s).cells at ≡ Some b → b.iterations ≡ of_container b.cell (loops_over s.home at (v ∷ loops))
 opened_at v s loops at b None c e h = let no : None ≡ Some b = sym (none_in_changed opened_in v s at e) ∙ h in cc
 opened_at v s loops at b (Some a) c e h =
     let same : Some (if is_at v s.home at then opened_in a else a) ≡ Some b = sym (get_in_changed opened_in v s at a e) ∙ h in
@@ -139,13 +139,13 @@ iterated w line n v s t loops c h = begun w line n v s t loops (count_in (conten
 
 -- a loop that ends
 
-closed_right : (b x : Bool) (a : Counted) (n : ℕ) → is_container a.cell ≡ x → a.iterations ≡ (if x then (if b then 1 else 0) + n else 0) → (if b then closed_in a else a).iterations ≡ of_container (if b then closed_in a else a).cell n
+closed_right : (b x : Bool) (a : HeapCell) (n : ℕ) → is_container a.cell ≡ x → a.iterations ≡ (if x then (if b then 1 else 0) + n else 0) → (if b then closed_in a else a).iterations ≡ of_container (if b then closed_in a else a).cell n
 closed_right true true a n e h = rw e (rw e (omega (arith, h)))
 closed_right true false a n e h = rw e (rw e h)
 closed_right false true a n e h = rw e (omega (arith, h))
 closed_right false false a n e h = rw e h
 
-closed_at : (v : Value) (s : Store) (loops : List Value) (at : ℕ) (b : Counted) (o : Option Counted) → AreCounted s (v ∷ loops) → slice_get s.cells at ≡ o → slice_get (closed v s).cells at ≡ Some b → b.iterations ≡ of_container b.cell (loops_over s.home at loops)
+closed_at : (v : Value) (s : Store) (loops : List Value) (at : ℕ) (b : HeapCell) (o : Option HeapCell) → AreCounted s (v ∷ loops) → slice_get s.cells at ≡ o → slice_get (closed v s).cells at ≡ Some b → b.iterations ≡ of_container b.cell (loops_over s.home at loops)
 closed_at v s loops at b None c e h = let no : None ≡ Some b = sym (none_in_changed closed_in v s at e) ∙ h in cc
 closed_at v s loops at b (Some a) c e h =
     let same : Some (if is_at v s.home at then closed_in a else a) ≡ Some b = sym (get_in_changed closed_in v s at a e) ∙ h in
@@ -171,7 +171,7 @@ loops_are_counted w line n v s t loops = (iterated w line n v s t loops, left v 
 
 -- the open iterations that the rules of writing ask for
 
-own : (b x : Bool) (a : Counted) (n : ℕ) → b ≡ true → is_container a.cell ≡ x → x ≡ true → a.iterations ≡ (if x then n else 0) → (if b then iterations_in (Some a) else 0) ≡ n
+own : (b x : Bool) (a : HeapCell) (n : ℕ) → b ≡ true → is_container a.cell ≡ x → x ≡ true → a.iterations ≡ (if x then n else 0) → (if b then iterations_in (Some a) else 0) ≡ n
 own true true a n e k l h = rw k h
 own true false a n e k l h = cc
 own false x a n e k l h = cc

@@ -3,5 +3,5 @@ pub mod Division
 pub mod Ranges
 pub mod Keys
 pub mod Calls
-pub mod Shares
+pub mod BoundArguments
 pub mod Iterations

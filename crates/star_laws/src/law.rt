@@ -5,7 +5,7 @@ ghost use Rattle.star_laws.specs.Division.{OneQuotient, QuotientAndRemainder};
 ghost use Rattle.star_laws.specs.Iterations.{FilesBeginWithNoLoop, LoopsAreCounted, OpenIterationsAreOpenLoops, RunsEndTheirLoops};
 ghost use Rattle.star_laws.specs.Keys.{EqualKeysAreTheSame, KeysHaveEquality};
 ghost use Rattle.star_laws.specs.Ranges.{RangesHaveTheirItems, RangesStepToTheirStop, SameRangesHaveTheSameItems};
-ghost use Rattle.star_laws.specs.Shares.{BoundAsGiven};
+ghost use Rattle.star_laws.specs.BoundArguments.{BoundAsGiven};
 
 /// An int is its quotient by a divisor other than 0, times the divisor, plus the remainder. The remainder is between 0
 /// and the divisor, 0 included and the divisor not, so it has the divisor's sign or is 0. (`docs/LANGUAGE.md`,

@@ -3,14 +3,14 @@ use Rattle.std.proofs.Common.{◌≡◌, ℕ, zero, suc, ◌-◌, ◌≤◌, tru
 use Rattle.std.specs.declared.alloc.Global.{Global}
 use Rattle.star_lex.specs.declared.cut.Cut.{Cut}
 use Rattle.star_lex.specs.declared.cut.Piece.{Piece}
-use Rattle.star_lex.specs.declared.cut.Piece.TheVariants.{Blank, Tabbed, Comment, LineEnd, Joint, Lexeme, Bad}
+use Rattle.star_lex.specs.declared.cut.Piece.TheVariants.{Blank, TabbedBlank, Comment, LineEnd, Continuation, Lexeme, Bad}
 use Rattle.star_lex.specs.declared.token.Kind.{Kind}
 use Rattle.star_lex.specs.declared.token.Kind.TheVariants as k
 use Rattle.star_lex.specs.declared.token.Token.{Token}
 use Rattle.star_lex.specs.declared.token.SyntaxFault.{SyntaxFault}
 use Rattle.star_lex.specs.declared.token.SyntaxFault.TheVariants.{BadToken}
 use Rattle.star_lex.specs.Pieces.{Tiles}
-use Rattle.star_lex.specs.Lines.{Line, line_of, lines, put, ends_line, depth_after, onto, ◌>>=◌, mark, marks, Layout, opens, closes, wrong, layout_of, leader, newline, token_of, tokens, line_tokens, opened_after, finish, lay, Answers, InOrder}
+use Rattle.star_lex.specs.Lines.{Line, line_of, lines, put, ends_line, depth_after, onto, ◌>>=◌, mark, marks, Layout, opens, closes, wrong, layout_of, first_significant, newline, token_of, tokens, line_tokens, opened_after, finish, lay, Answers, InOrder}
 
 pub tiles_more : (at : ℕ) (cs : List Cut) (mid : ℕ) (c : Cut) → Tiles at cs mid → c.span.start ≡ mid → mid ≤ c.span.end → Tiles at (cs ++ c ∷ []) c.span.end
 tiles_more at [] mid c t s e = (s ∙ sym t, omega arith, refl)
@@ -50,7 +50,7 @@ order_ok xs ts lo hi e o = let P : List Token → Type 0 = λ ys. InOrder lo ys 
 at_piece : ℕ → Option Cut → Cut → List Cut → Piece → Result (List Token) SyntaxFault
 at_piece d before c cs p = elim p [
   | Lexeme kind ↦ onto (token_of kind c ∷ []) (tokens d (Some c) cs)
-  | Joint ↦ elim before [ None ↦ Err (BadToken c.line) | Some b ↦ tokens d (Some b) cs ]
+  | Continuation ↦ elim before [ None ↦ Err (BadToken c.line) | Some b ↦ tokens d (Some b) cs ]
   | Bad ↦ Err (BadToken c.line)
   | _ ↦ tokens d before cs
 ]
@@ -71,11 +71,11 @@ order_piece : (d : ℕ) (before : Option Cut) (c : Cut) (cs : List Cut) (p : Pie
     → After d cs c.span.end hi → at_piece d before c cs p ≡ Ok ts → InOrder lo ts hi
 unfolding at_piece After
 order_piece d before c cs Blank lo hi ts e h s ih w = ih before lo ts e (omega arith) w
-order_piece d before c cs Tabbed lo hi ts e h s ih w = ih before lo ts e (omega arith) w
+order_piece d before c cs TabbedBlank lo hi ts e h s ih w = ih before lo ts e (omega arith) w
 order_piece d before c cs Comment lo hi ts e h s ih w = ih before lo ts e (omega arith) w
 order_piece d before c cs LineEnd lo hi ts e h s ih w = ih before lo ts e (omega arith) w
-order_piece d None c cs Joint lo hi ts e h s ih w = cc
-order_piece d (Some b) c cs Joint lo hi ts e h s ih w = ih (Some b) lo ts e (omega arith) w
+order_piece d None c cs Continuation lo hi ts e h s ih w = cc
+order_piece d (Some b) c cs Continuation lo hi ts e h s ih w = ih (Some b) lo ts e (omega arith) w
 order_piece d before c cs (Lexeme kind) lo hi ts e h s ih w = order_lexeme d c cs kind lo hi (tokens d (Some c) cs) ts h s refl ih w
 order_piece d before c cs Bad lo hi ts e h s ih w = cc
 
@@ -88,11 +88,11 @@ order_tokens d (c ∷ cs) at hi t before lo ts e h w =
     order_piece d before c cs c.piece lo hi ts e (omega (arith, t.0)) (omega (arith, t.0, t.1)) (order_tokens d cs c.span.end hi t.2) w
 
 led_piece : Cut → List Cut → Piece → Option Cut
-led_piece c cs p = elim p [ Blank ↦ leader cs | Tabbed ↦ leader cs | Comment ↦ leader cs | LineEnd ↦ leader cs | _ ↦ Some c ]
+led_piece c cs p = elim p [ Blank ↦ first_significant cs | TabbedBlank ↦ first_significant cs | Comment ↦ first_significant cs | LineEnd ↦ first_significant cs | _ ↦ Some c ]
 
 -- the tokens of a line begin at its first piece that says something
 FromLeader : ℕ → List Cut → ℕ → ℕ → Type 0
-FromLeader d cs at hi = (c : Cut) (ts : List Token) → leader cs ≡ Some c → tokens d None cs ≡ Ok ts → (at ≤ c.span.start) × InOrder c.span.start ts hi
+FromLeader d cs at hi = (c : Cut) (ts : List Token) → first_significant cs ≡ Some c → tokens d None cs ≡ Ok ts → (at ≤ c.span.start) × InOrder c.span.start ts hi
 
 order_said : (d : ℕ) (b : Cut) (cs : List Cut) (at hi : ℕ) (c : Cut) (ts : List Token) → Tiles at (b ∷ cs) hi → Some b ≡ Some c → tokens d None (b ∷ cs) ≡ Ok ts
     → (at ≤ c.span.start) × InOrder c.span.start ts hi
@@ -110,10 +110,10 @@ order_led : (d : ℕ) (b : Cut) (cs : List Cut) (at hi : ℕ) (p : Piece) (c : C
     → led_piece b cs p ≡ Some c → at_piece d None b cs p ≡ Ok ts → tokens d None (b ∷ cs) ≡ Ok ts → (at ≤ c.span.start) × InOrder c.span.start ts hi
 unfolding led_piece at_piece FromLeader
 order_led d b cs at hi Blank c ts t f l v w = f c ts l v
-order_led d b cs at hi Tabbed c ts t f l v w = f c ts l v
+order_led d b cs at hi TabbedBlank c ts t f l v w = f c ts l v
 order_led d b cs at hi Comment c ts t f l v w = f c ts l v
 order_led d b cs at hi LineEnd c ts t f l v w = f c ts l v
-order_led d b cs at hi Joint c ts t f l v w = order_said d b cs at hi c ts t l w
+order_led d b cs at hi Continuation c ts t f l v w = order_said d b cs at hi c ts t l w
 order_led d b cs at hi (Lexeme kind) c ts t f l v w = order_said d b cs at hi c ts t l w
 order_led d b cs at hi Bad c ts t f l v w = order_said d b cs at hi c ts t l w
 
@@ -149,7 +149,7 @@ no_body (Ok front) (Ok body) f out v w = cc
 no_body (Ok front) (Err e) f out v w = cc
 no_body (Err e) b f out v w = cc
 
-order_from : (ts : List ℕ) (l : Line) (at hi : ℕ) (out : List Token) (c : Cut) → Tiles at l.cuts hi → leader l.cuts ≡ Some c → line_with ts l (Some c) ≡ Ok out
+order_from : (ts : List ℕ) (l : Line) (at hi : ℕ) (out : List Token) (c : Cut) → Tiles at l.cuts hi → first_significant l.cuts ≡ Some c → line_with ts l (Some c) ≡ Ok out
     → (b : Result (List Token) SyntaxFault) → tokens l.depth None l.cuts ≡ b → InOrder at out hi
 unfolding line_with FromLeader
 order_from ts l at hi out c t e w (Ok body) v =
@@ -158,14 +158,14 @@ order_from ts l at hi out c t e w (Ok body) v =
     (λ front m. order_front (layout_of ts l.cuts) c.line c.span.start front m) (λ body' u. (order_leader l.depth l.cuts at hi t c body' e u).1) w
 order_from ts l at hi out c t e w (Err f) v = absurd (no_body (marks (layout_of ts l.cuts) c.line c.span.start) (tokens l.depth None l.cuts) f out v w)
 
-order_line' : (ts : List ℕ) (l : Line) (at hi : ℕ) (out : List Token) (o : Option Cut) → Tiles at l.cuts hi → leader l.cuts ≡ o → line_with ts l o ≡ Ok out → InOrder at out hi
+order_line' : (ts : List ℕ) (l : Line) (at hi : ℕ) (out : List Token) (o : Option Cut) → Tiles at l.cuts hi → first_significant l.cuts ≡ o → line_with ts l o ≡ Ok out → InOrder at out hi
 unfolding line_with FromLeader
 order_line' ts l at hi out None t e w = let n : [] ≡ out = cc in order_ok [] out at hi n (tiles_le at l.cuts hi t)
 order_line' ts l at hi out (Some c) t e w = order_from ts l at hi out c t e w (tokens l.depth None l.cuts) refl
 
 order_line : (ts : List ℕ) (l : Line) (at hi : ℕ) (out : List Token) → Tiles at l.cuts hi → line_tokens ts l ≡ Ok out → InOrder at out hi
 unfolding line_with
-order_line ts l at hi out t w = order_line' ts l at hi out (leader l.cuts) t refl w
+order_line ts l at hi out t w = order_line' ts l at hi out (first_significant l.cuts) t refl w
 
 -- lines whose pieces follow one another, with a line end between two lines
 record Tiled (at : ℕ) (cs : List Cut) (P : ℕ → Type 0) : Type 0 where

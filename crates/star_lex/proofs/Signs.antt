@@ -1,8 +1,8 @@
 -- The sign that the code finds by the first byte is the longest of the table.
 use Rattle.std.proofs.Common.{◌≡◌, ℕ, Bool, true, false, cond, ◌==◌, [], ◌∷◌, Some, None, refl, subst, sym}
 use Rattle.std.proofs.lemmas.Bool.{eqb-true}
-use Rattle.star_lex.specs.declared.token.Sign.{Sign}
-use Rattle.star_lex.specs.declared.token.Sign.TheVariants as s
+use Rattle.star_lex.specs.declared.token.Punctuator.{Punctuator}
+use Rattle.star_lex.specs.declared.token.Punctuator.TheVariants as s
 use Rattle.star_lex.specs.Tokens.{longer, sign}
 use Rattle.star_lex.specs.Values.{Text, begins}
 use Rattle.star_lex.specs.Signs.{either, operator}
@@ -15,7 +15,7 @@ at_or' k b P here other_way false e = other_way e
 at_or : (k b : ℕ) (P : ℕ → Type 0) → P k → ((b == k) ≡ false → P b) → P b
 at_or k b P here other_way = at_or' k b P here other_way (b == k) refl
 
-short_or_long : (p : Bool) (short long : Sign) → longer true (short, 1) (longer p (long, 2) None) ≡ Some (cond p (long, 2) (short, 1))
+short_or_long : (p : Bool) (short long : Punctuator) → longer true (short, 1) (longer p (long, 2) None) ≡ Some (cond p (long, 2) (short, 1))
 short_or_long true short long = refl
 short_or_long false short long = refl
 

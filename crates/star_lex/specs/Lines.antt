@@ -2,13 +2,13 @@
 use Rattle.std.specs.Prelude.{◌≡◌, ◌≤◌, ℕ, zero, suc, ◌+◌, ◌-◌, Bool, false, if◌then◌else◌, ◌==◌, nat_lt, List, [], ◌∷◌, ◌++◌, length, drop, replicate, Option, Some, None, Result, Ok, Err, Vec}
 use Rattle.star_lex.specs.declared.token.Kind.{Kind}
 use Rattle.star_lex.specs.declared.token.Kind.TheVariants as k
-use Rattle.star_lex.specs.declared.token.Sign.{Sign}
-use Rattle.star_lex.specs.declared.token.Sign.TheVariants as s
+use Rattle.star_lex.specs.declared.token.Punctuator.{Punctuator}
+use Rattle.star_lex.specs.declared.token.Punctuator.TheVariants as s
 use Rattle.star_lex.specs.declared.token.Token.{Token}
 use Rattle.star_lex.specs.declared.token.SyntaxFault.{SyntaxFault}
 use Rattle.star_lex.specs.declared.token.SyntaxFault.TheVariants.{BadToken, BadIndent, Memory}
 use Rattle.star_lex.specs.declared.cut.Piece.{Piece}
-use Rattle.star_lex.specs.declared.cut.Piece.TheVariants.{Blank, Tabbed, Comment, LineEnd, Joint, Lexeme, Bad}
+use Rattle.star_lex.specs.declared.cut.Piece.TheVariants.{Blank, TabbedBlank, Comment, LineEnd, Continuation, Lexeme, Bad}
 use Rattle.star_lex.specs.declared.cut.Cut.{Cut}
 use Rattle.std.specs.declared.alloc.Global.{Global}
 use Rattle.star_lex.specs.Values.{Text}
@@ -16,7 +16,7 @@ use Rattle.star_lex.specs.Pieces.{line_ends, pieces}
 
 -- ---- depth, logical lines
 
-abbrev pub sign_depth : ℕ → Sign → ℕ
+abbrev pub sign_depth : ℕ → Punctuator → ℕ
 sign_depth d s.LeftParen = d + 1
 sign_depth d s.LeftBracket = d + 1
 sign_depth d s.LeftBrace = d + 1
@@ -27,7 +27,7 @@ sign_depth d _ = d
 
 -- how many brackets are open after a piece
 abbrev pub depth_after : ℕ → Piece → ℕ
-depth_after d (Lexeme (k.Sign s)) = sign_depth d s
+depth_after d (Lexeme (k.Punctuator s)) = sign_depth d s
 depth_after d _ = d
 
 abbrev pub ends_line : ℕ → Piece → Bool
@@ -77,7 +77,7 @@ layout (t ∷ ts) w = if nat_lt t w then opens else closes_some (closing (t ∷ 
 -- the leading spaces, if there is no tab among the leading blanks
 abbrev pub width : List Cut → Option ℕ
 width [] = Some 0
-width (c ∷ cs) = elim c.piece [ Tabbed ↦ None | Blank ↦ Some (c.span.end - c.span.start) | _ ↦ Some 0 ]
+width (c ∷ cs) = elim c.piece [ TabbedBlank ↦ None | Blank ↦ Some (c.span.end - c.span.start) | _ ↦ Some 0 ]
 
 abbrev pub layout_of : List ℕ → List Cut → Layout
 layout_of open_ cs = elim (width cs) [ None ↦ wrong | Some w ↦ layout open_ w ]
@@ -102,10 +102,10 @@ abbrev pub onto : List Token → Result (List Token) SyntaxFault → Result (Lis
 onto xs r = r >>= (λ ts. Ok (xs ++ ts))
 
 -- the first piece that says something: no blank, comment or line end
-abbrev pub leader : List Cut → Option Cut
-leader [] = None
-leader (c ∷ cs) =
-    elim c.piece [ Blank ↦ leader cs | Tabbed ↦ leader cs | Comment ↦ leader cs | LineEnd ↦ leader cs | _ ↦ Some c ]
+abbrev pub first_significant : List Cut → Option Cut
+first_significant [] = None
+first_significant (c ∷ cs) =
+    elim c.piece [ Blank ↦ first_significant cs | TabbedBlank ↦ first_significant cs | Comment ↦ first_significant cs | LineEnd ↦ first_significant cs | _ ↦ Some c ]
 
 abbrev pub marks : Layout → ℕ → ℕ → Result (List Token) SyntaxFault
 marks opens line at = Ok (mark k.Indent line at ∷ [])
@@ -128,20 +128,20 @@ abbrev pub tokens : ℕ → Option Cut → List Cut → Result (List Token) Synt
 tokens depth before [] = Ok (newline depth before)
 tokens depth before (c ∷ cs) = elim c.piece [
   | Lexeme kind ↦ onto (token_of kind c ∷ []) (tokens depth (Some c) cs)
-  | Joint ↦ elim before [ None ↦ Err (BadToken c.line) | Some b ↦ tokens depth (Some b) cs ]
+  | Continuation ↦ elim before [ None ↦ Err (BadToken c.line) | Some b ↦ tokens depth (Some b) cs ]
   | Bad ↦ Err (BadToken c.line)
   | _ ↦ tokens depth before cs
 ]
 
 -- the tokens of a logical line; none if it has only blanks and comments
 abbrev pub line_tokens : List ℕ → Line → Result (List Token) SyntaxFault
-line_tokens ts l = elim (leader l.cuts) [
+line_tokens ts l = elim (first_significant l.cuts) [
   | None ↦ Ok []
   | Some c ↦ marks (layout_of ts l.cuts) c.line c.span.start >>= (λ front. onto front (tokens l.depth None l.cuts))
 ]
 
 abbrev pub opened_after : List ℕ → Line → List ℕ
-opened_after ts l = elim (leader l.cuts) [ None ↦ ts | Some c ↦ opened_by ts (layout_of ts l.cuts) (width l.cuts) ]
+opened_after ts l = elim (first_significant l.cuts) [ None ↦ ts | Some c ↦ opened_by ts (layout_of ts l.cuts) (width l.cuts) ]
 
 abbrev pub line_of : List Cut → ℕ → Line
 line_of cs d = record { cuts = cs; depth = d }

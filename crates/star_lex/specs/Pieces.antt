@@ -8,7 +8,7 @@ use Rattle.star_lex.specs.declared.token.Kind.{Kind}
 use Rattle.star_lex.specs.declared.run.Class.TheVariants as class
 use Rattle.star_lex.specs.declared.value.Quoting.{Quoting}
 use Rattle.star_lex.specs.declared.cut.Piece.{Piece}
-use Rattle.star_lex.specs.declared.cut.Piece.TheVariants.{Blank, Tabbed, Comment, LineEnd, Joint, Lexeme, Bad}
+use Rattle.star_lex.specs.declared.cut.Piece.TheVariants.{Blank, TabbedBlank, Comment, LineEnd, Continuation, Lexeme, Bad}
 use Rattle.star_lex.specs.declared.cut.Cut.{Cut}
 use Rattle.star_lex.specs.Tokens.{Found, keyword, sign}
 use Rattle.star_lex.specs.Values.{Text, begins, is_in, is_line_end, line_end_size, int_of, quoting, opening, closed, text_at}
@@ -22,12 +22,12 @@ abbrev pub bad : Text → First
 bad z = (Bad, length z)
 
 abbrev pub blanks : Text → First
-blanks z = let n = prefix_len (is_in class.Blank) z in (if prefix_len (is_in class.Space) z == n then Blank else Tabbed, n)
+blanks z = let n = prefix_len (is_in class.Blank) z in (if prefix_len (is_in class.Space) z == n then Blank else TabbedBlank, n)
 
 -- a backslash is right before a line end
 abbrev pub joint : Text → First
 joint [] = (Bad, 1)
-joint (b ∷ z) = if is_line_end b then (Joint, 1 + line_end_size (b ∷ z)) else (Bad, 1 + length (b ∷ z))
+joint (b ∷ z) = if is_line_end b then (Continuation, 1 + line_end_size (b ∷ z)) else (Bad, 1 + length (b ∷ z))
 
 abbrev pub text_of : Text → ℕ → Option ℕ → First
 text_of z n None = bad z
@@ -53,7 +53,7 @@ word z = let n = prefix_len (is_in class.Word) z in (Lexeme (named (keyword (tak
 
 abbrev pub signed : Text → Option Found → First
 signed z None = bad z
-signed z (Some s) = (Lexeme (k.Sign s.0), s.1)
+signed z (Some s) = (Lexeme (k.Punctuator s.0), s.1)
 
 abbrev pub unquoted : ℕ → Text → First
 unquoted b z = if is_ascii_digit b then int z else (if is_in class.Word b then word z else signed z (sign z))

@@ -1,12 +1,12 @@
 -- The signs by their first byte, as the code finds them.
 use Rattle.std.specs.Prelude.{ℕ, ◌+◌, if◌then◌else◌, ◌==◌, [], ◌∷◌, drop, Option, Some, None}
-use Rattle.star_lex.specs.declared.token.Sign.{Sign}
-use Rattle.star_lex.specs.declared.token.Sign.TheVariants as s
+use Rattle.star_lex.specs.declared.token.Punctuator.{Punctuator}
+use Rattle.star_lex.specs.declared.token.Punctuator.TheVariants as s
 use Rattle.star_lex.specs.Tokens.{Found}
 use Rattle.star_lex.specs.Values.{Text, begins}
 
 -- with `=` after it, or without
-abbrev pub assigned : Sign → Sign → ℕ → Text → Found
+abbrev pub assigned : Punctuator → Punctuator → ℕ → Text → Found
 assigned short long n z = if begins (61 ∷ []) z then (long, n + 1) else (short, n)
 
 -- the signs of one byte that begins no other

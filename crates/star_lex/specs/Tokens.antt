@@ -2,8 +2,8 @@
 use Rattle.std.specs.Prelude.{ℕ, Bool, true, false, ◌&&◌, if◌then◌else◌, ◌==◌, nat_lt, List, [], ◌∷◌, length, Option, Some, None, codes}
 use Rattle.star_lex.specs.declared.token.Keyword.{Keyword}
 use Rattle.star_lex.specs.declared.token.Keyword.TheVariants as w
-use Rattle.star_lex.specs.declared.token.Sign.{Sign}
-use Rattle.star_lex.specs.declared.token.Sign.TheVariants as s
+use Rattle.star_lex.specs.declared.token.Punctuator.{Punctuator}
+use Rattle.star_lex.specs.declared.token.Punctuator.TheVariants as s
 use Rattle.star_lex.specs.Values.{Text, begins}
 
 abbrev pub keywords : List (Text × Keyword)
@@ -24,7 +24,7 @@ keywords =
     ∷ (codes "while", w.Reserved)
     ∷ (codes "with", w.Reserved) ∷ (codes "yield", w.Reserved) ∷ []
 
-abbrev pub signs : List (Text × Sign)
+abbrev pub signs : List (Text × Punctuator)
 signs =
     (codes "+", s.Plus) ∷ (codes "-", s.Minus) ∷ (codes "*", s.Star) ∷ (codes "**", s.StarStar)
     ∷ (codes "//", s.SlashSlash) ∷ (codes "%", s.Percent)
@@ -51,7 +51,7 @@ keyword = keyword_in keywords
 
 -- a sign, and how many bytes it takes
 abbrev pub Found : Type 0
-Found = Sign × ℕ
+Found = Punctuator × ℕ
 
 abbrev pub longer : Bool → Found → Option Found → Option Found
 longer false a best = best
@@ -59,7 +59,7 @@ longer true a None = Some a
 longer true a (Some b) = if nat_lt b.1 a.1 then Some a else Some b
 
 -- the longest of the signs at the front
-abbrev pub longest : List (Text × Sign) → Text → Option Found
+abbrev pub longest : List (Text × Punctuator) → Text → Option Found
 longest [] z = None
 longest (r ∷ rows) z = longer (begins r.0 z) (r.1, length r.0) (longest rows z)
 

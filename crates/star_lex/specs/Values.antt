@@ -4,8 +4,8 @@ use Rattle.std.specs.Char.{is_digit, digit_value, is_ascii_alphanumeric}
 use Rattle.std.specs.List.{prefix_len}
 use Rattle.star_lex.specs.declared.run.Class.{Class}
 use Rattle.star_lex.specs.declared.run.Class.TheVariants as class
-use Rattle.star_lex.specs.declared.value.Meaning.{Meaning}
-use Rattle.star_lex.specs.declared.value.Meaning.TheVariants.{Nothing, Byte, Kept, Scalar}
+use Rattle.star_lex.specs.declared.value.EscapeValue.{EscapeValue}
+use Rattle.star_lex.specs.declared.value.EscapeValue.TheVariants.{Nothing, Byte, Kept, Scalar}
 use Rattle.star_lex.specs.declared.token.Span.{Span}
 use Rattle.star_lex.specs.declared.value.Quoting.{Quoting}
 
@@ -94,7 +94,7 @@ abbrev pub opening : Quoting → ℕ
 opening q = (if q.raw then 1 else 0) + length (quotes q)
 
 -- the bytes that a part of the inside means: a backslash stays in a raw string
-abbrev pub meant : Meaning → Text
+abbrev pub meant : EscapeValue → Text
 meant Nothing = []
 meant (Byte b) = b ∷ []
 meant (Kept b) = 92 ∷ b ∷ []
@@ -102,7 +102,7 @@ meant (Scalar c) = encode_utf8 c
 
 -- a part of the inside: the number of its bytes, and its meaning
 abbrev pub Part : Type 0
-Part = ℕ × Meaning
+Part = ℕ × EscapeValue
 
 abbrev pub after : ℕ → Option Part → Option Part
 after n None = None

@@ -11,7 +11,7 @@ ghost use Rattle.star_lex.specs.Values as values;
 ghost use Rattle.star_lex.specs.Values.{Leads};
 
 use crate::run::{Class, begins, is_in, is_line_end, line_end_size, run};
-use crate::token::{Keyword, Kind, Sign, Span};
+use crate::token::{Keyword, Kind, Punctuator, Span};
 use crate::value::{Quoting, closed, int_of, opening, quoting_of};
 use std::alloc::{AllocError, Global};
 
@@ -21,11 +21,11 @@ pub enum Piece {
     /// Spaces.
     Blank,
     /// Spaces and tabs, with a tab.
-    Tabbed,
+    TabbedBlank,
     Comment,
     LineEnd,
     /// A backslash and a line end.
-    Joint,
+    Continuation,
     /// A token that is written.
     Lexeme(Kind),
     /// Bytes that are not a token.
@@ -98,27 +98,27 @@ pub fn keyword(word: &[u8]) -> Option<Keyword>
 }
 
 /// The sign of one byte that begins no other.
-fn mark(first: u8) -> Option<(Sign, usize)>
+fn mark(first: u8) -> Option<(Punctuator, usize)>
     ensures { result ≡ signs.mark first }
 {
     let sign = match first {
-        b'~' => Sign::Tilde,
-        b'.' => Sign::Dot,
-        b',' => Sign::Comma,
-        b';' => Sign::Semicolon,
-        b':' => Sign::Colon,
-        b'(' => Sign::LeftParen,
-        b')' => Sign::RightParen,
-        b'[' => Sign::LeftBracket,
-        b']' => Sign::RightBracket,
-        b'{' => Sign::LeftBrace,
-        b'}' => Sign::RightBrace,
+        b'~' => Punctuator::Tilde,
+        b'.' => Punctuator::Dot,
+        b',' => Punctuator::Comma,
+        b';' => Punctuator::Semicolon,
+        b':' => Punctuator::Colon,
+        b'(' => Punctuator::LeftParen,
+        b')' => Punctuator::RightParen,
+        b'[' => Punctuator::LeftBracket,
+        b']' => Punctuator::RightBracket,
+        b'{' => Punctuator::LeftBrace,
+        b'}' => Punctuator::RightBrace,
         _ => return None,
     };
     Some((sign, 1))
 }
 
-fn assigned(short: Sign, long: Sign, size: usize, rest: &[u8]) -> (Sign, usize)
+fn assigned(short: Punctuator, long: Punctuator, size: usize, rest: &[u8]) -> (Punctuator, usize)
     requires { size ≤ 2 }
     ensures value { result ≡ signs.assigned short long size rest.now }
     ensures within { (size ≤ result.1) × (result.1 ≤ size + length rest.now) }
@@ -131,38 +131,53 @@ fn assigned(short: Sign, long: Sign, size: usize, rest: &[u8]) -> (Sign, usize)
 }
 
 /// The sign of a byte that the byte itself or `=` may follow.
-fn doubled(first: u8, rest: &[u8]) -> Option<(Sign, usize)>
+fn doubled(first: u8, rest: &[u8]) -> Option<(Punctuator, usize)>
     ensures value { result ≡ signs.doubled first rest.now }
     ensures within { IfSome result (λ s. (1 ≤ s.1) × (s.1 ≤ 1 + length rest.now)) }
 {
     let twice = begins(rest, &[first]);
     let after = if twice { &rest[1..] } else { rest };
     match first {
-        b'*' if twice => Some((Sign::StarStar, 2)),
-        b'*' => Some(assigned(Sign::Star, Sign::StarAssign, 1, rest)),
-        b'/' if twice => Some(assigned(Sign::SlashSlash, Sign::SlashSlashAssign, 2, after)),
-        b'<' if twice => Some(assigned(Sign::ShiftLeft, Sign::ShiftLeftAssign, 2, after)),
-        b'<' => Some(assigned(Sign::Less, Sign::LessEqual, 1, rest)),
-        b'>' if twice => Some(assigned(Sign::ShiftRight, Sign::ShiftRightAssign, 2, after)),
-        b'>' => Some(assigned(Sign::Greater, Sign::GreaterEqual, 1, rest)),
-        b'!' if begins(rest, b"=") => Some((Sign::NotEqual, 2)),
+        b'*' if twice => Some((Punctuator::StarStar, 2)),
+        b'*' => Some(assigned(Punctuator::Star, Punctuator::StarAssign, 1, rest)),
+        b'/' if twice => Some(assigned(
+            Punctuator::SlashSlash,
+            Punctuator::SlashSlashAssign,
+            2,
+            after,
+        )),
+        b'<' if twice => Some(assigned(
+            Punctuator::ShiftLeft,
+            Punctuator::ShiftLeftAssign,
+            2,
+            after,
+        )),
+        b'<' => Some(assigned(Punctuator::Less, Punctuator::LessEqual, 1, rest)),
+        b'>' if twice => Some(assigned(
+            Punctuator::ShiftRight,
+            Punctuator::ShiftRightAssign,
+            2,
+            after,
+        )),
+        b'>' => Some(assigned(Punctuator::Greater, Punctuator::GreaterEqual, 1, rest)),
+        b'!' if begins(rest, b"=") => Some((Punctuator::NotEqual, 2)),
         _ => None,
     }
 }
 
 /// The sign of a byte that only `=` may follow.
-fn single(first: u8, rest: &[u8]) -> Option<(Sign, usize)>
+fn single(first: u8, rest: &[u8]) -> Option<(Punctuator, usize)>
     ensures value { result ≡ signs.single first rest.now }
     ensures within { IfSome result (λ s. (1 ≤ s.1) × (s.1 ≤ 1 + length rest.now)) }
 {
     let (short, long) = match first {
-        b'+' => (Sign::Plus, Sign::PlusAssign),
-        b'-' => (Sign::Minus, Sign::MinusAssign),
-        b'%' => (Sign::Percent, Sign::PercentAssign),
-        b'&' => (Sign::Ampersand, Sign::AmpersandAssign),
-        b'|' => (Sign::Bar, Sign::BarAssign),
-        b'^' => (Sign::Caret, Sign::CaretAssign),
-        b'=' => (Sign::Assign, Sign::EqualEqual),
+        b'+' => (Punctuator::Plus, Punctuator::PlusAssign),
+        b'-' => (Punctuator::Minus, Punctuator::MinusAssign),
+        b'%' => (Punctuator::Percent, Punctuator::PercentAssign),
+        b'&' => (Punctuator::Ampersand, Punctuator::AmpersandAssign),
+        b'|' => (Punctuator::Bar, Punctuator::BarAssign),
+        b'^' => (Punctuator::Caret, Punctuator::CaretAssign),
+        b'=' => (Punctuator::Assign, Punctuator::EqualEqual),
         _ => return None,
     };
     Some(assigned(short, long, 1, rest))
@@ -170,7 +185,7 @@ fn single(first: u8, rest: &[u8]) -> Option<(Sign, usize)>
 
 /// The sign at the front of `first` and `rest`, and how many bytes it takes.
 #[tactic(auto, using(crate::proofs::Signs::by_first), unfolding(crate::specs::Signs::operator))]
-fn sign(first: u8, rest: &[u8]) -> Option<(Sign, usize)>
+fn sign(first: u8, rest: &[u8]) -> Option<(Punctuator, usize)>
     ensures value { result ≡ spec.sign (first ∷ rest.now) }
     ensures within { IfSome result (λ s. (1 ≤ s.1) × (s.1 ≤ 1 + length rest.now)) }
 {
@@ -192,7 +207,7 @@ fn blanks(text: &[u8]) -> (Piece, usize)
     if run(Class::Space, text) == size {
         (Piece::Blank, size)
     } else {
-        (Piece::Tabbed, size)
+        (Piece::TabbedBlank, size)
     }
 }
 
@@ -202,7 +217,7 @@ fn joint(rest: &[u8]) -> (Piece, usize)
     ensures within { (1 ≤ result.1) × (result.1 ≤ 1 + length rest.now) }
 {
     match rest {
-        [first, ..] if is_line_end(*first) => (Piece::Joint, 1 + line_end_size(rest)),
+        [first, ..] if is_line_end(*first) => (Piece::Continuation, 1 + line_end_size(rest)),
         _ => (Piece::Bad, 1 + rest.len()),
     }
 }
@@ -256,7 +271,7 @@ fn unquoted(first: u8, rest: &[u8], text: &[u8]) -> (Piece, usize)
     }
     match sign(first, rest) {
         None => (Piece::Bad, text.len()),
-        Some((sign, size)) => (Piece::Lexeme(Kind::Sign(sign)), size),
+        Some((sign, size)) => (Piece::Lexeme(Kind::Punctuator(sign)), size),
     }
 }
 

@@ -8,7 +8,7 @@ ghost use Rattle.star_lex.specs.Lines as spec;
 ghost use Rattle.star_lex.specs.Lines.{Pushes};
 
 use crate::cut::{Cut, Piece};
-use crate::token::{Kind, Sign, Span, SyntaxFault, Token};
+use crate::token::{Kind, Punctuator, Span, SyntaxFault, Token};
 use std::alloc::Global;
 
 fn depth_after(depth: usize, piece: Piece) -> usize
@@ -17,10 +17,16 @@ fn depth_after(depth: usize, piece: Piece) -> usize
     ensures near { result ≤ depth + 1 }
 {
     match piece {
-        Piece::Lexeme(Kind::Sign(Sign::LeftParen | Sign::LeftBracket | Sign::LeftBrace)) => depth
-            + 1,
-        Piece::Lexeme(Kind::Sign(Sign::RightParen | Sign::RightBracket | Sign::RightBrace)) =>
-            depth.saturating_sub(1),
+        Piece::Lexeme(
+            Kind::Punctuator(
+                Punctuator::LeftParen | Punctuator::LeftBracket | Punctuator::LeftBrace,
+            ),
+        ) => depth + 1,
+        Piece::Lexeme(
+            Kind::Punctuator(
+                Punctuator::RightParen | Punctuator::RightBracket | Punctuator::RightBrace,
+            ),
+        ) => depth.saturating_sub(1),
         _ => depth,
     }
 }
@@ -71,13 +77,13 @@ fn closing(opened: &[usize], width: usize) -> Option<usize>
 }
 
 /// The first piece of a line that says something.
-fn leader(line: &[Cut]) -> Option<Cut>
-    ensures { result ≡ spec.leader line.now }
+fn first_significant(line: &[Cut]) -> Option<Cut>
+    ensures { result ≡ spec.first_significant line.now }
 {
     let mut rest = line;
     while let [cut, more @ ..] = rest {
         match cut.piece {
-            Piece::Blank | Piece::Tabbed | Piece::Comment | Piece::LineEnd => {}
+            Piece::Blank | Piece::TabbedBlank | Piece::Comment | Piece::LineEnd => {}
             _ => return Some(*cut),
         }
         rest = more;
@@ -93,7 +99,7 @@ fn width(line: &[Cut]) -> Option<usize>
         return Some(0);
     };
     match first.piece {
-        Piece::Tabbed => None,
+        Piece::TabbedBlank => None,
         Piece::Blank => Some(first.span.end.saturating_sub(first.span.start)),
         _ => Some(0),
     }
@@ -153,13 +159,13 @@ fn push_tokens(out: &mut Vec<Token>, line: &[Cut], depth: usize) -> Result<(), S
     let mut before: Option<Cut> = None;
     while let [cut, more @ ..] = rest {
         match cut.piece {
-            Piece::Blank | Piece::Tabbed | Piece::Comment | Piece::LineEnd => {}
+            Piece::Blank | Piece::TabbedBlank | Piece::Comment | Piece::LineEnd => {}
             Piece::Lexeme(kind) => {
                 let (line, span) = (cut.line, cut.span);
                 out.push(Token { kind, line, span })?;
                 before = Some(*cut);
             }
-            Piece::Joint => {
+            Piece::Continuation => {
                 if before.is_none() {
                     return Err(SyntaxFault::BadToken { line: cut.line });
                 }
@@ -190,13 +196,21 @@ fn push_line(
     ensures opened { IfOk result (λ _. opened.new.items
         ≡ spec.opened_after opened.old.items (spec.line_of line.now depth)) }
 {
-    let Some(leader) = leader(line) else {
+    let Some(first_significant) = first_significant(line) else {
         return Ok(());
     };
     let Some(width) = width(line) else {
-        return Err(SyntaxFault::BadIndent { line: leader.line });
+        return Err(SyntaxFault::BadIndent {
+            line: first_significant.line,
+        });
     };
-    indent(out, opened, width, leader.line, leader.span.start)?;
+    indent(
+        out,
+        opened,
+        width,
+        first_significant.line,
+        first_significant.span.start,
+    )?;
     push_tokens(out, line, depth)
 }
 

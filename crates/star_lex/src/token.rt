@@ -30,7 +30,7 @@ pub enum Keyword {
 
 /// An operator or a mark of punctuation.
 #[derive(Clone, Copy, Debug, PartialEq, Eq)]
-pub enum Sign {
+pub enum Punctuator {
     Plus,
     Minus,
     Star,
@@ -82,7 +82,7 @@ pub enum Kind {
     Int,
     /// A literal of a string.
     Text,
-    Sign(Sign),
+    Punctuator(Punctuator),
     /// The end of a logical line.
     Newline,
     /// A logical line is indented further than the one before it.

@@ -21,7 +21,7 @@ pub struct Quoting {
 
 /// The meaning of a part of a string's inside.
 #[derive(Clone, Copy)]
-pub enum Meaning {
+pub enum EscapeValue {
     /// No byte, as a backslash and a line end.
     Nothing,
     Byte(u8),
@@ -150,7 +150,7 @@ fn closes(quoting: Quoting, text: &[u8]) -> bool
     *first == quoting.quote && (!quoting.triple || begins(rest, &[quoting.quote, quoting.quote]))
 }
 
-fn numbered(base: u32, size: usize, most: u64, text: &[u8]) -> Option<(usize, Meaning)>
+fn numbered(base: u32, size: usize, most: u64, text: &[u8]) -> Option<(usize, EscapeValue)>
     requires base { (2 ≤ base) × (base ≤ 16) }
     requires most { most ≤ 1114111 }
     ensures value { result ≡ spec.numbered base size most text.now }
@@ -161,10 +161,10 @@ fn numbered(base: u32, size: usize, most: u64, text: &[u8]) -> Option<(usize, Me
     }
     let value = number(base, most, &text[..size])?;
     let character = char::from_u32(value as u32)?;
-    Some((size, Meaning::Scalar(character)))
+    Some((size, EscapeValue::Scalar(character)))
 }
 
-fn letter(byte: u8) -> Option<(usize, Meaning)>
+fn letter(byte: u8) -> Option<(usize, EscapeValue)>
     ensures value { result ≡ spec.letter byte }
     ensures within { IfSome result (λ p. p.0 ≡ 1) }
 {
@@ -179,7 +179,7 @@ fn letter(byte: u8) -> Option<(usize, Meaning)>
         b'\\' | b'"' | b'\'' => byte,
         _ => return None,
     };
-    Some((1, Meaning::Byte(meant)))
+    Some((1, EscapeValue::Byte(meant)))
 }
 
 fn octal_size(text: &[u8]) -> usize
@@ -190,7 +190,7 @@ fn octal_size(text: &[u8]) -> usize
     run(Class::Octal, &text[..most])
 }
 
-fn escape(text: &[u8]) -> Option<(usize, Meaning)>
+fn escape(text: &[u8]) -> Option<(usize, EscapeValue)>
     ensures value { result ≡ spec.escape text.now }
     ensures within { IfSome result (λ p. p.0 ≤ length text.now) }
 {
@@ -198,7 +198,7 @@ fn escape(text: &[u8]) -> Option<(usize, Meaning)>
         return None;
     };
     if is_line_end(*first) {
-        return Some((line_end_size(text), Meaning::Nothing));
+        return Some((line_end_size(text), EscapeValue::Nothing));
     }
     if is_in(Class::Octal, *first) {
         return numbered(8, octal_size(text), 127, text);
@@ -230,7 +230,7 @@ fn plain(triple: bool, text: &[u8]) -> Option<(usize, u8)>
 }
 
 #[tactic(auto, unfolding(crate::specs::Values::part))]
-fn part(quoting: Quoting, text: &[u8]) -> Option<(usize, Meaning)>
+fn part(quoting: Quoting, text: &[u8]) -> Option<(usize, EscapeValue)>
     ensures value { result ≡ spec.part quoting text.now }
     ensures within { IfSome result (λ p. (1 ≤ p.0) × (p.0 ≤ length text.now)) }
 {
@@ -239,11 +239,11 @@ fn part(quoting: Quoting, text: &[u8]) -> Option<(usize, Meaning)>
     };
     if *first != b'\\' {
         let (size, byte) = plain(quoting.triple, text)?;
-        return Some((size, Meaning::Byte(byte)));
+        return Some((size, EscapeValue::Byte(byte)));
     }
     if quoting.raw {
         let (size, byte) = plain(quoting.triple, rest)?;
-        return Some((1 + size, Meaning::Kept(byte)));
+        return Some((1 + size, EscapeValue::Kept(byte)));
     }
     let (size, meaning) = escape(rest)?;
     Some((1 + size, meaning))
@@ -277,17 +277,17 @@ fn push_bytes(out: &mut Vec<u8>, bytes: &[u8]) -> Result<(), AllocError>
     Ok(())
 }
 
-fn push_meant(out: &mut Vec<u8>, meaning: Meaning) -> Result<(), AllocError>
+fn push_meant(out: &mut Vec<u8>, meaning: EscapeValue) -> Result<(), AllocError>
     ensures { IfOk result (λ _. out.new.items ≡ out.old.items ++ spec.meant meaning) }
 {
     match meaning {
-        Meaning::Nothing => {}
-        Meaning::Byte(byte) => out.push(byte)?,
-        Meaning::Kept(byte) => {
+        EscapeValue::Nothing => {}
+        EscapeValue::Byte(byte) => out.push(byte)?,
+        EscapeValue::Kept(byte) => {
             out.push(b'\\')?;
             out.push(byte)?;
         }
-        Meaning::Scalar(character) => {
+        EscapeValue::Scalar(character) => {
             let mut room = [0; 4];
             push_bytes(out, character.encode_utf8(&mut room).as_bytes())?;
         }

@@ -9,7 +9,7 @@ use Rattle.star_store.specs.declared.values.Value.{Value}
 use Rattle.star_store.specs.declared.values.Value.TheVariants as value
 use Rattle.star_store.specs.declared.values.Cell.{Cell}
 use Rattle.star_store.specs.declared.values.Cell.TheVariants as cell
-use Rattle.star_store.specs.declared.values.Counted.{Counted}
+use Rattle.star_store.specs.declared.values.HeapCell.{HeapCell}
 use Rattle.star_store.specs.declared.content.Atom.{Atom}
 use Rattle.star_store.specs.Content.{KeepsKeys, content, same_atom, same_content}
 use Rattle.star_store.specs.Index.{place_by}
@@ -22,7 +22,7 @@ use Rattle.star_meaning.specs.Program.{Setting}
 use Rattle.star_meaning.specs.Run.{State, Action, Done}
 use Rattle.star_meaning.specs.Values.{place_in}
 use Rattle.star_meaning.proofs.Stays.{Keeps, Preserved, Stays}
-use Rattle.star_machine.specs.Gathered.{Gathering, IsGathered, contents_of}
+use Rattle.star_machine.specs.DictBuilder.{Gathering, IsGathered, contents_of}
 
 -- the tests of a key against keys are those of its content against theirs
 key_tests : (see : Value → Option Cell) (n : ℕ) (key : Value) (es : List (Value × Value)) → map (λ e. same_key see n key e.0) es ≡ map (same_content (content see n key)) (map (λ e. content see n e.0) es)
@@ -84,19 +84,19 @@ pushed see es e atoms contents k h =
 
 -- a run that ends well leaves contents as they are: no string and no tuple changes
 
-seen_cell : (xs ys : List Counted) (at : ℕ) (c : Cell) → ((a : Counted) → slice_get xs at ≡ Some a → a.cell ≡ c → (b : Counted) × (slice_get ys at ≡ Some b) × (b.cell ≡ c)) → option_map (λ e. e.cell) (slice_get xs at) ≡ Some c → option_map (λ e. e.cell) (slice_get ys at) ≡ Some c
+seen_cell : (xs ys : List HeapCell) (at : ℕ) (c : Cell) → ((a : HeapCell) → slice_get xs at ≡ Some a → a.cell ≡ c → (b : HeapCell) × (slice_get ys at ≡ Some b) × (b.cell ≡ c)) → option_map (λ e. e.cell) (slice_get xs at) ≡ Some c → option_map (λ e. e.cell) (slice_get ys at) ≡ Some c
 seen_cell xs ys at c f h = by (slice_get xs at) refl h
   where
     some_is : (x y : Cell) → Some x ≡ Some y → x ≡ y
     some_is x y e = cc
 
-    by : (o : Option Counted) → slice_get xs at ≡ o → option_map (λ e. e.cell) o ≡ Some c → option_map (λ e. e.cell) (slice_get ys at) ≡ Some c
+    by : (o : Option HeapCell) → slice_get xs at ≡ o → option_map (λ e. e.cell) o ≡ Some c → option_map (λ e. e.cell) (slice_get ys at) ≡ Some c
     by None e q = cc
-    by (Some a) e q = let b = f a e (some_is a.cell c q) in ap (option_map (λ (d : Counted). d.cell)) b.1 ∙ ap Some b.2
+    by (Some a) e q = let b = f a e (some_is a.cell c q) in ap (option_map (λ (d : HeapCell). d.cell)) b.1 ∙ ap Some b.2
 
 stays_at : (w : Setting) (s t : State) (c : Cell) → Stays s t → ((d : Cell) → KeepsKind c d → d ≡ c) → (v : Value) → look s.store w.shelf v ≡ Some c → look t.store w.shelf v ≡ Some c
 stays_at w s t c k same (value.Ref home at) h =
-    ap (λ (n : ℕ). option_map (λ (e : Counted). e.cell) (slice_get (if nat_eq home n then t.store.cells else published_cells (slice_get w.shelf home)) at)) k.home
+    ap (λ (n : ℕ). option_map (λ (e : HeapCell). e.cell) (slice_get (if nat_eq home n then t.store.cells else published_cells (slice_get w.shelf home)) at)) k.home
     ∙ by (nat_eq home s.store.home) h
   where
     by : (b : Bool) → option_map (λ e. e.cell) (slice_get (if b then s.store.cells else published_cells (slice_get w.shelf home)) at) ≡ Some c → option_map (λ e. e.cell) (slice_get (if b then t.store.cells else published_cells (slice_get w.shelf home)) at) ≡ Some c

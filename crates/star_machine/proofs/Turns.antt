@@ -1,7 +1,7 @@
 -- Loops go on turn by turn.
 use Rattle.std.proofs.Common.{◌≡◌, ℕ, zero, suc, ◌+◌, ◌-◌, ◌<◌, List, [], ◌∷◌, ◌++◌, Bool, true, if◌then◌else◌, refl, ap, sym, ◌∙◌, append_assoc, arith}
 use Rattle.star_meaning.specs.Run.{State, Outcome, Done, Failed, Action, and_then, give, collect, until}
-use Rattle.star_machine.specs.Gives.{with_front}
+use Rattle.star_machine.specs.Refines.{with_front}
 
 -- one turn more, and those after it
 collect_more : {B : Type 0} (f : ℕ → Action B) (n m i : ℕ) (s : State) → n ≡ m + 1 → collect f n i s ≡ and_then (f i s) (λ y. λ t. and_then (collect f m (i + 1) t) (λ ys. give (y ∷ ys)))

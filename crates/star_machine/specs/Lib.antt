@@ -1,7 +1,7 @@
--- Words of the contracts of the machine; `Gives` is in nearly all contracts above it.
+-- Words of the contracts of the machine; `Refines` is in nearly all contracts above it.
 pub mod Cuts
-pub mod Gathered
-pub mod Gives
+pub mod DictBuilder
+pub mod Refines
 pub mod Kinds
 pub mod Search
 pub mod Shown

@@ -3,9 +3,9 @@
 ghost use Rattle.std.specs.Prelude.{◌≡◌};
 ghost use Rattle.star_store.specs.declared.fault.StoreFault.TheVariants as refused;
 ghost use Rattle.star_machine.specs.declared.fault.Stop.TheVariants.{Memory};
-ghost use Rattle.star_machine.specs.Gives.{stop_of};
+ghost use Rattle.star_machine.specs.Refines.{stop_of};
 
-use star_meaning::fault::Code;
+use star_meaning::fault::FaultCode;
 use star_store::fault::StoreFault;
 use std::alloc::{AllocError, AllocFailed};
 
@@ -15,11 +15,11 @@ pub enum Stop {
     /// A growth was refused.
     Memory,
     /// The run has a fault of this kind at this line.
-    Faulted { code: Code, line: usize },
+    Faulted { code: FaultCode, line: usize },
 }
 
 /// A fault at a line.
-pub fn faulted(code: Code, line: usize) -> Stop
+pub fn faulted(code: FaultCode, line: usize) -> Stop
     ensures { result ≡ Stop.Faulted code line }
 {
     Stop::Faulted { code, line }
@@ -30,14 +30,14 @@ pub fn refused(fault: StoreFault, line: usize) -> Stop
     ensures { result ≡ stop_of line fault }
 {
     let code = match fault {
-        StoreFault::Frozen => Code::Frozen,
-        StoreFault::Iterating => Code::Iterating,
-        StoreFault::BadType => Code::BadType,
-        StoreFault::Index => Code::Index,
-        StoreFault::Key => Code::Key,
-        StoreFault::Overflow => Code::Overflow,
-        StoreFault::Steps => Code::Steps,
-        StoreFault::Deep => Code::Deep,
+        StoreFault::Frozen => FaultCode::Frozen,
+        StoreFault::Iterating => FaultCode::Iterating,
+        StoreFault::BadType => FaultCode::BadType,
+        StoreFault::Index => FaultCode::Index,
+        StoreFault::Key => FaultCode::Key,
+        StoreFault::Overflow => FaultCode::Overflow,
+        StoreFault::Steps => FaultCode::Steps,
+        StoreFault::Deep => FaultCode::Deep,
         StoreFault::Memory => return Stop::Memory,
     };
     faulted(code, line)

@@ -1,4 +1,4 @@
-//! `Gathered`: the entries of a dictionary that is being made, with an index from 16 entries on.
+//! `DictBuilder`: the entries of a dictionary that is being made, with an index from 16 entries on.
 //!
 //! It serves `dict(..)`, `|` and a display. If contents cannot be had, the entries are walked.
 
@@ -11,7 +11,7 @@ ghost use Rattle.star_store.specs.Store.{Store, look};
 ghost use Rattle.star_meaning.specs.Operators.{with_entry};
 ghost use Rattle.star_meaning.specs.Program.{Setting as GivenSetting};
 ghost use Rattle.star_meaning.specs.Values.{place_in};
-ghost use Rattle.star_machine.specs.Gathered.{IsGathered, contents_of};
+ghost use Rattle.star_machine.specs.DictBuilder.{IsGathered, contents_of};
 
 use crate::machine::Machine;
 use crate::setting::Setting;
@@ -71,47 +71,47 @@ impl Contents {
 /// Entries gathered for a new dictionary, with the contents of their keys if these are at hand: by them the place of a
 /// key is found at once, else by a walk.
 #[derive(Drop)]
-pub struct Gathered {
+pub struct DictBuilder {
     entries: Entries,
     contents: Option<Contents>,
 }
 
-impl Model for Gathered {
-    ghost use Rattle.star_machine.specs.Gathered.{Gathering};
+impl Model for DictBuilder {
+    ghost use Rattle.star_machine.specs.DictBuilder.{Gathering};
 
     ghost Value = { Gathering };
 
     ghost view = { λ g. record { entries = g.entries; contents = g.contents } };
 }
 
-impl Gathered {
+impl DictBuilder {
     /// No entry yet.
-    #[tactic(auto, unfolding(crate::specs::Gathered::IsGathered))]
-    pub fn new(alloc: Global) -> Gathered
+    #[tactic(auto, unfolding(crate::specs::DictBuilder::IsGathered))]
+    pub fn new(alloc: Global) -> DictBuilder
         ensures empty { result.entries ≡ [] }
         ensures gathered { (w : GivenSetting) (s : Store) → IsGathered w s result }
     {
-        Gathered {
+        DictBuilder {
             entries: Entries::new(alloc),
             contents: None,
         }
     }
 
     /// No entry yet, and room for `capacity`.
-    #[tactic(auto, unfolding(crate::specs::Gathered::IsGathered))]
-    pub fn with_capacity(alloc: Global, capacity: usize) -> Result<Gathered, AllocError>
+    #[tactic(auto, unfolding(crate::specs::DictBuilder::IsGathered))]
+    pub fn with_capacity(alloc: Global, capacity: usize) -> Result<DictBuilder, AllocError>
         ensures empty { IfOk result (λ g. g.entries ≡ []) }
         ensures gathered { IfOk result (λ g. (w : GivenSetting) (s : Store) → IsGathered w s g) }
     {
-        Ok(Gathered {
+        Ok(DictBuilder {
             entries: Entries::with_capacity(alloc, capacity)?,
             contents: None,
         })
     }
 
     /// These entries, to which about `more` will be added.
-    #[tactic(auto, unfolding(crate::specs::Gathered::IsGathered))]
-    pub fn of(machine: &Machine, setting: &Setting, entries: Entries, more: usize) -> Gathered
+    #[tactic(auto, unfolding(crate::specs::DictBuilder::IsGathered))]
+    pub fn of(machine: &Machine, setting: &Setting, entries: Entries, more: usize) -> DictBuilder
         ensures same { result.entries ≡ entries }
         ensures gathered { IsGathered setting.now machine.now.store result }
     {
@@ -120,7 +120,7 @@ impl Gathered {
         } else {
             contents_of(machine, setting, &entries)
         };
-        Gathered { entries, contents }
+        DictBuilder { entries, contents }
     }
 
     /// The entries.
@@ -131,7 +131,7 @@ impl Gathered {
     }
 
     /// Puts an entry in: a key that is there keeps its place.
-    #[tactic(auto, unfolding(crate::specs::Gathered::IsGathered))]
+    #[tactic(auto, unfolding(crate::specs::DictBuilder::IsGathered))]
     pub fn put(
         &mut self,
         machine: &Machine,
@@ -188,7 +188,7 @@ impl Gathered {
     }
 
     /// The place of the entry with a key, which has this content.
-    #[tactic(auto, unfolding(crate::specs::Gathered::IsGathered), using(crate::proofs::Gathering::placed_at))]
+    #[tactic(auto, unfolding(crate::specs::DictBuilder::IsGathered), using(crate::proofs::Gathering::placed_at))]
     fn place(
         &self,
         machine: &Machine,
@@ -208,7 +208,7 @@ impl Gathered {
     }
 
     /// Puts an entry after all others, whose key has this content.
-    #[tactic(auto, unfolding(crate::specs::Gathered::IsGathered), using(crate::proofs::Gathering::pushed))]
+    #[tactic(auto, unfolding(crate::specs::DictBuilder::IsGathered), using(crate::proofs::Gathering::pushed))]
     fn push(
         &mut self,
         machine: &Machine,

@@ -5,7 +5,7 @@
 //! - `Setting` is the part that stays: the running file, the published stores, the loads, the prelude's file.
 //! - `Content` is the heap object of a value, borrowed; `Kind` is copied, to match on.
 //! - `Stop` is why a run stops: a fault of the language with its line, or want of memory.
-//! - `Gathered` collects the entries of a new dictionary.
+//! - `DictBuilder` collects the entries of a new dictionary.
 //!
 //! Begin at `machine.rt`: payments, new cells, reading, iterating, equality, order, texts, writing. `given` unpacks the
 //! arguments of a call, `search` finds an equal item, `subscript` and `slices` turn indices into places, `cuts` and
@@ -13,7 +13,8 @@
 //!
 //! Invariant: cells and steps left together are fewer than 2^32, so a new cell always has a number.
 //!
-//! The promise of each operation is `Gives` (`specs/Gives`), and so it is in the crates above: on the same state it has
+//! The promise of each operation is `Refines` (`specs/Refines`), and so it is in the crates above: on the same state
+//! it has
 //! the result of its definition in `star_meaning` and leaves the same state, unless memory ran out. To pay is to take
 //! steps (`docs/LANGUAGE.md`, "Steps and levels").
 #![tactic(auto)]
@@ -22,7 +23,6 @@ pub mod content;
 pub mod cuts;
 pub mod fault;
 pub mod gathered;
-pub mod given;
 mod left;
 pub mod machine;
 mod search;
@@ -30,3 +30,4 @@ pub mod setting;
 pub mod slices;
 pub mod subscript;
 pub mod texts;
+pub mod unpack;

@@ -13,7 +13,7 @@ ghost use Rattle.star_store.specs.Store.{Shelf, bound, look, slot_value};
 ghost use Rattle.star_meaning.specs.Calls.{deactivate, is_active};
 ghost use Rattle.star_meaning.specs.Run.{Done, add_line, agreed, and_then, build, give, make, pay, storing, visiting};
 ghost use Rattle.star_meaning.specs.Program.{seen};
-ghost use Rattle.star_machine.specs.Gives.{Gives, GivesBy};
+ghost use Rattle.star_machine.specs.Refines.{Refines, RefinesBy};
 ghost use Rattle.star_machine.specs.Shown.{shown};
 ghost use Rattle.star_machine.specs.Kinds.{bytes_of, kind_of, row_in, size_of};
 ghost use Rattle.star_machine.specs.Search.{found_place};
@@ -24,7 +24,7 @@ use crate::content::{Content, Kind, item_of_cell};
 use crate::fault::{Stop, faulted, refused};
 use crate::search::equal_place;
 use crate::setting::Setting;
-use star_meaning::fault::Code;
+use star_meaning::fault::FaultCode;
 use star_meaning::story::Story;
 use star_store::arena::Arena;
 use star_store::arena::write::Change;
@@ -106,11 +106,11 @@ impl Machine {
     /// Pays steps. `Steps` if they are more than are left.
     #[tactic(auto, unfolding(star_meaning::specs::Run::pay))]
     pub fn pay(&mut self, line: usize, steps: u128) -> Result<(), Stop>
-        ensures answer { Gives (pay line steps self.old) result self.new }
+        ensures answer { Refines (pay line steps self.old) result self.new }
         ensures kept { self.new.store ≡ self.old.store }
     {
         if (self.steps as u128) < steps {
-            return Err(faulted(Code::Steps, line));
+            return Err(faulted(FaultCode::Steps, line));
         }
         self.steps -= steps as u64;
         Ok(())
@@ -120,11 +120,11 @@ impl Machine {
     #[inline(always)]
     #[tactic(auto, unfolding(star_meaning::specs::Run::pay))]
     pub fn pay_one(&mut self, line: usize) -> Result<(), Stop>
-        ensures answer { Gives (pay line 1 self.old) result self.new }
+        ensures answer { Refines (pay line 1 self.old) result self.new }
         ensures kept { self.new.store ≡ self.old.store }
     {
         if self.steps == 0 {
-            return Err(faulted(Code::Steps, line));
+            return Err(faulted(FaultCode::Steps, line));
         }
         self.steps -= 1;
         Ok(())
@@ -179,10 +179,10 @@ impl Machine {
     #[tactic(auto, unfolding(star_meaning::specs::Run::build, star_meaning::specs::Run::make, star_meaning::specs::Run::pay))]
     pub fn build(&mut self, line: usize, cost: u128, cell: Cell) -> Result<Value, Stop>
         requires { 0 < cost }
-        ensures { Gives (build line cost cell self.old) result self.new }
+        ensures { Refines (build line cost cell self.old) result self.new }
     {
         if (self.steps as u128) < cost {
-            return Err(faulted(Code::Steps, line));
+            return Err(faulted(FaultCode::Steps, line));
         }
         self.steps -= cost as u64;
         match self.arena.make(cell) {
@@ -195,7 +195,7 @@ impl Machine {
     #[tactic(auto, unfolding(star_meaning::specs::Run::make))]
     pub fn make(&mut self, cell: Cell) -> Result<Value, Stop>
         requires { length self.old.store.cells + self.old.steps + 1 < 2 ^ 32 }
-        ensures { Gives (make cell self.old) result self.new }
+        ensures { Refines (make cell self.old) result self.new }
     {
         match self.arena.make(cell) {
             Ok(value) => Ok(value),
@@ -206,7 +206,7 @@ impl Machine {
     /// Gives a slot of a frame of this module a value. If there is no such slot, nothing changes.
     #[tactic(auto, using(crate::proofs::Cells::length_bound))]
     pub fn bind(&mut self, frame: Value, slot: usize, value: Value) -> Result<(), Stop>
-        ensures { Gives (storing (bound frame slot value) self.old) result self.new }
+        ensures { Refines (storing (bound frame slot value) self.old) result self.new }
     {
         match self.arena.bind(frame, slot, value) {
             Ok(()) => Ok(()),
@@ -250,10 +250,10 @@ impl Machine {
     /// Checks that these steps are left. `Steps` if they are not.
     pub fn afford(&self, line: usize, steps: u128) -> Result<(), Stop>
         ensures enough { OnOk result (steps ≤ self.now.steps) }
-        ensures lacking { IfErr result (λ e. (e ≡ Stop.Faulted Code.Steps line) × (self.now.steps < steps)) }
+        ensures lacking { IfErr result (λ e. (e ≡ Stop.Faulted FaultCode.Steps line) × (self.now.steps < steps)) }
     {
         if (self.steps as u128) < steps {
-            return Err(faulted(Code::Steps, line));
+            return Err(faulted(FaultCode::Steps, line));
         }
         Ok(())
     }
@@ -261,7 +261,7 @@ impl Machine {
     /// A new string: 1 and its bytes are paid.
     #[inline(always)]
     pub fn new_text(&mut self, line: usize, text: Text) -> Result<Value, Stop>
-        ensures { Gives (new_text line text self.old) result self.new }
+        ensures { Refines (new_text line text self.old) result self.new }
     {
         let cost = 1 + text.as_str().len() as u128;
         self.build(line, cost, Cell::Text(text))
@@ -269,7 +269,7 @@ impl Machine {
 
     /// A new tuple: 1 and its items are paid.
     pub fn new_tuple(&mut self, line: usize, items: Values) -> Result<Value, Stop>
-        ensures { Gives (new_tuple line items self.old) result self.new }
+        ensures { Refines (new_tuple line items self.old) result self.new }
     {
         let cost = 1 + items.len() as u128;
         self.build(line, cost, Cell::Tuple(items))
@@ -277,7 +277,7 @@ impl Machine {
 
     /// A new list: 1 and its items are paid.
     pub fn new_list(&mut self, line: usize, items: Values) -> Result<Value, Stop>
-        ensures { Gives (new_list line items self.old) result self.new }
+        ensures { Refines (new_list line items self.old) result self.new }
     {
         let cost = 1 + items.len() as u128;
         self.build(line, cost, Cell::List(items))
@@ -285,7 +285,7 @@ impl Machine {
 
     /// A new dictionary: 1 and its entries are paid.
     pub fn new_dict(&mut self, line: usize, entries: Entries) -> Result<Value, Stop>
-        ensures { Gives (new_dict line entries self.old) result self.new }
+        ensures { Refines (new_dict line entries self.old) result self.new }
     {
         let cost = 1 + entries.len() as u128;
         self.build(line, cost, Cell::Dict(entries))
@@ -294,11 +294,11 @@ impl Machine {
     /// The number of items of an iterable. `BadType` for another value.
     #[tactic(auto, unfolding(star_meaning::specs::Values::count_of))]
     pub fn count_of(&self, setting: &Setting, line: usize, value: Value) -> Result<usize, Stop>
-        ensures { Gives (count_of setting.now line value self.now) result self.now }
+        ensures { Refines (count_of setting.now line value self.now) result self.now }
     {
         match self.content(setting, value).count() {
             Some(count) => Ok(count),
-            None => Err(faulted(Code::BadType, line)),
+            None => Err(faulted(FaultCode::BadType, line)),
         }
     }
 
@@ -311,13 +311,13 @@ impl Machine {
         value: Value,
         at: usize,
     ) -> Result<Value, Stop>
-        ensures answer { Gives (take_item setting.now line value at self.old) result self.new }
+        ensures answer { Refines (take_item setting.now line value at self.old) result self.new }
         ensures kept { self.new.store ≡ self.old.store }
     {
         self.pay(line, 1)?;
         match self.item(setting, value, at) {
             Some(item) => Ok(item),
-            None => Err(faulted(Code::BadType, line)),
+            None => Err(faulted(FaultCode::BadType, line)),
         }
     }
 
@@ -356,7 +356,7 @@ impl Machine {
         x: Value,
         y: Value,
     ) -> Result<bool, Stop>
-        ensures answer { Gives (equal setting.now levels line x y self.old) result self.new }
+        ensures answer { Refines (equal setting.now levels line x y self.old) result self.new }
         ensures kept { self.new.store ≡ self.old.store }
     {
         let mut budget = Budget {
@@ -378,7 +378,7 @@ impl Machine {
         x: Value,
         y: Value,
     ) -> Result<Ordering, Stop>
-        ensures answer { Gives (compare setting.now levels line x y self.old) result self.new }
+        ensures answer { Refines (compare setting.now levels line x y self.old) result self.new }
         ensures kept { self.new.store ≡ self.old.store }
     {
         let mut budget = Budget {
@@ -400,7 +400,7 @@ impl Machine {
         line: usize,
         key: Value,
     ) -> Result<(), Stop>
-        ensures answer { Gives (check_key setting.now levels line key self.old) result self.new }
+        ensures answer { Refines (check_key setting.now levels line key self.old) result self.new }
         ensures kept { self.new.store ≡ self.old.store }
     {
         let mut budget = Budget {
@@ -421,7 +421,7 @@ impl Machine {
         line: usize,
         value: Value,
     ) -> Result<Text, Stop>
-        ensures answer { Gives (repr setting.now levels line value self.old) result self.new }
+        ensures answer { Refines (repr setting.now levels line value self.old) result self.new }
         ensures kept { self.new.store ≡ self.old.store }
     {
         let mut budget = Budget {
@@ -436,7 +436,7 @@ impl Machine {
     /// The write guard: `BadType` unless the value is a list or dictionary, then `Frozen`, then `Iterating`.
     #[tactic(auto, unfolding(star_meaning::specs::Values::guard))]
     pub fn guard(&self, setting: &Setting, line: usize, value: Value) -> Result<(), Stop>
-        ensures { Gives (guard setting.now line value self.now) result self.now }
+        ensures { Refines (guard setting.now line value self.now) result self.now }
     {
         let answer = self.arena.may_write(setting.homes(), value);
         answer.map_err(|fault| refused(fault, line))
@@ -451,7 +451,7 @@ impl Machine {
         target: Value,
         by: Change,
     ) -> Result<Option<Value>, Stop>
-        ensures { Gives (change setting.now line target by self.old) result self.new }
+        ensures { Refines (change setting.now line target by self.old) result self.new }
     {
         let answer = self.arena.write(setting.homes(), target, by);
         answer.map_err(|fault| refused(fault, line))
@@ -460,7 +460,7 @@ impl Machine {
     /// Prints a line.
     #[tactic(auto, unfolding(star_meaning::specs::Run::add_line))]
     pub fn add_line(&mut self, text: Text) -> Result<(), Stop>
-        ensures { Gives (add_line text self.old) result self.new }
+        ensures { Refines (add_line text self.old) result self.new }
     {
         self.lines.push(text)?;
         Ok(())
@@ -498,7 +498,7 @@ impl Machine {
     /// An int as a value, or the refusal of its arithmetic.
     #[inline(always)]
     pub fn new_int(&self, line: usize, int: Result<i64, StoreFault>) -> Result<Value, Stop>
-        ensures { Gives (and_then (agreed line int self.now) (λ n. give (Value.Int n))) result self.now }
+        ensures { Refines (and_then (agreed line int self.now) (λ n. give (Value.Int n))) result self.now }
     {
         match int {
             Ok(int) => Ok(Value::Int(int)),
@@ -508,37 +508,37 @@ impl Machine {
 
     /// A count as a value. `Overflow` if it is outside 64 bits.
     pub fn new_count(&self, line: usize, count: usize) -> Result<Value, Stop>
-        ensures { Gives (new_int line (pos count) self.now) result self.now }
+        ensures { Refines (new_int line (pos count) self.now) result self.now }
     {
         if count > i64::MAX as usize {
-            return Err(faulted(Code::Overflow, line));
+            return Err(faulted(FaultCode::Overflow, line));
         }
         Ok(Value::Int(count as i64))
     }
 
     /// An int is wanted: else `BadType`.
     pub fn want_int(&self, setting: &Setting, line: usize, value: Value) -> Result<i64, Stop>
-        ensures { Gives (want_int setting.now line value self.now) result self.now }
+        ensures { Refines (want_int setting.now line value self.now) result self.now }
     {
         match self.content(setting, value) {
             Content::Number(int) => Ok(int),
-            _ => Err(faulted(Code::BadType, line)),
+            _ => Err(faulted(FaultCode::BadType, line)),
         }
     }
 
     /// A bool is wanted: else `BadType`.
     pub fn want_bool(&self, setting: &Setting, line: usize, value: Value) -> Result<bool, Stop>
-        ensures { Gives (want_bool setting.now line value self.now) result self.now }
+        ensures { Refines (want_bool setting.now line value self.now) result self.now }
     {
         match self.content(setting, value) {
             Content::Truth(truth) => Ok(truth),
-            _ => Err(faulted(Code::BadType, line)),
+            _ => Err(faulted(FaultCode::BadType, line)),
         }
     }
 
     /// A string is wanted: else `BadType`.
     pub fn check_text(&self, setting: &Setting, line: usize, value: Value) -> Result<(), Stop>
-        ensures answer { Gives (and_then (want_text setting.now line value self.now) (λ t. give tt)) result self.now }
+        ensures answer { Refines (and_then (want_text setting.now line value self.now) (λ t. give tt)) result self.now }
         ensures text { OnOk result (text_of (content setting.now self.now value)
             ≡ Some (bytes_of (content setting.now self.now value))) }
     {
@@ -553,24 +553,24 @@ impl Machine {
         line: usize,
         value: Value,
     ) -> Result<&'a Text, Stop>
-        ensures { GivesBy (λ t. t.now) (want_text setting.now line value self.now) result self.now }
+        ensures { RefinesBy (λ t. t.now) (want_text setting.now line value self.now) result self.now }
     {
         match self.content(setting, value) {
             Content::Held(Cell::Text(text)) => Ok(text),
-            _ => Err(faulted(Code::BadType, line)),
+            _ => Err(faulted(FaultCode::BadType, line)),
         }
     }
 
     /// A string as it is, with one visit.
     fn bare(&mut self, levels: u32, line: usize, text: Text) -> Result<Text, Stop>
-        ensures answer { Gives (visiting line (λ s. bare levels text) self.old) result self.new }
+        ensures answer { Refines (visiting line (λ s. bare levels text) self.old) result self.new }
         ensures kept { self.new.store ≡ self.old.store }
     {
         if levels == 0 {
-            return Err(faulted(Code::Deep, line));
+            return Err(faulted(FaultCode::Deep, line));
         }
         if self.steps < 1 {
-            return Err(faulted(Code::Steps, line));
+            return Err(faulted(FaultCode::Steps, line));
         }
         self.steps -= 1;
         Ok(text)
@@ -585,7 +585,7 @@ impl Machine {
         line: usize,
         value: Value,
     ) -> Result<Text, Stop>
-        ensures answer { Gives (str setting.now levels line value self.old) result self.new }
+        ensures answer { Refines (str setting.now levels line value self.old) result self.new }
         ensures kept { self.new.store ≡ self.old.store }
     {
         match self.text_of(setting, value)? {
@@ -623,7 +623,7 @@ impl Machine {
         value: Value,
         count: usize,
     ) -> Result<Values, Stop>
-        ensures { Gives (take_items setting.now line value count self.old) result self.new }
+        ensures { Refines (take_items setting.now line value count self.old) result self.new }
     {
         let mut items = Vec::new(self.alloc);
         for i in 0..count {
@@ -634,7 +634,7 @@ impl Machine {
 
     /// Takes all items of an iterable.
     pub fn take_all(&mut self, setting: &Setting, line: usize, value: Value) -> Result<Values, Stop>
-        ensures { Gives (take_all setting.now line value self.old) result self.new }
+        ensures { Refines (take_all setting.now line value self.old) result self.new }
     {
         let count = self.count_of(setting, line, value)?;
         self.take_items(setting, line, value, count)
@@ -643,7 +643,7 @@ impl Machine {
     /// Opens an iteration, and returns the number of items. `BadType` unless the value is iterable.
     #[tactic(auto, unfolding(star_meaning::specs::Values::iterate), using(crate::proofs::Cells::length_opened))]
     pub fn iterate(&mut self, setting: &Setting, line: usize, value: Value) -> Result<usize, Stop>
-        ensures { Gives (iterate setting.now line value self.old) result self.new }
+        ensures { Refines (iterate setting.now line value self.old) result self.new }
     {
         let count = self.count_of(setting, line, value)?;
         if self.arena.open_iterations(value) >= u32::MAX - 1 {
@@ -663,7 +663,7 @@ impl Machine {
         row: Value,
         value: Value,
     ) -> Result<Option<usize>, Stop>
-        ensures answer { Gives (found_place setting.now levels line value (row_in (seen setting.now self.old row))
+        ensures answer { Refines (found_place setting.now levels line value (row_in (seen setting.now self.old row))
             self.old) result self.new }
         ensures kept { self.new.store ≡ self.old.store }
     {

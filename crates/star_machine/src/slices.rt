@@ -2,14 +2,14 @@
 
 ghost use Rattle.std.specs.Prelude.{◌≡◌, ◌≤ℤ◌};
 ghost use Rattle.std.specs.Int.{int_max, int_min};
-ghost use Rattle.star_machine.specs.Gives.{Gives};
+ghost use Rattle.star_machine.specs.Refines.{Refines};
 ghost use Rattle.star_meaning.specs.Subscript as spec;
 
 use crate::content::Content;
 use crate::fault::{Stop, faulted};
 use crate::machine::Machine;
 use crate::setting::Setting;
-use star_meaning::fault::Code;
+use star_meaning::fault::FaultCode;
 use star_store::values::Value;
 
 /// A bound of a slice: a place below 0 gets the length added, and is then clamped to two places. An absent one is at
@@ -55,7 +55,7 @@ pub fn want_part(
     line: usize,
     part: Option<Value>,
 ) -> Result<Option<i64>, Stop>
-    ensures { Gives (spec.want_part setting.now line part machine.now) result machine.now }
+    ensures { Refines (spec.want_part setting.now line part machine.now) result machine.now }
 {
     let Some(value) = part else {
         return Ok(None);
@@ -63,6 +63,6 @@ pub fn want_part(
     match machine.content(setting, value) {
         Content::Nothing => Ok(None),
         Content::Number(int) => Ok(Some(int)),
-        _ => Err(faulted(Code::BadType, line)),
+        _ => Err(faulted(FaultCode::BadType, line)),
     }
 }

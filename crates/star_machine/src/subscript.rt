@@ -1,7 +1,7 @@
 //! The place that an index means, counted from either end; and an entry that is put into a dictionary.
 
 ghost use Rattle.std.specs.Prelude.{◌≡◌};
-ghost use Rattle.star_machine.specs.Gives.{Gives};
+ghost use Rattle.star_machine.specs.Refines.{Refines};
 ghost use Rattle.star_meaning.specs.Subscript as spec;
 
 use crate::fault::Stop;
@@ -32,7 +32,7 @@ pub fn put_entry(
     key: Value,
     value: Value,
 ) -> Result<(), Stop>
-    ensures { Gives (spec.put_entry setting.now line dict key value machine.old) result machine.new }
+    ensures { Refines (spec.put_entry setting.now line dict key value machine.old) result machine.new }
 {
     if machine.place_in(setting, dict, key).is_none() {
         machine.pay(line, 1)?;

@@ -6,7 +6,7 @@ use Rattle.star_store.specs.declared.values.Value.TheVariants as value
 use Rattle.star_store.specs.declared.values.Cell.{Cell}
 use Rattle.star_store.specs.declared.values.Cell.TheVariants as cell
 use Rattle.star_store.specs.declared.values.Frame.{Frame}
-use Rattle.star_store.specs.declared.values.Counted.{Counted}
+use Rattle.star_store.specs.declared.values.HeapCell.{HeapCell}
 use Rattle.star_store.specs.declared.values.Function.{Function}
 use Rattle.star_store.specs.Store.{made, next_value, published_cells}
 use Rattle.star_store.specs.Write.{cell_at}
@@ -16,14 +16,14 @@ use Rattle.star_scope.specs.Places.{Spots, AllPlaced, IsPlaced}
 use Rattle.star_scope.specs.Uses.{Use, Named, Defined, uses}
 use Rattle.star_tree.specs.declared.tree.Name.{Name}
 use Rattle.star_tree.specs.declared.tree.Statement.{Statement}
-use Rattle.star_meaning.specs.declared.fault.Code.{Code}
-use Rattle.star_meaning.specs.declared.place.Place.{Place}
-use Rattle.star_meaning.specs.declared.place.Flow.{Flow}
-use Rattle.star_meaning.specs.declared.place.Flow.TheVariants as flow
+use Rattle.star_meaning.specs.declared.fault.FaultCode.{FaultCode}
+use Rattle.star_meaning.specs.declared.site.Site.{Site}
+use Rattle.star_meaning.specs.declared.site.Flow.{Flow}
+use Rattle.star_meaning.specs.declared.site.Flow.TheVariants as flow
 use Rattle.star_meaning.specs.Run.{State, Outcome, Done, Failed, Action, and_then, ◌>>=◌, give, fail, make, build, each, all_of}
 use Rattle.star_meaning.specs.Program.{Setting, names_of, blocks_of, seen}
 use Rattle.star_meaning.specs.Variables.{bind_name, new_frame, read_name}
-use Rattle.star_meaning.specs.Meaning.{then_go, block, then_turn, turns, repeat}
+use Rattle.star_meaning.specs.Semantics.{then_go, block, then_turn, turns, repeat}
 use Rattle.star_meaning.specs.Laws.{KeepsFrame}
 use Rattle.star_meaning.specs.Local.{Trees, outlines}
 use Rattle.star_meaning.specs.Places.{AllFit, FitsBlock, FitsChain, FitsFunction, IsResolved, Stands, Tables, bind_spot, new_slots, outer_names, read_spot}
@@ -135,7 +135,7 @@ agree_then trees w file chain frame m n f g h k = agree_such trees w file chain 
 pub agree_give : {A : Type 0} (trees : Trees) (w : Setting) (file : ℕ) (chain : List ℕ) (frame : Option Value) (x : A) → Agree trees w file chain frame (give x) (give x)
 agree_give trees w file chain frame x = agree_quiet trees w file chain frame (give x) (quiet.keeps_give x)
 
-pub agree_fail : (A : Type 0) (trees : Trees) (w : Setting) (file : ℕ) (chain : List ℕ) (frame : Option Value) (c : Code) (line : ℕ) → Agree {A = A} trees w file chain frame (fail c line) (fail c line)
+pub agree_fail : (A : Type 0) (trees : Trees) (w : Setting) (file : ℕ) (chain : List ℕ) (frame : Option Value) (c : FaultCode) (line : ℕ) → Agree {A = A} trees w file chain frame (fail c line) (fail c line)
 agree_fail A trees w file chain frame c line = agree_quiet trees w file chain frame (fail c line) (quiet.keeps_fail A c line)
 
 pub agree_if : {A : Type 0} (trees : Trees) (w : Setting) (file : ℕ) (chain : List ℕ) (frame : Option Value) (b : Bool) (m m' n n' : Action A)
@@ -206,13 +206,13 @@ placed_at spots blocks outer (x ∷ us) u d (suc k) h l e = placed_at spots bloc
 pub is_placed : (tables : Tables) (trees : Trees) (w : Setting) → Resolved tables trees w → (file : ℕ) (ss : List Statement) (u : Use) → Stands trees file ss → Contains (uses ss) u → IsPlaced (tables.spots file) (blocks_of w file) (outer_names w file w.prelude) u
 is_placed tables trees w r file ss u stands h = placed_at (tables.spots file) (blocks_of w file) (outer_names w file w.prelude) (uses ss) u u h.0 (r.files file ss stands).names h.1 h.2
 
-pub agree_read : (tables : Tables) (trees : Trees) (w : Setting) → Resolved tables trees w → (p : Place) (n : Name) (ss : List Statement) (chain : List ℕ)
+pub agree_read : (tables : Tables) (trees : Trees) (w : Setting) → Resolved tables trees w → (p : Site) (n : Name) (ss : List Statement) (chain : List ℕ)
     → Stands trees p.file ss → Contains (uses ss) (Named n chain) → Agree trees w p.file chain (Some p.frame) (read_spot tables w p n) (read_name w p n)
 agree_read tables trees w r p n ss chain stands h = record {
   holds = λ s fit fits. ((spots_mean_names tables w p n chain s (is_placed tables trees w r p.file ss (Named n chain) stands h) fits).0, good_followed trees w s fit (read_name w p n s) (((keeps-read_name w p n).follows refl).holds s));
 }
 
-pub agree_bind : (tables : Tables) (trees : Trees) (w : Setting) → Resolved tables trees w → (p : Place) (n : Name) (v : Value) (ss : List Statement) (chain : List ℕ)
+pub agree_bind : (tables : Tables) (trees : Trees) (w : Setting) → Resolved tables trees w → (p : Site) (n : Name) (v : Value) (ss : List Statement) (chain : List ℕ)
     → Stands trees p.file ss → Contains (uses ss) (Named n chain) → Agree trees w p.file chain (Some p.frame) (bind_spot tables p n v) (bind_name w p n v)
 agree_bind tables trees w r p n v ss chain stands h = record {
   holds = λ s fit fits. ((spots_mean_names tables w p n chain s (is_placed tables trees w r p.file ss (Named n chain) stands h) fits).1 v, good_followed trees w s fit (bind_name w p n v s) (((keeps-bind_name w p n v).follows refl).holds s));
@@ -220,7 +220,7 @@ agree_bind tables trees w r p n v ss chain stands h = record {
 
 -- ---- a new frame
 
-last_cell : (xs : List Counted) (x : Counted) → cell_at (xs ++ x ∷ []) (length xs) ≡ Some x.cell
+last_cell : (xs : List HeapCell) (x : HeapCell) → cell_at (xs ++ x ∷ []) (length xs) ≡ Some x.cell
 last_cell [] x = refl
 last_cell (y ∷ xs) x = last_cell xs x
 
@@ -267,7 +267,7 @@ agree_frame tables trees w r file number ss chain parent f g stands k = record {
 
 -- ---- a new function
 
-function_in : (P : Function → Type 0) (xs : List Counted) (g f : Function) (at : ℕ) → cell_at (xs ++ record { iterations = 0; cell = cell.Func g } ∷ []) at ≡ Some (cell.Func f) → P g → (cell_at xs at ≡ Some (cell.Func f) → P f) → P f
+function_in : (P : Function → Type 0) (xs : List HeapCell) (g f : Function) (at : ℕ) → cell_at (xs ++ record { iterations = 0; cell = cell.Func g } ∷ []) at ≡ Some (cell.Func f) → P g → (cell_at xs at ≡ Some (cell.Func f) → P f) → P f
 function_in P [] g f at h here before = subst P (let e : cell.Func g ≡ cell.Func f = quiet.one_there (record { iterations = 0; cell = cell.Func g }) at (cell.Func f) h in let i : g ≡ f = cc in i) here
 function_in P (y ∷ xs) g f zero h here before = before h
 function_in P (y ∷ xs) g f (suc at) h here before = function_in P xs g f at h here before

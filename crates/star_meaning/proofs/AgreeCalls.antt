@@ -16,17 +16,17 @@ use Rattle.star_tree.specs.declared.tree.Argument.TheOpen as tree
 use Rattle.star_scope.specs.Definitions.{Body, Statements, Answer, Definition}
 use Rattle.star_scope.specs.Syntax.{ArgumentForm, ParameterForm, argument, parameter}
 use Rattle.star_scope.specs.Uses.{Defined, Named, Use, all_uses, in_argument, in_expression, in_parameters, in_statement, inner_of, uses}
-use Rattle.star_meaning.specs.declared.fault.Code.TheVariants as code
-use Rattle.star_meaning.specs.declared.place.Place.{Place}
+use Rattle.star_meaning.specs.declared.fault.FaultCode.TheVariants as code
+use Rattle.star_meaning.specs.declared.site.Site.{Site}
 use Rattle.star_meaning.specs.Run.{State, Outcome, Done, Failed, Action, and_then, ◌>>=◌, give, found, check, each, all_of}
 use Rattle.star_meaning.specs.Program.{Setting, definition_of, seen}
 use Rattle.star_meaning.specs.Variables.{bind_name, by_names}
 use Rattle.star_meaning.specs.Values.{Content, Held, BuiltInFunction, content, held}
-use Rattle.star_meaning.specs.declared.given.Given.{Given}
-use Rattle.star_meaning.specs.declared.given.NamedValue.{NamedValue}
-use Rattle.star_meaning.specs.Arguments.{Passed, Plain, Named as NamedArgument, Star, StarStar, given, is_given}
-use Rattle.star_meaning.specs.Meaning.{Meaning}
-use Rattle.star_meaning.specs.Binding.{Progress, Share, One, Step, also, bound_to, else_default, first_of_row, made_of, make_shares, rest_of_row, share_of, shared, shares, step, unclaimed, value_named}
+use Rattle.star_meaning.specs.declared.given.Arguments.{Arguments}
+use Rattle.star_meaning.specs.declared.given.KeywordArgument.{KeywordArgument}
+use Rattle.star_meaning.specs.Arguments.{EvaluatedArgument, Plain, Named as NamedArgument, Star, StarStar, given, is_given}
+use Rattle.star_meaning.specs.Semantics.{Semantics}
+use Rattle.star_meaning.specs.Binding.{BindingState, BoundArgument, One, Step, also, bound_to, else_default, first_of_row, build_argument, build_arguments, rest_of_row, argument_of, shared, shares, step, extra_keywords, value_named}
 use Rattle.star_meaning.specs.Calls.{AFunction, ABuiltIn, AMethod, Callee, activate, answer_of, deactivate, call_node, called, callee, callee_of, function_callee, is_active, pass, pass_form, run, run_body}
 use Rattle.star_meaning.specs.Local.{Trees}
 use Rattle.star_meaning.specs.Places.{AllFit, FitsChain, FitsFunction, Stands, Tables, bind_spot, by_places}
@@ -35,7 +35,7 @@ use Rattle.star_meaning.proofs.AgreeParts.{AllAgree, Known, Scene, body_uses}
 use Rattle.star_meaning.proofs.UsesOf.{Sub, argument_level, by, every, first, inner_level, left, of_argument, of_inner, right}
 use Rattle.star_meaning.proofs.Quiet as quiet
 use Rattle.star_meaning.proofs.KeepsArguments.{keeps-given}
-use Rattle.star_meaning.proofs.KeepsBinding.{keeps-make_shares}
+use Rattle.star_meaning.proofs.KeepsBinding.{keeps-build_arguments}
 use Rattle.star_meaning.proofs.KeepsBuiltIns.{keeps-call_built_in}
 use Rattle.star_meaning.proofs.KeepsMethods.{keeps-call_method}
 use Rattle.star_meaning.proofs.KeepsCallee.{keeps-callee}
@@ -59,78 +59,78 @@ both : {A : Type 0} (P : A → Type 0) (xs ys : List A) → Every P xs → Every
 both P [] ys h k = k
 both P (x ∷ xs) ys h k = (h.0, both P xs ys h.1 k)
 
-abbrev InBlock : List Use → List ℕ → Name × Share → Type 0
+abbrev InBlock : List Use → List ℕ → Name × BoundArgument → Type 0
 InBlock us chain x = Contains us (Named x.0 chain)
 
-abbrev SharesIn : List Use → List ℕ → List (Name × Share) → Type 0
+abbrev SharesIn : List Use → List ℕ → List (Name × BoundArgument) → Type 0
 SharesIn us chain xs = Every (InBlock us chain) xs
 
-shared_in : (us : List Use) (chain : List ℕ) (x : Name) (q : Progress) (o : Option Value) (r : List (Name × Share) × Progress) → Contains us (Named x chain) → shared x q o ≡ Some r → SharesIn us chain r.0
+shared_in : (us : List Use) (chain : List ℕ) (x : Name) (q : BindingState) (o : Option Value) (r : List (Name × BoundArgument) × BindingState) → Contains us (Named x chain) → shared x q o ≡ Some r → SharesIn us chain r.0
 shared_in us chain x q None r h e = cc
-shared_in us chain x q (Some v) r h e = subst (λ (z : List (Name × Share) × Progress). SharesIn us chain z.0) (some_is ((x, One v) ∷ [], q) r e) (h, tt)
+shared_in us chain x q (Some v) r h e = subst (λ (z : List (Name × BoundArgument) × BindingState). SharesIn us chain z.0) (some_is ((x, One v) ∷ [], q) r e) (h, tt)
 
-picked_in : (us : List Use) (chain : List ℕ) (x : Name) (b : Bool) (v : Value) (q : Progress) (r : List (Name × Share) × Progress) → Contains us (Named x chain) → (if b then None else Some ((x, One v) ∷ [], q)) ≡ Some r → SharesIn us chain r.0
+picked_in : (us : List Use) (chain : List ℕ) (x : Name) (b : Bool) (v : Value) (q : BindingState) (r : List (Name × BoundArgument) × BindingState) → Contains us (Named x chain) → (if b then None else Some ((x, One v) ∷ [], q)) ≡ Some r → SharesIn us chain r.0
 picked_in us chain x true v q r h e = cc
-picked_in us chain x false v q r h e = subst (λ (z : List (Name × Share) × Progress). SharesIn us chain z.0) (some_is ((x, One v) ∷ [], q) r e) (h, tt)
+picked_in us chain x false v q r h e = subst (λ (z : List (Name × BoundArgument) × BindingState). SharesIn us chain z.0) (some_is ((x, One v) ∷ [], q) r e) (h, tt)
 
-share_in : (us : List Use) (chain : List ℕ) (x : Name) (ns : List NamedValue) (d : Option Value) (q : Progress) (vs : List Value) (r : List (Name × Share) × Progress) → Contains us (Named x chain) → share_of x ns d q vs ≡ Some r → SharesIn us chain r.0
-share_in us chain x ns d q (v ∷ vs) r h e = picked_in us chain x (is_given x.text ns) v (record q { plain = vs }) r h e
+share_in : (us : List Use) (chain : List ℕ) (x : Name) (ns : List KeywordArgument) (d : Option Value) (q : BindingState) (vs : List Value) (r : List (Name × BoundArgument) × BindingState) → Contains us (Named x chain) → argument_of x ns d q vs ≡ Some r → SharesIn us chain r.0
+share_in us chain x ns d q (v ∷ vs) r h e = picked_in us chain x (is_given x.text ns) v (record q { positional = vs }) r h e
 share_in us chain x ns d q [] r h e = shared_in us chain x q (else_default (value_named x.text ns) d) r h e
 
-chosen_in : (us : List Use) (chain : List ℕ) (x : Name) (ns : List NamedValue) (d : Option Value) (q : Progress) (b : Bool) (r : List (Name × Share) × Progress) → Contains us (Named x chain)
-    → (if b then shared x q (else_default (value_named x.text ns) d) else share_of x ns d q q.plain) ≡ Some r → SharesIn us chain r.0
+chosen_in : (us : List Use) (chain : List ℕ) (x : Name) (ns : List KeywordArgument) (d : Option Value) (q : BindingState) (b : Bool) (r : List (Name × BoundArgument) × BindingState) → Contains us (Named x chain)
+    → (if b then shared x q (else_default (value_named x.text ns) d) else argument_of x ns d q q.positional) ≡ Some r → SharesIn us chain r.0
 chosen_in us chain x ns d q true r h e = shared_in us chain x q (else_default (value_named x.text ns) d) r h e
-chosen_in us chain x ns d q false r h e = share_in us chain x ns d q q.plain r h e
+chosen_in us chain x ns d q false r h e = share_in us chain x ns d q q.positional r h e
 
-step_in : (us : List Use) (chain : List ℕ) (ns more : List NamedValue) (q : Progress) (x : ParameterForm) (r : List (Name × Share) × Progress) → Sub (inner_level x chain) us → step ns more q x ≡ Some r → SharesIn us chain r.0
+step_in : (us : List Use) (chain : List ℕ) (ns more : List KeywordArgument) (q : BindingState) (x : ParameterForm) (r : List (Name × BoundArgument) × BindingState) → Sub (inner_level x chain) us → step ns more q x ≡ Some r → SharesIn us chain r.0
 step_in us chain ns more q (tree.Plain x) r h e = chosen_in us chain x ns None q q.by_name r (first _ _ us h) e
 step_in us chain ns more q (tree.Default x d) r h e = chosen_in us chain x ns (first_of_row q.defaults) (record q { defaults = rest_of_row q.defaults }) q.by_name r (first _ _ us h) e
-step_in us chain ns more q (tree.Parameter-F.Parameter::Star x) r h e = subst (λ (z : List (Name × Share) × Progress). SharesIn us chain z.0) (some_is _ r e) (first _ _ us h, tt)
-step_in us chain ns more q tree.BareStar r h e = subst (λ (z : List (Name × Share) × Progress). SharesIn us chain z.0) (some_is _ r e) tt
-step_in us chain ns more q (tree.Parameter-F.Parameter::StarStar x) r h e = subst (λ (z : List (Name × Share) × Progress). SharesIn us chain z.0) (some_is _ r e) (first _ _ us h, tt)
+step_in us chain ns more q (tree.Parameter-F.Parameter::Star x) r h e = subst (λ (z : List (Name × BoundArgument) × BindingState). SharesIn us chain z.0) (some_is _ r e) (first _ _ us h, tt)
+step_in us chain ns more q tree.BareStar r h e = subst (λ (z : List (Name × BoundArgument) × BindingState). SharesIn us chain z.0) (some_is _ r e) tt
+step_in us chain ns more q (tree.Parameter-F.Parameter::StarStar x) r h e = subst (λ (z : List (Name × BoundArgument) × BindingState). SharesIn us chain z.0) (some_is _ r e) (first _ _ us h, tt)
 
-none_left : (us : List Use) (chain : List ℕ) (b : Bool) (xs : List (Name × Share)) → (if b then Some [] else None) ≡ Some xs → SharesIn us chain xs
+none_left : (us : List Use) (chain : List ℕ) (b : Bool) (xs : List (Name × BoundArgument)) → (if b then Some [] else None) ≡ Some xs → SharesIn us chain xs
 none_left us chain true xs e = subst (λ z. SharesIn us chain z) (some_is [] xs e) tt
 none_left us chain false xs e = cc
 
-joined_in : (us : List Use) (chain : List ℕ) (xs : List (Name × Share)) (o : Option (List (Name × Share))) (ys : List (Name × Share)) → SharesIn us chain xs → ((zs : List (Name × Share)) → o ≡ Some zs → SharesIn us chain zs) → also xs o ≡ Some ys → SharesIn us chain ys
+joined_in : (us : List Use) (chain : List ℕ) (xs : List (Name × BoundArgument)) (o : Option (List (Name × BoundArgument))) (ys : List (Name × BoundArgument)) → SharesIn us chain xs → ((zs : List (Name × BoundArgument)) → o ≡ Some zs → SharesIn us chain zs) → also xs o ≡ Some ys → SharesIn us chain ys
 joined_in us chain xs None ys h k e = cc
 joined_in us chain xs (Some zs) ys h k e = subst (λ z. SharesIn us chain z) (some_is (xs ++ zs) ys e) (both (InBlock us chain) xs zs h (k zs refl))
 
-next_in : (us : List Use) (chain : List ℕ) (ns more : List NamedValue) (ps : List Parameter) (o : Step) (ys : List (Name × Share)) → ((r : List (Name × Share) × Progress) → o ≡ Some r → SharesIn us chain r.0)
-    → ((q : Progress) (zs : List (Name × Share)) → shares ns more ps q ≡ Some zs → SharesIn us chain zs)
+next_in : (us : List Use) (chain : List ℕ) (ns more : List KeywordArgument) (ps : List Parameter) (o : Step) (ys : List (Name × BoundArgument)) → ((r : List (Name × BoundArgument) × BindingState) → o ≡ Some r → SharesIn us chain r.0)
+    → ((q : BindingState) (zs : List (Name × BoundArgument)) → shares ns more ps q ≡ Some zs → SharesIn us chain zs)
     → option_and_then (λ r. also r.0 (shares ns more ps r.1)) o ≡ Some ys → SharesIn us chain ys
 next_in us chain ns more ps None ys h k e = cc
 next_in us chain ns more ps (Some r) ys h k e = joined_in us chain r.0 (shares ns more ps r.1) ys (h r refl) (k r.1) e
 
-shares_in : (us : List Use) (chain : List ℕ) (ns more : List NamedValue) (ps : List Parameter) (q : Progress) (xs : List (Name × Share)) → Sub (inner_of (in_parameters ps) chain) us → shares ns more ps q ≡ Some xs → SharesIn us chain xs
-shares_in us chain ns more [] q xs h e = none_left us chain (nat_eq (length q.plain) 0) xs e
+shares_in : (us : List Use) (chain : List ℕ) (ns more : List KeywordArgument) (ps : List Parameter) (q : BindingState) (xs : List (Name × BoundArgument)) → Sub (inner_of (in_parameters ps) chain) us → shares ns more ps q ≡ Some xs → SharesIn us chain xs
+shares_in us chain ns more [] q xs h e = none_left us chain (nat_eq (length q.positional) 0) xs e
 shares_in us chain ns more (x ∷ ps) q xs h e =
     next_in us chain ns more ps (step ns more q (parameter x)) xs (λ r f. step_in us chain ns more q (parameter x) r (by _ _ us (of_inner x chain) (left _ _ us h)) f) (λ z zs f. shares_in us chain ns more ps z zs (right _ _ us h) f) e
 
-if_shares : (b : Bool) (o : Option (List (Name × Share))) (xs : List (Name × Share)) → (if b then o else None) ≡ Some xs → o ≡ Some xs
+if_shares : (b : Bool) (o : Option (List (Name × BoundArgument))) (xs : List (Name × BoundArgument)) → (if b then o else None) ≡ Some xs → o ≡ Some xs
 if_shares true o xs e = e
 if_shares false o xs e = cc
 
-bound_in : (us : List Use) (chain : List ℕ) (ps : List Parameter) (ds : List Value) (g : Given) (xs : List (Name × Share)) → Sub (inner_of (in_parameters ps) chain) us → bound_to ps ds g ≡ Some xs → SharesIn us chain xs
+bound_in : (us : List Use) (chain : List ℕ) (ps : List Parameter) (ds : List Value) (g : Arguments) (xs : List (Name × BoundArgument)) → Sub (inner_of (in_parameters ps) chain) us → bound_to ps ds g ≡ Some xs → SharesIn us chain xs
 unfolding bound_to
-bound_in us chain ps ds g xs h e = shares_in us chain g.named (unclaimed ps g.named) ps (record { by_name = false; plain = g.plain; defaults = ds }) xs h (if_shares _ _ xs e)
+bound_in us chain ps ds g xs h e = shares_in us chain g.named (extra_keywords ps g.named) ps (record { by_name = false; positional = g.positional; defaults = ds }) xs h (if_shares _ _ xs e)
 
 -- the values of shares have the same names
-abbrev made_share : ℕ → Name × Share → Action (Name × Value)
-made_share line x = made_of line x.1 >>= λ v. give (x.0, v)
+abbrev made_share : ℕ → Name × BoundArgument → Action (Name × Value)
+made_share line x = build_argument line x.1 >>= λ v. give (x.0, v)
 
-each_made : (P : Name → Type 0) (line : ℕ) (xs : List (Name × Share)) (ys : List (Name × Value)) (s t : State) → Every (λ x. P x.0) xs → each (made_share line) xs s ≡ Done ys t → Every (λ y. P y.0) ys
+each_made : (P : Name → Type 0) (line : ℕ) (xs : List (Name × BoundArgument)) (ys : List (Name × Value)) (s t : State) → Every (λ x. P x.0) xs → each (made_share line) xs s ≡ Done ys t → Every (λ y. P y.0) ys
 each_made P line [] ys s t h e = subst (λ z. Every (λ y. P y.0) z) (done_is [] ys s t e) tt
 each_made P line (x ∷ xs) ys s t h e =
     let a = then_done (made_share line x s) (λ y. each (made_share line) xs >>= λ ys. give (y ∷ ys)) ys t e in
     let b = then_done (each (made_share line) xs a.1) (λ ys. give (a.0 ∷ ys)) ys t a.3 in
-    let c = then_done (made_of line x.1 s) (λ v. give (x.0, v)) a.0 a.1 a.2 in
+    let c = then_done (build_argument line x.1 s) (λ v. give (x.0, v)) a.0 a.1 a.2 in
     let named : P (a.0).0 = subst (λ (z : Name × Value). P z.0) (done_is (x.0, c.0) a.0 c.1 a.1 c.3) h.0 in
     subst (λ z. Every (λ y. P y.0) z) (done_is (a.0 ∷ b.0) ys b.1 t b.3) (named, each_made P line xs b.0 a.1 b.1 h.1 b.2)
 
-made_in : (P : Name → Type 0) (line : ℕ) (xs : List (Name × Share)) (ys : List (Name × Value)) (s t : State) → Every (λ x. P x.0) xs → make_shares line xs s ≡ Done ys t → Every (λ y. P y.0) ys
-unfolding make_shares
+made_in : (P : Name → Type 0) (line : ℕ) (xs : List (Name × BoundArgument)) (ys : List (Name × Value)) (s t : State) → Every (λ x. P x.0) xs → build_arguments line xs s ≡ Done ys t → Every (λ y. P y.0) ys
+unfolding build_arguments
 made_in P line xs ys s t h e = each_made P line xs ys s t h e
 
 -- ---- the callee
@@ -169,33 +169,33 @@ callable : (w : Setting) (line : ℕ) (s t : State) (v : Value) (c : Callee) →
 unfolding callee
 callable w line s t v c e = content_callee w line s t v (content w s v) c refl e
 
-pub agree-pass_form : (tables : Tables) (trees : Trees) (w : Setting) (m n : Meaning) (p : Place) (ss : List Statement) (chain : List ℕ) → Scene tables trees w m n p ss chain → (x : ArgumentForm) → Sub (argument_level x chain) (uses ss) → Agree trees w p.file chain (Some p.frame) (pass_form m p x) (pass_form n p x)
+pub agree-pass_form : (tables : Tables) (trees : Trees) (w : Setting) (m n : Semantics) (p : Site) (ss : List Statement) (chain : List ℕ) → Scene tables trees w m n p ss chain → (x : ArgumentForm) → Sub (argument_level x chain) (uses ss) → Agree trees w p.file chain (Some p.frame) (pass_form m p x) (pass_form n p x)
 agree-pass_form tables trees w m n p ss chain h (tree.Positional e) k = agree_then trees w p.file chain (Some p.frame) _ _ _ _ (h.parts.expr p e ss chain h.stands (k)) (λ v. agree_give trees w p.file chain (Some p.frame) (Plain v))
 agree-pass_form tables trees w m n p ss chain h (tree.Named x e) k = agree_then trees w p.file chain (Some p.frame) _ _ _ _ (h.parts.expr p e ss chain h.stands (k)) (λ v. agree_give trees w p.file chain (Some p.frame) (NamedArgument x.text v))
 agree-pass_form tables trees w m n p ss chain h (tree.Argument-F.Argument::Star e) k = agree_then trees w p.file chain (Some p.frame) _ _ _ _ (h.parts.expr p e ss chain h.stands (k)) (λ v. agree_give trees w p.file chain (Some p.frame) (Star v))
 agree-pass_form tables trees w m n p ss chain h (tree.Argument-F.Argument::StarStar e) k = agree_then trees w p.file chain (Some p.frame) _ _ _ _ (h.parts.expr p e ss chain h.stands (k)) (λ v. agree_give trees w p.file chain (Some p.frame) (StarStar v))
 
-pub agree-pass : (tables : Tables) (trees : Trees) (w : Setting) (m n : Meaning) (p : Place) (ss : List Statement) (chain : List ℕ) → Scene tables trees w m n p ss chain → (a : Argument) → Sub (in_argument a chain) (uses ss) → Agree trees w p.file chain (Some p.frame) (pass m p a) (pass n p a)
+pub agree-pass : (tables : Tables) (trees : Trees) (w : Setting) (m n : Semantics) (p : Site) (ss : List Statement) (chain : List ℕ) → Scene tables trees w m n p ss chain → (a : Argument) → Sub (in_argument a chain) (uses ss) → Agree trees w p.file chain (Some p.frame) (pass m p a) (pass n p a)
 agree-pass tables trees w m n p ss chain h a k = agree-pass_form tables trees w m n p ss chain h (argument a) (by _ _ (uses ss) (of_argument a chain) k)
 
 -- a function that fits is called in its own chain
-call_found : (tables : Tables) (trees : Trees) (w : Setting) (m n : Meaning) (p : Place) (ss : List Statement) (chain : List ℕ) → Scene tables trees w m n p ss chain → (f : Function) (d : Definition) (g : Given) (us : List Statement) (bs : List ℕ) → Stands trees f.file us → Contains (uses us) (Defined f.definition bs) → definition_of w f.file f.definition ≡ Some d
-    → (o : Option (List (Name × Share))) → bound_to d.parameters f.defaults g ≡ o
+call_found : (tables : Tables) (trees : Trees) (w : Setting) (m n : Semantics) (p : Site) (ss : List Statement) (chain : List ℕ) → Scene tables trees w m n p ss chain → (f : Function) (d : Definition) (g : Arguments) (us : List Statement) (bs : List ℕ) → Stands trees f.file us → Contains (uses us) (Defined f.definition bs) → definition_of w f.file f.definition ≡ Some d
+    → (o : Option (List (Name × BoundArgument))) → bound_to d.parameters f.defaults g ≡ o
     → Agree trees w f.file bs (Some f.frame) (found code.Args p.line o >>= m.call p f d) (found code.Args p.line o >>= n.call p f d)
 call_found tables trees w m n p ss chain h f d g us bs stands there known None e = agree_fail Value trees w f.file bs (Some f.frame) code.Args p.line
 call_found tables trees w m n p ss chain h f d g us bs stands there known (Some xs) e =
     let named = bound_in (uses us) ((1 + f.definition) ∷ bs) d.parameters f.defaults g xs (h.known.definitions f.file us f.definition bs d stands there known).0 e in
     record { holds = (h.parts.call p f d xs us bs stands there known named).holds }
 
-call_function : (tables : Tables) (trees : Trees) (w : Setting) (m n : Meaning) (p : Place) (ss : List Statement) (chain : List ℕ) → Scene tables trees w m n p ss chain → (levels : ℕ) (f : Function) (d : Definition) (ps : List Passed) (us : List Statement) (bs : List ℕ) → Stands trees f.file us → Contains (uses us) (Defined f.definition bs) → definition_of w f.file f.definition ≡ Some d
+call_function : (tables : Tables) (trees : Trees) (w : Setting) (m n : Semantics) (p : Site) (ss : List Statement) (chain : List ℕ) → Scene tables trees w m n p ss chain → (levels : ℕ) (f : Function) (d : Definition) (ps : List EvaluatedArgument) (us : List Statement) (bs : List ℕ) → Stands trees f.file us → Contains (uses us) (Defined f.definition bs) → definition_of w f.file f.definition ≡ Some d
     → Agree trees w f.file bs (Some f.frame) (given w p.line ps >>= called w levels m p (AFunction f d)) (given w p.line ps >>= called w levels n p (AFunction f d))
 call_function tables trees w m n p ss chain h levels f d ps us bs stands there known =
     agree_then trees w f.file bs (Some f.frame) _ _ _ _ (agree_kept trees w f.file bs (Some f.frame) _ (keeps-given w p.line ps)) (λ g. call_found tables trees w m n p ss chain h f d g us bs stands there known (bound_to d.parameters f.defaults g) refl)
 
-abbrev after : Setting → ℕ → Meaning → Place → List Passed → Callee → Action Value
+abbrev after : Setting → ℕ → Semantics → Site → List EvaluatedArgument → Callee → Action Value
 after w levels m p ps c = given w p.line ps >>= λ g. called w levels m p c g
 
-called_then : (tables : Tables) (trees : Trees) (w : Setting) (m n : Meaning) (p : Place) (ss : List Statement) (chain : List ℕ) → Scene tables trees w m n p ss chain → (levels : ℕ) (ps : List Passed) (s : State) (fit : AllFit trees w s) (fits : FitsChain w s p.file chain (Some p.frame)) (v : Value) (o : Outcome Callee) → callee w p.line v s ≡ o → quiet.Followed s o
+called_then : (tables : Tables) (trees : Trees) (w : Setting) (m n : Semantics) (p : Site) (ss : List Statement) (chain : List ℕ) → Scene tables trees w m n p ss chain → (levels : ℕ) (ps : List EvaluatedArgument) (s : State) (fit : AllFit trees w s) (fits : FitsChain w s p.file chain (Some p.frame)) (v : Value) (o : Outcome Callee) → callee w p.line v s ≡ o → quiet.Followed s o
     → (and_then o (after w levels m p ps) ≡ and_then o (after w levels n p ps)) × Good trees w s (and_then o (after w levels n p ps))
 called_then tables trees w m n p ss chain h levels ps s fit fits v (Failed e lines) is k = (refl, tt)
 called_then tables trees w m n p ss chain h levels ps s fit fits v (Done (AFunction f d) t) is k =
@@ -211,17 +211,17 @@ called_then tables trees w m n p ss chain h levels ps s fit fits v (Done (AMetho
     let r = (agree_then trees w p.file chain (Some p.frame) _ _ _ _ (agree_kept trees w p.file chain (Some p.frame) _ (keeps-given w p.line ps)) (λ g. agree_kept trees w p.file chain (Some p.frame) _ (keeps-call_method w levels p.line b x g))).holds t (fit_follows trees w s t k fit) (chain_carries w s t (carries_follows s t k) p.file chain (Some p.frame) fits) in
     (r.0, good_on trees w s t (carries_follows s t k) _ r.1)
 
-pub agree-callee : (tables : Tables) (trees : Trees) (w : Setting) (m n : Meaning) (p : Place) (ss : List Statement) (chain : List ℕ) → Scene tables trees w m n p ss chain → (levels : ℕ) (ps : List Passed) (v : Value) → Agree trees w p.file chain (Some p.frame) (callee w p.line v >>= after w levels m p ps) (callee w p.line v >>= after w levels n p ps)
+pub agree-callee : (tables : Tables) (trees : Trees) (w : Setting) (m n : Semantics) (p : Site) (ss : List Statement) (chain : List ℕ) → Scene tables trees w m n p ss chain → (levels : ℕ) (ps : List EvaluatedArgument) (v : Value) → Agree trees w p.file chain (Some p.frame) (callee w p.line v >>= after w levels m p ps) (callee w p.line v >>= after w levels n p ps)
 agree-callee tables trees w m n p ss chain h levels ps v = record { holds = λ s fit fits. called_then tables trees w m n p ss chain h levels ps s fit fits v (callee w p.line v s) refl (((keeps-callee w p.line v).follows refl).holds s) }
 
-pub agree-call_node : (tables : Tables) (trees : Trees) (w : Setting) (m n : Meaning) (p : Place) (ss : List Statement) (chain : List ℕ) → Scene tables trees w m n p ss chain → (levels : ℕ) (f : Expression) (es : List Argument) → Sub (in_expression f chain) (uses ss) → Sub (all_uses in_argument es chain) (uses ss) → Agree trees w p.file chain (Some p.frame) (call_node w levels m p f es) (call_node w levels n p f es)
+pub agree-call_node : (tables : Tables) (trees : Trees) (w : Setting) (m n : Semantics) (p : Site) (ss : List Statement) (chain : List ℕ) → Scene tables trees w m n p ss chain → (levels : ℕ) (f : Expression) (es : List Argument) → Sub (in_expression f chain) (uses ss) → Sub (all_uses in_argument es chain) (uses ss) → Agree trees w p.file chain (Some p.frame) (call_node w levels m p f es) (call_node w levels n p f es)
 agree-call_node tables trees w m n p ss chain h levels f es k l = agree_then trees w p.file chain (Some p.frame) _ _ _ _ (h.parts.expr p f ss chain h.stands (k)) (λ v. agree_then trees w p.file chain (Some p.frame) _ _ _ _ (agree_each trees w p.file chain (Some p.frame) (λ a. Sub (in_argument a chain) (uses ss)) _ _ (λ a j. agree-pass tables trees w m n p ss chain h a j) es (every in_argument es chain (uses ss) l)) (λ ps. agree-callee tables trees w m n p ss chain h levels ps v))
 
-pub agree-run_body : (tables : Tables) (trees : Trees) (w : Setting) (m n : Meaning) (p : Place) (ss : List Statement) (chain : List ℕ) → Scene tables trees w m n p ss chain → (b : Body) → Sub (body_uses b chain) (uses ss) → Agree trees w p.file chain (Some p.frame) (run_body m p b) (run_body n p b)
+pub agree-run_body : (tables : Tables) (trees : Trees) (w : Setting) (m n : Semantics) (p : Site) (ss : List Statement) (chain : List ℕ) → Scene tables trees w m n p ss chain → (b : Body) → Sub (body_uses b chain) (uses ss) → Agree trees w p.file chain (Some p.frame) (run_body m p b) (run_body n p b)
 agree-run_body tables trees w m n p ss chain h (Statements body) k = agree_then trees w p.file chain (Some p.frame) _ _ _ _ (agree_block trees w p.file chain (Some p.frame) (λ x. Sub (in_statement x chain) (uses ss)) _ _ (λ x j. h.parts.stmt p x ss chain h.stands j) body (every in_statement body chain (uses ss) k)) (λ f. agree_give trees w p.file chain (Some p.frame) (answer_of f))
 agree-run_body tables trees w m n p ss chain h (Answer e) k = h.parts.expr p e ss chain h.stands (k)
 
-run_inside : (tables : Tables) (trees : Trees) (w : Setting) (m n : Meaning) (p : Place) (f : Function) (d : Definition) (values : List (Name × Value)) (v : Value) (ss : List Statement) (chain : List ℕ)
+run_inside : (tables : Tables) (trees : Trees) (w : Setting) (m n : Semantics) (p : Site) (f : Function) (d : Definition) (values : List (Name × Value)) (v : Value) (ss : List Statement) (chain : List ℕ)
     → Known tables trees w → AllAgree trees w m n → Stands trees f.file ss → Contains (uses ss) (Defined f.definition chain) → definition_of w f.file f.definition ≡ Some d
     → Every (λ y. Contains (uses ss) (Named y.0 ((1 + f.definition) ∷ chain))) values
     → Agree trees w f.file ((1 + f.definition) ∷ chain) (Some v) (all_of (λ x. bind_spot tables (record { file = f.file; frame = v; line = p.line }) x.0 x.1) values >>= λ _. activate f >>= λ _. run_body m (record { file = f.file; frame = v; line = p.line }) d.body >>= λ u. deactivate >>= λ _. give u)
@@ -234,12 +234,12 @@ run_inside tables trees w m n p f d values v ss chain known parts stands there i
     (λ _. agree_then trees w f.file ((1 + f.definition) ∷ chain) (Some v) _ _ _ _ (agree-run_body tables trees w m n (record { file = f.file; frame = v; line = p.line }) ss ((1 + f.definition) ∷ chain) scene d.body body)
     (λ u. agree_then trees w f.file ((1 + f.definition) ∷ chain) (Some v) _ _ _ _ (agree_quiet trees w f.file ((1 + f.definition) ∷ chain) (Some v) _ quiet.keeps_deactivate) (λ _. agree_give trees w f.file ((1 + f.definition) ∷ chain) (Some v) u))))
 
-pub agree-run : (tables : Tables) (trees : Trees) (w : Setting) (m n : Meaning) (p : Place) (f : Function) (d : Definition) (xs : List (Name × Share)) (ss : List Statement) (chain : List ℕ)
+pub agree-run : (tables : Tables) (trees : Trees) (w : Setting) (m n : Semantics) (p : Site) (f : Function) (d : Definition) (xs : List (Name × BoundArgument)) (ss : List Statement) (chain : List ℕ)
     → Known tables trees w → AllAgree trees w m n → Stands trees f.file ss → Contains (uses ss) (Defined f.definition chain) → definition_of w f.file f.definition ≡ Some d
     → Every (λ x. Contains (uses ss) (Named x.0 ((1 + f.definition) ∷ chain))) xs
     → Agree trees w f.file chain (Some f.frame) (run (by_places tables w) m p f d xs) (run (by_names w) n p f d xs)
 agree-run tables trees w m n p f d xs ss chain known parts stands there is named =
-    agree_such trees w f.file chain (Some f.frame) _ _ _ _ (agree_kept trees w f.file chain (Some f.frame) _ (keeps-make_shares p.line xs)) (λ s values t e.
+    agree_such trees w f.file chain (Some f.frame) _ _ _ _ (agree_kept trees w f.file chain (Some f.frame) _ (keeps-build_arguments p.line xs)) (λ s values t e.
     agree_then trees w f.file chain (Some f.frame) _ _ _ _ (agree_quiet trees w f.file chain (Some f.frame) _ (quiet.keeps_pay p.line 1)) (λ _.
     agree_frame tables trees w known.resolved f.file (1 + f.definition) ss chain (Some f.frame) _ _ stands (λ v.
     run_inside tables trees w m n p f d values v ss chain known parts stands there is (made_in (λ x. Contains (uses ss) (Named x ((1 + f.definition) ∷ chain))) p.line xs values s t named e))))

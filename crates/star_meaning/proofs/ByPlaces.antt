@@ -4,11 +4,11 @@ use Rattle.star_store.specs.declared.values.Value.{Value}
 use Rattle.star_tree.specs.declared.tree.Statement.{Statement}
 use Rattle.star_scope.specs.Syntax.{expression, form_of, position_of, target}
 use Rattle.star_scope.specs.Uses.{in_statement, uses}
-use Rattle.star_meaning.specs.declared.place.Place.{Place}
+use Rattle.star_meaning.specs.declared.site.Site.{Site}
 use Rattle.star_meaning.specs.Run.{Outcome, Done, Failed, Action, ◌>>=◌, pay}
 use Rattle.star_meaning.specs.Program.{Setting}
 use Rattle.star_meaning.specs.Variables.{by_names}
-use Rattle.star_meaning.specs.Meaning.{Meaning}
+use Rattle.star_meaning.specs.Semantics.{Semantics}
 use Rattle.star_meaning.specs.Module.{Ended, at_line, end, last_line, meaning, most_levels, nothing_opens, one_more, run_file, start}
 use Rattle.star_meaning.specs.Local.{Trees}
 use Rattle.star_meaning.specs.Places.{FitAfter, PlacesMeanNames, Stands, Tables, by_places}
@@ -22,11 +22,11 @@ use Rattle.star_meaning.proofs.Keeps.{Keeps, keeps, keeps_pay}
 use Rattle.star_meaning.proofs.KeepsModule.{keeps-global_text}
 
 -- a statement of the running file has a line of its own, and has the same place
-line_file : (b : Bool) (p : Place) (line : ℕ) → (if b then record p { line = line } else p).file ≡ p.file
+line_file : (b : Bool) (p : Site) (line : ℕ) → (if b then record p { line = line } else p).file ≡ p.file
 line_file true p line = refl
 line_file false p line = refl
 
-line_frame : (b : Bool) (p : Place) (line : ℕ) → (if b then record p { line = line } else p).frame ≡ p.frame
+line_frame : (b : Bool) (p : Site) (line : ℕ) → (if b then record p { line = line } else p).frame ≡ p.frame
 line_frame true p line = refl
 line_frame false p line = refl
 
@@ -39,19 +39,19 @@ none_agree trees w = record {
   call = λ p f d xs ss chain h k l named. agree_fail _ trees w f.file chain (Some f.frame) _ _;
 }
 
-scene : (tables : Tables) (trees : Trees) (w : Setting) (m n : Meaning) (p : Place) (ss : List Statement) (chain : List ℕ) → Known tables trees w → AllAgree trees w m n → Stands trees p.file ss → Scene tables trees w m n p ss chain
+scene : (tables : Tables) (trees : Trees) (w : Setting) (m n : Semantics) (p : Site) (ss : List Statement) (chain : List ℕ) → Known tables trees w → AllAgree trees w m n → Stands trees p.file ss → Scene tables trees w m n p ss chain
 scene tables trees w m n p ss chain k a h = record { known = k; parts = a; stands = h }
 
 paying : {A : Type 0} (trees : Trees) (w : Setting) (file : ℕ) (chain : List ℕ) (frame : Option Value) (line : ℕ) (a b : Action A) → Agree trees w file chain frame a b → Agree trees w file chain frame (pay line 1 >>= λ _. a) (pay line 1 >>= λ _. b)
 paying trees w file chain frame line a b h = agree_then trees w file chain frame _ _ _ _ (agree_kept trees w file chain frame _ (keeps_pay line 1)) (λ _. h)
 
-abbrev StatementAgrees : Tables → Trees → Setting → ℕ → Meaning → Meaning → Statement → List ℕ → Place → ℕ → Value → Type 0
+abbrev StatementAgrees : Tables → Trees → Setting → ℕ → Semantics → Semantics → Statement → List ℕ → Site → ℕ → Value → Type 0
 StatementAgrees tables trees w levels m n x chain p file frame = Agree trees w file chain (Some frame) ((one_more (by_places tables w) w levels m).stmt p x) ((one_more (by_names w) w levels n).stmt p x)
 
-stmt_agree : (tables : Tables) (trees : Trees) (w : Setting) (levels : ℕ) (m n : Meaning) (p : Place) (x : Statement) (ss : List Statement) (chain : List ℕ) → Known tables trees w → AllAgree trees w m n → Stands trees p.file ss → Sub (in_statement x chain) (uses ss)
+stmt_agree : (tables : Tables) (trees : Trees) (w : Setting) (levels : ℕ) (m n : Semantics) (p : Site) (x : Statement) (ss : List Statement) (chain : List ℕ) → Known tables trees w → AllAgree trees w m n → Stands trees p.file ss → Sub (in_statement x chain) (uses ss)
     → Agree trees w p.file chain (Some p.frame) ((one_more (by_places tables w) w levels m).stmt p x) ((one_more (by_names w) w levels n).stmt p x)
 stmt_agree tables trees w levels m n p x ss chain k a h s =
-    let q : Place = at_line w p x in
+    let q : Site = at_line w p x in
     let file : q.file ≡ p.file = line_file (nat_eq p.file w.home) p (position_of x).line in
     let frame : q.frame ≡ p.frame = line_frame (nat_eq p.file w.home) p (position_of x).line in
     let there : Stands trees q.file ss = subst (λ z. Stands trees z ss) (sym file) h in
@@ -59,7 +59,7 @@ stmt_agree tables trees w levels m n p x ss chain k a h s =
     paying trees w q.file chain (Some q.frame) q.line _ _ (agree-statement tables trees w m n q ss chain (scene tables trees w m n q ss chain k a there) levels (position_of x) (form_of x) (by _ _ (uses ss) (of_statement x chain) s)) in
     subst (λ z. StatementAgrees tables trees w levels m n x chain p z p.frame) file (subst (λ z. StatementAgrees tables trees w levels m n x chain p q.file z) frame agrees)
 
-more_agree : (tables : Tables) (trees : Trees) (w : Setting) (levels : ℕ) (m n : Meaning) → Known tables trees w → AllAgree trees w m n → AllAgree trees w (one_more (by_places tables w) w levels m) (one_more (by_names w) w levels n)
+more_agree : (tables : Tables) (trees : Trees) (w : Setting) (levels : ℕ) (m n : Semantics) → Known tables trees w → AllAgree trees w m n → AllAgree trees w (one_more (by_places tables w) w levels m) (one_more (by_names w) w levels n)
 more_agree tables trees w levels m n k a = record {
   expr = λ p e ss chain h s. paying trees w p.file chain (Some p.frame) p.line _ _ (agree-node tables trees w m n p ss chain (scene tables trees w m n p ss chain k a h) levels (expression e) (by _ _ (uses ss) (of_expression e chain) s));
   stmt = λ p x ss chain h s. stmt_agree tables trees w levels m n p x ss chain k a h s;

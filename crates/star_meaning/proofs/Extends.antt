@@ -13,17 +13,17 @@ use Rattle.star_tree.specs.declared.tree.Expression.{Expression}
 use Rattle.star_tree.specs.declared.tree.Statement.{Statement}
 use Rattle.star_tree.specs.declared.tree.Target.{Target}
 use Rattle.star_tree.specs.declared.tree.Name.{Name}
-use Rattle.star_meaning.specs.declared.fault.Code.{Code}
-use Rattle.star_meaning.specs.declared.fault.Code.TheVariants as code
-use Rattle.star_meaning.specs.declared.place.Place.{Place}
-use Rattle.star_meaning.specs.declared.place.Flow.{Flow}
-use Rattle.star_meaning.specs.declared.place.Flow.TheVariants as flow
+use Rattle.star_meaning.specs.declared.fault.FaultCode.{FaultCode}
+use Rattle.star_meaning.specs.declared.fault.FaultCode.TheVariants as code
+use Rattle.star_meaning.specs.declared.site.Site.{Site}
+use Rattle.star_meaning.specs.declared.site.Flow.{Flow}
+use Rattle.star_meaning.specs.declared.site.Flow.TheVariants as flow
 use Rattle.star_meaning.specs.Run.{State, Outcome, Done, Failed, Action, and_then, ◌>>=◌, give, fail, pay, check, found, code_of, agreed, settled, visiting, seeing, storing, make, build, each, all_of, collect, until, add_line}
 use Rattle.star_scope.specs.Definitions.{Definition}
 use Rattle.star_meaning.specs.Program.{Setting, Variables}
 use Rattle.star_meaning.specs.Values.{written, change}
-use Rattle.star_meaning.specs.Binding.{Share}
-use Rattle.star_meaning.specs.Meaning.{Meaning, then_go, block, then_turn, turns, repeat}
+use Rattle.star_meaning.specs.Binding.{BoundArgument}
+use Rattle.star_meaning.specs.Semantics.{Semantics, then_go, block, then_turn, turns, repeat}
 use Rattle.star_meaning.specs.Calls.{activate, deactivate}
 use Rattle.std.proofs.lemmas.Bool.{ltb-false}
 use Rattle.star_meaning.proofs.Reaches.{NotForWant, further, Reaches}
@@ -55,14 +55,14 @@ extends_then m f g h = record { holds = λ k s n. then_later k (m s) (m (with_mo
 pub extends_give : {A : Type 0} (x : A) → Extends (give x)
 extends_give x = record { holds = λ k s n. refl }
 
-pub extends_fail : (A : Type 0) (c : Code) (line : ℕ) → Extends (fail {A = A} c line)
+pub extends_fail : (A : Type 0) (c : FaultCode) (line : ℕ) → Extends (fail {A = A} c line)
 extends_fail A c line = record { holds = λ k s n. refl }
 
 pub extends_if : {A : Type 0} (b : Bool) (m n : Action A) → Extends m → Extends n → Extends (if b then m else n)
 extends_if true m n k l = k
 extends_if false m n k l = l
 
-pub extends_found : {A : Type 0} (c : Code) (line : ℕ) (o : Option A) → Extends (found c line o)
+pub extends_found : {A : Type 0} (c : FaultCode) (line : ℕ) (o : Option A) → Extends (found c line o)
 extends_found {A = A} c line None = extends_fail A c line
 extends_found {A = A} c line (Some x) = extends_give x
 
@@ -81,7 +81,7 @@ extends_pay line n = record { holds = λ k s h. paid_more (nat_lt s.steps n) lin
 pub extends_seeing : {A : Type 0} (f : State → Action A) → ((k : ℕ) (s : State) → f (with_more k s) ≡ f s) → ((s : State) → Extends (f s)) → Extends (seeing f)
 extends_seeing f same g = record { holds = λ k s n. rw (same k s) ((g s).holds k s n) }
 
-pub extends_check : (c : Code) (line : ℕ) (b : Bool) → Extends (check c line b)
+pub extends_check : (c : FaultCode) (line : ℕ) (b : Bool) → Extends (check c line b)
 extends_check c line b = extends_if b _ _ (extends_give {A = Unit {0}} tt) (extends_fail (Unit {0}) c line)
 
 pub extends_make : (c : Cell) → Extends (make c)

@@ -3,7 +3,7 @@ use Rattle.std.proofs.Common.{◌≡◌, ℕ, zero, suc, ◌+◌, ◌-◌, ◌�
 use Rattle.star_store.specs.declared.values.Value.{Value}
 use Rattle.star_store.specs.declared.values.Value.TheVariants as value
 use Rattle.star_store.specs.declared.values.Cell.{Cell}
-use Rattle.star_store.specs.declared.values.Counted.{Counted}
+use Rattle.star_store.specs.declared.values.HeapCell.{HeapCell}
 use Rattle.star_store.specs.declared.values.Function.{Function}
 use Rattle.star_store.specs.declared.arena.write.Change.{Change}
 use Rattle.star_store.specs.declared.fault.StoreFault.{StoreFault}
@@ -14,19 +14,19 @@ use Rattle.star_tree.specs.declared.tree.Expression.{Expression}
 use Rattle.star_tree.specs.declared.tree.Statement.{Statement}
 use Rattle.star_tree.specs.declared.tree.Target.{Target}
 use Rattle.star_tree.specs.declared.tree.Name.{Name}
-use Rattle.star_meaning.specs.declared.fault.Code.{Code}
-use Rattle.star_meaning.specs.declared.fault.Code.TheVariants as code
-use Rattle.star_meaning.specs.declared.place.Place.{Place}
-use Rattle.star_meaning.specs.declared.place.Flow.{Flow}
-use Rattle.star_meaning.specs.declared.place.Flow.TheVariants as flow
+use Rattle.star_meaning.specs.declared.fault.FaultCode.{FaultCode}
+use Rattle.star_meaning.specs.declared.fault.FaultCode.TheVariants as code
+use Rattle.star_meaning.specs.declared.site.Site.{Site}
+use Rattle.star_meaning.specs.declared.site.Flow.{Flow}
+use Rattle.star_meaning.specs.declared.site.Flow.TheVariants as flow
 use Rattle.star_meaning.specs.Run.{State, Outcome, Done, Failed, Action, and_then, ◌>>=◌, give, fail, pay, check, found, code_of, agreed, settled, visiting, seeing, storing, make, build, each, all_of, collect, until, add_line}
 use Rattle.star_scope.specs.Definitions.{Definition}
 use Rattle.star_meaning.specs.Program.{Setting, Variables}
 use Rattle.star_meaning.specs.Values.{written, change}
-use Rattle.star_meaning.specs.Binding.{Share}
+use Rattle.star_meaning.specs.Binding.{BoundArgument}
 use Rattle.star_meaning.specs.Laws.{Grows, Grown}
 use Rattle.star_meaning.proofs.Lowers.{Falls, Lowers}
-use Rattle.star_meaning.specs.Meaning.{Meaning, then_go, block, then_turn, turns, repeat}
+use Rattle.star_meaning.specs.Semantics.{Semantics, then_go, block, then_turn, turns, repeat}
 use Rattle.star_meaning.specs.Calls.{activate, deactivate, rest_of}
 
 -- whatever state an action begins in, it keeps this
@@ -62,14 +62,14 @@ keeps_then m f k l = record { holds = λ s. grown_then s (m s) f (k.holds s) l }
 pub keeps_give : {A : Type 0} (x : A) → Keeps (give x)
 keeps_give x = record { holds = λ s. same s }
 
-pub keeps_fail : (A : Type 0) (code : Code) (line : ℕ) → Keeps (fail {A = A} code line)
+pub keeps_fail : (A : Type 0) (code : FaultCode) (line : ℕ) → Keeps (fail {A = A} code line)
 keeps_fail A code line = record { holds = λ s. ([], append_nil s.lines) }
 
 pub keeps_if : {A : Type 0} (b : Bool) (m n : Action A) → Keeps m → Keeps n → Keeps (if b then m else n)
 keeps_if true m n k l = k
 keeps_if false m n k l = l
 
-pub keeps_found : {A : Type 0} (code : Code) (line : ℕ) (o : Option A) → Keeps (found code line o)
+pub keeps_found : {A : Type 0} (code : FaultCode) (line : ℕ) (o : Option A) → Keeps (found code line o)
 keeps_found {A = A} code line None = keeps_fail A code line
 keeps_found {A = A} code line (Some x) = keeps_give x
 
@@ -84,7 +84,7 @@ keeps_pay line n = record { holds = λ s. paid (nat_lt s.steps n) line n s }
 pub keeps_seeing : {A : Type 0} (f : State → Action A) → ((s : State) → Keeps (f s)) → Keeps (seeing f)
 keeps_seeing f k = record { holds = λ s. (k s).holds s }
 
-pub keeps_check : (code : Code) (line : ℕ) (b : Bool) → Keeps (check code line b)
+pub keeps_check : (code : FaultCode) (line : ℕ) (b : Bool) → Keeps (check code line b)
 keeps_check code line b = keeps_if b _ _ (keeps_give {A = Unit {0}} tt) (keeps_fail (Unit {0}) code line)
 
 length_more : {A : Type 0} (xs ys : List A) → length xs ≤ length (xs ++ ys)
@@ -134,28 +134,28 @@ pub record Keeping (f : Store → Store) : Type 0 where
 pub keeps_storing : (f : Store → Store) → Keeping f → Keeps (storing f)
 keeps_storing f k = record { holds = λ s. less s (f s.store) s.active s.steps (k.home s.store) (k.cells s.store) (omega arith) }
 
-length_changed : (f : Counted → Counted) (xs : List Counted) (at : ℕ) → length xs ≤ length (changed_at f xs at)
+length_changed : (f : HeapCell → HeapCell) (xs : List HeapCell) (at : ℕ) → length xs ≤ length (changed_at f xs at)
 length_changed f [] at = omega arith
 length_changed f (x ∷ xs) zero = omega arith
 length_changed f (x ∷ xs) (suc at) = omega (arith, length_changed f xs at)
 
-own_home : (b : Bool) (s : Store) (cells : List Counted) → (if b then record s { cells = cells } else s).home ≡ s.home
+own_home : (b : Bool) (s : Store) (cells : List HeapCell) → (if b then record s { cells = cells } else s).home ≡ s.home
 own_home true s cells = refl
 own_home false s cells = refl
 
-own_cells : (b : Bool) (s : Store) (cells : List Counted) → length s.cells ≤ length cells → length s.cells ≤ length ((if b then record s { cells = cells } else s).cells)
+own_cells : (b : Bool) (s : Store) (cells : List HeapCell) → length s.cells ≤ length cells → length s.cells ≤ length ((if b then record s { cells = cells } else s).cells)
 own_cells true s cells h = h
 own_cells false s cells h = omega arith
 
-changed_home : (f : Counted → Counted) (v : Value) (s : Store) → (changed f v s).home ≡ s.home
+changed_home : (f : HeapCell → HeapCell) (v : Value) (s : Store) → (changed f v s).home ≡ s.home
 changed_home f (value.Ref home at) s = own_home (nat_eq home s.home) s _
 changed_home f _ s = refl
 
-changed_cells : (f : Counted → Counted) (v : Value) (s : Store) → length s.cells ≤ length (changed f v s).cells
+changed_cells : (f : HeapCell → HeapCell) (v : Value) (s : Store) → length s.cells ≤ length (changed f v s).cells
 changed_cells f (value.Ref home at) s = own_cells (nat_eq home s.home) s _ (length_changed f s.cells at)
 changed_cells f _ s = omega arith
 
-pub keeping_changed : (f : Counted → Counted) (v : Value) → Keeping (changed f v)
+pub keeping_changed : (f : HeapCell → HeapCell) (v : Value) → Keeping (changed f v)
 keeping_changed f v = record { home = changed_home f v; cells = changed_cells f v }
 
 pub keeping_bound : (frame : Value) (slot : ℕ) (v : Value) → Keeping (bound frame slot v)

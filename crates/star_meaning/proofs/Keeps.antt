@@ -18,14 +18,14 @@ use Rattle.star_tree.specs.declared.tree.Statement.{Statement}
 use Rattle.star_tree.specs.declared.tree.Target.{Target}
 use Rattle.star_tree.specs.declared.tree.Name.{Name}
 use Rattle.star_scope.specs.Definitions.{Definition}
-use Rattle.star_meaning.specs.declared.fault.Code.{Code}
-use Rattle.star_meaning.specs.declared.place.Place.{Place}
-use Rattle.star_meaning.specs.declared.place.Flow.{Flow}
+use Rattle.star_meaning.specs.declared.fault.FaultCode.{FaultCode}
+use Rattle.star_meaning.specs.declared.site.Site.{Site}
+use Rattle.star_meaning.specs.declared.site.Flow.{Flow}
 use Rattle.star_meaning.specs.Run.{State, Action, ◌>>=◌, give, fail, pay, check, found, agreed, visiting, seeing, storing, make, build, each, all_of, collect, until, add_line}
 use Rattle.star_meaning.specs.Program.{Setting, Variables}
 use Rattle.star_meaning.specs.Values.{change, count_of, iterate, leave}
-use Rattle.star_meaning.specs.Binding.{Share}
-use Rattle.star_meaning.specs.Meaning.{Meaning, block, turns, repeat}
+use Rattle.star_meaning.specs.Binding.{BoundArgument}
+use Rattle.star_meaning.specs.Semantics.{Semantics, block, turns, repeat}
 use Rattle.star_meaning.specs.Calls.{activate, deactivate}
 use Rattle.star_meaning.proofs.Spending.{Spends, spends-same, spends-order, spends-check, spends-text, spends-bare}
 use Rattle.star_meaning.proofs.Growth as growth
@@ -52,13 +52,13 @@ keeps_then m f k l = record { grows = growth.keeps_then m f k.grows (λ x. (l x)
 pub keeps_give : {q : Bool} {A : Type 0} (x : A) → Keeps q (give x)
 keeps_give x = record { grows = growth.keeps_give x; stays = stays.keeps_give x; extends = extends.extends_give x; follows = λ h. quiet.keeps_give x }
 
-pub keeps_fail : {q : Bool} (A : Type 0) (code : Code) (line : ℕ) → Keeps q (fail {A = A} code line)
+pub keeps_fail : {q : Bool} (A : Type 0) (code : FaultCode) (line : ℕ) → Keeps q (fail {A = A} code line)
 keeps_fail A code line = record { grows = growth.keeps_fail A code line; stays = stays.keeps_fail A code line; extends = extends.extends_fail A code line; follows = λ h. quiet.keeps_fail A code line }
 
 pub keeps_if : {q : Bool} {A : Type 0} (b : Bool) (m n : Action A) → Keeps q m → Keeps q n → Keeps q (if b then m else n)
 keeps_if b m n k l = record { grows = growth.keeps_if b m n k.grows l.grows; stays = stays.keeps_if b m n k.stays l.stays; extends = extends.extends_if b m n k.extends l.extends; follows = λ h. quiet.keeps_if b m n (k.follows h) (l.follows h) }
 
-pub keeps_found : {q : Bool} {A : Type 0} (code : Code) (line : ℕ) (o : Option A) → Keeps q (found code line o)
+pub keeps_found : {q : Bool} {A : Type 0} (code : FaultCode) (line : ℕ) (o : Option A) → Keeps q (found code line o)
 keeps_found code line o = record { grows = growth.keeps_found code line o; stays = stays.keeps_found code line o; extends = extends.extends_found code line o; follows = λ h. quiet.keeps_found code line o }
 
 pub keeps_pay : {q : Bool} (line n : ℕ) → Keeps q (pay line n)
@@ -67,7 +67,7 @@ keeps_pay line n = record { grows = growth.keeps_pay line n; stays = stays.keeps
 pub keeps_seeing : {q : Bool} {A : Type 0} (f : State → Action A) → ((k : ℕ) (s : State) → f (with_more k s) ≡ f s) → ((s : State) → Keeps q (f s)) → Keeps q (seeing f)
 keeps_seeing f same k = record { grows = growth.keeps_seeing f (λ s. (k s).grows); stays = stays.keeps_seeing f (λ s. (k s).stays); extends = extends.extends_seeing f same (λ s. (k s).extends); follows = λ h. quiet.keeps_seeing f (λ s. (k s).follows h) }
 
-pub keeps_check : {q : Bool} (code : Code) (line : ℕ) (b : Bool) → Keeps q (check code line b)
+pub keeps_check : {q : Bool} (code : FaultCode) (line : ℕ) (b : Bool) → Keeps q (check code line b)
 keeps_check code line b = record { grows = growth.keeps_check code line b; stays = stays.keeps_check code line b; extends = extends.extends_check code line b; follows = λ h. quiet.keeps_check code line b }
 
 pub keeps_make : (c : Cell) → Keeps false (make c)
@@ -180,40 +180,40 @@ keeps_repeat f n i k = record { grows = growth.keeps_repeat f n i (λ j. (k j).g
 
 -- the three actions on variables keep it
 pub record VariablesKeep (vs : Variables) : Type 0 where
-  pub read : (p : Place) (n : Name) → Keeps false (vs.read p n)
-  pub bind : (p : Place) (n : Name) (v : Value) → Keeps false (vs.bind p n v)
+  pub read : (p : Site) (n : Name) → Keeps false (vs.read p n)
+  pub bind : (p : Site) (n : Name) (v : Value) → Keeps false (vs.bind p n v)
   pub frame : (file number : ℕ) (parent : Option Value) → Keeps false (vs.frame file number parent)
 
-pub keeps_read : (vs : Variables) → VariablesKeep vs → (p : Place) (n : Name) → Keeps false (vs.read p n)
+pub keeps_read : (vs : Variables) → VariablesKeep vs → (p : Site) (n : Name) → Keeps false (vs.read p n)
 keeps_read vs k = k.read
 
-pub keeps_bind : (vs : Variables) → VariablesKeep vs → (p : Place) (n : Name) (v : Value) → Keeps false (vs.bind p n v)
+pub keeps_bind : (vs : Variables) → VariablesKeep vs → (p : Site) (n : Name) (v : Value) → Keeps false (vs.bind p n v)
 keeps_bind vs k = k.bind
 
 pub keeps_frame : (vs : Variables) → VariablesKeep vs → (file number : ℕ) (parent : Option Value) → Keeps false (vs.frame file number parent)
 keeps_frame vs k = k.frame
 
 -- all parts of a program keep it
-pub record AllKeep (m : Meaning) : Type 0 where
-  pub expr : (p : Place) (e : Expression) → Keeps false (m.expr p e)
-  pub stmt : (p : Place) (x : Statement) → Keeps false (m.stmt p x)
-  pub assign : (p : Place) (t : Target) (v : Value) → Keeps false (m.assign p t v)
-  pub parts : (p : Place) (e i : Expression) → Keeps false (m.parts p e i)
-  pub call : (p : Place) (f : Function) (d : Definition) (shares : List (Name × Share)) → Keeps false (m.call p f d shares)
+pub record AllKeep (m : Semantics) : Type 0 where
+  pub expr : (p : Site) (e : Expression) → Keeps false (m.expr p e)
+  pub stmt : (p : Site) (x : Statement) → Keeps false (m.stmt p x)
+  pub assign : (p : Site) (t : Target) (v : Value) → Keeps false (m.assign p t v)
+  pub parts : (p : Site) (e i : Expression) → Keeps false (m.parts p e i)
+  pub call : (p : Site) (f : Function) (d : Definition) (shares : List (Name × BoundArgument)) → Keeps false (m.call p f d shares)
 
-pub keeps_expr : (m : Meaning) → AllKeep m → (p : Place) (e : Expression) → Keeps false (m.expr p e)
+pub keeps_expr : (m : Semantics) → AllKeep m → (p : Site) (e : Expression) → Keeps false (m.expr p e)
 keeps_expr m k = k.expr
 
-pub keeps_stmt : (m : Meaning) → AllKeep m → (p : Place) (x : Statement) → Keeps false (m.stmt p x)
+pub keeps_stmt : (m : Semantics) → AllKeep m → (p : Site) (x : Statement) → Keeps false (m.stmt p x)
 keeps_stmt m k = k.stmt
 
-pub keeps_assign : (m : Meaning) → AllKeep m → (p : Place) (t : Target) (v : Value) → Keeps false (m.assign p t v)
+pub keeps_assign : (m : Semantics) → AllKeep m → (p : Site) (t : Target) (v : Value) → Keeps false (m.assign p t v)
 keeps_assign m k = k.assign
 
-pub keeps_parts : (m : Meaning) → AllKeep m → (p : Place) (e i : Expression) → Keeps false (m.parts p e i)
+pub keeps_parts : (m : Semantics) → AllKeep m → (p : Site) (e i : Expression) → Keeps false (m.parts p e i)
 keeps_parts m k = k.parts
 
-pub keeps_call : (m : Meaning) → AllKeep m → (p : Place) (f : Function) (d : Definition) (shares : List (Name × Share)) → Keeps false (m.call p f d shares)
+pub keeps_call : (m : Semantics) → AllKeep m → (p : Site) (f : Function) (d : Definition) (shares : List (Name × BoundArgument)) → Keeps false (m.call p f d shares)
 keeps_call m k = k.call
 
 pub ruleset keeps = (refl, spends-same, spends-order, spends-check, spends-text, spends-bare, keeps_while, keeps_looping, keeps_active, keeps_then, keeps_give, keeps_fail, keeps_if, keeps_found, keeps_pay, keeps_seeing, keeps_check, keeps_make_text, keeps_make_tuple, keeps_make_list, keeps_make_dict, keeps_make_range, keeps_make_bound, keeps_make_frame, keeps_build_text, keeps_build_tuple, keeps_build_list, keeps_build_dict, keeps_build_range, keeps_build_bound, keeps_each, keeps_all_of, keeps_collect, keeps_until, keeps_agreed, keeps_visiting, keeps_bound, keeps_change, keeps_add_line, keeps_make, keeps_build, keeps_block, keeps_turns, keeps_repeat, keeps_read, keeps_bind, keeps_frame, keeps_expr, keeps_stmt, keeps_assign, keeps_parts, keeps_call)

@@ -2,9 +2,9 @@
 use Rattle.star_store.specs.declared.values.Value.{Value}
 use Rattle.star_meaning.specs.Program.{Setting}
 use Rattle.std.proofs.Common.{ℕ, List, [], ◌∷◌, Option, Some, None, Bool}
-use Rattle.star_meaning.specs.declared.given.NamedValue.{NamedValue}
-use Rattle.star_meaning.specs.declared.given.Given.{Given}
-use Rattle.star_meaning.specs.Arguments.{star_count, take_star, star_star_names, take_names, given, name_key, key_for, by_place, with_name, only_one, none_or_one, one_or_two, two, no_value, Passed}
+use Rattle.star_meaning.specs.declared.given.KeywordArgument.{KeywordArgument}
+use Rattle.star_meaning.specs.declared.given.Arguments.{Arguments}
+use Rattle.star_meaning.specs.Arguments.{star_count, take_star, star_star_names, take_names, given, name_key, key_for, positional, with_name, only_one, none_or_one, one_or_two, two, no_value, EvaluatedArgument}
 use Rattle.star_meaning.proofs.Keeps.{keeps, Keeps}
 use Rattle.star_meaning.proofs.KeepsValues.{keeps-new_text, keeps-count_of, keeps-take_items}
 
@@ -20,25 +20,25 @@ pub keeps-star_star_names : {q : Bool} → (w : Setting) (line : ℕ) (a2 : Opti
 keeps-star_star_names w line None = search keeps depth 14
 keeps-star_star_names w line (Some v) = search keeps depth 14
 
-pub keeps-take_names : {q : Bool} → (line : ℕ) (ns : List NamedValue) → Keeps q (take_names line ns)
+pub keeps-take_names : {q : Bool} → (line : ℕ) (ns : List KeywordArgument) → Keeps q (take_names line ns)
 keeps-take_names line ns = search keeps depth 14
 
-pub keeps-given : {q : Bool} → (w : Setting) (line : ℕ) (ps : List Passed) → Keeps q (given w line ps)
+pub keeps-given : {q : Bool} → (w : Setting) (line : ℕ) (ps : List EvaluatedArgument) → Keeps q (given w line ps)
 unfolding given
 keeps-given w line ps = search (keeps, keeps-star_count, keeps-take_star, keeps-star_star_names, keeps-take_names) depth 14
 
-pub keeps-name_key : {q : Bool} → (line : ℕ) (n : NamedValue) (a2 : Option Value) → Keeps q (name_key line n a2)
+pub keeps-name_key : {q : Bool} → (line : ℕ) (n : KeywordArgument) (a2 : Option Value) → Keeps q (name_key line n a2)
 unfolding name_key
 keeps-name_key line n (Some k) = search keeps depth 14
 keeps-name_key line n None = search (keeps, keeps-new_text) depth 14
 
-pub keeps-key_for : {q : Bool} → (line : ℕ) (n : NamedValue) → Keeps q (key_for line n)
+pub keeps-key_for : {q : Bool} → (line : ℕ) (n : KeywordArgument) → Keeps q (key_for line n)
 keeps-key_for line n = search (keeps, keeps-name_key) depth 14
 
-pub keeps-by_place : {q : Bool} → (line : ℕ) (g : Given) → Keeps q (by_place line g)
-keeps-by_place line g = search keeps depth 14
+pub keeps-positional : {q : Bool} → (line : ℕ) (g : Arguments) → Keeps q (positional line g)
+keeps-positional line g = search keeps depth 14
 
-pub keeps-with_name : {q : Bool} → (line : ℕ) (name : List ℕ) (g : Given) → Keeps q (with_name line name g)
+pub keeps-with_name : {q : Bool} → (line : ℕ) (name : List ℕ) (g : Arguments) → Keeps q (with_name line name g)
 keeps-with_name line name g = search keeps depth 14
 
 pub keeps-only_one : {q : Bool} → (line : ℕ) (a1 : List Value) → Keeps q (only_one line a1)

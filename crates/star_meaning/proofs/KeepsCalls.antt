@@ -6,14 +6,14 @@ use Rattle.star_tree.specs.declared.tree.Argument.{Argument}
 use Rattle.star_tree.specs.declared.tree.Expression.{Expression}
 use Rattle.star_tree.specs.declared.tree.Name.{Name}
 use Rattle.star_tree.specs.declared.tree.Argument.TheOpen as tree
-use Rattle.star_meaning.specs.declared.place.Place.{Place}
+use Rattle.star_meaning.specs.declared.site.Site.{Site}
 use Rattle.star_scope.specs.Syntax.{ArgumentForm}
 use Rattle.star_scope.specs.Definitions.{Definition, Body, Statements, Answer}
 use Rattle.star_meaning.specs.Program.{Setting, Variables}
 use Rattle.star_meaning.specs.Values.{Content, BuiltInFunction, Held}
-use Rattle.star_meaning.specs.declared.given.Given.{Given}
-use Rattle.star_meaning.specs.Binding.{Share}
-use Rattle.star_meaning.specs.Meaning.{Meaning}
+use Rattle.star_meaning.specs.declared.given.Arguments.{Arguments}
+use Rattle.star_meaning.specs.Binding.{BoundArgument}
+use Rattle.star_meaning.specs.Semantics.{Semantics}
 use Rattle.std.proofs.Common.{ℕ, List, false}
 use Rattle.star_meaning.specs.Calls.{pass_form, pass, function_callee, callee_of, callee, called, call_node, run_body, run, Callee, AFunction, ABuiltIn, AMethod}
 use Rattle.star_meaning.proofs.Keeps.{keeps, Keeps, AllKeep, VariablesKeep}
@@ -21,29 +21,29 @@ use Rattle.star_meaning.proofs.KeepsValues.{keeps-with_content}
 use Rattle.star_meaning.proofs.KeepsArguments.{keeps-given}
 use Rattle.star_meaning.proofs.KeepsBuiltIns.{keeps-call_built_in}
 use Rattle.star_meaning.proofs.KeepsMethods.{keeps-call_method}
-use Rattle.star_meaning.proofs.KeepsBinding.{keeps-make_shares}
+use Rattle.star_meaning.proofs.KeepsBinding.{keeps-build_arguments}
 use Rattle.star_meaning.proofs.KeepsCallee.{keeps-callee}
 
-pub keeps-pass_form : (m : Meaning) (p : Place) (a2 : ArgumentForm) → AllKeep m → Keeps false (pass_form m p a2)
+pub keeps-pass_form : (m : Semantics) (p : Site) (a2 : ArgumentForm) → AllKeep m → Keeps false (pass_form m p a2)
 keeps-pass_form m p (tree.Positional e) k0 = search keeps depth 14
 keeps-pass_form m p (tree.Named n e) k0 = search keeps depth 14
 keeps-pass_form m p (tree.Argument-F.Argument::Star e) k0 = search keeps depth 14
 keeps-pass_form m p (tree.Argument-F.Argument::StarStar e) k0 = search keeps depth 14
 
-pub keeps-pass : (m : Meaning) (p : Place) (a : Argument) → AllKeep m → Keeps false (pass m p a)
+pub keeps-pass : (m : Semantics) (p : Site) (a : Argument) → AllKeep m → Keeps false (pass m p a)
 keeps-pass m p a k0 = search (keeps, keeps-pass_form) depth 14
 
-pub keeps-called : (w : Setting) (levels : ℕ) (m : Meaning) (p : Place) (a4 : Callee) (g : Given) → AllKeep m → Keeps false (called w levels m p a4 g)
+pub keeps-called : (w : Setting) (levels : ℕ) (m : Semantics) (p : Site) (a4 : Callee) (g : Arguments) → AllKeep m → Keeps false (called w levels m p a4 g)
 keeps-called w levels m p (AFunction f d) g k0 = search keeps depth 14
 keeps-called w levels m p (ABuiltIn b) g k0 = search (keeps, keeps-call_built_in) depth 14
 keeps-called w levels m p (AMethod b x) g k0 = search (keeps, keeps-call_method) depth 14
 
-pub keeps-call_node : (w : Setting) (levels : ℕ) (m : Meaning) (p : Place) (f : Expression) (es : List Argument) → AllKeep m → Keeps false (call_node w levels m p f es)
+pub keeps-call_node : (w : Setting) (levels : ℕ) (m : Semantics) (p : Site) (f : Expression) (es : List Argument) → AllKeep m → Keeps false (call_node w levels m p f es)
 keeps-call_node w levels m p f es k0 = search (keeps, keeps-given, keeps-pass, keeps-callee, keeps-called) depth 14
 
-pub keeps-run_body : (m : Meaning) (p : Place) (a2 : Body) → AllKeep m → Keeps false (run_body m p a2)
+pub keeps-run_body : (m : Semantics) (p : Site) (a2 : Body) → AllKeep m → Keeps false (run_body m p a2)
 keeps-run_body m p (Statements body) k0 = search keeps depth 14
 keeps-run_body m p (Answer e) k0 = search keeps depth 14
 
-pub keeps-run : (vs : Variables) (m : Meaning) (p : Place) (f : Function) (d : Definition) (shares : List (Name × Share)) → VariablesKeep vs → AllKeep m → Keeps false (run vs m p f d shares)
-keeps-run vs m p f d shares k0 k1 = search (keeps, keeps-make_shares, keeps-run_body) depth 14
+pub keeps-run : (vs : Variables) (m : Semantics) (p : Site) (f : Function) (d : Definition) (shares : List (Name × BoundArgument)) → VariablesKeep vs → AllKeep m → Keeps false (run vs m p f d shares)
+keeps-run vs m p f d shares k0 k1 = search (keeps, keeps-build_arguments, keeps-run_body) depth 14

@@ -4,10 +4,10 @@ use Rattle.star_tree.specs.declared.tree.Expression.{Expression}
 use Rattle.star_tree.specs.declared.tree.Entry.{Entry}
 use Rattle.star_tree.specs.declared.tree.Parameter.{Parameter}
 use Rattle.star_tree.specs.declared.tree.Argument.TheOpen as tree
-use Rattle.star_meaning.specs.declared.place.Place.{Place}
+use Rattle.star_meaning.specs.declared.site.Site.{Site}
 use Rattle.star_scope.specs.Syntax.{ExpressionForm, ParameterForm}
 use Rattle.star_meaning.specs.Program.{Setting, Variables}
-use Rattle.star_meaning.specs.Meaning.{Meaning}
+use Rattle.star_meaning.specs.Semantics.{Semantics}
 use Rattle.std.proofs.Common.{ℕ, List, [], ◌∷◌, Option, Some, None, false}
 use Rattle.star_meaning.specs.Run.{Action}
 use Rattle.star_meaning.specs.Expressions.{defaults_after, defaults, new_function, entry_of, fresh_entry, fresh_entries, maybe, node}
@@ -20,25 +20,25 @@ use Rattle.star_meaning.proofs.KeepsComprehensions.{keeps-list_comprehension, ke
 use Rattle.star_meaning.proofs.KeepsCalls.{keeps-call_node}
 use Rattle.star_meaning.proofs.KeepsEntries.{keeps-fresh_entries}
 
-pub keeps-defaults_after : (rest : Action (List Value)) (m : Meaning) (p : Place) (a3 : ParameterForm) → Keeps false rest → AllKeep m → Keeps false (defaults_after rest m p a3)
+pub keeps-defaults_after : (rest : Action (List Value)) (m : Semantics) (p : Site) (a3 : ParameterForm) → Keeps false rest → AllKeep m → Keeps false (defaults_after rest m p a3)
 keeps-defaults_after rest m p (tree.Default n e) k0 k1 = search keeps depth 14
 keeps-defaults_after rest m p _ k0 k1 = search keeps depth 14
 
-pub keeps-defaults : (m : Meaning) (p : Place) (a2 : List Parameter) → AllKeep m → Keeps false (defaults m p a2)
+pub keeps-defaults : (m : Semantics) (p : Site) (a2 : List Parameter) → AllKeep m → Keeps false (defaults m p a2)
 keeps-defaults m p [] k0 = search keeps depth 14
-keeps-defaults m p (q ∷ qs) k0 = let h1 : (z1 : Place) → Keeps false (defaults m z1 qs) = λ z1. keeps-defaults m z1 qs k0 in search (keeps, keeps-defaults_after, h1) depth 14
+keeps-defaults m p (q ∷ qs) k0 = let h1 : (z1 : Site) → Keeps false (defaults m z1 qs) = λ z1. keeps-defaults m z1 qs k0 in search (keeps, keeps-defaults_after, h1) depth 14
 
-pub keeps-new_function : (m : Meaning) (p : Place) (number : ℕ) (name : List ℕ) (ps : List Parameter) → AllKeep m → Keeps false (new_function m p number name ps)
+pub keeps-new_function : (m : Semantics) (p : Site) (number : ℕ) (name : List ℕ) (ps : List Parameter) → AllKeep m → Keeps false (new_function m p number name ps)
 keeps-new_function m p number name ps k0 = search (keeps, keeps-defaults) depth 14
 
-pub keeps-entry_of : (m : Meaning) (p : Place) (e : Entry) → AllKeep m → Keeps false (entry_of m p e)
+pub keeps-entry_of : (m : Semantics) (p : Site) (e : Entry) → AllKeep m → Keeps false (entry_of m p e)
 keeps-entry_of m p e k0 = search keeps depth 14
 
-pub keeps-maybe : (m : Meaning) (p : Place) (a2 : Option Expression) → AllKeep m → Keeps false (maybe m p a2)
+pub keeps-maybe : (m : Semantics) (p : Site) (a2 : Option Expression) → AllKeep m → Keeps false (maybe m p a2)
 keeps-maybe m p None k0 = search keeps depth 14
 keeps-maybe m p (Some e) k0 = search keeps depth 14
 
-pub keeps-node : (vs : Variables) (w : Setting) (levels : ℕ) (m : Meaning) (p : Place) (a5 : ExpressionForm) → VariablesKeep vs → AllKeep m → Keeps false (node vs w levels m p a5)
+pub keeps-node : (vs : Variables) (w : Setting) (levels : ℕ) (m : Semantics) (p : Site) (a5 : ExpressionForm) → VariablesKeep vs → AllKeep m → Keeps false (node vs w levels m p a5)
 keeps-node vs w levels m p (tree.Expression-F.Expression::Name n) k0 k1 = search keeps depth 14
 keeps-node vs w levels m p (tree.Int n) k0 k1 = search keeps depth 14
 keeps-node vs w levels m p (tree.Text t) k0 k1 = search (keeps, keeps-new_text) depth 14

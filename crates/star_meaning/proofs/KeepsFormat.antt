@@ -1,8 +1,8 @@
 -- The invariants of every run: the method format.
 use Rattle.star_store.specs.declared.values.Value.{Value}
 use Rattle.star_meaning.specs.Program.{Setting}
-use Rattle.star_meaning.specs.declared.given.Given.{Given}
-use Rattle.star_meaning.specs.declared.given.NamedValue.{NamedValue}
+use Rattle.star_meaning.specs.declared.given.Arguments.{Arguments}
+use Rattle.star_meaning.specs.declared.given.KeywordArgument.{KeywordArgument}
 use Rattle.std.proofs.Common.{ℕ, List, [], ◌∷◌, Bool}
 use Rattle.star_meaning.specs.Format.{next_place, numbered_place, placed_value, named_value, field_value, formatted, Numbering, Reading, Unused, Automatic, ByNumber, Outside, Field, Closing}
 use Rattle.star_meaning.proofs.Keeps.{keeps, Keeps}
@@ -20,13 +20,13 @@ keeps-numbered_place line n _ = search keeps depth 14
 pub keeps-placed_value : {q : Bool} → (line : ℕ) (xs : List Value) (p : ℕ × Numbering) → Keeps q (placed_value line xs p)
 keeps-placed_value line xs p = search keeps depth 14
 
-pub keeps-named_value : {q : Bool} → (line : ℕ) (ns : List NamedValue) (name : List ℕ) (k : Numbering) → Keeps q (named_value line ns name k)
+pub keeps-named_value : {q : Bool} → (line : ℕ) (ns : List KeywordArgument) (name : List ℕ) (k : Numbering) → Keeps q (named_value line ns name k)
 keeps-named_value line ns name k = search keeps depth 14
 
-pub keeps-field_value : {q : Bool} → (line : ℕ) (g : Given) (f : List ℕ) (k : Numbering) → Keeps q (field_value line g f k)
+pub keeps-field_value : {q : Bool} → (line : ℕ) (g : Arguments) (f : List ℕ) (k : Numbering) → Keeps q (field_value line g f k)
 keeps-field_value line g f k = search (keeps, keeps-next_place, keeps-numbered_place, keeps-placed_value, keeps-named_value) depth 14
 
-pub keeps-formatted : {q : Bool} → (w : Setting) (levels : ℕ) (line : ℕ) (g : Given) (a4 : List ℕ) (a5 : Reading) (k : Numbering) (out : List ℕ) → Keeps q (formatted w levels line g a4 a5 k out)
+pub keeps-formatted : {q : Bool} → (w : Setting) (levels : ℕ) (line : ℕ) (g : Arguments) (a4 : List ℕ) (a5 : Reading) (k : Numbering) (out : List ℕ) → Keeps q (formatted w levels line g a4 a5 k out)
 keeps-formatted w levels line g [] Outside k out = search keeps depth 14
 keeps-formatted w levels line g [] (Field f) k out = search keeps depth 14
 keeps-formatted w levels line g [] Closing k out = search keeps depth 14

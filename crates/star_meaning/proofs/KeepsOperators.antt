@@ -12,7 +12,7 @@ use Rattle.star_meaning.specs.Program.{Setting}
 use Rattle.star_meaning.specs.Values.{Content, Number, Held}
 use Rattle.std.proofs.Common.{ℕ, List, [], ◌∷◌, Bool, ℤ, pos, negsuc}
 use Rattle.star_meaning.specs.Run.{Action}
-use Rattle.star_meaning.specs.Operators.{add, repeated, multiply, divide, remainder, shift_left, shift_right, union, on_ints, on_others, on_contents, operate, signed, negated, on_one, prefix, has_item, has, contains, ordered, tested, compared}
+use Rattle.star_meaning.specs.Operators.{add, repeated, multiply, divide, remainder, shift_left, shift_right, union, on_ints, on_others, on_contents, operate, signed, negated, on_one, prefix, list_contains, has, contains, ordered, tested, compared}
 use Rattle.star_meaning.proofs.Keeps.{keeps, Keeps}
 use Rattle.star_meaning.proofs.KeepsValues.{keeps-with_content, keeps-want_text, keeps-new_int, keeps-new_text, keeps-new_tuple, keeps-new_list, keeps-new_dict, keeps-is_true, keeps-equal, keeps-compare, keeps-check_key}
 use Rattle.star_meaning.proofs.KeepsPercent.{keeps-percent}
@@ -97,13 +97,13 @@ pub keeps-prefix : {q : Bool} → (w : Setting) (line : ℕ) (op : UnaryOperator
 unfolding prefix
 keeps-prefix w line op v = search (keeps, keeps-on_one) depth 14
 
-pub keeps-has_item : {q : Bool} → (w : Setting) (levels : ℕ) (line : ℕ) (a3 : List Value) (x : Value) → Keeps q (has_item w levels line a3 x)
-keeps-has_item w levels line [] x = search keeps depth 14
-keeps-has_item {q = q} w levels line (y ∷ ys) x = let h1 : (z0 : Setting) → Keeps q (has_item z0 levels line ys x) = λ z0. keeps-has_item z0 levels line ys x in search (keeps, keeps-equal, h1) depth 14
+pub keeps-list_contains : {q : Bool} → (w : Setting) (levels : ℕ) (line : ℕ) (a3 : List Value) (x : Value) → Keeps q (list_contains w levels line a3 x)
+keeps-list_contains w levels line [] x = search keeps depth 14
+keeps-list_contains {q = q} w levels line (y ∷ ys) x = let h1 : (z0 : Setting) → Keeps q (list_contains z0 levels line ys x) = λ z0. keeps-list_contains z0 levels line ys x in search (keeps, keeps-equal, h1) depth 14
 
 pub keeps-has : {q : Bool} → (w : Setting) (levels : ℕ) (line : ℕ) (a3 : Content) (x : Value) → Keeps q (has w levels line a3 x)
-keeps-has w levels line (Held (cell.List ys)) x = search (keeps, keeps-has_item) depth 14
-keeps-has w levels line (Held (cell.Tuple ys)) x = search (keeps, keeps-has_item) depth 14
+keeps-has w levels line (Held (cell.List ys)) x = search (keeps, keeps-list_contains) depth 14
+keeps-has w levels line (Held (cell.Tuple ys)) x = search (keeps, keeps-list_contains) depth 14
 keeps-has w levels line (Held (cell.Dict es)) x = search (keeps, keeps-check_key) depth 14
 keeps-has w levels line (Held (cell.Range r)) x = search (keeps, keeps-with_content) depth 14
 keeps-has w levels line (Held (cell.Text t)) x = search (keeps, keeps-want_text) depth 14

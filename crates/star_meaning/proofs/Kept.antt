@@ -3,7 +3,7 @@ use Rattle.std.proofs.Common.{ℕ, zero, suc}
 use Rattle.star_scope.specs.Syntax.{expression, target, position_of, form_of}
 use Rattle.star_meaning.specs.Program.{Setting, Variables}
 use Rattle.star_meaning.specs.Variables.{by_names}
-use Rattle.star_meaning.specs.Meaning.{Meaning}
+use Rattle.star_meaning.specs.Semantics.{Semantics}
 use Rattle.star_meaning.specs.Module.{meaning, nothing_opens, one_more, at_line}
 use Rattle.std.proofs.Common.{◌≡◌, subst}
 use Rattle.star_meaning.specs.Run.{State, Outcome, Done}

@@ -5,7 +5,7 @@ use Rattle.star_store.specs.declared.values.Value.{Value}
 use Rattle.star_store.specs.declared.values.Value.TheVariants as value
 use Rattle.star_store.specs.declared.values.Cell.{Cell}
 use Rattle.star_store.specs.declared.values.Cell.TheVariants as cell
-use Rattle.star_store.specs.declared.values.Counted.{Counted}
+use Rattle.star_store.specs.declared.values.HeapCell.{HeapCell}
 use Rattle.star_store.specs.declared.values.Function.{Function}
 use Rattle.star_store.specs.Store.{Published, published_cells}
 use Rattle.star_store.specs.Write.{cell_at}
@@ -33,7 +33,7 @@ function_too trees u w t s o k f h = record { statements = h.statements; chain =
 
 -- ---- the functions that a module sees which loads another
 
-abbrev cells_in : Option Published → List Counted
+abbrev cells_in : Option Published → List HeapCell
 cells_in None = []
 cells_in (Some p) = p.cells
 

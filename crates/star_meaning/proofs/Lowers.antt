@@ -22,12 +22,12 @@ Falls n (Lacks f left) = Unit {0}
 abbrev pub Lowers : {A : Type 0} → Spend A → Type 0
 Lowers o = (n : ℕ) → Falls n (o n)
 
-lowered : {B : Type 0} (n left : ℕ) (o : Spent B) → left ≤ n → Falls left o → Falls n o
-lowered n left (Enough x m) h k = omega (arith, h, k)
-lowered n left (Lacks f m) h k = tt
+to_lower : {B : Type 0} (n left : ℕ) (o : Spent B) → left ≤ n → Falls left o → Falls n o
+to_lower n left (Enough x m) h k = omega (arith, h, k)
+to_lower n left (Lacks f m) h k = tt
 
 spent_then : {A B : Type 0} (n : ℕ) (o : Spent A) (f : A → Spend B) → Falls n o → ((x : A) → Lowers (f x)) → Falls n (spend_then o f)
-spent_then n (Enough x left) f h k = lowered n left (f x left) h (k x left)
+spent_then n (Enough x left) f h k = to_lower n left (f x left) h (k x left)
 spent_then n (Lacks e left) f h k = tt
 
 pub lowers_then : {A B : Type 0} (o : Spend A) (f : A → Spend B) → Lowers o → ((x : A) → Lowers (f x)) → Lowers (λ n. spend_then (o n) f)
@@ -52,7 +52,7 @@ lowers_choice false o p h k = k
 
 visited_if : {A : Type 0} (b : Bool) (n : ℕ) (o : Spend A) → Lowers o → Falls n (if b then Lacks refused.Steps n else o (n - 1))
 visited_if true n o h = tt
-visited_if false n o h = lowered n (n - 1) (o (n - 1)) (omega arith) (h (n - 1))
+visited_if false n o h = to_lower n (n - 1) (o (n - 1)) (omega arith) (h (n - 1))
 
 pub lowers_visited : {A : Type 0} (o : Spend A) → Lowers o → Lowers (visited o)
 lowers_visited o h n = visited_if (nat_lt n 1) n o h

@@ -6,7 +6,7 @@ use Rattle.star_scope.specs.Syntax.{expression, target, position_of, form_of}
 use Rattle.star_meaning.specs.Run.{Outcome, Done, Failed}
 use Rattle.star_meaning.specs.Program.{Setting, Variables}
 use Rattle.star_meaning.specs.Variables.{by_names}
-use Rattle.star_meaning.specs.Meaning.{Meaning}
+use Rattle.star_meaning.specs.Semantics.{Semantics}
 use Rattle.star_meaning.specs.Module.{meaning, nothing_opens, one_more, at_line, end, Ended, run_file, local, local_of, start, most_levels}
 use Rattle.star_meaning.specs.Laws.{IsNotForSteps}
 use Rattle.star_meaning.proofs.Extends.{NotForSteps, later}

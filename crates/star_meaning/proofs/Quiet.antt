@@ -7,7 +7,7 @@ use Rattle.star_store.specs.declared.values.Cell.{Cell}
 use Rattle.star_store.specs.declared.values.Cell.TheVariants as cell
 use Rattle.star_store.specs.declared.values.Frame.{Frame}
 use Rattle.star_store.specs.declared.range.Range.{Range}
-use Rattle.star_store.specs.declared.values.Counted.{Counted}
+use Rattle.star_store.specs.declared.values.HeapCell.{HeapCell}
 use Rattle.star_store.specs.declared.values.Function.{Function}
 use Rattle.star_store.specs.declared.names.Method.{Method}
 use Rattle.star_store.specs.declared.arena.write.Change.{Change}
@@ -15,8 +15,8 @@ use Rattle.star_store.specs.declared.fault.StoreFault.{StoreFault}
 use Rattle.star_store.specs.Store.{Store, changed, changed_at, bound, bound_cell, opened_in, closed_in, is_container}
 use Rattle.star_store.specs.Spend.{Spend, Spent, Enough, Lacks}
 use Rattle.star_store.specs.Write.{allowed, made_if, in_store, cell_at}
-use Rattle.star_meaning.specs.declared.fault.Code.{Code}
-use Rattle.star_meaning.specs.declared.fault.Code.TheVariants as code
+use Rattle.star_meaning.specs.declared.fault.FaultCode.{FaultCode}
+use Rattle.star_meaning.specs.declared.fault.FaultCode.TheVariants as code
 use Rattle.star_meaning.specs.Run.{State, Outcome, Done, Failed, Action, and_then, ◌>>=◌, give, fail, pay, check, found, code_of, agreed, settled, visiting, seeing, storing, make, build, each, all_of, collect, until, add_line}
 use Rattle.star_meaning.specs.Program.{Setting}
 use Rattle.star_meaning.specs.Values.{written, change, iterate, leave, count_of}
@@ -68,14 +68,14 @@ keeps_then m f k l = record { holds = λ s. followed_then s (m s) f (k.holds s) 
 pub keeps_give : {A : Type 0} (x : A) → Keeps (give x)
 keeps_give x = record { holds = λ s. follows_same s s.active s.steps s.lines }
 
-pub keeps_fail : (A : Type 0) (c : Code) (line : ℕ) → Keeps (fail {A = A} c line)
+pub keeps_fail : (A : Type 0) (c : FaultCode) (line : ℕ) → Keeps (fail {A = A} c line)
 keeps_fail A c line = record { holds = λ s. tt }
 
 pub keeps_if : {A : Type 0} (b : Bool) (m n : Action A) → Keeps m → Keeps n → Keeps (if b then m else n)
 keeps_if true m n k l = k
 keeps_if false m n k l = l
 
-pub keeps_found : {A : Type 0} (c : Code) (line : ℕ) (o : Option A) → Keeps (found c line o)
+pub keeps_found : {A : Type 0} (c : FaultCode) (line : ℕ) (o : Option A) → Keeps (found c line o)
 keeps_found {A = A} c line None = keeps_fail A c line
 keeps_found {A = A} c line (Some x) = keeps_give x
 
@@ -90,12 +90,12 @@ keeps_pay line n = record { holds = λ s. paid (nat_lt s.steps n) line n s }
 pub keeps_seeing : {A : Type 0} (f : State → Action A) → ((s : State) → Keeps (f s)) → Keeps (seeing f)
 keeps_seeing f k = record { holds = λ s. (k s).holds s }
 
-pub keeps_check : (c : Code) (line : ℕ) (b : Bool) → Keeps (check c line b)
+pub keeps_check : (c : FaultCode) (line : ℕ) (b : Bool) → Keeps (check c line b)
 keeps_check c line b = keeps_if b _ _ (keeps_give {A = Unit {0}} tt) (keeps_fail (Unit {0}) c line)
 
 -- ---- new cells
 
-pub cell_more : (xs ys : List Counted) (at : ℕ) (c : Cell) → cell_at xs at ≡ Some c → cell_at (xs ++ ys) at ≡ Some c
+pub cell_more : (xs ys : List HeapCell) (at : ℕ) (c : Cell) → cell_at xs at ≡ Some c → cell_at (xs ++ ys) at ≡ Some c
 cell_more [] ys at c h = cc
 cell_more (x ∷ xs) ys zero c h = h
 cell_more (x ∷ xs) ys (suc at) c h = cell_more xs ys at c h
@@ -103,11 +103,11 @@ cell_more (x ∷ xs) ys (suc at) c h = cell_more xs ys at c h
 nothing_there : (at : ℕ) (c : Cell) → cell_at [] at ≡ Some c → ⊥
 nothing_there at c h = cc
 
-pub one_there : (x : Counted) (at : ℕ) (c : Cell) → cell_at (x ∷ []) at ≡ Some c → x.cell ≡ c
+pub one_there : (x : HeapCell) (at : ℕ) (c : Cell) → cell_at (x ∷ []) at ≡ Some c → x.cell ≡ c
 one_there x zero c h = cc
 one_there x (suc at) c h = elim (nothing_there at c h) [ ]
 
-function_before : (xs : List Counted) (x : Counted) (at : ℕ) (f : Function) → (x.cell ≡ cell.Func f → ⊥) → cell_at (xs ++ x ∷ []) at ≡ Some (cell.Func f) → cell_at xs at ≡ Some (cell.Func f)
+function_before : (xs : List HeapCell) (x : HeapCell) (at : ℕ) (f : Function) → (x.cell ≡ cell.Func f → ⊥) → cell_at (xs ++ x ∷ []) at ≡ Some (cell.Func f) → cell_at xs at ≡ Some (cell.Func f)
 function_before [] x at f other h = elim (other (one_there x at (cell.Func f) h)) [ ]
 function_before (y ∷ xs) x zero f other h = h
 function_before (y ∷ xs) x (suc at) f other h = function_before xs x at f other h
@@ -218,16 +218,16 @@ kind_function (cell.Dict xs) d f h e = let k : cell.Dict h.0 ≡ cell.Func f = s
 kind_function (cell.Frame xs) d f h e = let k : cell.Frame h.0 ≡ cell.Func f = sym h.1 ∙ e in cc
 kind_function c d f h e = sym h ∙ e
 
-has_cell : (o : Option Counted) (c : Cell) → option_map (λ e. e.cell) o ≡ Some c → (a : Counted) × (o ≡ Some a) × (a.cell ≡ c)
+has_cell : (o : Option HeapCell) (c : Cell) → option_map (λ e. e.cell) o ≡ Some c → (a : HeapCell) × (o ≡ Some a) × (a.cell ≡ c)
 has_cell None c h = cc
 has_cell (Some a) c h = (a, refl, cc)
 
-within : (xs : List Counted) (at : ℕ) (a : Counted) → slice_get xs at ≡ Some a → at < length xs
+within : (xs : List HeapCell) (at : ℕ) (a : HeapCell) → slice_get xs at ≡ Some a → at < length xs
 within [] at a h = cc
 within (x ∷ xs) zero a h = omega arith
 within (x ∷ xs) (suc at) a h = omega (arith, within xs at a h)
 
-present : (xs : List Counted) (at : ℕ) → at < length xs → (a : Counted) × (slice_get xs at ≡ Some a)
+present : (xs : List HeapCell) (at : ℕ) → at < length xs → (a : HeapCell) × (slice_get xs at ≡ Some a)
 present [] at h = absurd (omega (arith, h))
 present (x ∷ xs) zero h = (x, refl)
 present (x ∷ xs) (suc at) h = present xs at (omega (arith, h))
@@ -235,7 +235,7 @@ present (x ∷ xs) (suc at) h = present xs at (omega (arith, h))
 shorter : (m n k : ℕ) → k < m → m ≤ n → k < n
 shorter m n k a b = omega (arith, a, b)
 
-same_cell : (a b : Counted) → Some a ≡ Some b → a.cell ≡ b.cell
+same_cell : (a b : HeapCell) → Some a ≡ Some b → a.cell ≡ b.cell
 same_cell a b h = let e : a ≡ b = cc in ap (λ x. x.cell) e
 
 pub follows_stays : (s t : State) → stays.Stays s t → length t.store.cells ≤ length s.store.cells → Follows s t
@@ -255,16 +255,16 @@ follows_stays s t h l = record {
       ap (option_map (λ e. e.cell)) a.1 ∙ ap Some (kind_function a.0.cell k.0.cell f k.2.kind one);
 }
 
-length_changed : (f : Counted → Counted) (xs : List Counted) (at : ℕ) → length (changed_at f xs at) ≡ length xs
+length_changed : (f : HeapCell → HeapCell) (xs : List HeapCell) (at : ℕ) → length (changed_at f xs at) ≡ length xs
 length_changed f [] at = refl
 length_changed f (x ∷ xs) zero = refl
 length_changed f (x ∷ xs) (suc at) = ap suc (length_changed f xs at)
 
-own_length : (b : Bool) (s : Store) (cells : List Counted) → length cells ≡ length s.cells → length ((if b then record s { cells = cells } else s).cells) ≡ length s.cells
+own_length : (b : Bool) (s : Store) (cells : List HeapCell) → length cells ≡ length s.cells → length ((if b then record s { cells = cells } else s).cells) ≡ length s.cells
 own_length true s cells h = h
 own_length false s cells h = refl
 
-pub changed_length : (f : Counted → Counted) (v : Value) (s : Store) → length (changed f v s).cells ≡ length s.cells
+pub changed_length : (f : HeapCell → HeapCell) (v : Value) (s : Store) → length (changed f v s).cells ≡ length s.cells
 changed_length f (value.Ref home at) s = own_length (nat_eq home s.home) s _ (length_changed f s.cells at)
 changed_length f _ s = refl
 
@@ -287,22 +287,22 @@ pub keeps_bound : (frame : Value) (slot : ℕ) (v : Value) → Keeps (storing (b
 keeps_bound frame slot v = record { holds = λ s. follows_stays s _ ((stays.keeps_bound frame slot v).holds s) (not_longer _ _ (changed_length (λ e. record e { cell = bound_cell slot v e.cell }) frame s.store)) }
 
 -- a change that leaves the content of each cell
-same_cells : (f : Counted → Counted) → ((e : Counted) → (f e).cell ≡ e.cell) → (xs : List Counted) (i at : ℕ) → cell_at (changed_at f xs i) at ≡ cell_at xs at
+same_cells : (f : HeapCell → HeapCell) → ((e : HeapCell) → (f e).cell ≡ e.cell) → (xs : List HeapCell) (i at : ℕ) → cell_at (changed_at f xs i) at ≡ cell_at xs at
 same_cells f h [] i at = refl
 same_cells f h (x ∷ xs) zero zero = ap Some (h x)
 same_cells f h (x ∷ xs) zero (suc at) = refl
 same_cells f h (x ∷ xs) (suc i) zero = refl
 same_cells f h (x ∷ xs) (suc i) (suc at) = same_cells f h xs i at
 
-own_cells : (b : Bool) (s : Store) (cells : List Counted) (at : ℕ) → cell_at cells at ≡ cell_at s.cells at → cell_at ((if b then record s { cells = cells } else s).cells) at ≡ cell_at s.cells at
+own_cells : (b : Bool) (s : Store) (cells : List HeapCell) (at : ℕ) → cell_at cells at ≡ cell_at s.cells at → cell_at ((if b then record s { cells = cells } else s).cells) at ≡ cell_at s.cells at
 own_cells true s cells at h = h
 own_cells false s cells at h = refl
 
-changed_cells : (f : Counted → Counted) → ((e : Counted) → (f e).cell ≡ e.cell) → (v : Value) (s : Store) (at : ℕ) → cell_at (changed f v s).cells at ≡ cell_at s.cells at
+changed_cells : (f : HeapCell → HeapCell) → ((e : HeapCell) → (f e).cell ≡ e.cell) → (v : Value) (s : Store) (at : ℕ) → cell_at (changed f v s).cells at ≡ cell_at s.cells at
 changed_cells f h (value.Ref home i) s at = own_cells (nat_eq home s.home) s _ at (same_cells f h s.cells i at)
 changed_cells f h _ s at = refl
 
-changing : (f : Counted → Counted) → ((e : Counted) → (f e).cell ≡ e.cell) → (v : Value) → Keeps (storing (changed f v))
+changing : (f : HeapCell → HeapCell) → ((e : HeapCell) → (f e).cell ≡ e.cell) → (v : Value) → Keeps (storing (changed f v))
 changing f h v = record {
   holds = λ s. record {
     home = stays.changed_home f v s.store;
@@ -311,11 +311,11 @@ changing f h v = record {
   };
 }
 
-open_cell : (b : Bool) (e : Counted) → (if b then record e { iterations = e.iterations + 1 } else e).cell ≡ e.cell
+open_cell : (b : Bool) (e : HeapCell) → (if b then record e { iterations = e.iterations + 1 } else e).cell ≡ e.cell
 open_cell true e = refl
 open_cell false e = refl
 
-close_cell : (b : Bool) (e : Counted) → (if b then record e { iterations = e.iterations - 1 } else e).cell ≡ e.cell
+close_cell : (b : Bool) (e : HeapCell) → (if b then record e { iterations = e.iterations - 1 } else e).cell ≡ e.cell
 close_cell true e = refl
 close_cell false e = refl
 

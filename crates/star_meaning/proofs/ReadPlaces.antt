@@ -17,11 +17,11 @@ use Rattle.star_scope.specs.Places.{IsPlaced, chain_length, or_further, spot_in,
 use Rattle.star_scope.specs.Uses.{Named}
 use Rattle.star_tree.specs.declared.tree.Name.{Name}
 use Rattle.star_scope.specs.Places as scope
-use Rattle.star_meaning.specs.declared.fault.Code.TheVariants as code
-use Rattle.star_meaning.specs.declared.place.Place.{Place}
+use Rattle.star_meaning.specs.declared.fault.FaultCode.TheVariants as code
+use Rattle.star_meaning.specs.declared.site.Site.{Site}
 use Rattle.star_meaning.specs.Run.{State, found}
 use Rattle.star_meaning.specs.Program.{Setting, names_of, blocks_of, published_of, seen}
-use Rattle.star_meaning.specs.Variables.{frame_of, in_frame, bind_at, bind_name, else_in, nearest, own_slot, read_name, read_found, outside, outside_prelude, prelude_has, outermost}
+use Rattle.star_meaning.specs.Variables.{frame_of, in_frame, bind_at, bind_name, else_in, nearest, keyword_slot, read_name, read_found, outside, outside_prelude, prelude_has, outermost}
 use Rattle.star_meaning.specs.Places.{Tables, SpotsMeanNames, bind_spot, frame_above, own_spot, read_spot, slot_in, joined, at_spot, outer_names, FitsBlock, FitsChain}
 
 -- the frame to which a value leads
@@ -87,28 +87,28 @@ no_global_in (g ∷ gs) name h = neither (same_name g.0 name) (has_name (map (λ
 no_global : (name : List ℕ) → has_name outermost_names name ≡ false → global_of name outermost ≡ None
 no_global name h = no_global_in outermost name (let e : map (λ g. g.0) outermost ≡ outermost_names = refl in ap (λ ns. has_name ns name) e ∙ h)
 
-at_outermost : (w : Setting) (s : State) (p : Place) (name : List ℕ) (b : Bool) → has_name outermost_names name ≡ b
+at_outermost : (w : Setting) (s : State) (p : Site) (name : List ℕ) (b : Bool) → has_name outermost_names name ≡ b
     → at_spot w s p name (if b then Some spot.Outermost else None) ≡ global_of name outermost
 at_outermost w s p name true h = refl
 at_outermost w s p name false h = sym (no_global name h)
 
-at_outermost_now : (w : Setting) (s : State) (p : Place) (name : List ℕ) → at_spot w s p name (if has_name outermost_names name then Some spot.Outermost else None) ≡ global_of name outermost
+at_outermost_now : (w : Setting) (s : State) (p : Site) (name : List ℕ) → at_spot w s p name (if has_name outermost_names name then Some spot.Outermost else None) ≡ global_of name outermost
 at_outermost_now w s p name = at_outermost w s p name (has_name outermost_names name) refl
 
 -- the prelude's names, with its published values
-in_prelude : (w : Setting) (s : State) (p : Place) (name : List ℕ) (q : ℕ) (b : Bool) → w.prelude ≡ Some q
+in_prelude : (w : Setting) (s : State) (p : Site) (name : List ℕ) (q : ℕ) (b : Bool) → w.prelude ≡ Some q
     → (if b then found code.Unbound p.line (option_and_then (λ x. global_of name x.globals) (published_of w q)) else outside_prelude p.line name)
     ≡ found code.Unbound p.line (at_spot w s p name (if b then Some spot.Prelude else if has_name outermost_names name then Some spot.Outermost else None))
 in_prelude w s p name q true e = ap (λ o. found code.Unbound p.line (option_and_then (λ x. global_of name x.globals) (option_and_then (published_of w) o))) (sym e)
 in_prelude w s p name q false e = ap (found code.Unbound p.line) (sym (at_outermost_now w s p name))
 
-outside_own : (w : Setting) (s : State) (p : Place) (name : List ℕ) (q : ℕ) (own : Bool) → w.prelude ≡ Some q
+outside_own : (w : Setting) (s : State) (p : Site) (name : List ℕ) (q : ℕ) (own : Bool) → w.prelude ≡ Some q
     → (if not own && prelude_has w name q then found code.Unbound p.line (option_and_then (λ x. global_of name x.globals) (published_of w q)) else outside_prelude p.line name)
     ≡ found code.Unbound p.line (at_spot w s p name (outside_spot (if own then None else Some (names_of w q 0)) name))
 outside_own w s p name q true e = ap (found code.Unbound p.line) (sym (at_outermost_now w s p name))
 outside_own w s p name q false e = in_prelude w s p name q (prelude_has w name q) e
 
-outside_by : (w : Setting) (s : State) (p : Place) (name : List ℕ) (o : Option ℕ) → w.prelude ≡ o
+outside_by : (w : Setting) (s : State) (p : Site) (name : List ℕ) (o : Option ℕ) → w.prelude ≡ o
     → outside w o p.file p.line name ≡ found code.Unbound p.line (at_spot w s p name (outside_spot (outer_names w p.file o) name))
 outside_by w s p name None e = ap (found code.Unbound p.line) (sym (at_outermost_now w s p name))
 outside_by w s p name (Some q) e = outside_own w s p name q (nat_eq q p.file) e
@@ -116,7 +116,7 @@ outside_by w s p name (Some q) e = outside_own w s p name q (nat_eq q p.file) e
 -- ---- in a chain
 
 -- if a block has the name
-at_slot : (w : Setting) (s : State) (p : Place) (name : List ℕ) (names : Names) (f : Frame) (up : ℕ) (o : Option ℕ) (rest : Option (Option Value)) (further : Option Spot)
+at_slot : (w : Setting) (s : State) (p : Site) (name : List ℕ) (names : Names) (f : Frame) (up : ℕ) (o : Option ℕ) (rest : Option (Option Value)) (further : Option Spot)
     → length f.slots ≡ length names
     → slot_of name names ≡ o
     → framed w s (frame_above w s up (Some p.frame)) ≡ Some f
@@ -128,7 +128,7 @@ at_slot w s p name names f up (Some i) rest further h e g k =
     let here : slot_in w s i (frame_above w s up (Some p.frame)) ≡ Some there.0 = ap (option_and_then (λ x. slice_get x.slots i)) g ∙ there.1 in
     ap (λ r. read_found w p name (else_in r rest)) there.1 ∙ sym (ap (λ r. found code.Unbound p.line (joined r)) here)
 
-read_in : (w : Setting) (s : State) (p : Place) (name : List ℕ) (chain : List ℕ) (n up : ℕ) (frame : Option Value)
+read_in : (w : Setting) (s : State) (p : Site) (name : List ℕ) (chain : List ℕ) (n up : ℕ) (frame : Option Value)
     → frame_above w s up (Some p.frame) ≡ frame → FitsChain w s p.file chain frame → length chain ≤ n
     → read_found w p name (nearest w s name n frame) ≡ found code.Unbound p.line (at_spot w s p name (spot_in (blocks_of w p.file) (outer_names w p.file w.prelude) name up chain))
 read_in w s p name [] n up frame a h l =
@@ -168,19 +168,19 @@ own_first : (o : Option ℕ) (further : Option Spot) → own_spot further ≡ No
 own_first None further h = h
 own_first (Some slot) further h = refl
 
-bind_in : (w : Setting) (s : State) (p : Place) (name : List ℕ) (chain : List ℕ) → FitsChain w s p.file chain (Some p.frame)
-    → own_spot (spot_in (blocks_of w p.file) (outer_names w p.file w.prelude) name 0 chain) ≡ own_slot w s p.frame name
+bind_in : (w : Setting) (s : State) (p : Site) (name : List ℕ) (chain : List ℕ) → FitsChain w s p.file chain (Some p.frame)
+    → own_spot (spot_in (blocks_of w p.file) (outer_names w p.file w.prelude) name 0 chain) ≡ keyword_slot w s p.frame name
 bind_in w s p name [] h = absurd cc
 bind_in w s p name (b ∷ bs) h =
     let f : Frame = h.1 in
     let here : frame_of (seen w s p.frame) ≡ Some f = is_framed w s (Some p.frame) h.0 f h.2 h.3 in
     let names : names_of w f.file f.block ≡ names_in (blocks_of w p.file) b = ap (λ k. names_of w k f.block) h.4.file_is ∙ ap (names_of w p.file) h.4.block_is in
-    let own : own_slot w s p.frame name ≡ slot_of name (names_in (blocks_of w p.file) b) = ap (option_and_then (λ x. slot_of name (names_of w x.file x.block))) here ∙ ap (slot_of name) names in
+    let own : keyword_slot w s p.frame name ≡ slot_of name (names_in (blocks_of w p.file) b) = ap (option_and_then (λ x. slot_of name (names_of w x.file x.block))) here ∙ ap (slot_of name) names in
     own_first (slot_of name (names_in (blocks_of w p.file) b)) _ (own_further (blocks_of w p.file) (outer_names w p.file w.prelude) name bs (0 + 1) 0 (omega arith)) ∙ sym own
 
 -- ---- the law
 
-reads : (tables : Tables) (w : Setting) (p : Place) (n : Name) (chain : List ℕ) (s : State)
+reads : (tables : Tables) (w : Setting) (p : Site) (n : Name) (chain : List ℕ) (s : State)
     → IsPlaced (tables.spots p.file) (blocks_of w p.file) (outer_names w p.file w.prelude) (Named n chain) → FitsChain w s p.file chain (Some p.frame)
     → read_spot tables w p n s ≡ read_name w p n s
 unfolding read_spot read_name
@@ -188,7 +188,7 @@ reads tables w p n chain s placed fits =
     ap (λ x. found code.Unbound p.line (at_spot w s p n.text x) s) placed.1
     ∙ sym (ap (λ act. act s) (read_in w s p n.text chain chain_length 0 (Some p.frame) refl fits placed.0))
 
-binds : (tables : Tables) (w : Setting) (p : Place) (n : Name) (chain : List ℕ) (s : State) (v : Value)
+binds : (tables : Tables) (w : Setting) (p : Site) (n : Name) (chain : List ℕ) (s : State) (v : Value)
     → IsPlaced (tables.spots p.file) (blocks_of w p.file) (outer_names w p.file w.prelude) (Named n chain) → FitsChain w s p.file chain (Some p.frame)
     → bind_spot tables p n v s ≡ bind_name w p n v s
 unfolding bind_spot bind_name

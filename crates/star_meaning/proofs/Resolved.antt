@@ -45,15 +45,15 @@ blocks_by : (w : Setting) (trees : Trees) (file : ℕ) (ss : List Statement) →
 blocks_by w trees file ss o h = ap blocks_in (outline_by w trees file o ∙ ap (λ x. option_flatten (option_map (option_map outline) x)) h)
 
 -- the names of the prelude's block are those that its file's block binds
-own_names : (o : Option (Option (List Statement))) → names_in (blocks_in (option_flatten (option_map (option_map outline) o))) 0 ≡ prelude_names (option_flatten o)
-own_names None = refl
-own_names (Some None) = refl
-own_names (Some (Some ss)) = refl
+keywords_of : (o : Option (Option (List Statement))) → names_in (blocks_in (option_flatten (option_map (option_map outline) o))) 0 ≡ prelude_names (option_flatten o)
+keywords_of None = refl
+keywords_of (Some None) = refl
+keywords_of (Some (Some ss)) = refl
 
 seen_names : (w : Setting) (trees : Trees) (prelude file : ℕ) (b : Bool) → w.outlines ≡ outlines trees
     → option_map (λ (q : Prelude). q.names) (if b then None else Some (record { file = prelude; names = prelude_names (option_flatten (slice_get trees prelude)) })) ≡ (if b then None else Some (names_of w prelude 0))
 seen_names w trees prelude file true o = refl
-seen_names w trees prelude file false o = ap Some (sym (ap (λ x. names_in (blocks_in x) 0) (outline_by w trees prelude o) ∙ own_names (slice_get trees prelude)))
+seen_names w trees prelude file false o = ap Some (sym (ap (λ x. names_in (blocks_in x) 0) (outline_by w trees prelude o) ∙ keywords_of (slice_get trees prelude)))
 
 outer_by : (w : Setting) (files : Files) (file : ℕ) (prelude : Option ℕ) → w.outlines ≡ outlines (trees_of files) → option_map (λ q. q.names) (seen_by file (prelude_in files prelude)) ≡ outer_names w file prelude
 outer_by w files file None o = refl

@@ -3,7 +3,7 @@ use Rattle.std.proofs.Common.{ℕ, zero, suc}
 use Rattle.star_scope.specs.Syntax.{expression, target, position_of, form_of}
 use Rattle.star_meaning.specs.Program.{Setting, Variables}
 use Rattle.star_meaning.specs.Variables.{by_names}
-use Rattle.star_meaning.specs.Meaning.{Meaning}
+use Rattle.star_meaning.specs.Semantics.{Semantics}
 use Rattle.star_meaning.specs.Module.{meaning, nothing_opens, one_more, at_line}
 use Rattle.star_meaning.proofs.Keeps.{AllKeep, VariablesKeep, keeps_fail, keeps_pay, keeps_then}
 use Rattle.star_meaning.proofs.KeepsVariables.{keeps-read_name, keeps-bind_name, keeps-new_frame}
@@ -24,7 +24,7 @@ none_keep w = record {
   call = λ p f d shares. keeps_fail _ _ _;
 }
 
-more_keep : (vs : Variables) (w : Setting) (n : ℕ) (m : Meaning) → VariablesKeep vs → AllKeep m → AllKeep (one_more vs w n m)
+more_keep : (vs : Variables) (w : Setting) (n : ℕ) (m : Semantics) → VariablesKeep vs → AllKeep m → AllKeep (one_more vs w n m)
 more_keep vs w n m k h = record {
   expr = λ p e. keeps_then _ _ (keeps_pay p.line 1) (λ _. keeps-node vs w n m p (expression e) k h);
   stmt = λ p x. keeps_then _ _ (keeps_pay (at_line w p x).line 1) (λ _. keeps-statement vs w n m (at_line w p x) (position_of x) (form_of x) k h);

@@ -6,7 +6,7 @@ use Rattle.star_store.specs.declared.values.Value.TheVariants as value
 use Rattle.star_store.specs.declared.values.Cell.{Cell}
 use Rattle.star_store.specs.declared.values.Cell.TheVariants as cell
 use Rattle.star_store.specs.declared.values.Frame.{Frame}
-use Rattle.star_store.specs.declared.values.Counted.{Counted}
+use Rattle.star_store.specs.declared.values.HeapCell.{HeapCell}
 use Rattle.star_store.specs.declared.values.Function.{Function}
 use Rattle.star_store.specs.declared.arena.write.Change.{Change}
 use Rattle.star_store.specs.declared.fault.StoreFault.{StoreFault}
@@ -17,20 +17,20 @@ use Rattle.star_tree.specs.declared.tree.Expression.{Expression}
 use Rattle.star_tree.specs.declared.tree.Statement.{Statement}
 use Rattle.star_tree.specs.declared.tree.Target.{Target}
 use Rattle.star_tree.specs.declared.tree.Name.{Name}
-use Rattle.star_meaning.specs.declared.fault.Code.{Code}
-use Rattle.star_meaning.specs.declared.fault.Code.TheVariants as code
-use Rattle.star_meaning.specs.declared.place.Place.{Place}
-use Rattle.star_meaning.specs.declared.place.Flow.{Flow}
-use Rattle.star_meaning.specs.declared.place.Flow.TheVariants as flow
+use Rattle.star_meaning.specs.declared.fault.FaultCode.{FaultCode}
+use Rattle.star_meaning.specs.declared.fault.FaultCode.TheVariants as code
+use Rattle.star_meaning.specs.declared.site.Site.{Site}
+use Rattle.star_meaning.specs.declared.site.Flow.{Flow}
+use Rattle.star_meaning.specs.declared.site.Flow.TheVariants as flow
 use Rattle.star_meaning.specs.Run.{State, Outcome, Done, Failed, Action, and_then, ◌>>=◌, give, fail, pay, check, found, code_of, agreed, settled, visiting, seeing, storing, make, build, each, all_of, collect, until, add_line}
 use Rattle.star_scope.specs.Definitions.{Definition}
 use Rattle.star_meaning.specs.Program.{Setting, Variables}
 use Rattle.star_meaning.specs.Values.{written, change, iterate, leave, count_of, count_in, content}
 use Rattle.std.proofs.lemmas.Bool.{eqb-true}
 use Rattle.star_store.specs.declared.fault.StoreFault.TheVariants as refused
-use Rattle.star_meaning.specs.Binding.{Share}
+use Rattle.star_meaning.specs.Binding.{BoundArgument}
 use Rattle.star_meaning.specs.Laws.{KeepsFrame, KeepsKind, KeepsCell}
-use Rattle.star_meaning.specs.Meaning.{Meaning, then_go, block, then_turn, turns, repeat}
+use Rattle.star_meaning.specs.Semantics.{Semantics, then_go, block, then_turn, turns, repeat}
 use Rattle.star_meaning.specs.Calls.{activate, deactivate, rest_of}
 
 kind_same : (c : Cell) → KeepsKind c c
@@ -53,13 +53,13 @@ kind_container (cell.Dict es) b h = ap is_container h.1
 kind_container (cell.Frame f) b h = ap is_container h.1
 kind_container a b h = ap is_container h
 
-cell_same : (a : Counted) → KeepsCell a a
+cell_same : (a : HeapCell) → KeepsCell a a
 cell_same a = record { kind = kind_same a.cell; iterations = refl; held = λ i. refl }
 
-same_count : (a b : Counted) → b.cell ≡ a.cell → b.iterations ≡ a.iterations → iterations_in (Some a) ≡ iterations_in (Some b)
+same_count : (a b : HeapCell) → b.cell ≡ a.cell → b.iterations ≡ a.iterations → iterations_in (Some a) ≡ iterations_in (Some b)
 same_count a b e i = rw (e, i) refl
 
-cell_on : (a b c : Counted) → KeepsCell a b → KeepsCell b c → KeepsCell a c
+cell_on : (a b c : HeapCell) → KeepsCell a b → KeepsCell b c → KeepsCell a c
 cell_on a b c h k = record {
   kind = kind_on a.cell b.cell c.cell h.kind k.kind;
   iterations = k.iterations ∙ h.iterations;
@@ -69,8 +69,8 @@ cell_on a b c h k = record {
 -- the parts of its state that a run keeps; on a cell that is new after it no iteration is open
 pub record Stays (s t : State) : Type 0 where
   pub home : t.store.home ≡ s.store.home
-  pub cells : (at : ℕ) (a : Counted) → slice_get s.store.cells at ≡ Some a → (b : Counted) × (slice_get t.store.cells at ≡ Some b) × KeepsCell a b
-  pub fresh : (at : ℕ) (b : Counted) → slice_get s.store.cells at ≡ None → slice_get t.store.cells at ≡ Some b → b.iterations ≡ 0
+  pub cells : (at : ℕ) (a : HeapCell) → slice_get s.store.cells at ≡ Some a → (b : HeapCell) × (slice_get t.store.cells at ≡ Some b) × KeepsCell a b
+  pub fresh : (at : ℕ) (b : HeapCell) → slice_get s.store.cells at ≡ None → slice_get t.store.cells at ≡ Some b → b.iterations ≡ 0
   pub active : t.active ≡ s.active
 
 abbrev pub Preserved : {A : Type 0} → State → Outcome A → Type 0
@@ -80,14 +80,14 @@ Preserved s (Failed f lines) = Unit {0}
 pub record Keeps {A : Type 0} (m : Action A) : Type 0 where
   pub holds : (s : State) → Preserved s (m s)
 
-none_there : (o : Option Counted) (b : Counted) → o ≡ None → o ≡ Some b → b.iterations ≡ 0
+none_there : (o : Option HeapCell) (b : HeapCell) → o ≡ None → o ≡ Some b → b.iterations ≡ 0
 none_there None b h k = cc
 none_there (Some a) b h k = cc
 
 pub stays_same : (s : State) (steps : ℕ) (lines : List (List ℕ)) → Stays s (record { store = s.store; active = s.active; steps = steps; lines = lines })
 stays_same s steps lines = record { home = refl; cells = λ at a h. (a, h, cell_same a); fresh = λ at b h k. none_there _ b h k; active = refl }
 
-fresh_on : (s t u : State) → Stays s t → Stays t u → (at : ℕ) (c : Counted) (o : Option Counted) → slice_get t.store.cells at ≡ o → slice_get s.store.cells at ≡ None → slice_get u.store.cells at ≡ Some c → c.iterations ≡ 0
+fresh_on : (s t u : State) → Stays s t → Stays t u → (at : ℕ) (c : HeapCell) (o : Option HeapCell) → slice_get t.store.cells at ≡ o → slice_get s.store.cells at ≡ None → slice_get u.store.cells at ≡ Some c → c.iterations ≡ 0
 fresh_on s t u h k at c None e n l = k.fresh at c e l
 fresh_on s t u h k at c (Some b) e n l = let d = k.cells at b e in let same : Some d.0 ≡ Some c = sym d.1 ∙ l in let one : d.0 ≡ c = cc in subst (λ z. z.iterations ≡ 0) one (d.2.iterations ∙ h.fresh at b n e)
 
@@ -113,14 +113,14 @@ keeps_then m f k l = record { holds = λ s. preserved_then s (m s) f (k.holds s)
 pub keeps_give : {A : Type 0} (x : A) → Keeps (give x)
 keeps_give x = record { holds = λ s. stays_same s s.steps s.lines }
 
-pub keeps_fail : (A : Type 0) (c : Code) (line : ℕ) → Keeps (fail {A = A} c line)
+pub keeps_fail : (A : Type 0) (c : FaultCode) (line : ℕ) → Keeps (fail {A = A} c line)
 keeps_fail A c line = record { holds = λ s. tt }
 
 pub keeps_if : {A : Type 0} (b : Bool) (m n : Action A) → Keeps m → Keeps n → Keeps (if b then m else n)
 keeps_if true m n k l = k
 keeps_if false m n k l = l
 
-pub keeps_found : {A : Type 0} (c : Code) (line : ℕ) (o : Option A) → Keeps (found c line o)
+pub keeps_found : {A : Type 0} (c : FaultCode) (line : ℕ) (o : Option A) → Keeps (found c line o)
 keeps_found {A = A} c line None = keeps_fail A c line
 keeps_found {A = A} c line (Some x) = keeps_give x
 
@@ -135,15 +135,15 @@ keeps_pay line n = record { holds = λ s. paid (nat_lt s.steps n) line n s }
 pub keeps_seeing : {A : Type 0} (f : State → Action A) → ((s : State) → Keeps (f s)) → Keeps (seeing f)
 keeps_seeing f k = record { holds = λ s. (k s).holds s }
 
-pub keeps_check : (c : Code) (line : ℕ) (b : Bool) → Keeps (check c line b)
+pub keeps_check : (c : FaultCode) (line : ℕ) (b : Bool) → Keeps (check c line b)
 keeps_check c line b = keeps_if b _ _ (keeps_give {A = Unit {0}} tt) (keeps_fail (Unit {0}) c line)
 
-get_more : (xs ys : List Counted) (at : ℕ) (a : Counted) → slice_get xs at ≡ Some a → slice_get (xs ++ ys) at ≡ Some a
+get_more : (xs ys : List HeapCell) (at : ℕ) (a : HeapCell) → slice_get xs at ≡ Some a → slice_get (xs ++ ys) at ≡ Some a
 get_more [] ys at a h = cc
 get_more (x ∷ xs) ys zero a h = h
 get_more (x ∷ xs) ys (suc at) a h = get_more xs ys at a h
 
-get_last : (xs : List Counted) (x b : Counted) (at : ℕ) → slice_get xs at ≡ None → slice_get (xs ++ x ∷ []) at ≡ Some b → x ≡ b
+get_last : (xs : List HeapCell) (x b : HeapCell) (at : ℕ) → slice_get xs at ≡ None → slice_get (xs ++ x ∷ []) at ≡ Some b → x ≡ b
 get_last [] x b zero h k = cc
 get_last [] x b (suc at) h k = cc
 get_last (y ∷ ys) x b zero h k = cc
@@ -202,7 +202,7 @@ one_place zero (suc n) = false
 one_place (suc m) zero = false
 one_place (suc m) (suc n) = one_place m n
 
-get_changed : (f : Counted → Counted) (xs : List Counted) (i at : ℕ) (a : Counted) → slice_get xs at ≡ Some a → slice_get (changed_at f xs i) at ≡ Some (if one_place i at then f a else a)
+get_changed : (f : HeapCell → HeapCell) (xs : List HeapCell) (i at : ℕ) (a : HeapCell) → slice_get xs at ≡ Some a → slice_get (changed_at f xs i) at ≡ Some (if one_place i at then f a else a)
 get_changed f [] i at a h = cc
 get_changed f (x ∷ xs) zero zero a h = let e : x ≡ a = cc in ap (λ z. Some (f z)) e
 get_changed f (x ∷ xs) zero (suc at) a h = h
@@ -214,53 +214,53 @@ abbrev pub is_at : Value → ℕ → ℕ → Bool
 is_at (value.Ref h i) home at = nat_eq h home && one_place i at
 is_at _ home at = false
 
-get_own : (b : Bool) (f : Counted → Counted) (s : Store) (i at : ℕ) (a : Counted) → slice_get s.cells at ≡ Some a → slice_get ((if b then record s { cells = changed_at f s.cells i } else s).cells) at ≡ Some (if b && one_place i at then f a else a)
+get_own : (b : Bool) (f : HeapCell → HeapCell) (s : Store) (i at : ℕ) (a : HeapCell) → slice_get s.cells at ≡ Some a → slice_get ((if b then record s { cells = changed_at f s.cells i } else s).cells) at ≡ Some (if b && one_place i at then f a else a)
 get_own true f s i at a h = get_changed f s.cells i at a h
 get_own false f s i at a h = h
 
-pub get_in_changed : (f : Counted → Counted) (v : Value) (s : Store) (at : ℕ) (a : Counted) → slice_get s.cells at ≡ Some a → slice_get (changed f v s).cells at ≡ Some (if is_at v s.home at then f a else a)
+pub get_in_changed : (f : HeapCell → HeapCell) (v : Value) (s : Store) (at : ℕ) (a : HeapCell) → slice_get s.cells at ≡ Some a → slice_get (changed f v s).cells at ≡ Some (if is_at v s.home at then f a else a)
 get_in_changed f (value.Ref home i) s at a h = get_own (nat_eq home s.home) f s i at a h
 get_in_changed f _ s at a h = h
 
-none_changed : (f : Counted → Counted) (xs : List Counted) (i at : ℕ) → slice_get xs at ≡ None → slice_get (changed_at f xs i) at ≡ None
+none_changed : (f : HeapCell → HeapCell) (xs : List HeapCell) (i at : ℕ) → slice_get xs at ≡ None → slice_get (changed_at f xs i) at ≡ None
 none_changed f [] i at h = h
 none_changed f (x ∷ xs) zero zero h = cc
 none_changed f (x ∷ xs) zero (suc at) h = h
 none_changed f (x ∷ xs) (suc i) zero h = h
 none_changed f (x ∷ xs) (suc i) (suc at) h = none_changed f xs i at h
 
-none_own : (b : Bool) (f : Counted → Counted) (s : Store) (i at : ℕ) → slice_get s.cells at ≡ None → slice_get ((if b then record s { cells = changed_at f s.cells i } else s).cells) at ≡ None
+none_own : (b : Bool) (f : HeapCell → HeapCell) (s : Store) (i at : ℕ) → slice_get s.cells at ≡ None → slice_get ((if b then record s { cells = changed_at f s.cells i } else s).cells) at ≡ None
 none_own true f s i at h = none_changed f s.cells i at h
 none_own false f s i at h = h
 
-pub none_in_changed : (f : Counted → Counted) (v : Value) (s : Store) (at : ℕ) → slice_get s.cells at ≡ None → slice_get (changed f v s).cells at ≡ None
+pub none_in_changed : (f : HeapCell → HeapCell) (v : Value) (s : Store) (at : ℕ) → slice_get s.cells at ≡ None → slice_get (changed f v s).cells at ≡ None
 none_in_changed f (value.Ref home i) s at h = none_own (nat_eq home s.home) f s i at h
 none_in_changed f _ s at h = h
 
 -- a cell with no open iteration has none after a change that keeps it
-zero_or : (b : Bool) (f : Counted → Counted) (a : Counted) → ((e : Counted) → e.iterations ≡ 0 → (f e).iterations ≡ 0) → a.iterations ≡ 0 → (if b then f a else a).iterations ≡ 0
+zero_or : (b : Bool) (f : HeapCell → HeapCell) (a : HeapCell) → ((e : HeapCell) → e.iterations ≡ 0 → (f e).iterations ≡ 0) → a.iterations ≡ 0 → (if b then f a else a).iterations ≡ 0
 zero_or true f a k h = k a h
 zero_or false f a k h = h
 
-zero_at : (f : Counted → Counted) (v : Value) (s : Store) (at : ℕ) (b : Counted) (o : Option Counted) → slice_get s.cells at ≡ o → ((e : Counted) → e.iterations ≡ 0 → (f e).iterations ≡ 0) → ((a : Counted) → o ≡ Some a → a.iterations ≡ 0) → slice_get (changed f v s).cells at ≡ Some b → b.iterations ≡ 0
+zero_at : (f : HeapCell → HeapCell) (v : Value) (s : Store) (at : ℕ) (b : HeapCell) (o : Option HeapCell) → slice_get s.cells at ≡ o → ((e : HeapCell) → e.iterations ≡ 0 → (f e).iterations ≡ 0) → ((a : HeapCell) → o ≡ Some a → a.iterations ≡ 0) → slice_get (changed f v s).cells at ≡ Some b → b.iterations ≡ 0
 zero_at f v s at b None e k h l = none_there _ b (none_in_changed f v s at e) l
 zero_at f v s at b (Some a) e k h l =
     let same : Some (if is_at v s.home at then f a else a) ≡ Some b = sym (get_in_changed f v s at a e) ∙ l in
     let one : (if is_at v s.home at then f a else a) ≡ b = cc in
     subst (λ z. z.iterations ≡ 0) one (zero_or (is_at v s.home at) f a k (h a refl))
 
-zero_changed : (f : Counted → Counted) (v : Value) (s : Store) (at : ℕ) (b : Counted) → ((e : Counted) → e.iterations ≡ 0 → (f e).iterations ≡ 0) → ((a : Counted) → slice_get s.cells at ≡ Some a → a.iterations ≡ 0) → slice_get (changed f v s).cells at ≡ Some b → b.iterations ≡ 0
+zero_changed : (f : HeapCell → HeapCell) (v : Value) (s : Store) (at : ℕ) (b : HeapCell) → ((e : HeapCell) → e.iterations ≡ 0 → (f e).iterations ≡ 0) → ((a : HeapCell) → slice_get s.cells at ≡ Some a → a.iterations ≡ 0) → slice_get (changed f v s).cells at ≡ Some b → b.iterations ≡ 0
 zero_changed f v s at b k h l = zero_at f v s at b (slice_get s.cells at) refl k h l
 
-own_home : (b : Bool) (s : Store) (cells : List Counted) → (if b then record s { cells = cells } else s).home ≡ s.home
+own_home : (b : Bool) (s : Store) (cells : List HeapCell) → (if b then record s { cells = cells } else s).home ≡ s.home
 own_home true s cells = refl
 own_home false s cells = refl
 
-pub changed_home : (f : Counted → Counted) (v : Value) (s : Store) → (changed f v s).home ≡ s.home
+pub changed_home : (f : HeapCell → HeapCell) (v : Value) (s : Store) → (changed f v s).home ≡ s.home
 changed_home f (value.Ref home at) s = own_home (nat_eq home s.home) s _
 changed_home f _ s = refl
 
-choice_stays : (b : Bool) (f : Counted → Counted) (a : Counted) → KeepsCell a (f a) → KeepsCell a (if b then f a else a)
+choice_stays : (b : Bool) (f : HeapCell → HeapCell) (a : HeapCell) → KeepsCell a (f a) → KeepsCell a (if b then f a else a)
 choice_stays true f a h = h
 choice_stays false f a h = cell_same a
 
@@ -317,19 +317,19 @@ right_of : (a b : Bool) → (a && b) ≡ true → b ≡ true
 right_of true b h = h
 right_of false b h = cc
 
-looked : (s : Store) (shelf : Shelf) (v : Value) (at : ℕ) (a : Counted) → slice_get s.cells at ≡ Some a → is_at v s.home at ≡ true → (look s shelf v ≡ Some a.cell) × (iterations_of s v ≡ iterations_in (Some a))
+looked : (s : Store) (shelf : Shelf) (v : Value) (at : ℕ) (a : HeapCell) → slice_get s.cells at ≡ Some a → is_at v s.home at ≡ true → (look s shelf v ≡ Some a.cell) × (iterations_of s v ≡ iterations_in (Some a))
 looked s shelf (value.Ref home i) at a h e =
     let own : nat_eq home s.home ≡ true = left_of (nat_eq home s.home) (one_place i at) e in
     let place : i ≡ at = same_place i at (right_of (nat_eq home s.home) (one_place i at) e) in
     (rw own (rw place (rw h refl)), rw own (rw place (rw h refl)))
 looked s shelf _ at a h e = cc
 
-choice_if : (b : Bool) (f : Counted → Counted) (a : Counted) → (b ≡ true → KeepsCell a (f a)) → KeepsCell a (if b then f a else a)
+choice_if : (b : Bool) (f : HeapCell → HeapCell) (a : HeapCell) → (b ≡ true → KeepsCell a (f a)) → KeepsCell a (if b then f a else a)
 choice_if true f a h = h refl
 choice_if false f a h = cell_same a
 
 made_stays : (p : Result (Unit {0}) StoreFault) (d : Result (Option Value × Cell) StoreFault) (v : Value) (line : ℕ) (s : State)
-    → ((u : Unit {0}) (r : Option Value × Cell) (at : ℕ) (a : Counted) → p ≡ Ok u → d ≡ Ok r → slice_get s.store.cells at ≡ Some a → is_at v s.store.home at ≡ true → KeepsCell a (record a { cell = r.1 }))
+    → ((u : Unit {0}) (r : Option Value × Cell) (at : ℕ) (a : HeapCell) → p ≡ Ok u → d ≡ Ok r → slice_get s.store.cells at ≡ Some a → is_at v s.store.home at ≡ true → KeepsCell a (record a { cell = r.1 }))
     → Preserved s (written line (made_if p (in_store v s.store d)) s)
 made_stays (Ok u) (Ok r) v line s ok = record {
   home = changed_home _ v s.store;
@@ -356,11 +356,11 @@ unfolding change
 keeps_change w line v c = record { holds = λ s. write_stays w line v c s _ }
 
 -- an iteration that is opened and closed again
-open_kind : (x : Bool) (a : Counted) (d : Cell) → KeepsKind ((if x then record a { iterations = a.iterations + 1 } else a).cell) d → KeepsKind a.cell d
+open_kind : (x : Bool) (a : HeapCell) (d : Cell) → KeepsKind ((if x then record a { iterations = a.iterations + 1 } else a).cell) d → KeepsKind a.cell d
 open_kind true a d h = h
 open_kind false a d h = h
 
-close_by : (x : Bool) (a b : Counted) → is_container a.cell ≡ x → KeepsCell (if x then record a { iterations = a.iterations + 1 } else a) b → KeepsCell a (if x then record b { iterations = b.iterations - 1 } else b)
+close_by : (x : Bool) (a b : HeapCell) → is_container a.cell ≡ x → KeepsCell (if x then record a { iterations = a.iterations + 1 } else a) b → KeepsCell a (if x then record b { iterations = b.iterations - 1 } else b)
 close_by true a b e h = record {
   kind = h.kind;
   iterations = omega (arith, h.iterations);
@@ -368,13 +368,13 @@ close_by true a b e h = record {
 }
 close_by false a b e h = h
 
-closing : (x : Bool) (a b : Counted) → KeepsCell (if x then opened_in a else a) b → KeepsCell a (if x then closed_in b else b)
+closing : (x : Bool) (a b : HeapCell) → KeepsCell (if x then opened_in a else a) b → KeepsCell a (if x then closed_in b else b)
 closing true a b h =
     let k : is_container b.cell ≡ is_container a.cell = kind_container a.cell b.cell (open_kind (is_container a.cell) a b.cell h.kind) in
     subst (λ x. KeepsCell a (if x then record b { iterations = b.iterations - 1 } else b)) (sym k) (close_by (is_container a.cell) a b refl h)
 closing false a b h = h
 
-closed_zero : (e : Counted) → e.iterations ≡ 0 → (closed_in e).iterations ≡ 0
+closed_zero : (e : HeapCell) → e.iterations ≡ 0 → (closed_in e).iterations ≡ 0
 closed_zero e h = by_kind (is_container e.cell)
   where
     by_kind : (x : Bool) → (if x then record e { iterations = e.iterations - 1 } else e).iterations ≡ 0

@@ -12,35 +12,35 @@ use Rattle.star_store.specs.declared.range.Range.{Range}
 use Rattle.star_store.specs.declared.names.BuiltIn.{BuiltIn}
 use Rattle.star_store.specs.declared.names.BuiltIn.TheVariants as built_in
 use Rattle.star_store.specs.Range.{range_length}
-use Rattle.star_meaning.specs.declared.fault.Code.TheVariants as code
+use Rattle.star_meaning.specs.declared.fault.FaultCode.TheVariants as code
 use Rattle.star_meaning.specs.Run.{Action, ◌>>=◌, give, fail, pay, check, found, each, collect, until, seeing, build, add_line}
 use Rattle.star_meaning.specs.Program.{Setting}
 use Rattle.star_meaning.specs.Values.{Content, Truth, Number, Held, content, with_content, type_name, want_int, want_bool, want_text, new_int, new_text, new_tuple, new_list, count_in, count_of, take_item, take_items, take_all, is_true, compare, repr, str}
-use Rattle.star_meaning.specs.declared.given.Given.{Given}
-use Rattle.star_meaning.specs.Arguments.{by_place, with_name, only_one, none_or_one, one_or_two}
+use Rattle.star_meaning.specs.declared.given.Arguments.{Arguments}
+use Rattle.star_meaning.specs.Arguments.{positional, with_name, only_one, none_or_one, one_or_two}
 use Rattle.star_meaning.specs.Pairs.{pairs_count, pairs_of, dict_of}
 
 -- abs(x)
 abbrev pub absolute : ℕ → ℤ → Action Value
 absolute line z = new_int line (pos (unsigned_abs z))
 
-abbrev pub call_abs : Setting → ℕ → Given → Action Value
-call_abs w line g = by_place line g >>= only_one line >>= want_int w line >>= absolute line
+abbrev pub call_abs : Setting → ℕ → Arguments → Action Value
+call_abs w line g = positional line g >>= only_one line >>= want_int w line >>= absolute line
 
 -- all(it), any(it): items are taken up to the first whose truth is the one looked for
 abbrev pub is_decided : Setting → ℕ → Bool → Value → ℕ → Action Bool
 is_decided w line wanted v i = take_item w line v i >>= is_true w >>= λ b. give (if b then wanted else not wanted)
 
-abbrev pub some_item : Setting → ℕ → Bool → Given → Action Bool
+abbrev pub some_item : Setting → ℕ → Bool → Arguments → Action Bool
 some_item w line wanted g = do
-  v ← by_place line g >>= only_one line
+  v ← positional line g >>= only_one line
   n ← count_of w line v
   until (is_decided w line wanted v) n 0
 
-abbrev pub call_all : Setting → ℕ → Given → Action Value
+abbrev pub call_all : Setting → ℕ → Arguments → Action Value
 call_all w line g = some_item w line false g >>= λ b. give (value.Bool (not b))
 
-abbrev pub call_any : Setting → ℕ → Given → Action Value
+abbrev pub call_any : Setting → ℕ → Arguments → Action Value
 call_any w line g = some_item w line true g >>= λ b. give (value.Bool b)
 
 -- bool([x])
@@ -48,13 +48,13 @@ abbrev pub truth_of : Setting → Option Value → Action Value
 truth_of w None = give (value.Bool false)
 truth_of w (Some v) = is_true w v >>= λ b. give (value.Bool b)
 
-abbrev pub call_bool : Setting → ℕ → Given → Action Value
-call_bool w line g = by_place line g >>= none_or_one line >>= truth_of w
+abbrev pub call_bool : Setting → ℕ → Arguments → Action Value
+call_bool w line g = positional line g >>= none_or_one line >>= truth_of w
 
 -- dict([x], **kw)
-abbrev pub call_dict : Setting → ℕ → ℕ → Given → Action Value
+abbrev pub call_dict : Setting → ℕ → ℕ → Arguments → Action Value
 call_dict w levels line g = do
-  x ← none_or_one line g.plain
+  x ← none_or_one line g.positional
   n ← pairs_count w line x
   ps ← pairs_of w line x n
   dict_of w levels line ps g.named
@@ -72,9 +72,9 @@ numbered line z (x ∷ xs) = do
   rest ← numbered line (z +ℤ pos 1) xs
   give (pair ∷ rest)
 
-abbrev pub call_enumerate : Setting → ℕ → Given → Action Value
+abbrev pub call_enumerate : Setting → ℕ → Arguments → Action Value
 call_enumerate w line g = do
-  a ← by_place line g >>= one_or_two line
+  a ← positional line g >>= one_or_two line
   n ← count_of w line a.0
   start ← want_start w line a.1
   xs ← take_items w line a.0 n
@@ -90,19 +90,19 @@ joined by [] = []
 joined by (t ∷ []) = t
 joined by (t ∷ u ∷ ts) = t ++ by ++ joined by (u ∷ ts)
 
-abbrev pub say_line : Setting → ℕ → ℕ → Given → Action (Unit {0})
-say_line w levels line g = do
+abbrev pub print_line : Setting → ℕ → ℕ → Arguments → Action (Unit {0})
+print_line w levels line g = do
   a ← with_name line (codes "sep") g
   by ← want_separator w line a.1
   ts ← each (str w levels line) a.0
   _ ← pay line (1 + length (joined by ts))
   add_line (joined by ts)
 
-abbrev pub call_print : Setting → ℕ → ℕ → Given → Action Value
-call_print w levels line g = say_line w levels line g >>= λ _. give value.NoneValue
+abbrev pub call_print : Setting → ℕ → ℕ → Arguments → Action Value
+call_print w levels line g = print_line w levels line g >>= λ _. give value.NoneValue
 
-abbrev pub call_fail : Setting → ℕ → ℕ → Given → Action Value
-call_fail w levels line g = say_line w levels line g >>= λ _. fail code.Fail line
+abbrev pub call_fail : Setting → ℕ → ℕ → Arguments → Action Value
+call_fail w levels line g = print_line w levels line g >>= λ _. fail code.Fail line
 
 -- int(x): an int, a bool as 1 or 0, or a string of an optional sign and decimal digits, else `value`
 abbrev pub is_digit : ℕ → Bool
@@ -132,17 +132,17 @@ to_int line (Truth b) = give (value.Int (if b then pos 1 else pos 0))
 to_int line (Held (cell.Text t)) = found code.BadValue line (spelled t) >>= new_int line
 to_int line _ = fail code.BadType line
 
-abbrev pub call_int : Setting → ℕ → Given → Action Value
-call_int w line g = by_place line g >>= only_one line >>= λ v. with_content w v (to_int line)
+abbrev pub call_int : Setting → ℕ → Arguments → Action Value
+call_int w line g = positional line g >>= only_one line >>= λ v. with_content w v (to_int line)
 
 -- len(x)
 abbrev pub length_in : Content → Option ℕ
 length_in (Held (cell.Text t)) = Some (length t)
 length_in c = count_in c
 
-abbrev pub call_len : Setting → ℕ → Given → Action Value
+abbrev pub call_len : Setting → ℕ → Arguments → Action Value
 call_len w line g =
-    by_place line g >>= only_one line >>= λ v. with_content w v (λ c. found code.BadType line (length_in c))
+    positional line g >>= only_one line >>= λ v. with_content w v (λ c. found code.BadType line (length_in c))
     >>= λ n. new_int line (pos n)
 
 -- list([it]), tuple([it]), reversed(it)
@@ -150,14 +150,14 @@ abbrev pub taken_from : Setting → ℕ → Option Value → Action (List Value)
 taken_from w line None = give []
 taken_from w line (Some v) = take_all w line v
 
-abbrev pub call_list : Setting → ℕ → Given → Action Value
-call_list w line g = by_place line g >>= none_or_one line >>= taken_from w line >>= new_list line
+abbrev pub call_list : Setting → ℕ → Arguments → Action Value
+call_list w line g = positional line g >>= none_or_one line >>= taken_from w line >>= new_list line
 
-abbrev pub call_tuple : Setting → ℕ → Given → Action Value
-call_tuple w line g = by_place line g >>= none_or_one line >>= taken_from w line >>= new_tuple line
+abbrev pub call_tuple : Setting → ℕ → Arguments → Action Value
+call_tuple w line g = positional line g >>= none_or_one line >>= taken_from w line >>= new_tuple line
 
-abbrev pub call_reversed : Setting → ℕ → Given → Action Value
-call_reversed w line g = by_place line g >>= only_one line >>= take_all w line >>= λ xs. new_list line (reverse xs)
+abbrev pub call_reversed : Setting → ℕ → Arguments → Action Value
+call_reversed w line g = positional line g >>= only_one line >>= take_all w line >>= λ xs. new_list line (reverse xs)
 
 -- max and min: each item is compared with the best so far, and the first of equals is kept
 abbrev pub best_of : Setting → ℕ → ℕ → (Ordering → Bool) → Value → List Value → Action Value
@@ -175,8 +175,8 @@ candidates w line [] = fail code.Args line
 candidates w line (v ∷ []) = take_all w line v
 candidates w line (x ∷ y ∷ xs) = give (x ∷ y ∷ xs)
 
-abbrev pub call_best : Setting → ℕ → ℕ → (Ordering → Bool) → Given → Action Value
-call_best w levels line better g = by_place line g >>= candidates w line >>= best_in w levels line better
+abbrev pub call_best : Setting → ℕ → ℕ → (Ordering → Bool) → Arguments → Action Value
+call_best w levels line better g = positional line g >>= candidates w line >>= best_in w levels line better
 
 -- range([start], stop, [step]): a step of 0 is `value`, more than 2^63 - 1 ints `overflow`
 abbrev pub new_range : ℕ → Range → Action Value
@@ -194,20 +194,20 @@ range_of line _ = fail code.Args line
 abbrev pub is_range_count : ℕ → Bool
 is_range_count n = not (nat_eq n 0) && nat_lt n 4
 
-abbrev pub call_range : Setting → ℕ → Given → Action Value
+abbrev pub call_range : Setting → ℕ → Arguments → Action Value
 call_range w line g =
-    by_place line g >>= λ xs. check code.Args line (is_range_count (length xs)) >>= λ _. each (want_int w line) xs
+    positional line g >>= λ xs. check code.Args line (is_range_count (length xs)) >>= λ _. each (want_int w line) xs
     >>= range_of line
 
 -- repr(x), str(x), type(x): a new string
-abbrev pub call_repr : Setting → ℕ → ℕ → Given → Action Value
-call_repr w levels line g = by_place line g >>= only_one line >>= repr w levels line >>= new_text line
+abbrev pub call_repr : Setting → ℕ → ℕ → Arguments → Action Value
+call_repr w levels line g = positional line g >>= only_one line >>= repr w levels line >>= new_text line
 
-abbrev pub call_str : Setting → ℕ → ℕ → Given → Action Value
-call_str w levels line g = by_place line g >>= only_one line >>= str w levels line >>= new_text line
+abbrev pub call_str : Setting → ℕ → ℕ → Arguments → Action Value
+call_str w levels line g = positional line g >>= only_one line >>= str w levels line >>= new_text line
 
-abbrev pub call_type : Setting → ℕ → Given → Action Value
-call_type w line g = by_place line g >>= only_one line >>= λ v. with_content w v (λ c. new_text line (type_name c))
+abbrev pub call_type : Setting → ℕ → Arguments → Action Value
+call_type w line g = positional line g >>= only_one line >>= λ v. with_content w v (λ c. new_text line (type_name c))
 
 -- sorted(it, reverse=False): all ints or all strings, else `type`
 abbrev pub want_reverse : Setting → ℕ → Option Value → Action Bool
@@ -249,7 +249,7 @@ sort w line backwards xs =
     seeing (λ s. check code.BadType line (can_sort (map (content w s) xs))
     >>= λ _. new_list line (turned backwards (in_order (λ x y. is_before (content w s x) (content w s y)) xs)))
 
-abbrev pub call_sorted : Setting → ℕ → Given → Action Value
+abbrev pub call_sorted : Setting → ℕ → Arguments → Action Value
 call_sorted w line g = do
   a ← with_name line (codes "reverse") g
   it ← only_one line a.0
@@ -267,15 +267,15 @@ least (n ∷ m ∷ ns) = min n (least (m ∷ ns))
 abbrev pub row_at : Setting → ℕ → List Value → ℕ → Action Value
 row_at w line vs i = each (λ v. take_item w line v i) vs >>= new_tuple line
 
-abbrev pub call_zip : Setting → ℕ → Given → Action Value
+abbrev pub call_zip : Setting → ℕ → Arguments → Action Value
 call_zip w line g = do
-  vs ← by_place line g
+  vs ← positional line g
   ns ← each (count_of w line) vs
   rows ← collect (row_at w line vs) (least ns) 0
   new_list line rows
 
 -- a call of a built-in function, whose visits may open this many levels
-unfoldable pub call_built_in : Setting → ℕ → ℕ → BuiltIn → Given → Action Value
+unfoldable pub call_built_in : Setting → ℕ → ℕ → BuiltIn → Arguments → Action Value
 call_built_in w levels line built_in.Abs g = call_abs w line g
 call_built_in w levels line built_in.All g = call_all w line g
 call_built_in w levels line built_in.Any g = call_any w line g

@@ -11,30 +11,30 @@ use Rattle.star_tree.specs.declared.tree.Argument.{Argument}
 use Rattle.star_tree.specs.declared.tree.Expression.{Expression}
 use Rattle.star_tree.specs.declared.tree.Name.{Name}
 use Rattle.star_tree.specs.declared.tree.Argument.TheOpen as tree
-use Rattle.star_meaning.specs.declared.fault.Code.TheVariants as code
-use Rattle.star_meaning.specs.declared.place.Place.{Place}
-use Rattle.star_meaning.specs.declared.place.Flow.{Flow}
-use Rattle.star_meaning.specs.declared.place.Flow.TheVariants as flow
+use Rattle.star_meaning.specs.declared.fault.FaultCode.TheVariants as code
+use Rattle.star_meaning.specs.declared.site.Site.{Site}
+use Rattle.star_meaning.specs.declared.site.Flow.{Flow}
+use Rattle.star_meaning.specs.declared.site.Flow.TheVariants as flow
 use Rattle.star_scope.specs.Syntax.{ArgumentForm, argument}
 use Rattle.star_meaning.specs.Run.{State, Action, Done, ◌>>=◌, give, fail, pay, check, found, each, all_of, seeing}
 use Rattle.star_scope.specs.Definitions.{Definition, Body, Statements, Answer}
 use Rattle.star_meaning.specs.Program.{Setting, Variables, definition_of}
 use Rattle.star_meaning.specs.Values.{Content, BuiltInFunction, Held, with_content}
-use Rattle.star_meaning.specs.declared.given.Given.{Given}
-use Rattle.star_meaning.specs.Arguments.{Passed, Plain, Named, Star, StarStar, given}
+use Rattle.star_meaning.specs.declared.given.Arguments.{Arguments}
+use Rattle.star_meaning.specs.Arguments.{EvaluatedArgument, Plain, Named, Star, StarStar, given}
 use Rattle.star_meaning.specs.BuiltIns.{call_built_in}
 use Rattle.star_meaning.specs.Methods.{call_method}
-use Rattle.star_meaning.specs.Binding.{Share, bound_to, make_shares}
-use Rattle.star_meaning.specs.Meaning.{Meaning, block}
+use Rattle.star_meaning.specs.Binding.{BoundArgument, bound_to, build_arguments}
+use Rattle.star_meaning.specs.Semantics.{Semantics, block}
 
 -- an argument's value
-abbrev pub pass_form : Meaning → Place → ArgumentForm → Action Passed
+abbrev pub pass_form : Semantics → Site → ArgumentForm → Action EvaluatedArgument
 pass_form m p (tree.Positional e) = m.expr p e >>= λ v. give (Plain v)
 pass_form m p (tree.Named n e) = m.expr p e >>= λ v. give (Named n.text v)
 pass_form m p (tree.Argument-F.Argument::Star e) = m.expr p e >>= λ v. give (Star v)
 pass_form m p (tree.Argument-F.Argument::StarStar e) = m.expr p e >>= λ v. give (StarStar v)
 
-abbrev pub pass : Meaning → Place → Argument → Action Passed
+abbrev pub pass : Semantics → Site → Argument → Action EvaluatedArgument
 pass m p a = pass_form m p (argument a)
 
 -- a callee
@@ -65,13 +65,13 @@ unfoldable pub callee : Setting → ℕ → Value → Action Callee
 callee w line v = with_content w v (callee_of w line)
 
 -- a call with these arguments: those of a function are bound, or `args`; then it runs, at a level of its own
-abbrev pub called : Setting → ℕ → Meaning → Place → Callee → Given → Action Value
+abbrev pub called : Setting → ℕ → Semantics → Site → Callee → Arguments → Action Value
 called w levels m p (AFunction f d) g = found code.Args p.line (bound_to d.parameters f.defaults g) >>= m.call p f d
 called w levels m p (ABuiltIn b) g = call_built_in w levels p.line b g
 called w levels m p (AMethod b x) g = call_method w levels p.line b x g
 
 -- a call: the callee, the arguments in source order, then the checks in order, then the work
-abbrev pub call_node : Setting → ℕ → Meaning → Place → Expression → List Argument → Action Value
+abbrev pub call_node : Setting → ℕ → Semantics → Site → Expression → List Argument → Action Value
 call_node w levels m p f es = do
   v ← m.expr p f
   ps ← each (pass m p) es
@@ -96,18 +96,18 @@ answer_of (flow.Return v) = v
 answer_of _ = value.NoneValue
 
 -- the body that a call runs
-abbrev pub run_body : Meaning → Place → Body → Action Value
+abbrev pub run_body : Semantics → Site → Body → Action Value
 run_body m p (Statements body) = block (m.stmt p) body >>= λ f. give (answer_of f)
 run_body m p (Answer e) = m.expr p e
 
 -- the run of a function: the tuple of `*name`, the strings and the dictionary of `**name`, the frame, the parameters in
 -- it, the body
-abbrev pub run : Variables → Meaning → Place → Function → Definition → List (Name × Share) → Action Value
+abbrev pub run : Variables → Semantics → Site → Function → Definition → List (Name × BoundArgument) → Action Value
 run vs m p f d shares = do
-  values ← make_shares p.line shares
+  values ← build_arguments p.line shares
   _ ← pay p.line 1
   frame ← vs.frame f.file (1 + f.definition) (Some f.frame)
-  let q : Place = record { file = f.file; frame = frame; line = p.line } in do
+  let q : Site = record { file = f.file; frame = frame; line = p.line } in do
     _ ← all_of (λ x. vs.bind q x.0 x.1) values
     _ ← activate f
     v ← run_body m q d.body

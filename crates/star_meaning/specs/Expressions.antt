@@ -7,8 +7,8 @@ use Rattle.star_tree.specs.declared.tree.Expression.{Expression}
 use Rattle.star_tree.specs.declared.tree.Entry.{Entry, out-Entry}
 use Rattle.star_tree.specs.declared.tree.Parameter.{Parameter}
 use Rattle.star_tree.specs.declared.tree.Argument.TheOpen as tree
-use Rattle.star_meaning.specs.declared.fault.Code.TheVariants as code
-use Rattle.star_meaning.specs.declared.place.Place.{Place}
+use Rattle.star_meaning.specs.declared.fault.FaultCode.TheVariants as code
+use Rattle.star_meaning.specs.declared.site.Site.{Site}
 use Rattle.star_scope.specs.Syntax.{ExpressionForm, ParameterForm, parameter}
 use Rattle.star_meaning.specs.Run.{Action, ◌>>=◌, give, check, each, build, seeing}
 use Rattle.star_meaning.specs.Program.{Setting, Variables}
@@ -16,21 +16,21 @@ use Rattle.star_meaning.specs.Values.{is_true, check_key, new_text, new_tuple, n
 use Rattle.star_meaning.specs.Operators.{operate, prefix, compared, with_entry}
 use Rattle.star_meaning.specs.Subscript.{index, slice}
 use Rattle.star_meaning.specs.Methods.{attribute}
-use Rattle.star_meaning.specs.Meaning.{Meaning}
+use Rattle.star_meaning.specs.Semantics.{Semantics}
 use Rattle.star_meaning.specs.Calls.{call_node}
 use Rattle.star_meaning.specs.Comprehensions.{list_comprehension, dict_comprehension}
 
 -- the defaults of parameters, in order
-abbrev pub defaults_after : Action (List Value) → Meaning → Place → ParameterForm → Action (List Value)
+abbrev pub defaults_after : Action (List Value) → Semantics → Site → ParameterForm → Action (List Value)
 defaults_after rest m p (tree.Default n e) = m.expr p e >>= λ v. rest >>= λ vs. give (v ∷ vs)
 defaults_after rest m p _ = rest
 
-abbrev pub defaults : Meaning → Place → List Parameter → Action (List Value)
+abbrev pub defaults : Semantics → Site → List Parameter → Action (List Value)
 defaults m p [] = give []
 defaults m p (q ∷ qs) = defaults_after (defaults m p qs) m p (parameter q)
 
 -- a new function: its defaults in order, then 1
-abbrev pub new_function : Meaning → Place → ℕ → List ℕ → List Parameter → Action Value
+abbrev pub new_function : Semantics → Site → ℕ → List ℕ → List Parameter → Action Value
 new_function m p number name ps = do
   vs ← defaults m p ps
   build p.line 1 (cell.Func (record {
@@ -42,7 +42,7 @@ new_function m p number name ps = do
   }))
 
 -- a key and a value of a display
-abbrev pub entry_of : Meaning → Place → Entry → Action (Value × Value)
+abbrev pub entry_of : Semantics → Site → Entry → Action (Value × Value)
 entry_of m p e = do
   k ← m.expr p (out-Entry e).key
   v ← m.expr p (out-Entry e).value
@@ -60,12 +60,12 @@ fresh_entries w levels line es [] = give es
 fresh_entries w levels line es (e ∷ more) = fresh_entry w levels line es e >>= λ fs. fresh_entries w levels line fs more
 
 -- a part of a slice, if it is there
-abbrev pub maybe : Meaning → Place → Option Expression → Action (Option Value)
+abbrev pub maybe : Semantics → Site → Option Expression → Action (Option Value)
 maybe m p None = give None
 maybe m p (Some e) = m.expr p e >>= λ v. give (Some v)
 
 -- the node of an expression; its parts have the meaning m, and its visits may open this many levels
-abbrev pub node : Variables → Setting → ℕ → Meaning → Place → ExpressionForm → Action Value
+abbrev pub node : Variables → Setting → ℕ → Semantics → Site → ExpressionForm → Action Value
 node vs w levels m p (tree.Expression-F.Expression::Name n) = vs.read p n
 node vs w levels m p (tree.Int n) = give (value.Int n)
 node vs w levels m p (tree.Text t) = new_text p.line t

@@ -3,13 +3,13 @@ use Rattle.std.specs.Prelude.{ℕ, ◌+◌, nat_eq, nat_lt, Bool, false, ◌&&�
 use Rattle.std.specs.List.{list_all, find}
 use Rattle.std.specs.Option.{option_map}
 use Rattle.star_store.specs.declared.values.Value.{Value}
-use Rattle.star_meaning.specs.declared.fault.Code.TheVariants as code
+use Rattle.star_meaning.specs.declared.fault.FaultCode.TheVariants as code
 use Rattle.star_meaning.specs.Run.{Action, ◌>>=◌, give, fail, found}
 use Rattle.star_scope.specs.Names.{same_name}
 use Rattle.star_meaning.specs.Program.{Setting}
 use Rattle.star_meaning.specs.Values.{str}
-use Rattle.star_meaning.specs.declared.given.Given.{Given}
-use Rattle.star_meaning.specs.declared.given.NamedValue.{NamedValue}
+use Rattle.star_meaning.specs.declared.given.Arguments.{Arguments}
+use Rattle.star_meaning.specs.declared.given.KeywordArgument.{KeywordArgument}
 use Rattle.star_meaning.specs.BuiltIns.{is_digit, number_from}
 
 -- how fields have found their values so far: none was positional, by the next one, or by number
@@ -47,20 +47,20 @@ numbered_place line n _ = give (n, ByNumber)
 abbrev pub placed_value : ℕ → List Value → ℕ × Numbering → Action (Value × Numbering)
 placed_value line xs p = found code.Index line (slice_get xs p.0) >>= λ v. give (v, p.1)
 
-abbrev pub named_value : ℕ → List NamedValue → List ℕ → Numbering → Action (Value × Numbering)
+abbrev pub named_value : ℕ → List KeywordArgument → List ℕ → Numbering → Action (Value × Numbering)
 named_value line ns name k =
     found code.Key line (option_map (λ n. n.value) (find (λ n. same_name n.name name) ns)) >>= λ v. give (v, k)
 
 -- the value of a field: `{}`, `{0}` or `{name}`; another field is `value`
-abbrev pub field_value : ℕ → Given → List ℕ → Numbering → Action (Value × Numbering)
+abbrev pub field_value : ℕ → Arguments → List ℕ → Numbering → Action (Value × Numbering)
 field_value line g f k =
-    if nat_eq (length f) 0 then (next_place line k >>= placed_value line g.plain)
-    else (if list_all is_digit f then (numbered_place line (number_from 0 f) k >>= placed_value line g.plain)
+    if nat_eq (length f) 0 then (next_place line k >>= placed_value line g.positional)
+    else (if list_all is_digit f then (numbered_place line (number_from 0 f) k >>= placed_value line g.positional)
     else (if is_field_name f then named_value line g.named f k
     else fail code.BadValue line))
 
 -- the bytes of the string from left to right, with the text that is made so far
-abbrev pub formatted : Setting → ℕ → ℕ → Given → List ℕ → Reading → Numbering → List ℕ → Action (List ℕ)
+abbrev pub formatted : Setting → ℕ → ℕ → Arguments → List ℕ → Reading → Numbering → List ℕ → Action (List ℕ)
 formatted w levels line g [] Outside k out = give out
 formatted w levels line g [] (Field f) k out = fail code.BadValue line
 formatted w levels line g [] Closing k out = fail code.BadValue line

@@ -3,14 +3,14 @@ use Rattle.std.specs.Prelude.{◌≡◌, ◌≢◌, ◌≤◌, ◌<◌, ℕ, ◌
 use Rattle.star_store.specs.declared.values.Value.{Value}
 use Rattle.star_store.specs.declared.values.Cell.{Cell}
 use Rattle.star_store.specs.declared.values.Cell.TheVariants as cell
-use Rattle.star_store.specs.declared.values.Counted.{Counted}
+use Rattle.star_store.specs.declared.values.HeapCell.{HeapCell}
 use Rattle.star_store.specs.declared.values.Frame.{Frame}
 use Rattle.star_store.specs.Store.{iterations_in}
 use Rattle.star_tree.specs.declared.tree.Expression.{Expression}
 use Rattle.star_tree.specs.declared.tree.Statement.{Statement}
-use Rattle.star_meaning.specs.declared.fault.Code.TheVariants as code
-use Rattle.star_meaning.specs.declared.place.Place.{Place}
-use Rattle.star_meaning.specs.declared.place.Flow.{Flow}
+use Rattle.star_meaning.specs.declared.fault.FaultCode.TheVariants as code
+use Rattle.star_meaning.specs.declared.site.Site.{Site}
+use Rattle.star_meaning.specs.declared.site.Flow.{Flow}
 use Rattle.star_meaning.specs.Run.{State, Outcome, Done, Failed}
 use Rattle.star_meaning.specs.Program.{Setting}
 use Rattle.star_meaning.specs.Variables.{by_names}
@@ -30,7 +30,7 @@ Grown s (Failed f lines) = (more : List (List ℕ)) × (lines ≡ s.lines ++ mor
 
 -- The law: so it is with every expression and every statement.
 abbrev pub RunsGrow : Type 0
-RunsGrow = (w : Setting) (levels : ℕ) (p : Place) (s : State)
+RunsGrow = (w : Setting) (levels : ℕ) (p : Site) (s : State)
     → ((e : Expression) → Grown s ((meaning (by_names w) w levels).expr p e s))
     × ((x : Statement) → Grown s ((meaning (by_names w) w levels).stmt p x s))
 
@@ -50,7 +50,7 @@ KeepsKind (cell.Frame f) d = (g : Frame) × (d ≡ cell.Frame g) × KeepsFrame f
 KeepsKind c d = d ≡ c
 
 -- a cell keeps its kind and the number of its open iterations; one that was being iterated keeps its items
-pub record KeepsCell (a b : Counted) : Type 0 where
+pub record KeepsCell (a b : HeapCell) : Type 0 where
   pub kind : KeepsKind a.cell b.cell
   pub iterations : b.iterations ≡ a.iterations
   pub held : 0 < iterations_in (Some a) → b.cell ≡ a.cell
@@ -59,9 +59,9 @@ pub record KeepsCell (a b : Counted) : Type 0 where
 -- the lines printed; steps only fall, and on a cell that is new after the run no iteration is open
 pub record Kept (s t : State) : Type 0 where
   pub home : t.store.home ≡ s.store.home
-  pub cells : (at : ℕ) (a : Counted) → slice_get s.store.cells at ≡ Some a → (b : Counted)
+  pub cells : (at : ℕ) (a : HeapCell) → slice_get s.store.cells at ≡ Some a → (b : HeapCell)
       × (slice_get t.store.cells at ≡ Some b) × KeepsCell a b
-  pub fresh : (at : ℕ) (b : Counted) → slice_get s.store.cells at ≡ None → slice_get t.store.cells at ≡ Some b
+  pub fresh : (at : ℕ) (b : HeapCell) → slice_get s.store.cells at ≡ None → slice_get t.store.cells at ≡ Some b
       → b.iterations ≡ 0
   pub active : t.active ≡ s.active
   pub steps : t.steps ≤ s.steps
@@ -69,7 +69,7 @@ pub record Kept (s t : State) : Type 0 where
 
 -- The law: every expression and every statement that ends well keeps this.
 abbrev pub RunsKeep : Type 0
-RunsKeep = (w : Setting) (levels : ℕ) (p : Place) (s t : State)
+RunsKeep = (w : Setting) (levels : ℕ) (p : Site) (s t : State)
     → ((e : Expression) (v : Value) → (meaning (by_names w) w levels).expr p e s ≡ Done v t → Kept s t)
     × ((x : Statement) (f : Flow) → (meaning (by_names w) w levels).stmt p x s ≡ Done f t → Kept s t)
 

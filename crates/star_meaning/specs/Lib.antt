@@ -1,7 +1,7 @@
 -- The meaning of the language, in reading order.
 pub mod Run
 pub mod Program
-pub mod Meaning
+pub mod Semantics
 pub mod Module
 pub mod Local
 pub mod Variables

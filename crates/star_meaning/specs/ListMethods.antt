@@ -4,13 +4,13 @@ use Rattle.star_store.specs.declared.values.Value.{Value}
 use Rattle.star_store.specs.declared.values.Value.TheVariants as value
 use Rattle.star_store.specs.declared.values.Cell.TheVariants as cell
 use Rattle.star_store.specs.declared.arena.write.Change.TheVariants as change_to
-use Rattle.star_meaning.specs.declared.fault.Code.TheVariants as code
+use Rattle.star_meaning.specs.declared.fault.FaultCode.TheVariants as code
 use Rattle.star_meaning.specs.Run.{Action, ◌>>=◌, give, pay, found, all_of}
 use Rattle.star_meaning.specs.Program.{Setting}
 use Rattle.star_meaning.specs.Values.{Content, Held, with_content, want_int, count_of, take_items, equal, guard, change, new_int}
 use Rattle.star_meaning.specs.Subscript.{place_from, bound_of}
-use Rattle.star_meaning.specs.declared.given.Given.{Given}
-use Rattle.star_meaning.specs.Arguments.{by_place, only_one, none_or_one, two, no_value}
+use Rattle.star_meaning.specs.declared.given.Arguments.{Arguments}
+use Rattle.star_meaning.specs.Arguments.{positional, only_one, none_or_one, two, no_value}
 
 -- the items of a list now
 abbrev pub items_of : Content → List Value
@@ -25,18 +25,18 @@ abbrev pub add_item : Setting → ℕ → Value → Value → Action (Unit {0})
 add_item w line l x = change w line l (change_to.Append x) >>= λ _. give tt
 
 -- append(x)
-abbrev pub call_append : Setting → ℕ → Value → Given → Action Value
+abbrev pub call_append : Setting → ℕ → Value → Arguments → Action Value
 call_append w line l g = do
-  x ← by_place line g >>= only_one line
+  x ← positional line g >>= only_one line
   _ ← guard w line l
   _ ← pay line 1
   _ ← add_item w line l x
   give value.NoneValue
 
 -- clear(), of a list or a dictionary
-abbrev pub call_clear : Setting → ℕ → Value → Given → Action Value
+abbrev pub call_clear : Setting → ℕ → Value → Arguments → Action Value
 call_clear w line l g = do
-  _ ← by_place line g >>= no_value line
+  _ ← positional line g >>= no_value line
   _ ← guard w line l
   _ ← change w line l change_to.Clear
   give value.NoneValue
@@ -50,9 +50,9 @@ extend w line l it = do
   _ ← pay line n
   all_of (add_item w line l) xs
 
-abbrev pub call_extend : Setting → ℕ → Value → Given → Action Value
+abbrev pub call_extend : Setting → ℕ → Value → Arguments → Action Value
 call_extend w line l g = do
-  it ← by_place line g >>= only_one line
+  it ← positional line g >>= only_one line
   _ ← extend w line l it
   give value.NoneValue
 
@@ -66,9 +66,9 @@ abbrev pub place_with : Setting → ℕ → ℕ → Value → Value → Action �
 place_with w levels line l x = with_items w l (equal_place w levels line x 0) >>= found code.BadValue line
 
 -- index(x)
-abbrev pub call_index : Setting → ℕ → ℕ → Value → Given → Action Value
+abbrev pub call_index : Setting → ℕ → ℕ → Value → Arguments → Action Value
 call_index w levels line l g = do
-  x ← by_place line g >>= only_one line
+  x ← positional line g >>= only_one line
   i ← place_with w levels line l x
   new_int line (pos i)
 
@@ -76,9 +76,9 @@ call_index w levels line l g = do
 abbrev pub insert_place : ℕ → ℤ → ℕ
 insert_place n z = unsigned_abs (bound_of n (pos 0) (pos n) (pos 0) (Some z))
 
-abbrev pub call_insert : Setting → ℕ → Value → Given → Action Value
+abbrev pub call_insert : Setting → ℕ → Value → Arguments → Action Value
 call_insert w line l g = do
-  a ← by_place line g >>= two line
+  a ← positional line g >>= two line
   z ← want_int w line a.0
   _ ← guard w line l
   _ ← pay line 1
@@ -90,9 +90,9 @@ abbrev pub want_last : Setting → ℕ → Option Value → Action ℤ
 want_last w line None = give (negsuc 0)
 want_last w line (Some v) = want_int w line v
 
-abbrev pub call_pop : Setting → ℕ → Value → Given → Action Value
+abbrev pub call_pop : Setting → ℕ → Value → Arguments → Action Value
 call_pop w line l g = do
-  i ← by_place line g >>= none_or_one line
+  i ← positional line g >>= none_or_one line
   z ← want_last w line i
   _ ← guard w line l
   at ← with_items w l (λ xs. found code.Index line (place_from (length xs) z))
@@ -100,9 +100,9 @@ call_pop w line l g = do
   found code.Index line x
 
 -- remove(x): the first equal item goes
-abbrev pub call_remove : Setting → ℕ → ℕ → Value → Given → Action Value
+abbrev pub call_remove : Setting → ℕ → ℕ → Value → Arguments → Action Value
 call_remove w levels line l g = do
-  x ← by_place line g >>= only_one line
+  x ← positional line g >>= only_one line
   _ ← guard w line l
   i ← place_with w levels line l x
   _ ← change w line l (change_to.RemoveAt i)

@@ -6,12 +6,12 @@ use Rattle.star_store.specs.declared.values.Cell.TheVariants as cell
 use Rattle.star_store.specs.declared.names.Method.{Method}
 use Rattle.star_store.specs.declared.names.Method.TheVariants as method
 use Rattle.star_store.specs.Names.{method_name, receiver_type}
-use Rattle.star_meaning.specs.declared.fault.Code.TheVariants as code
+use Rattle.star_meaning.specs.declared.fault.FaultCode.TheVariants as code
 use Rattle.star_meaning.specs.Run.{Action, ◌>>=◌, fail, found, build}
 use Rattle.star_scope.specs.Names.{same_name}
 use Rattle.star_meaning.specs.Program.{Setting}
 use Rattle.star_meaning.specs.Values.{with_content, type_name, want_text}
-use Rattle.star_meaning.specs.declared.given.Given.{Given}
+use Rattle.star_meaning.specs.declared.given.Arguments.{Arguments}
 use Rattle.star_meaning.specs.ListMethods.{call_append, call_clear, call_extend, call_index, call_insert, call_pop, call_remove}
 use Rattle.star_meaning.specs.DictMethods.{call_get, call_items, call_keys, call_values, call_dict_pop, call_popitem, call_setdefault, call_update}
 use Rattle.star_meaning.specs.TextMethods.{call_edge, call_find, call_join, call_split, call_strip, call_case, call_replace, call_format}
@@ -38,7 +38,7 @@ attribute w line x name =
     >>= λ m. build line 1 (cell.Bound m x)
 
 -- a call of a method of a string with these bytes, on the values given
-abbrev pub on_text : Setting → ℕ → ℕ → Method → List ℕ → Given → Action Value
+abbrev pub on_text : Setting → ℕ → ℕ → Method → List ℕ → Arguments → Action Value
 on_text w levels line method.StringEndswith t g = call_edge w line (ends_with nat_eq) t g
 on_text w levels line method.StringFind t g = call_find w line t g
 on_text w levels line method.StringFormat t g = call_format w levels line t g
@@ -54,7 +54,7 @@ on_text w levels line method.StringUpper t g = call_case line upper t g
 on_text w levels line _ t g = fail code.BadType line
 
 -- a call of a bound method, whose visits may open this many levels
-unfoldable pub call_method : Setting → ℕ → ℕ → Method → Value → Given → Action Value
+unfoldable pub call_method : Setting → ℕ → ℕ → Method → Value → Arguments → Action Value
 call_method w levels line method.ListAppend x g = call_append w line x g
 call_method w levels line method.ListClear x g = call_clear w line x g
 call_method w levels line method.ListExtend x g = call_extend w line x g

@@ -7,9 +7,9 @@ use Rattle.star_store.specs.declared.values.Value.{Value}
 use Rattle.star_store.specs.declared.values.Frame.{Frame}
 use Rattle.star_store.specs.Store.{Shelf, Published, put_up}
 use Rattle.star_tree.specs.declared.tree.Statement.{Statement}
-use Rattle.star_meaning.specs.declared.fault.Code.TheVariants as code
+use Rattle.star_meaning.specs.declared.fault.FaultCode.TheVariants as code
 use Rattle.star_meaning.specs.declared.fault.Fault.{Fault}
-use Rattle.star_meaning.specs.declared.place.Place.{Place}
+use Rattle.star_meaning.specs.declared.site.Site.{Site}
 use Rattle.star_scope.specs.Syntax.{expression, target, position_of, form_of}
 use Rattle.star_meaning.specs.Run.{State, Action, Outcome, Done, Failed, ◌>>=◌, give, fail, pay, each, seeing}
 use Rattle.star_scope.specs.Outlines.{Outline}
@@ -17,18 +17,18 @@ use Rattle.star_scope.specs.Names.{same_name}
 use Rattle.star_meaning.specs.Program.{Setting, Variables, outline_of, names_of, seen}
 use Rattle.star_meaning.specs.Variables.{frame_of, by_names}
 use Rattle.star_meaning.specs.Values.{repr}
-use Rattle.star_meaning.specs.Meaning.{Meaning, block}
+use Rattle.star_meaning.specs.Semantics.{Semantics, block}
 use Rattle.star_meaning.specs.Targets.{target_node, parts_node}
 use Rattle.star_meaning.specs.Expressions.{node}
 use Rattle.star_meaning.specs.Statements.{statement}
 use Rattle.star_meaning.specs.Calls.{run}
 
 -- a fault gets the line of the innermost statement of the running module's own file
-abbrev pub at_line : Setting → Place → Statement → Place
+abbrev pub at_line : Setting → Site → Statement → Site
 at_line w p s = if nat_eq p.file w.home then record p { line = (position_of s).line } else p
 
 -- if no level may be opened
-abbrev pub nothing_opens : Setting → Meaning
+abbrev pub nothing_opens : Setting → Semantics
 nothing_opens w = record {
   expr = λ p e. fail code.Deep p.line;
   stmt = λ p s. fail code.Deep (at_line w p s).line;
@@ -39,7 +39,7 @@ nothing_opens w = record {
 
 -- the parts of a program if one more level than n may be opened, and m is their meaning within it: a statement, an
 -- expression and a target that is not a plain name pay 1 as they begin
-abbrev pub one_more : Variables → Setting → ℕ → Meaning → Meaning
+abbrev pub one_more : Variables → Setting → ℕ → Semantics → Semantics
 one_more vs w n m = record {
   expr = λ p e. pay p.line 1 >>= λ _. node vs w n m p (expression e);
   stmt = λ p s. pay (at_line w p s).line 1 >>= λ _. statement vs w n m (at_line w p s) (position_of s) (form_of s);
@@ -49,7 +49,7 @@ one_more vs w n m = record {
 }
 
 -- the effect of each part of a program if this many levels may be opened
-unfoldable pub meaning : Variables → Setting → ℕ → Meaning
+unfoldable pub meaning : Variables → Setting → ℕ → Semantics
 meaning vs w zero = nothing_opens w
 meaning vs w (suc n) = one_more vs w n (meaning vs w n)
 

@@ -18,7 +18,7 @@ use Rattle.star_tree.specs.declared.tree.BinaryOperator.{BinaryOperator}
 use Rattle.star_tree.specs.declared.tree.BinaryOperator.TheVariants as binary
 use Rattle.star_tree.specs.declared.tree.Comparator.{Comparator}
 use Rattle.star_tree.specs.declared.tree.Comparator.TheVariants as comparator
-use Rattle.star_meaning.specs.declared.fault.Code.TheVariants as code
+use Rattle.star_meaning.specs.declared.fault.FaultCode.TheVariants as code
 use Rattle.star_meaning.specs.Run.{State, Action, ◌>>=◌, give, fail, pay, found, seeing, make}
 use Rattle.star_meaning.specs.Program.{Setting}
 use Rattle.star_meaning.specs.Values.{Content, Number, Held, with_content, int_of, new_int, new_text, new_tuple, new_list, new_dict, want_text, is_true, equal, compare, check_key, place_in}
@@ -165,15 +165,15 @@ range_has_value r (Some z) = range_has r z
 range_has_value r None = false
 
 -- whether one of the items is equal to x: the items are visited in order, up to the first equal one
-abbrev pub has_item : Setting → ℕ → ℕ → List Value → Value → Action Bool
-has_item w levels line [] x = give false
-has_item w levels line (y ∷ ys) x =
-    equal w levels line y x >>= λ b. if b then give true else has_item w levels line ys x
+abbrev pub list_contains : Setting → ℕ → ℕ → List Value → Value → Action Bool
+list_contains w levels line [] x = give false
+list_contains w levels line (y ∷ ys) x =
+    equal w levels line y x >>= λ b. if b then give true else list_contains w levels line ys x
 
 -- whether x is in y: an equal item, a key, an int of a range, a substring
 abbrev pub has : Setting → ℕ → ℕ → Content → Value → Action Bool
-has w levels line (Held (cell.List ys)) x = has_item w levels line ys x
-has w levels line (Held (cell.Tuple ys)) x = has_item w levels line ys x
+has w levels line (Held (cell.List ys)) x = list_contains w levels line ys x
+has w levels line (Held (cell.Tuple ys)) x = list_contains w levels line ys x
 has w levels line (Held (cell.Dict es)) x =
     check_key w levels line x >>= λ _. seeing (λ s. give (is_some (place_in w s x es)))
 has w levels line (Held (cell.Range r)) x = with_content w x (λ c. give (range_has_value r (int_of c)))

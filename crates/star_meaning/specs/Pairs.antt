@@ -2,13 +2,13 @@
 use Rattle.std.specs.Prelude.{ℕ, Bool, true, false, List, [], ◌∷◌, Option, Some, None, if◌then◌else◌}
 use Rattle.star_store.specs.declared.values.Value.{Value}
 use Rattle.star_store.specs.declared.values.Cell.TheVariants as cell
-use Rattle.star_meaning.specs.declared.fault.Code.TheVariants as code
+use Rattle.star_meaning.specs.declared.fault.FaultCode.TheVariants as code
 use Rattle.star_meaning.specs.Run.{Action, ◌>>=◌, give, fail, pay, each, all_of, seeing}
 use Rattle.star_meaning.specs.Program.{Setting}
 use Rattle.star_meaning.specs.Values.{Content, Held, with_content, count_of, take_items, take_all, check_key, new_dict}
 use Rattle.star_meaning.specs.Subscript.{put_entry}
 use Rattle.star_meaning.specs.Operators.{with_entry}
-use Rattle.star_meaning.specs.declared.given.NamedValue.{NamedValue}
+use Rattle.star_meaning.specs.declared.given.KeywordArgument.{KeywordArgument}
 use Rattle.star_meaning.specs.Arguments.{key_for}
 
 -- entries to put in, and whether their keys are keys already
@@ -53,11 +53,11 @@ check_pair w levels line are_keys k = if are_keys then give tt else check_key w 
 abbrev pub put_pair : Setting → ℕ → ℕ → Value → Bool → Value × Value → Action (Unit {0})
 put_pair w levels line d are_keys e = check_pair w levels line are_keys e.0 >>= λ _. put_entry w line d e.0 e.1
 
-abbrev pub put_named : Setting → ℕ → Value → NamedValue → Action (Unit {0})
+abbrev pub put_named : Setting → ℕ → Value → KeywordArgument → Action (Unit {0})
 put_named w line d n = key_for line n >>= λ k. put_entry w line d k n.value
 
 -- puts all pairs, then all keyword arguments, into an existing dictionary
-unfoldable pub put_pairs : Setting → ℕ → ℕ → Value → Pairs → List NamedValue → Action (Unit {0})
+unfoldable pub put_pairs : Setting → ℕ → ℕ → Value → Pairs → List KeywordArgument → Action (Unit {0})
 put_pairs w levels line d ps ns =
     all_of (put_pair w levels line d ps.are_keys) ps.pairs >>= λ _. all_of (put_named w line d) ns
 
@@ -72,18 +72,18 @@ with_pairs w levels line are_keys es [] = give es
 with_pairs w levels line are_keys es (e ∷ ps) =
     with_pair w levels line are_keys es e >>= λ fs. with_pairs w levels line are_keys fs ps
 
-abbrev pub with_named : Setting → ℕ → List (Value × Value) → List NamedValue → Action (List (Value × Value))
+abbrev pub with_named : Setting → ℕ → List (Value × Value) → List KeywordArgument → Action (List (Value × Value))
 with_named w line es [] = give es
 with_named w line es (n ∷ ns) =
     key_for line n >>= λ k. seeing (λ s. with_named w line (with_entry w s es (k, n.value)) ns)
 
 -- a new dictionary of pairs and named values
-unfoldable pub dict_of : Setting → ℕ → ℕ → Pairs → List NamedValue → Action Value
+unfoldable pub dict_of : Setting → ℕ → ℕ → Pairs → List KeywordArgument → Action Value
 dict_of w levels line ps ns =
     with_pairs w levels line ps.are_keys [] ps.pairs >>= λ es. with_named w line es ns >>= new_dict line
 
 -- `update`: the argument is iterable, the write guard, all pairs, then the puts
-unfoldable pub update_with : Setting → ℕ → ℕ → Value → Option Value → List NamedValue → Action (Unit {0})
+unfoldable pub update_with : Setting → ℕ → ℕ → Value → Option Value → List KeywordArgument → Action (Unit {0})
     → Action (Unit {0})
 update_with w levels line d x ns guarded = do
   n ← pairs_count w line x

@@ -2,7 +2,7 @@
 use Rattle.std.specs.Prelude.{ℕ, nat_eq, Bool, true, false, List, [], ◌∷◌, ◌++◌, length, if◌then◌else◌}
 use Rattle.star_store.specs.declared.values.Value.{Value}
 use Rattle.star_store.specs.declared.values.Cell.TheVariants as cell
-use Rattle.star_meaning.specs.declared.fault.Code.TheVariants as code
+use Rattle.star_meaning.specs.declared.fault.FaultCode.TheVariants as code
 use Rattle.star_meaning.specs.Run.{Action, ◌>>=◌, give, fail, pay}
 use Rattle.star_meaning.specs.Program.{Setting}
 use Rattle.star_meaning.specs.Values.{Content, Held, want_int, new_text, repr, str}
@@ -13,8 +13,8 @@ put_in (Held (cell.Tuple xs)) y = xs
 put_in c y = y ∷ []
 
 -- the text of one value for a letter: s and r make its two texts, d that of an int
-abbrev pub lettered : Setting → ℕ → ℕ → ℕ → Value → Action (List ℕ)
-lettered w levels line letter x =
+abbrev pub format_letter : Setting → ℕ → ℕ → ℕ → Value → Action (List ℕ)
+format_letter w levels line letter x =
     if nat_eq letter 115 then str w levels line x
     else (if nat_eq letter 114 then repr w levels line x
     else (if nat_eq letter 100 then (want_int w line x >>= λ n. repr w levels line x)
@@ -23,7 +23,7 @@ lettered w levels line letter x =
 -- the next value's text, and the values after it; too few are `value`
 abbrev pub next_text : Setting → ℕ → ℕ → ℕ → List Value → Action (List ℕ × List Value)
 next_text w levels line letter [] = fail code.BadValue line
-next_text w levels line letter (x ∷ xs) = lettered w levels line letter x >>= λ t. give (t, xs)
+next_text w levels line letter (x ∷ xs) = format_letter w levels line letter x >>= λ t. give (t, xs)
 
 -- the bytes of the string from left to right: after a `%` comes a letter, or another `%`; the values that are left, and
 -- the text that is made so far

@@ -9,8 +9,8 @@ use Rattle.star_store.specs.declared.values.Function.{Function}
 use Rattle.star_store.specs.Store.{Published, global_of}
 use Rattle.star_tree.specs.declared.tree.Name.{Name}
 use Rattle.star_tree.specs.declared.tree.Statement.{Statement}
-use Rattle.star_meaning.specs.declared.fault.Code.TheVariants as code
-use Rattle.star_meaning.specs.declared.place.Place.{Place}
+use Rattle.star_meaning.specs.declared.fault.FaultCode.TheVariants as code
+use Rattle.star_meaning.specs.declared.site.Site.{Site}
 use Rattle.star_meaning.specs.Run.{State, Outcome, Done, Failed, Action, found, seeing, make}
 use Rattle.star_scope.specs.declared.spot.Spot.{Spot}
 use Rattle.star_scope.specs.declared.spot.Spot.TheVariants as spot
@@ -45,14 +45,14 @@ joined None = None
 joined (Some v) = v
 
 -- the value at a spot, or `unbound`
-abbrev pub at_spot : Setting → State → Place → List ℕ → Option Spot → Option Value
+abbrev pub at_spot : Setting → State → Site → List ℕ → Option Spot → Option Value
 at_spot w s p name (Some (spot.Frame up slot)) = joined (slot_in w s slot (frame_above w s up (Some p.frame)))
 at_spot w s p name (Some spot.Prelude) =
     option_and_then (λ q. global_of name q.globals) (option_and_then (published_of w) w.prelude)
 at_spot w s p name (Some spot.Outermost) = global_of name outermost
 at_spot w s p name None = None
 
-unfoldable pub read_spot : Tables → Setting → Place → Name → Action Value
+unfoldable pub read_spot : Tables → Setting → Site → Name → Action Value
 read_spot tables w p n =
     seeing (λ s. found code.Unbound p.line (at_spot w s p n.text (tables.spots p.file n.position.token)))
 
@@ -61,7 +61,7 @@ abbrev pub own_spot : Option Spot → Option ℕ
 own_spot (Some (spot.Frame zero slot)) = Some slot
 own_spot _ = None
 
-unfoldable pub bind_spot : Tables → Place → Name → Value → Action (Unit {0})
+unfoldable pub bind_spot : Tables → Site → Name → Value → Action (Unit {0})
 bind_spot tables p n v = bind_at p.frame v (own_spot (tables.spots p.file n.position.token))
 
 -- a new frame has the slots of its block, all of them unbound
@@ -107,7 +107,7 @@ FitsChain w s file (b ∷ bs) frame =
 -- The law: in every chain of frames that fits the blocks around a name, the name is read and bound by its place as it
 -- is by its name.
 abbrev pub SpotsMeanNames : Type 0
-SpotsMeanNames = (tables : Tables) (w : Setting) (p : Place) (n : Name) (chain : List ℕ) (s : State)
+SpotsMeanNames = (tables : Tables) (w : Setting) (p : Site) (n : Name) (chain : List ℕ) (s : State)
     → IsPlaced (tables.spots p.file) (blocks_of w p.file) (outer_names w p.file w.prelude) (Named n chain)
     → FitsChain w s p.file chain (Some p.frame)
     → (read_spot tables w p n s ≡ read_name w p n s) × ((v : Value) → bind_spot tables p n v s ≡ bind_name w p n v s)

@@ -10,7 +10,7 @@ use Rattle.star_scope.specs.Names.{Names}
 use Rattle.star_scope.specs.declared.blocks.Block.{Block}
 use Rattle.star_scope.specs.Definitions.{Definition, definition_in}
 use Rattle.star_scope.specs.Outlines.{Outline, names_in}
-use Rattle.star_meaning.specs.declared.place.Place.{Place}
+use Rattle.star_meaning.specs.declared.site.Site.{Site}
 use Rattle.star_meaning.specs.Run.{State, Action}
 
 -- the environment of a run: the running file, the outlines of all files by their numbers, the published modules, the
@@ -57,6 +57,6 @@ seen w s v = look s.store w.shelf v
 -- the three actions that touch variables: reading a name, binding one in the innermost frame, and making the frame of a
 -- block (its file, its number, and the frame around it)
 pub record Variables : Type 0 where
-  pub read : Place → Name → Action Value
-  pub bind : Place → Name → Value → Action (Unit {0})
+  pub read : Site → Name → Action Value
+  pub bind : Site → Name → Value → Action (Unit {0})
   pub frame : ℕ → ℕ → Option Value → Action Value

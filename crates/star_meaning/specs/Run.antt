@@ -6,8 +6,8 @@ use Rattle.star_store.specs.declared.values.Value.{Value}
 use Rattle.star_store.specs.declared.values.Cell.{Cell}
 use Rattle.star_store.specs.Store.{Store, made, next_value}
 use Rattle.star_store.specs.Spend.{Spent, Enough, Lacks, Spend}
-use Rattle.star_meaning.specs.declared.fault.Code.{Code}
-use Rattle.star_meaning.specs.declared.fault.Code.TheVariants as code
+use Rattle.star_meaning.specs.declared.fault.FaultCode.{FaultCode}
+use Rattle.star_meaning.specs.declared.fault.FaultCode.TheVariants as code
 use Rattle.star_meaning.specs.declared.fault.Fault.{Fault}
 
 -- the state of a run: the running module's store, the definitions that are active (file and number, the innermost
@@ -41,7 +41,7 @@ abbrev pub give : {A : Type 0} → A → Action A
 give x = λ s. Done x s
 
 -- a fault
-abbrev pub fail : {A : Type 0} → Code → ℕ → Action A
+abbrev pub fail : {A : Type 0} → FaultCode → ℕ → Action A
 fail c line = λ s. Failed (record { code = c; line = line }) s.lines
 
 -- pays this many steps; a payment larger than the steps left is a fault
@@ -49,16 +49,16 @@ unfoldable pub pay : ℕ → ℕ → Action (Unit {0})
 pay line n = λ s. if nat_lt s.steps n then fail code.Steps line s else Done tt (record s { steps = s.steps - n })
 
 -- a fault if the test fails
-abbrev pub check : Code → ℕ → Bool → Action (Unit {0})
+abbrev pub check : FaultCode → ℕ → Bool → Action (Unit {0})
 check c line test = if test then give tt else fail c line
 
 -- the value, or a fault if there is none
-abbrev pub found : {A : Type 0} → Code → ℕ → Option A → Action A
+abbrev pub found : {A : Type 0} → FaultCode → ℕ → Option A → Action A
 found c line None = fail c line
 found c line (Some x) = give x
 
 -- the fault of a refusal of the store; want of memory is not a fault of a run, and no definition answers it
-abbrev pub code_of : StoreFault → Code
+abbrev pub code_of : StoreFault → FaultCode
 code_of refused.Frozen = code.Frozen
 code_of refused.Iterating = code.Iterating
 code_of refused.BadType = code.BadType

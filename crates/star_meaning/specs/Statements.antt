@@ -15,10 +15,10 @@ use Rattle.star_tree.specs.declared.tree.LoadedName.{LoadedName}
 use Rattle.star_tree.specs.declared.tree.Position.{Position}
 use Rattle.star_tree.specs.declared.tree.Argument.TheOpen as tree
 use Rattle.star_tree.specs.declared.tree.Form.TheOpen as form
-use Rattle.star_meaning.specs.declared.fault.Code.TheVariants as code
-use Rattle.star_meaning.specs.declared.place.Place.{Place}
-use Rattle.star_meaning.specs.declared.place.Flow.{Flow}
-use Rattle.star_meaning.specs.declared.place.Flow.TheVariants as flow
+use Rattle.star_meaning.specs.declared.fault.FaultCode.TheVariants as code
+use Rattle.star_meaning.specs.declared.site.Site.{Site}
+use Rattle.star_meaning.specs.declared.site.Flow.{Flow}
+use Rattle.star_meaning.specs.declared.site.Flow.TheVariants as flow
 use Rattle.star_scope.specs.Syntax.{StatementForm, TargetForm, target}
 use Rattle.star_meaning.specs.Run.{Action, ◌>>=◌, give, fail, found, all_of}
 use Rattle.star_meaning.specs.Program.{Setting, Variables, file_of, published_of}
@@ -27,7 +27,7 @@ use Rattle.star_meaning.specs.Operators.{operate}
 use Rattle.star_meaning.specs.Subscript.{set_index}
 use Rattle.star_meaning.specs.ListMethods.{extend}
 use Rattle.star_meaning.specs.Pairs.{update_with}
-use Rattle.star_meaning.specs.Meaning.{Meaning, block, turns}
+use Rattle.star_meaning.specs.Semantics.{Semantics, block, turns}
 use Rattle.star_meaning.specs.Targets.{to_target}
 use Rattle.star_meaning.specs.Expressions.{new_function}
 
@@ -43,7 +43,7 @@ augmented w levels line op x y = with_content w x (augment_content w levels line
 
 -- t op= e: the target's parts are evaluated once, it is read, e is evaluated, then it is computed and written; the name
 -- is not a node
-abbrev pub augment : Variables → Setting → ℕ → Meaning → Place → BinaryOperator → Expression → TargetForm
+abbrev pub augment : Variables → Setting → ℕ → Semantics → Site → BinaryOperator → Expression → TargetForm
     → Action (Unit {0})
 augment vs w levels m p op e (tree.Target-F.Target::Name n) = do
   x ← vs.read p n
@@ -58,21 +58,21 @@ augment vs w levels m p op e (tree.Target-F.Target::Index b i) = do
 augment vs w levels m p op e _ = fail code.BadType p.line
 
 -- the arms in order, up to the first whose condition is true
-abbrev pub arms : Setting → Meaning → Place → List Arm → Action Flow → Action Flow
+abbrev pub arms : Setting → Semantics → Site → List Arm → Action Flow → Action Flow
 arms w m p [] otherwise = otherwise
 arms w m p (a ∷ more) otherwise =
     m.expr p (out-Arm a).condition >>= is_true w >>= λ b. if b then block (m.stmt p) (out-Arm a).body
     else arms w m p more otherwise
 
 -- a turn of a loop: the next item is taken and assigned, and the body runs
-abbrev pub loop_turn : Variables → Setting → Meaning → Place → Target → List Statement → Value → ℕ → Action Flow
+abbrev pub loop_turn : Variables → Setting → Semantics → Site → Target → List Statement → Value → ℕ → Action Flow
 loop_turn vs w m p t body v i = do
   x ← take_item w p.line v i
   _ ← to_target vs m p t x
   block (m.stmt p) body
 
 -- `for`: the value is being iterated while the turns run
-abbrev pub loop : Variables → Setting → Meaning → Place → Target → List Statement → Value → Action Flow
+abbrev pub loop : Variables → Setting → Semantics → Site → Target → List Statement → Value → Action Flow
 loop vs w m p t body v = do
   n ← iterate w p.line v
   f ← turns (loop_turn vs w m p t body v) n 0
@@ -80,7 +80,7 @@ loop vs w m p t body v = do
   give f
 
 -- a loaded name is bound to the global of the loaded module: `no_name` if it is missing or unbound
-abbrev pub load_name : Variables → Place → Option Published → LoadedName → Action (Unit {0})
+abbrev pub load_name : Variables → Site → Option Published → LoadedName → Action (Unit {0})
 load_name vs p o n = do
   v ← found code.NoName p.line (option_and_then (λ q. global_of n.loaded.text q.globals) o)
   vs.bind p n.local v
@@ -89,12 +89,12 @@ load_name vs p o n = do
 abbrev pub module_of : Setting → Position → Option Published
 module_of w at = option_and_then (published_of w) (file_of w at.token)
 
-abbrev pub returned : Meaning → Place → Option Expression → Action Flow
+abbrev pub returned : Semantics → Site → Option Expression → Action Flow
 returned m p None = give (flow.Return value.NoneValue)
 returned m p (Some e) = m.expr p e >>= λ v. give (flow.Return v)
 
 -- the effect of a statement; its parts have the meaning m, and its visits may open this many levels
-abbrev pub statement : Variables → Setting → ℕ → Meaning → Place → Position → StatementForm → Action Flow
+abbrev pub statement : Variables → Setting → ℕ → Semantics → Site → Position → StatementForm → Action Flow
 statement vs w levels m p at (form.Expression e) = m.expr p e >>= λ _. give flow.Next
 statement vs w levels m p at (form.Assign t e) = do
   v ← m.expr p e

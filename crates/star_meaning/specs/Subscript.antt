@@ -8,7 +8,7 @@ use Rattle.star_store.specs.declared.values.Cell.TheVariants as cell
 use Rattle.star_store.specs.declared.arena.write.Change.TheVariants as change_to
 use Rattle.star_store.specs.declared.range.Range.{Range}
 use Rattle.star_store.specs.Range.{range_length}
-use Rattle.star_meaning.specs.declared.fault.Code.TheVariants as code
+use Rattle.star_meaning.specs.declared.fault.FaultCode.TheVariants as code
 use Rattle.star_meaning.specs.Run.{Action, ◌>>=◌, give, fail, pay, check, found, seeing}
 use Rattle.star_meaning.specs.Program.{Setting}
 use Rattle.star_meaning.specs.Values.{Content, Nothing, Number, Held, content, with_content, item_in, want_int, new_text, new_tuple, new_list, check_key, place_in, value_in, guard, change}

@@ -4,14 +4,14 @@ use Rattle.std.specs.List.{list_any, concat}
 use Rattle.star_store.specs.declared.values.Value.{Value}
 use Rattle.star_store.specs.declared.values.Value.TheVariants as value
 use Rattle.star_store.specs.declared.values.Cell.TheVariants as cell
-use Rattle.star_meaning.specs.declared.fault.Code.TheVariants as code
+use Rattle.star_meaning.specs.declared.fault.FaultCode.TheVariants as code
 use Rattle.star_meaning.specs.Run.{State, Action, ◌>>=◌, give, fail, pay, check, found, each, seeing}
 use Rattle.star_meaning.specs.Program.{Setting}
 use Rattle.star_meaning.specs.Values.{Content, Held, content, want_int, want_text, text_of, new_text, new_list, count_of, take_items}
 use Rattle.star_meaning.specs.Subscript.{want_part, bound_of}
 use Rattle.star_meaning.specs.Operators.{place_between}
-use Rattle.star_meaning.specs.declared.given.Given.{Given}
-use Rattle.star_meaning.specs.Arguments.{by_place, only_one, none_or_one, no_value, before_all}
+use Rattle.star_meaning.specs.declared.given.Arguments.{Arguments}
+use Rattle.star_meaning.specs.Arguments.{positional, only_one, none_or_one, no_value, before_all}
 use Rattle.star_meaning.specs.BuiltIns.{joined}
 use Rattle.star_meaning.specs.Texts.{characters, without_front, without_end, is_blank, is_in, parts}
 use Rattle.star_meaning.specs.Format.{formatted, Outside, Unused}
@@ -35,9 +35,9 @@ abbrev pub want_choices : Setting → ℕ → Value → Action (List (List ℕ))
 want_choices w line v = seeing (λ s. found code.BadType line (choices_in w s (content w s v)))
 
 -- startswith(p) and endswith(p), by a test
-abbrev pub call_edge : Setting → ℕ → (List ℕ → List ℕ → Bool) → List ℕ → Given → Action Value
+abbrev pub call_edge : Setting → ℕ → (List ℕ → List ℕ → Bool) → List ℕ → Arguments → Action Value
 call_edge w line test t g = do
-  p ← by_place line g >>= only_one line
+  p ← positional line g >>= only_one line
   us ← want_choices w line p
   _ ← pay_for_bytes line t
   give (value.Bool (list_any (test t) us))
@@ -61,9 +61,9 @@ place_or_none (Some i) = pos i
 abbrev pub end_of : ℕ → ℤ → Option ℤ → ℕ
 end_of n absent z = unsigned_abs (bound_of n (pos 0) (pos n) absent z)
 
-abbrev pub call_find : Setting → ℕ → List ℕ → Given → Action Value
+abbrev pub call_find : Setting → ℕ → List ℕ → Arguments → Action Value
 call_find w line t g = do
-  q ← by_place line g >>= one_to_three line
+  q ← positional line g >>= one_to_three line
   u ← want_text w line q.what
   a ← want_part w line q.from
   b ← want_part w line q.to
@@ -72,9 +72,9 @@ call_find w line t g = do
       (end_of (length t) (pos (length t)) b))))
 
 -- join(it): the items are strings, else `type`
-abbrev pub call_join : Setting → ℕ → List ℕ → Given → Action Value
+abbrev pub call_join : Setting → ℕ → List ℕ → Arguments → Action Value
 call_join w line t g = do
-  it ← by_place line g >>= only_one line
+  it ← positional line g >>= only_one line
   n ← count_of w line it
   _ ← pay_for_bytes line t
   xs ← take_items w line it n
@@ -96,9 +96,9 @@ one_and_maybe line (x ∷ n ∷ []) = give (x, Some n)
 one_and_maybe line _ = fail code.Args line
 
 -- split(sep, [n])
-abbrev pub call_split : Setting → ℕ → List ℕ → Given → Action Value
+abbrev pub call_split : Setting → ℕ → List ℕ → Arguments → Action Value
 call_split w line t g = do
-  a ← by_place line g >>= one_and_maybe line
+  a ← positional line g >>= one_and_maybe line
   by ← want_text w line a.0
   n ← want_cuts w line a.1
   _ ← pay_for_bytes line t
@@ -116,17 +116,17 @@ stripped front back test t =
     concat ((if front then without_front test else (λ cs. cs))
     ((if back then without_end test else (λ cs. cs)) (characters t)))
 
-abbrev pub call_strip : Setting → ℕ → Bool → Bool → List ℕ → Given → Action Value
+abbrev pub call_strip : Setting → ℕ → Bool → Bool → List ℕ → Arguments → Action Value
 call_strip w line front back t g = do
-  c ← by_place line g >>= none_or_one line
+  c ← positional line g >>= none_or_one line
   test ← want_set w line c
   _ ← pay_for_bytes line t
   new_text line (stripped front back test t)
 
 -- lower() and upper()
-abbrev pub call_case : ℕ → (ℕ → ℕ) → List ℕ → Given → Action Value
+abbrev pub call_case : ℕ → (ℕ → ℕ) → List ℕ → Arguments → Action Value
 call_case line f t g = do
-  _ ← by_place line g >>= no_value line
+  _ ← positional line g >>= no_value line
   _ ← pay_for_bytes line t
   new_text line (map f t)
 
@@ -141,9 +141,9 @@ two_or_three line (a ∷ b ∷ []) = give (record { old = a; new = b; cuts = Non
 two_or_three line (a ∷ b ∷ n ∷ []) = give (record { old = a; new = b; cuts = Some n })
 two_or_three line _ = fail code.Args line
 
-abbrev pub call_replace : Setting → ℕ → List ℕ → Given → Action Value
+abbrev pub call_replace : Setting → ℕ → List ℕ → Arguments → Action Value
 call_replace w line t g = do
-  q ← by_place line g >>= two_or_three line
+  q ← positional line g >>= two_or_three line
   u ← want_text w line q.old
   v ← want_text w line q.new
   n ← want_cuts w line q.cuts
@@ -152,7 +152,7 @@ call_replace w line t g = do
   new_text line (joined v (parts t u n))
 
 -- format(*x, **kw)
-abbrev pub call_format : Setting → ℕ → ℕ → List ℕ → Given → Action Value
+abbrev pub call_format : Setting → ℕ → ℕ → List ℕ → Arguments → Action Value
 call_format w levels line t g = do
   _ ← pay_for_bytes line t
   out ← formatted w levels line g t Outside Unused []

@@ -21,7 +21,7 @@ use Rattle.star_store.specs.Order.{order}
 use Rattle.star_store.specs.Key as keys
 use Rattle.star_store.specs.Text.{text}
 use Rattle.star_store.specs.Write.{may_write, write}
-use Rattle.star_meaning.specs.declared.fault.Code.TheVariants as code
+use Rattle.star_meaning.specs.declared.fault.FaultCode.TheVariants as code
 use Rattle.star_meaning.specs.Run.{State, Action, Done, ◌>>=◌, give, pay, found, agreed, visiting, seeing, storing, build, collect}
 use Rattle.star_meaning.specs.Program.{Setting, seen}
 

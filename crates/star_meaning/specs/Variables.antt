@@ -13,8 +13,8 @@ use Rattle.star_store.specs.declared.names.BuiltIn.TheVariants as built_in
 use Rattle.star_store.specs.Names.{built_in_name}
 use Rattle.star_store.specs.Store.{bound, global_of}
 use Rattle.star_tree.specs.declared.tree.Name.{Name}
-use Rattle.star_meaning.specs.declared.fault.Code.TheVariants as code
-use Rattle.star_meaning.specs.declared.place.Place.{Place}
+use Rattle.star_meaning.specs.declared.fault.FaultCode.TheVariants as code
+use Rattle.star_meaning.specs.declared.site.Site.{Site}
 use Rattle.star_meaning.specs.Run.{State, Action, give, found, seeing, storing, make}
 use Rattle.star_scope.specs.Loads.{is_private}
 use Rattle.star_scope.specs.Names.{same_name, slot_of}
@@ -72,24 +72,25 @@ outside w (Some prelude) file line name =
     else outside_prelude line name
 
 -- the value of a name: in the nearest frame that has it, where it may be unbound, else outside of the file
-abbrev pub read_found : Setting → Place → List ℕ → Option (Option Value) → Action Value
+abbrev pub read_found : Setting → Site → List ℕ → Option (Option Value) → Action Value
 read_found w p name (Some v) = found code.Unbound p.line v
 read_found w p name None = outside w w.prelude p.file p.line name
 
-unfoldable pub read_name : Setting → Place → Name → Action Value
+unfoldable pub read_name : Setting → Site → Name → Action Value
 read_name w p n = seeing (λ s. read_found w p n.text (nearest w s n.text chain_length (Some p.frame)))
 
 -- the place of a name in the innermost frame
-abbrev pub own_slot : Setting → State → Value → List ℕ → Option ℕ
-own_slot w s frame name = option_and_then (λ f. slot_of name (names_of w f.file f.block)) (frame_of (seen w s frame))
+abbrev pub keyword_slot : Setting → State → Value → List ℕ → Option ℕ
+keyword_slot w s frame name = option_and_then (λ f. slot_of name (names_of w f.file f.block))
+    (frame_of (seen w s frame))
 
 abbrev pub bind_at : Value → Value → Option ℕ → Action (Unit {0})
 bind_at frame v None = give tt
 bind_at frame v (Some i) = storing (bound frame i v)
 
 -- gives a name of the innermost frame a value
-unfoldable pub bind_name : Setting → Place → Name → Value → Action (Unit {0})
-bind_name w p n v = seeing (λ s. bind_at p.frame v (own_slot w s p.frame n.text))
+unfoldable pub bind_name : Setting → Site → Name → Value → Action (Unit {0})
+bind_name w p n v = seeing (λ s. bind_at p.frame v (keyword_slot w s p.frame n.text))
 
 -- a new frame, with all names of its block unbound
 unfoldable pub new_frame : Setting → ℕ → ℕ → Option Value → Action Value

@@ -1,8 +1,8 @@
-//! The faults of a run: `Code` is their kind, `Fault` adds the line.
+//! The faults of a run: `FaultCode` is their kind, `Fault` adds the line.
 
 /// The kind of a fault.
 #[derive(Clone, Copy, Debug, PartialEq, Eq)]
-pub enum Code {
+pub enum FaultCode {
     /// A write to a value of another module.
     Frozen,
     /// A write to a value that is being iterated.
@@ -40,6 +40,6 @@ pub enum Code {
 /// Why a run stops, and at which line of the running module.
 #[derive(Clone, Copy, Debug, PartialEq, Eq)]
 pub struct Fault {
-    pub code: Code,
+    pub code: FaultCode,
     pub line: usize,
 }

@@ -6,7 +6,7 @@ use star_text::Text;
 
 /// The value of a keyword argument; its key is there already if it came by `**`.
 #[derive(Drop)]
-pub struct NamedValue {
+pub struct KeywordArgument {
     pub name: Text,
     pub key: Option<Value>,
     pub value: Value,
@@ -14,7 +14,7 @@ pub struct NamedValue {
 
 /// The evaluated arguments of a call: the positional values, and the keyword ones.
 #[derive(Drop)]
-pub struct Given {
-    pub plain: Values,
-    pub named: Items<NamedValue>,
+pub struct Arguments {
+    pub positional: Values,
+    pub named: Items<KeywordArgument>,
 }

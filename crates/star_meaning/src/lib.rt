@@ -7,9 +7,9 @@
 //!
 //! The only code is the types that definitions and code share:
 //!
-//! - `Code` is the kind of a fault at run time, `Fault` adds its line.
-//! - `Place` is where a run is: file, frame and line.
-//! - `Given` are the evaluated arguments of a call.
+//! - `FaultCode` is the kind of a fault at run time, `Fault` adds its line.
+//! - `Site` is where a run is: file, frame and line.
+//! - `Arguments` are the evaluated arguments of a call.
 //! - `Flow` is how a statement ends: it goes on, returns, breaks or continues.
 //! - `Step` and the others of `story` are the story of a fault for a person. No definition uses them.
 //!
@@ -22,5 +22,5 @@
 pub mod fault;
 pub mod given;
 pub mod law;
-pub mod place;
+pub mod site;
 pub mod story;

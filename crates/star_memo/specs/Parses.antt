@@ -1,5 +1,5 @@
 -- What is kept of parsing texts.
-use Rattle.std.specs.Prelude.{◌≡◌, ◌≢◌, ◌+◌, ◌<◌, ℕ, All, List, [], ◌∷◌, Option, Some, None, IfSome, IsSome, Ok, Err, length, slice_index_or}
+use Rattle.std.specs.Prelude.{◌≡◌, ◌≢◌, ◌+◌, ◌<◌, ℕ, All, List, [], ◌∷◌, Option, Some, None, IfOk, IfSome, IsSome, Result, Ok, Err, Vec, length, slice_index_or}
 use Rattle.std.specs.Arc.{arc_value}
 use Rattle.star_label.specs.Files.{File, label_at, text_at}
 use Rattle.star_lex.specs.declared.token.SyntaxFault.TheVariants.{Memory}
@@ -24,6 +24,10 @@ AreKept files all =
 -- each of these is what the text of the file with its number comes to
 abbrev pub AreMade : List File → List (ℕ × Parse) → Type 0
 AreMade files made = All (λ p. IsParse (text_at files p.0) p.1) made
+
+-- so it is with each share that was made
+abbrev pub AreSharesMade : {Z E : Type 0} → List File → List (Result (Vec (ℕ × Parse) Z) E) → Type 0
+AreSharesMade files shares = All (λ r. IfOk r (λ made. AreMade files made.items)) shares
 
 -- something is kept for the file n
 abbrev pub Has : List (Option Kept) → ℕ → Type 0

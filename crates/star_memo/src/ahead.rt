@@ -1,8 +1,7 @@
 //! Parsing texts that are not parsed yet, by several threads, as their files are reached.
 
-ghost use Rattle.std.specs.Prelude.{◌<◌, All, IfOk, OnOk, length};
-ghost use Rattle.star_memo.specs.Parses.{AreMade};
-ghost use Rattle.star_reading.specs.Parsed.{AreParsesOf};
+ghost use Rattle.std.specs.Prelude.{◌<◌, IfOk, OnOk, length};
+ghost use Rattle.star_memo.specs.Parses.{AreMade, AreSharesMade};
 
 use crate::parses::{Parse, parse_of};
 use star_flow::Search;
@@ -125,8 +124,7 @@ impl<'s, 't> Parser<'s, 't> {
         search: &Search,
         threads: usize,
     ) -> Result<Vec<Result<Vec<(usize, Parse)>, AllocError>>, AllocError>
-        ensures { IfOk result (λ shares.
-            All (λ r. IfOk r (λ made. AreMade self.now.files.now made.items)) shares.items) }
+        ensures { IfOk result (λ shares. AreSharesMade self.now.files.now shares.items) }
     {
         thread::map_indices(
             rt,

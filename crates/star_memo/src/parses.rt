@@ -1,9 +1,9 @@
 //! The results of parsing the texts of files, which are kept from one request to the next.
 
-ghost use Rattle.std.specs.Prelude.{◌≡◌, ◌<◌, ◌≤◌, ◌⊎◌, [], false, true, All, List, ℕ, IfOk, IfSome, IsSome, None, OnOk, Some, length, slice_index_or, vec_len};
+ghost use Rattle.std.specs.Prelude.{◌≡◌, ◌<◌, ◌≤◌, [], false, true, All, List, ℕ, IfOk, IfSome, IsSome, None, OnOk, Some, length, slice_index_or, vec_len};
 ghost use Rattle.std.specs.Arc.{arc_value};
 ghost use Rattle.star_label.specs.Files.{File, label_at, text_at};
-ghost use Rattle.star_memo.specs.Parses.{AreKept, AreMade, Has, IsKept, IsParse, IsSameFile, IsTouched, kept_bytes};
+ghost use Rattle.star_memo.specs.Parses.{AreKept, AreMade, AreSharesMade, Has, IsKept, IsParse, IsSameFile, IsTouched, kept_bytes};
 ghost use Rattle.star_reading.specs.Parsed.{AreParsesOf, IsParsed};
 
 use crate::ahead::Parser;
@@ -185,8 +185,7 @@ impl Parses {
         alloc: Global,
         shares: Vec<Result<Vec<(usize, Parse)>, AllocError>>,
     ) -> Result<(), AllocError>
-        ensures kept { OnOk result ((files : List File)
-            → All (λ r. IfOk r (λ made. AreMade files made.items)) shares.items
+        ensures kept { OnOk result ((files : List File) → AreSharesMade files shares.items
             → AreKept files self.old.all.items → AreKept files self.new.all.items) }
         ensures stays { OnOk result ((m : ℕ) → Has self.old.all.items m → Has self.new.all.items m) }
     {
@@ -231,8 +230,7 @@ impl Parses {
         threads: usize,
     ) -> Result<Vec<Result<Vec<(usize, Parse)>, AllocError>>, AllocError>
         requires { AreKept files.now self.now.all.items }
-        ensures { IfOk result (λ shares.
-            All (λ r. IfOk r (λ made. AreMade files.now made.items)) shares.items) }
+        ensures { IfOk result (λ shares. AreSharesMade files.now shares.items) }
     {
         let views = self.views(alloc, files)?;
         let parser = Parser {

@@ -3,11 +3,13 @@ use Rattle.std.proofs.Common.{◌≡◌, ℕ, zero, suc, ◌+◌, ◌-◌, ◌<�
 use denote.Ref.{Bor}
 use Rattle.std.specs.List.{starts_with}
 use Rattle.std.specs.Str.Pattern.{LacksTextAt, FindsText}
+use Rattle.std.proofs.lemmas.Bool.{and_right}
 use Rattle.std.proofs.lemmas.Bool.Decides.{nat_tests}
 use Rattle.std.proofs.lemmas.List.{take-append-drop}
 use Rattle.std.proofs.lemmas.Str.Pattern.{starts_text}
 use Rattle.star_meaning.specs.BuiltIns.{joined}
 use Rattle.star_meaning.specs.Texts.{may_cut, one_less, parts, parts_from}
+use Rattle.star_method.specs.Cuts.{IsFirstCut}
 
 -- the bytes of a separator are passed over
 skip_over : (by : List ℕ) (left : Option ℕ) (n : ℕ) (xs ys part : List ℕ) → length xs ≡ n → parts_from by left n part (xs ++ ys) ≡ parts_from by left 0 part ys
@@ -23,14 +25,10 @@ lacks by t i h = sym (starts_text false by (drop i t) h)
 cut_if : (by : List ℕ) (left : Option ℕ) (part bs : List ℕ) (b : ℕ) (p q : Bool) → (p && q) ≡ false → (if p && q then part ∷ parts_from by (one_less left) (length by - 1) [] bs else parts_from by left 0 (part ++ b ∷ []) bs) ≡ parts_from by left 0 (part ++ b ∷ []) bs
 cut_if by left part bs b p q h = rw h refl
 
-and_false : (p q : Bool) → q ≡ false → (p && q) ≡ false
-and_false true q h = h
-and_false false q h = refl
-
 before_cut : (by : List ℕ) (left : Option ℕ) (part before rest : List ℕ) → ((i : ℕ) → i < length before → starts_with nat_eq (drop i (before ++ rest)) by ≡ false) → parts_from by left 0 part (before ++ rest) ≡ parts_from by left 0 (part ++ before) rest
 before_cut by left part [] rest f = ap (λ z. parts_from by left 0 z rest) (sym (append-nil part))
 before_cut by left part (b ∷ bs) rest f =
-    cut_if by left part (bs ++ rest) b (may_cut left) (starts_with nat_eq (b ∷ (bs ++ rest)) by) (and_false (may_cut left) (starts_with nat_eq (b ∷ (bs ++ rest)) by) (f 0 (omega arith)))
+    cut_if by left part (bs ++ rest) b (may_cut left) (starts_with nat_eq (b ∷ (bs ++ rest)) by) (and_right (may_cut left) (starts_with nat_eq (b ∷ (bs ++ rest)) by) (f 0 (omega arith)))
     ∙ before_cut by left (part ++ b ∷ []) bs rest (λ i h. f (suc i) (omega arith))
     ∙ ap (λ z. parts_from by left 0 z rest) (append_assoc part (b ∷ []) bs)
 
@@ -90,7 +88,7 @@ pub joined_next : (v before by t : List ℕ) (left : Option ℕ) → joined v (b
 joined_next v before by t left = joined_from v before by left 0 [] t
 
 -- the answer of `split_once` is the first cut
-pub cut_is : (t by : List ℕ) (left : Option ℕ) (r : Option (Bor (List ℕ) × Bor (List ℕ))) → 0 < length by → may_cut left ≡ true → MatchOption r (FindsText by t None) (λ x. (i : ℕ) × (j : ℕ) × FindsText by t (Some (i, j)) × (x.0.now ≡ take i t) × (x.1.now ≡ drop j t) × (i ≤ j) × (length x.0.now ≡ i) × (length x.1.now + j ≡ length t)) → MatchOption r (parts t by left ≡ t ∷ []) (λ x. (parts t by left ≡ x.0.now ∷ parts x.1.now by (one_less left)) × (length x.1.now < length t))
+pub cut_is : (t by : List ℕ) (left : Option ℕ) (r : Option (Bor (List ℕ) × Bor (List ℕ))) → 0 < length by → may_cut left ≡ true → MatchOption r (FindsText by t None) (λ x. (i : ℕ) × (j : ℕ) × FindsText by t (Some (i, j)) × (x.0.now ≡ take i t) × (x.1.now ≡ drop j t) × (i ≤ j) × (length x.0.now ≡ i) × (length x.1.now + j ≡ length t)) → IsFirstCut t by left r
 cut_is t by left None l h f = no_cut t by left f
 cut_is t by left (Some x) l h f = (cut_first t by left f.0 f.1 x.0.now x.1.now l h f.2 f.6 f.3 f.4, omega (arith, f.2.1.ends, f.7))
 

@@ -1,7 +1,8 @@
 -- The characters of a string, from either end.
-use Rattle.std.proofs.Common.{◌≡◌, ℕ, zero, suc, ◌+◌, ◌-◌, ◌<◌, ◌≤◌, List, [], ◌∷◌, ◌++◌, length, take, drop, get_or, reverse, Bool, true, false, ◌&&◌, if◌then◌else◌, add-one, refl, ap, sym, ◌∙◌, arith, append-nil}
+use Rattle.std.proofs.Common.{◌≡◌, ℕ, zero, suc, ◌+◌, ◌-◌, ◌<◌, ◌≤◌, List, [], ◌∷◌, ◌++◌, length, take, drop, get_or, reverse, Bool, true, false, if◌then◌else◌, add-one, refl, ap, sym, ◌∙◌, arith, append-nil}
 use Rattle.std.specs.List.{list_all, concat}
 use Rattle.std.specs.Str.{IsUtf8, IsCharBoundary}
+use Rattle.std.proofs.lemmas.Bool.{and_from, and_parts}
 use Rattle.std.proofs.lemmas.Bool.Decides.{nat_tests}
 use Rattle.std.proofs.lemmas.Str.{IsCharBoundary-start}
 use Rattle.std.proofs.Math.Seq.{drop-cons}
@@ -9,21 +10,8 @@ use Rattle.std.proofs.lemmas.List.{take-append-drop, reverse-append, reverse-rev
 use Rattle.std.proofs.lemmas.List.Folds.{list_all_more}
 use Rattle.star_meaning.specs.Texts.{goes_on, begins_inside, led_by, characters, without_front, without_end}
 
-and_true : (p q : Bool) → p ≡ true → q ≡ true → (p && q) ≡ true
-and_true true true h k = refl
-and_true true false h k = k
-and_true false q h k = h
-
 pub all_more : (t : List ℕ) (at : ℕ) → at < length t → list_all goes_on (take at t) ≡ true → goes_on (get_or t at 0) ≡ true → list_all goes_on (take (at + 1) t) ≡ true
-all_more t at h k j = list_all_more goes_on t at 0 h ∙ and_true (list_all goes_on (take at t)) (goes_on (get_or t at 0)) k j
-
-and_left : (p q : Bool) → (p && q) ≡ true → p ≡ true
-and_left true q h = refl
-and_left false q h = cc
-
-and_right : (p q : Bool) → (p && q) ≡ true → q ≡ true
-and_right true q h = h
-and_right false q h = cc
+all_more t at h k j = list_all_more goes_on t at 0 h ∙ and_from (list_all goes_on (take at t)) (goes_on (get_or t at 0)) k j
 
 -- a byte before characters; the first has its beginning
 led_whole : (b : ℕ) (g : List ℕ) (gs : List (List ℕ)) → begins_inside g ≡ false → led_by b (g ∷ gs) ≡ (b ∷ []) ∷ g ∷ gs
@@ -47,7 +35,9 @@ led_rest b (c ∷ cs) h = led_twice b c (characters cs) h
 -- the first character ends where the next one begins
 whole_first : (b : ℕ) (ks rest : List ℕ) → list_all goes_on ks ≡ true → begins_inside rest ≡ false → characters (b ∷ (ks ++ rest)) ≡ (b ∷ ks) ∷ characters rest
 whole_first b [] rest h j = led_rest b rest j
-whole_first b (k ∷ ks) rest h j = ap (led_by b) (whole_first k ks rest (and_right (goes_on k) (list_all goes_on ks) h) j) ∙ led_inside b (k ∷ ks) (characters rest) (and_left (goes_on k) (list_all goes_on ks) h)
+whole_first b (k ∷ ks) rest h j =
+    let all = and_parts (goes_on k) (list_all goes_on ks) h in
+    ap (led_by b) (whole_first k ks rest all.1 j) ∙ led_inside b (k ∷ ks) (characters rest) all.0
 
 -- characters side by side
 front_if : (b : ℕ) (g : List ℕ) (gs ys : List (List ℕ)) (e : Bool) → (if e then (b ∷ g) ∷ (gs ++ ys) else (b ∷ []) ∷ g ∷ (gs ++ ys)) ≡ (if e then (b ∷ g) ∷ gs else (b ∷ []) ∷ g ∷ gs) ++ ys

@@ -4,7 +4,7 @@
 
 ghost use Rattle.std.specs.Prelude.{◌≡◌, IfOk, map, slice_get};
 ghost use Rattle.star_meaning.specs.DictMethods as spec;
-ghost use Rattle.star_machine.specs.Gives.{Gives};
+ghost use Rattle.star_machine.specs.Refines.{Refines};
 ghost use Rattle.star_meaning.specs.Run.{each};
 ghost use Rattle.star_meaning.specs.Subscript.{entries_in};
 ghost use Rattle.star_meaning.specs.Values.{content};
@@ -15,8 +15,8 @@ use star_machine::fault::{Stop, faulted};
 use star_machine::machine::Machine;
 use star_machine::setting::Setting;
 use star_machine::subscript::put_entry;
-use star_meaning::fault::Code;
-use star_meaning::given::Given;
+use star_meaning::fault::FaultCode;
+use star_meaning::given::Arguments;
 use star_store::arena::write::Change;
 use star_store::values::{Cell, Value, Values};
 use std::alloc::{AllocError, Global};
@@ -48,11 +48,11 @@ pub fn call_get(
     levels: u32,
     line: usize,
     dict: Value,
-    given: &Given,
+    given: &Arguments,
 ) -> Result<Value, Stop>
-    ensures { Gives (spec.call_get setting.now levels line dict given.now machine.old) result machine.new }
+    ensures { Refines (spec.call_get setting.now levels line dict given.now machine.old) result machine.new }
 {
-    let (key, default) = machine.one_or_two(line, machine.by_place(line, given)?)?;
+    let (key, default) = machine.one_or_two(line, machine.positional(line, given)?)?;
     machine.check_key(setting, levels, line, key)?;
     let value = machine.value_in(setting, dict, key);
     Ok(else_given(value, default))
@@ -60,7 +60,7 @@ pub fn call_get(
 
 /// A new tuple of a key and its value.
 fn pair_up(machine: &mut Machine, line: usize, entry: (Value, Value)) -> Result<Value, Stop>
-    ensures { Gives (spec.pair_up line entry machine.old) result machine.new }
+    ensures { Refines (spec.pair_up line entry machine.old) result machine.new }
 {
     let (key, value) = entry;
     let pair = Vec::from_slice(machine.alloc(), &[key, value])?;
@@ -69,7 +69,7 @@ fn pair_up(machine: &mut Machine, line: usize, entry: (Value, Value)) -> Result<
 
 /// A new tuple for each entry.
 fn pairs_up(machine: &mut Machine, line: usize, entries: &[(Value, Value)]) -> Result<Values, Stop>
-    ensures { Gives (each (spec.pair_up line) entries.now machine.old) result machine.new }
+    ensures { Refines (each (spec.pair_up line) entries.now machine.old) result machine.new }
 {
     let mut pairs = Vec::new(machine.alloc());
     for entry in entries {
@@ -84,11 +84,11 @@ pub fn call_items(
     setting: &Setting,
     line: usize,
     dict: Value,
-    given: &Given,
+    given: &Arguments,
 ) -> Result<Value, Stop>
-    ensures { Gives (spec.call_items setting.now line dict given.now machine.old) result machine.new }
+    ensures { Refines (spec.call_items setting.now line dict given.now machine.old) result machine.new }
 {
-    machine.no_value(line, machine.by_place(line, given)?)?;
+    machine.no_value(line, machine.positional(line, given)?)?;
     let entries = entries_of(machine, setting, dict)?;
     let pairs = pairs_up(machine, line, &entries)?;
     machine.new_list(line, pairs)
@@ -114,11 +114,11 @@ pub fn call_keys(
     setting: &Setting,
     line: usize,
     dict: Value,
-    given: &Given,
+    given: &Arguments,
 ) -> Result<Value, Stop>
-    ensures { Gives (spec.call_keys setting.now line dict given.now machine.old) result machine.new }
+    ensures { Refines (spec.call_keys setting.now line dict given.now machine.old) result machine.new }
 {
-    machine.no_value(line, machine.by_place(line, given)?)?;
+    machine.no_value(line, machine.positional(line, given)?)?;
     let entries = entries_of(machine, setting, dict)?;
     let keys = keys_of(machine.alloc(), &entries)?;
     machine.new_list(line, Values::new(keys))
@@ -130,11 +130,11 @@ pub fn call_values(
     setting: &Setting,
     line: usize,
     dict: Value,
-    given: &Given,
+    given: &Arguments,
 ) -> Result<Value, Stop>
-    ensures { Gives (spec.call_values setting.now line dict given.now machine.old) result machine.new }
+    ensures { Refines (spec.call_values setting.now line dict given.now machine.old) result machine.new }
 {
-    machine.no_value(line, machine.by_place(line, given)?)?;
+    machine.no_value(line, machine.positional(line, given)?)?;
     let entries = entries_of(machine, setting, dict)?;
     let values = values_of(machine.alloc(), &entries)?;
     machine.new_list(line, Values::new(values))
@@ -150,12 +150,12 @@ fn take_out(
     value: Option<Value>,
     default: Option<Value>,
 ) -> Result<Value, Stop>
-    ensures { Gives (spec.take_out setting.now line dict key value default machine.old) result machine.new }
+    ensures { Refines (spec.take_out setting.now line dict key value default machine.old) result machine.new }
 {
     let Some(value) = value else {
         return match default {
             Some(default) => Ok(default),
-            None => Err(faulted(Code::Key, line)),
+            None => Err(faulted(FaultCode::Key, line)),
         };
     };
     let _old = machine.change(setting, line, dict, Change::Delete(key))?;
@@ -170,11 +170,11 @@ pub fn call_dict_pop(
     levels: u32,
     line: usize,
     dict: Value,
-    given: &Given,
+    given: &Arguments,
 ) -> Result<Value, Stop>
-    ensures { Gives (spec.call_dict_pop setting.now levels line dict given.now machine.old) result machine.new }
+    ensures { Refines (spec.call_dict_pop setting.now levels line dict given.now machine.old) result machine.new }
 {
-    let (key, default) = machine.one_or_two(line, machine.by_place(line, given)?)?;
+    let (key, default) = machine.one_or_two(line, machine.positional(line, given)?)?;
     machine.guard(setting, line, dict)?;
     machine.check_key(setting, levels, line, key)?;
     let value = machine.value_in(setting, dict, key);
@@ -188,14 +188,14 @@ pub fn call_popitem(
     setting: &Setting,
     line: usize,
     dict: Value,
-    given: &Given,
+    given: &Arguments,
 ) -> Result<Value, Stop>
-    ensures { Gives (spec.call_popitem setting.now line dict given.now machine.old) result machine.new }
+    ensures { Refines (spec.call_popitem setting.now line dict given.now machine.old) result machine.new }
 {
-    machine.no_value(line, machine.by_place(line, given)?)?;
+    machine.no_value(line, machine.positional(line, given)?)?;
     machine.guard(setting, line, dict)?;
     let Some(entry) = first_entry(machine, setting, dict) else {
-        return Err(faulted(Code::Key, line));
+        return Err(faulted(FaultCode::Key, line));
     };
     let pair = pair_up(machine, line, entry)?;
     let _old = machine.change(setting, line, dict, Change::Delete(entry.0))?;
@@ -212,7 +212,7 @@ fn put_default(
     value: Option<Value>,
     default: Option<Value>,
 ) -> Result<Value, Stop>
-    ensures { Gives (spec.put_default setting.now line dict key value default machine.old) result machine.new }
+    ensures { Refines (spec.put_default setting.now line dict key value default machine.old) result machine.new }
 {
     let Some(value) = value else {
         let value = else_given(None, default);
@@ -230,11 +230,11 @@ pub fn call_setdefault(
     levels: u32,
     line: usize,
     dict: Value,
-    given: &Given,
+    given: &Arguments,
 ) -> Result<Value, Stop>
-    ensures { Gives (spec.call_setdefault setting.now levels line dict given.now machine.old) result machine.new }
+    ensures { Refines (spec.call_setdefault setting.now levels line dict given.now machine.old) result machine.new }
 {
-    let (key, default) = machine.one_or_two(line, machine.by_place(line, given)?)?;
+    let (key, default) = machine.one_or_two(line, machine.positional(line, given)?)?;
     machine.guard(setting, line, dict)?;
     machine.check_key(setting, levels, line, key)?;
     let value = machine.value_in(setting, dict, key);
@@ -249,11 +249,11 @@ pub fn call_update(
     levels: u32,
     line: usize,
     dict: Value,
-    given: &Given,
+    given: &Arguments,
 ) -> Result<Value, Stop>
-    ensures { Gives (spec.call_update setting.now levels line dict given.now machine.old) result machine.new }
+    ensures { Refines (spec.call_update setting.now levels line dict given.now machine.old) result machine.new }
 {
-    let source = machine.none_or_one(line, given.plain.as_slice())?;
+    let source = machine.none_or_one(line, given.positional.as_slice())?;
     update_with(
         machine,
         setting,

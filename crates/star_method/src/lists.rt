@@ -1,7 +1,7 @@
 //! The methods of lists.
 
 ghost use Rattle.std.specs.Prelude.{◌≡◌, length};
-ghost use Rattle.star_machine.specs.Gives.{Gives};
+ghost use Rattle.star_machine.specs.Refines.{Refines};
 ghost use Rattle.star_meaning.specs.ListMethods as spec;
 ghost use Rattle.star_meaning.specs.Run.{all_of};
 ghost use Rattle.star_meaning.specs.Values.{content};
@@ -12,8 +12,8 @@ use star_machine::machine::Machine;
 use star_machine::setting::Setting;
 use star_machine::slices::bound_of;
 use star_machine::subscript::place_from;
-use star_meaning::fault::Code;
-use star_meaning::given::Given;
+use star_meaning::fault::FaultCode;
+use star_meaning::given::Arguments;
 use star_store::arena::write::Change;
 use star_store::values::{Cell, Value};
 
@@ -35,7 +35,7 @@ fn add_item(
     list: Value,
     item: Value,
 ) -> Result<(), Stop>
-    ensures { Gives (spec.add_item setting.now line list item machine.old) result machine.new }
+    ensures { Refines (spec.add_item setting.now line list item machine.old) result machine.new }
 {
     let _old = machine.change(setting, line, list, Change::Append(item))?;
     Ok(())
@@ -49,7 +49,7 @@ fn add_items(
     list: Value,
     items: &[Value],
 ) -> Result<(), Stop>
-    ensures { Gives (all_of (spec.add_item setting.now line list) items.now machine.old) result machine.new }
+    ensures { Refines (all_of (spec.add_item setting.now line list) items.now machine.old) result machine.new }
 {
     for item in items {
         add_item(machine, setting, line, list, *item)?;
@@ -63,11 +63,11 @@ pub fn call_append(
     setting: &Setting,
     line: usize,
     list: Value,
-    given: &Given,
+    given: &Arguments,
 ) -> Result<Value, Stop>
-    ensures { Gives (spec.call_append setting.now line list given.now machine.old) result machine.new }
+    ensures { Refines (spec.call_append setting.now line list given.now machine.old) result machine.new }
 {
-    let item = machine.only_one(line, machine.by_place(line, given)?)?;
+    let item = machine.only_one(line, machine.positional(line, given)?)?;
     machine.guard(setting, line, list)?;
     machine.pay(line, 1)?;
     add_item(machine, setting, line, list, item)?;
@@ -80,11 +80,11 @@ pub fn call_clear(
     setting: &Setting,
     line: usize,
     container: Value,
-    given: &Given,
+    given: &Arguments,
 ) -> Result<Value, Stop>
-    ensures { Gives (spec.call_clear setting.now line container given.now machine.old) result machine.new }
+    ensures { Refines (spec.call_clear setting.now line container given.now machine.old) result machine.new }
 {
-    machine.no_value(line, machine.by_place(line, given)?)?;
+    machine.no_value(line, machine.positional(line, given)?)?;
     machine.guard(setting, line, container)?;
     let _old = machine.change(setting, line, container, Change::Clear)?;
     Ok(Value::NoneValue)
@@ -99,7 +99,7 @@ pub fn extend(
     list: Value,
     items: Value,
 ) -> Result<(), Stop>
-    ensures { Gives (spec.extend setting.now line list items machine.old) result machine.new }
+    ensures { Refines (spec.extend setting.now line list items machine.old) result machine.new }
 {
     let count = machine.count_of(setting, line, items)?;
     machine.guard(setting, line, list)?;
@@ -114,11 +114,11 @@ pub fn call_extend(
     setting: &Setting,
     line: usize,
     list: Value,
-    given: &Given,
+    given: &Arguments,
 ) -> Result<Value, Stop>
-    ensures { Gives (spec.call_extend setting.now line list given.now machine.old) result machine.new }
+    ensures { Refines (spec.call_extend setting.now line list given.now machine.old) result machine.new }
 {
-    let items = machine.only_one(line, machine.by_place(line, given)?)?;
+    let items = machine.only_one(line, machine.positional(line, given)?)?;
     extend(machine, setting, line, list, items)?;
     Ok(Value::NoneValue)
 }
@@ -133,7 +133,7 @@ fn equal_place(
     list: Value,
     value: Value,
 ) -> Result<Option<usize>, Stop>
-    ensures { Gives (spec.with_items setting.now list (spec.equal_place setting.now levels line value 0) machine.old)
+    ensures { Refines (spec.with_items setting.now list (spec.equal_place setting.now levels line value 0) machine.old)
         result machine.new }
 {
     match machine.kind(setting, list) {
@@ -151,11 +151,11 @@ fn place_with(
     list: Value,
     value: Value,
 ) -> Result<usize, Stop>
-    ensures { Gives (spec.place_with setting.now levels line list value machine.old) result machine.new }
+    ensures { Refines (spec.place_with setting.now levels line list value machine.old) result machine.new }
 {
     match equal_place(machine, setting, levels, line, list, value)? {
         Some(at) => Ok(at),
-        None => Err(faulted(Code::BadValue, line)),
+        None => Err(faulted(FaultCode::BadValue, line)),
     }
 }
 
@@ -166,11 +166,11 @@ pub fn call_index(
     levels: u32,
     line: usize,
     list: Value,
-    given: &Given,
+    given: &Arguments,
 ) -> Result<Value, Stop>
-    ensures { Gives (spec.call_index setting.now levels line list given.now machine.old) result machine.new }
+    ensures { Refines (spec.call_index setting.now levels line list given.now machine.old) result machine.new }
 {
-    let value = machine.only_one(line, machine.by_place(line, given)?)?;
+    let value = machine.only_one(line, machine.positional(line, given)?)?;
     let at = place_with(machine, setting, levels, line, list, value)?;
     machine.new_count(line, at)
 }
@@ -189,11 +189,11 @@ pub fn call_insert(
     setting: &Setting,
     line: usize,
     list: Value,
-    given: &Given,
+    given: &Arguments,
 ) -> Result<Value, Stop>
-    ensures { Gives (spec.call_insert setting.now line list given.now machine.old) result machine.new }
+    ensures { Refines (spec.call_insert setting.now line list given.now machine.old) result machine.new }
 {
-    let (place, item) = machine.two(line, machine.by_place(line, given)?)?;
+    let (place, item) = machine.two(line, machine.positional(line, given)?)?;
     let place = machine.want_int(setting, line, place)?;
     machine.guard(setting, line, list)?;
     machine.pay(line, 1)?;
@@ -209,7 +209,7 @@ fn want_last(
     line: usize,
     place: Option<Value>,
 ) -> Result<i64, Stop>
-    ensures { Gives (spec.want_last setting.now line place machine.now) result machine.now }
+    ensures { Refines (spec.want_last setting.now line place machine.now) result machine.now }
 {
     match place {
         None => Ok(-1),
@@ -223,19 +223,19 @@ pub fn call_pop(
     setting: &Setting,
     line: usize,
     list: Value,
-    given: &Given,
+    given: &Arguments,
 ) -> Result<Value, Stop>
-    ensures { Gives (spec.call_pop setting.now line list given.now machine.old) result machine.new }
+    ensures { Refines (spec.call_pop setting.now line list given.now machine.old) result machine.new }
 {
-    let place = machine.none_or_one(line, machine.by_place(line, given)?)?;
+    let place = machine.none_or_one(line, machine.positional(line, given)?)?;
     let place = want_last(machine, setting, line, place)?;
     machine.guard(setting, line, list)?;
     let Some(at) = place_from(item_count(machine, setting, list), place) else {
-        return Err(faulted(Code::Index, line));
+        return Err(faulted(FaultCode::Index, line));
     };
     match machine.change(setting, line, list, Change::RemoveAt(at))? {
         Some(item) => Ok(item),
-        None => Err(faulted(Code::Index, line)),
+        None => Err(faulted(FaultCode::Index, line)),
     }
 }
 
@@ -246,11 +246,11 @@ pub fn call_remove(
     levels: u32,
     line: usize,
     list: Value,
-    given: &Given,
+    given: &Arguments,
 ) -> Result<Value, Stop>
-    ensures { Gives (spec.call_remove setting.now levels line list given.now machine.old) result machine.new }
+    ensures { Refines (spec.call_remove setting.now levels line list given.now machine.old) result machine.new }
 {
-    let value = machine.only_one(line, machine.by_place(line, given)?)?;
+    let value = machine.only_one(line, machine.positional(line, given)?)?;
     machine.guard(setting, line, list)?;
     let at = place_with(machine, setting, levels, line, list, value)?;
     let _old = machine.change(setting, line, list, Change::RemoveAt(at))?;

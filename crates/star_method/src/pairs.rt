@@ -1,20 +1,20 @@
 //! The pairs that `update` puts into a dictionary.
 
 ghost use Rattle.std.specs.Prelude.{◌≡◌, IfOk};
-ghost use Rattle.star_machine.specs.Gives.{Gives, GivesBy};
+ghost use Rattle.star_machine.specs.Refines.{Refines, RefinesBy};
 ghost use Rattle.star_meaning.specs.Pairs as spec;
 ghost use Rattle.star_meaning.specs.Run.{all_of, each};
 ghost use Rattle.star_meaning.specs.Subscript.{entries_in};
 ghost use Rattle.star_meaning.specs.Values.{content, guard};
-ghost use Rattle.star_method.specs.Gathered.{as_pairs, taken_entry};
+ghost use Rattle.star_method.specs.DictBuilder.{as_pairs, taken_entry};
 
 use star_machine::content::{Content, Kind};
 use star_machine::fault::{Stop, faulted};
 use star_machine::machine::Machine;
 use star_machine::setting::Setting;
 use star_machine::subscript::put_entry;
-use star_meaning::fault::Code;
-use star_meaning::given::NamedValue;
+use star_meaning::fault::FaultCode;
+use star_meaning::given::KeywordArgument;
 use star_store::values::{Cell, Entries, Value};
 use std::alloc::AllocError;
 
@@ -32,12 +32,12 @@ fn pair_of(
     line: usize,
     value: Value,
 ) -> Result<(Value, Value), Stop>
-    ensures { Gives (spec.pair_of setting.now line value machine.old) result machine.new }
+    ensures { Refines (spec.pair_of setting.now line value machine.old) result machine.new }
 {
     let items = machine.take_all(setting, line, value)?;
     match items.as_slice() {
         [key, value] => Ok((*key, *value)),
-        _ => Err(faulted(Code::BadValue, line)),
+        _ => Err(faulted(FaultCode::BadValue, line)),
     }
 }
 
@@ -48,7 +48,7 @@ fn pairs_from(
     line: usize,
     items: &[Value],
 ) -> Result<Entries, Stop>
-    ensures { Gives (each (spec.pair_of setting.now line) items.now machine.old) result machine.new }
+    ensures { Refines (each (spec.pair_of setting.now line) items.now machine.old) result machine.new }
 {
     let mut pairs = Entries::new(machine.alloc());
     for item in items {
@@ -64,7 +64,7 @@ fn taken_entry(
     line: usize,
     entry: (Value, Value),
 ) -> Result<(Value, Value), Stop>
-    ensures { Gives (taken_entry line entry machine.old) result machine.new }
+    ensures { Refines (taken_entry line entry machine.old) result machine.new }
 {
     machine.pay(line, 1)?;
     Ok(entry)
@@ -76,7 +76,7 @@ fn taken_entries(
     line: usize,
     entries: &[(Value, Value)],
 ) -> Result<Entries, Stop>
-    ensures { Gives (spec.taken_entries line entries.now machine.old) result machine.new }
+    ensures { Refines (spec.taken_entries line entries.now machine.old) result machine.new }
 {
     let mut taken = Entries::new(machine.alloc());
     for entry in entries {
@@ -109,7 +109,7 @@ fn pairs_in(
     source: Value,
     count: usize,
 ) -> Result<Pairs, Stop>
-    ensures { GivesBy as_pairs (spec.pairs_in setting.now line source count (content setting.now machine.old source)
+    ensures { RefinesBy as_pairs (spec.pairs_in setting.now line source count (content setting.now machine.old source)
         machine.old) result machine.new }
 {
     match machine.kind(setting, source) {
@@ -139,7 +139,7 @@ pub fn pairs_count(
     line: usize,
     source: Option<Value>,
 ) -> Result<usize, Stop>
-    ensures { Gives (spec.pairs_count setting.now line source machine.now) result machine.now }
+    ensures { Refines (spec.pairs_count setting.now line source machine.now) result machine.now }
 {
     match source {
         None => Ok(0),
@@ -156,7 +156,7 @@ pub fn pairs_of(
     source: Option<Value>,
     count: usize,
 ) -> Result<Pairs, Stop>
-    ensures { GivesBy as_pairs (spec.pairs_of setting.now line source count machine.old) result machine.new }
+    ensures { RefinesBy as_pairs (spec.pairs_of setting.now line source count machine.old) result machine.new }
 {
     match source {
         None => Ok(Pairs {
@@ -176,7 +176,7 @@ pub fn check_pair(
     are_keys: bool,
     key: Value,
 ) -> Result<(), Stop>
-    ensures { Gives (spec.check_pair setting.now levels line are_keys key machine.old) result machine.new }
+    ensures { Refines (spec.check_pair setting.now levels line are_keys key machine.old) result machine.new }
 {
     if are_keys {
         return Ok(());
@@ -194,7 +194,7 @@ fn put_pair(
     are_keys: bool,
     pair: (Value, Value),
 ) -> Result<(), Stop>
-    ensures { Gives (spec.put_pair setting.now levels line dict are_keys pair machine.old) result machine.new }
+    ensures { Refines (spec.put_pair setting.now levels line dict are_keys pair machine.old) result machine.new }
 {
     let (key, value) = pair;
     check_pair(machine, setting, levels, line, are_keys, key)?;
@@ -211,7 +211,7 @@ fn put_each(
     are_keys: bool,
     pairs: &[(Value, Value)],
 ) -> Result<(), Stop>
-    ensures { Gives (all_of (spec.put_pair setting.now levels line dict are_keys) pairs.now machine.old)
+    ensures { Refines (all_of (spec.put_pair setting.now levels line dict are_keys) pairs.now machine.old)
         result machine.new }
 {
     for pair in pairs {
@@ -226,9 +226,9 @@ fn put_named(
     setting: &Setting,
     line: usize,
     dict: Value,
-    named: &NamedValue,
+    named: &KeywordArgument,
 ) -> Result<(), Stop>
-    ensures { Gives (spec.put_named setting.now line dict named.now machine.old) result machine.new }
+    ensures { Refines (spec.put_named setting.now line dict named.now machine.old) result machine.new }
 {
     let key = machine.key_for(line, named)?;
     put_entry(machine, setting, line, dict, key, named.value)
@@ -240,9 +240,9 @@ fn put_each_named(
     setting: &Setting,
     line: usize,
     dict: Value,
-    named: &[NamedValue],
+    named: &[KeywordArgument],
 ) -> Result<(), Stop>
-    ensures { Gives (all_of (spec.put_named setting.now line dict) named.now machine.old) result machine.new }
+    ensures { Refines (all_of (spec.put_named setting.now line dict) named.now machine.old) result machine.new }
 {
     for value in named {
         put_named(machine, setting, line, dict, value)?;
@@ -259,9 +259,9 @@ fn put_pairs(
     line: usize,
     dict: Value,
     pairs: &Pairs,
-    named: &[NamedValue],
+    named: &[KeywordArgument],
 ) -> Result<(), Stop>
-    ensures { Gives (spec.put_pairs setting.now levels line dict (as_pairs pairs.now) named.now machine.old)
+    ensures { Refines (spec.put_pairs setting.now levels line dict (as_pairs pairs.now) named.now machine.old)
         result machine.new }
 {
     let are_keys = pairs.are_keys;
@@ -286,9 +286,9 @@ pub fn update_with(
     line: usize,
     dict: Value,
     source: Option<Value>,
-    named: &[NamedValue],
+    named: &[KeywordArgument],
 ) -> Result<(), Stop>
-    ensures { Gives (spec.update_with setting.now levels line dict source named.now (guard setting.now line dict)
+    ensures { Refines (spec.update_with setting.now levels line dict source named.now (guard setting.now line dict)
         machine.old) result machine.new }
 {
     let count = pairs_count(machine, setting, line, source)?;

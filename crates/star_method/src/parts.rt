@@ -1,20 +1,21 @@
 //! The methods `split` and `replace` of strings.
 
-ghost use Rattle.std.specs.Prelude.{◌≡◌, ◌∷◌, ◌<◌, [], IfOk, MatchOption, length};
+ghost use Rattle.std.specs.Prelude.{◌≡◌, ◌<◌, IfOk, length};
 ghost use Rattle.star_meaning.specs.BuiltIns.{joined};
-ghost use Rattle.star_machine.specs.Gives.{Gives, GivesBy};
+ghost use Rattle.star_machine.specs.Refines.{Refines, RefinesBy};
 ghost use Rattle.star_machine.specs.Kinds.{bytes_of};
 ghost use Rattle.star_meaning.specs.Run.{each};
 ghost use Rattle.star_meaning.specs.TextMethods as spec;
 ghost use Rattle.star_meaning.specs.Texts as texts;
 ghost use Rattle.star_meaning.specs.Values.{content, new_text};
+ghost use Rattle.star_method.specs.Cuts.{IsFirstCut};
 
 use crate::texts::pay_for_bytes;
 use star_machine::fault::{Stop, faulted};
 use star_machine::machine::Machine;
 use star_machine::setting::Setting;
-use star_meaning::fault::Code;
-use star_meaning::given::Given;
+use star_meaning::fault::FaultCode;
+use star_meaning::given::Arguments;
 use star_store::values::{Value, Values};
 use star_text::Text;
 use std::alloc::{AllocError, Global};
@@ -43,9 +44,7 @@ fn one_less(left: Option<u64>) -> Option<u64>
 #[tactic(auto, using(crate::proofs::Cutting::no_more))]
 fn next_cut<'a>(text: &'a str, by: &str, left: Option<u64>) -> Option<(&'a str, &'a str)>
     requires { 0 < length by.now }
-    ensures { MatchOption result (texts.parts text.now by.now left ≡ text.now ∷ [])
-        (λ x. (texts.parts text.now by.now left ≡ x.0.now ∷ texts.parts x.1.now by.now (texts.one_less left))
-        × (length x.1.now < length text.now)) }
+    ensures { IsFirstCut text.now by.now left result }
 {
     if !may_cut(left) {
         return None;
@@ -62,7 +61,7 @@ fn new_parts(
     cuts: Option<u64>,
 ) -> Result<Values, Stop>
     requires { 0 < length by.now }
-    ensures { Gives (each (new_text line) (texts.parts text.now by.now cuts) machine.old) result machine.new }
+    ensures { Refines (each (new_text line) (texts.parts text.now by.now cuts) machine.old) result machine.new }
 {
     let mut parts = Vec::new(machine.alloc());
     let mut rest = text;
@@ -85,7 +84,7 @@ fn want_cuts(
     line: usize,
     cuts: Option<Value>,
 ) -> Result<Option<u64>, Stop>
-    ensures { Gives (spec.want_cuts setting.now line cuts machine.now) result machine.now }
+    ensures { Refines (spec.want_cuts setting.now line cuts machine.now) result machine.now }
 {
     let Some(cuts) = cuts else {
         return Ok(None);
@@ -100,12 +99,12 @@ fn one_and_maybe(
     line: usize,
     values: &[Value],
 ) -> Result<(Value, Option<Value>), Stop>
-    ensures { Gives (spec.one_and_maybe line values.now machine.now) result machine.now }
+    ensures { Refines (spec.one_and_maybe line values.now machine.now) result machine.now }
 {
     match values {
         [first] => Ok((*first, None)),
         [first, second] => Ok((*first, Some(*second))),
-        _ => Err(faulted(Code::Args, line)),
+        _ => Err(faulted(FaultCode::Args, line)),
     }
 }
 
@@ -116,19 +115,19 @@ pub fn call_split(
     setting: &Setting,
     line: usize,
     text: Value,
-    given: &Given,
+    given: &Arguments,
 ) -> Result<Value, Stop>
-    ensures { Gives (spec.call_split setting.now line (bytes_of (content setting.now machine.old text)) given.now
+    ensures { Refines (spec.call_split setting.now line (bytes_of (content setting.now machine.old text)) given.now
         machine.old) result machine.new }
 {
-    let (by, cuts) = one_and_maybe(machine, line, machine.by_place(line, given)?)?;
+    let (by, cuts) = one_and_maybe(machine, line, machine.positional(line, given)?)?;
     machine.check_text(setting, line, by)?;
     let cuts = want_cuts(machine, setting, line, cuts)?;
     let whole = machine.copied_text(setting, text)?;
     let by = machine.copied_text(setting, by)?;
     pay_for_bytes(machine, setting, line, text)?;
     if by.as_str().is_empty() {
-        return Err(faulted(Code::BadValue, line));
+        return Err(faulted(FaultCode::BadValue, line));
     }
     let parts = new_parts(machine, line, whole.as_str(), by.as_str(), cuts)?;
     machine.new_list(line, parts)
@@ -165,13 +164,14 @@ fn two_or_three(
     line: usize,
     values: &[Value],
 ) -> Result<(Value, Value, Option<Value>), Stop>
-    ensures { GivesBy (λ r. record { old = r.0; new = r.1; cuts = r.2 }) (spec.two_or_three line values.now machine.now)
+    ensures { RefinesBy (λ r. record { old = r.0; new = r.1; cuts = r.2 })
+        (spec.two_or_three line values.now machine.now)
         result machine.now }
 {
     match values {
         [old, new] => Ok((*old, *new, None)),
         [old, new, cuts] => Ok((*old, *new, Some(*cuts))),
-        _ => Err(faulted(Code::Args, line)),
+        _ => Err(faulted(FaultCode::Args, line)),
     }
 }
 
@@ -182,12 +182,12 @@ pub fn call_replace(
     setting: &Setting,
     line: usize,
     text: Value,
-    given: &Given,
+    given: &Arguments,
 ) -> Result<Value, Stop>
-    ensures { Gives (spec.call_replace setting.now line (bytes_of (content setting.now machine.old text)) given.now
+    ensures { Refines (spec.call_replace setting.now line (bytes_of (content setting.now machine.old text)) given.now
         machine.old) result machine.new }
 {
-    let (old, new, cuts) = two_or_three(machine, line, machine.by_place(line, given)?)?;
+    let (old, new, cuts) = two_or_three(machine, line, machine.positional(line, given)?)?;
     machine.check_text(setting, line, old)?;
     machine.check_text(setting, line, new)?;
     let cuts = want_cuts(machine, setting, line, cuts)?;
@@ -196,7 +196,7 @@ pub fn call_replace(
     let new = machine.copied_text(setting, new)?;
     pay_for_bytes(machine, setting, line, text)?;
     if old.as_str().is_empty() {
-        return Err(faulted(Code::BadValue, line));
+        return Err(faulted(FaultCode::BadValue, line));
     }
     let made = replaced(
         machine.alloc(),

@@ -3,18 +3,18 @@
 //! A string method makes its text before its payment, so a machine short of memory may say so when the definition
 //! answers `steps`. `strip`, `lstrip` and `rstrip` are one function.
 
-ghost use Rattle.std.specs.Prelude.{◌≡◌, ◌≤◌, ◌++◌, ◌∷◌, [], if◌then◌else◌, IfOk, MatchOption, OnOk, is_some, length, map, nat_eq, pos, string_bytes};
-ghost use Rattle.std.specs.List.{ends_with, list_any, starts_with};
+ghost use Rattle.std.specs.Prelude.{◌≡◌, ◌≤◌, ◌++◌, if◌then◌else◌, IfOk, OnOk, is_some, length, map, pos, string_bytes};
+ghost use Rattle.std.specs.List.{list_any};
 ghost use Rattle.star_meaning.specs.BuiltIns.{joined};
-ghost use Rattle.star_machine.specs.Gives.{Gives, GivesBy};
+ghost use Rattle.star_machine.specs.Refines.{Refines, RefinesBy};
 ghost use Rattle.star_machine.specs.Kinds.{bytes_of};
 ghost use Rattle.star_meaning.specs.Operators as operators;
 ghost use Rattle.star_meaning.specs.Run.{and_then, found, give};
-ghost use Rattle.star_meaning.specs.declared.fault.Code.TheVariants.{BadType};
+ghost use Rattle.star_meaning.specs.declared.fault.FaultCode.TheVariants.{BadType};
 ghost use Rattle.star_meaning.specs.TextMethods as spec;
-ghost use Rattle.star_meaning.specs.Texts.{characters, lower, upper, without_end, without_front};
+ghost use Rattle.star_meaning.specs.Texts.{characters, without_end, without_front};
 ghost use Rattle.star_meaning.specs.Values.{content, text_of};
-ghost use Rattle.star_method.specs.Ends.{at_edge, bytes_each, each_after, found_between};
+ghost use Rattle.star_method.specs.Ends.{any_at_edge, at_edge, bytes_each, each_after, found_between, in_case};
 ghost use Rattle.star_method.specs.Sets.{test_of};
 
 use crate::characters::{Lookup, Set, without_end, without_front};
@@ -24,8 +24,8 @@ use star_machine::machine::Machine;
 use star_machine::setting::Setting;
 use star_machine::slices::{bound_of, want_part};
 use star_machine::texts::place_between;
-use star_meaning::fault::Code;
-use star_meaning::given::Given;
+use star_meaning::fault::FaultCode;
+use star_meaning::given::Arguments;
 use star_store::values::{Cell, Value};
 use star_text::Text;
 use std::alloc::AllocError;
@@ -37,65 +37,54 @@ pub fn pay_for_bytes(
     line: usize,
     text: Value,
 ) -> Result<(), Stop>
-    ensures answer { Gives (spec.pay_for_bytes line (bytes_of (content setting.now machine.old text)) machine.old)
+    ensures answer { Refines (spec.pay_for_bytes line (bytes_of (content setting.now machine.old text)) machine.old)
         result machine.new }
     ensures kept { machine.new.store ≡ machine.old.store }
 {
     machine.pay(line, machine.text_size(setting, text) as u128)
 }
 
-/// A copy of a string in small ASCII letters.
-#[tactic(auto, using(crate::proofs::Letters::lower_is))]
-fn lowered(machine: &Machine, setting: &Setting, text: Value) -> Result<Text, AllocError>
-    ensures { IfOk result (λ t. t ≡ map lower (bytes_of (content setting.now machine.now text))) }
+/// Small or large letters.
+#[derive(Clone, Copy, Debug, PartialEq, Eq)]
+pub enum Case {
+    Lower,
+    Upper,
+}
+
+/// A copy of a string whose ASCII letters are small or large, as `case` says.
+#[tactic(auto, using(crate::proofs::Letters::lower_is, crate::proofs::Letters::upper_is))]
+fn cased(machine: &Machine, setting: &Setting, case: Case, text: Value) -> Result<Text, AllocError>
+    ensures { IfOk result (λ t. t ≡ map (in_case case) (bytes_of (content setting.now machine.now text))) }
 {
     let text = machine.copied_text(setting, text)?;
     let mut made = String::from_str(machine.alloc(), text.as_str())?;
-    made.make_ascii_lowercase();
-    Text::of(made)
+    match case {
+        Case::Lower => {
+            made.make_ascii_lowercase();
+            Text::of(made)
+        }
+        Case::Upper => {
+            made.make_ascii_uppercase();
+            Text::of(made)
+        }
+    }
 }
 
-/// A copy of a string in large ASCII letters.
-#[tactic(auto, using(crate::proofs::Letters::upper_is))]
-fn raised(machine: &Machine, setting: &Setting, text: Value) -> Result<Text, AllocError>
-    ensures { IfOk result (λ t. t ≡ map upper (bytes_of (content setting.now machine.now text))) }
-{
-    let text = machine.copied_text(setting, text)?;
-    let mut made = String::from_str(machine.alloc(), text.as_str())?;
-    made.make_ascii_uppercase();
-    Text::of(made)
-}
-
-/// `lower()`: the bytes are paid, then a new string, whose ASCII letters are small.
-pub fn call_lower(
+/// `lower()` and `upper()`: the bytes are paid, then a new string, whose ASCII letters are small or large.
+pub fn call_case(
     machine: &mut Machine,
     setting: &Setting,
     line: usize,
+    case: Case,
     text: Value,
-    given: &Given,
+    given: &Arguments,
 ) -> Result<Value, Stop>
-    ensures { Gives (spec.call_case line lower (bytes_of (content setting.now machine.old text)) given.now machine.old)
+    ensures { Refines (spec.call_case line (in_case case) (bytes_of
+        (content setting.now machine.old text)) given.now machine.old)
         result machine.new }
 {
-    machine.no_value(line, machine.by_place(line, given)?)?;
-    let made = lowered(machine, setting, text)?;
-    pay_for_bytes(machine, setting, line, text)?;
-    machine.new_text(line, made)
-}
-
-/// `upper()`: the bytes are paid, then a new string, whose ASCII letters are large.
-pub fn call_upper(
-    machine: &mut Machine,
-    setting: &Setting,
-    line: usize,
-    text: Value,
-    given: &Given,
-) -> Result<Value, Stop>
-    ensures { Gives (spec.call_case line upper (bytes_of (content setting.now machine.old text)) given.now machine.old)
-        result machine.new }
-{
-    machine.no_value(line, machine.by_place(line, given)?)?;
-    let made = raised(machine, setting, text)?;
+    machine.no_value(line, machine.positional(line, given)?)?;
+    let made = cased(machine, setting, case, text)?;
     pay_for_bytes(machine, setting, line, text)?;
     machine.new_text(line, made)
 }
@@ -106,14 +95,15 @@ fn one_to_three(
     line: usize,
     values: &[Value],
 ) -> Result<(Value, Option<Value>, Option<Value>), Stop>
-    ensures { GivesBy (λ r. record { what = r.0; from = r.1; to = r.2 }) (spec.one_to_three line values.now machine.now)
+    ensures { RefinesBy (λ r. record { what = r.0; from = r.1; to = r.2 })
+        (spec.one_to_three line values.now machine.now)
         result machine.now }
 {
     match values {
         [what] => Ok((*what, None, None)),
         [what, from] => Ok((*what, Some(*from), None)),
         [what, from, to] => Ok((*what, Some(*from), Some(*to))),
-        _ => Err(faulted(Code::Args, line)),
+        _ => Err(faulted(FaultCode::Args, line)),
     }
 }
 
@@ -163,12 +153,12 @@ pub fn call_find(
     setting: &Setting,
     line: usize,
     text: Value,
-    given: &Given,
+    given: &Arguments,
 ) -> Result<Value, Stop>
-    ensures { Gives (spec.call_find setting.now line (bytes_of (content setting.now machine.old text)) given.now
+    ensures { Refines (spec.call_find setting.now line (bytes_of (content setting.now machine.old text)) given.now
         machine.old) result machine.new }
 {
-    let (part, from, to) = one_to_three(machine, line, machine.by_place(line, given)?)?;
+    let (part, from, to) = one_to_three(machine, line, machine.positional(line, given)?)?;
     machine.check_text(setting, line, part)?;
     let from = want_part(machine, setting, line, from)?;
     let to = want_part(machine, setting, line, to)?;
@@ -178,7 +168,7 @@ pub fn call_find(
 
 /// The front or the end of a string.
 #[derive(Clone, Copy, Debug, PartialEq, Eq)]
-enum Edge {
+pub enum Edge {
     Front,
     End,
 }
@@ -257,12 +247,11 @@ fn some_at_edge(
     text: Value,
     parts: &[Value],
 ) -> Result<bool, Stop>
-    ensures { Gives (and_then (found BadType line (spec.texts_of setting.now machine.now parts.now) machine.now)
-        (λ us. give (list_any (at_edge edge (bytes_of (content setting.now machine.now text))) us)))
+    ensures { Refines (any_at_edge setting.now line edge text (λ s. spec.texts_of setting.now s parts.now) machine.now)
         result machine.now }
 {
     if !are_texts(machine, setting, parts) {
-        return Err(faulted(Code::BadType, line));
+        return Err(faulted(FaultCode::BadType, line));
     }
     Ok(one_at_edge(machine, setting, edge, text, parts))
 }
@@ -276,10 +265,8 @@ fn choice_at_edge(
     text: Value,
     choices: Value,
 ) -> Result<bool, Stop>
-    ensures { Gives (and_then (found BadType line
-        (spec.choices_in setting.now machine.now (content setting.now machine.now choices)) machine.now)
-        (λ us. give (list_any (at_edge edge (bytes_of (content setting.now machine.now text))) us)))
-        result machine.now }
+    ensures { Refines (any_at_edge setting.now line edge text
+        (λ s. spec.choices_in setting.now s (content setting.now s choices)) machine.now) result machine.now }
 {
     match machine.content(setting, choices) {
         Content::Held(Cell::Text(part)) => {
@@ -289,54 +276,27 @@ fn choice_at_edge(
         Content::Held(Cell::Tuple(parts)) => {
             some_at_edge(machine, setting, line, edge, text, parts.as_slice())
         }
-        _ => Err(faulted(Code::BadType, line)),
+        _ => Err(faulted(FaultCode::BadType, line)),
     }
 }
 
-/// `startswith(p)` and `endswith(p)`.
-fn call_edge(
+/// `startswith(p)` and `endswith(p)`: whether the string begins or ends with `p`, or with one of a tuple of strings.
+/// `BadType` for another `p`.
+pub fn call_edge(
     machine: &mut Machine,
     setting: &Setting,
     line: usize,
     edge: Edge,
     text: Value,
-    given: &Given,
+    given: &Arguments,
 ) -> Result<Value, Stop>
-    ensures { Gives (spec.call_edge setting.now line (at_edge edge) (bytes_of (content setting.now machine.old text))
+    ensures { Refines (spec.call_edge setting.now line (at_edge edge) (bytes_of (content setting.now machine.old text))
         given.now machine.old) result machine.new }
 {
-    let choices = machine.only_one(line, machine.by_place(line, given)?)?;
+    let choices = machine.only_one(line, machine.positional(line, given)?)?;
     let stands = choice_at_edge(machine, setting, line, edge, text, choices)?;
     pay_for_bytes(machine, setting, line, text)?;
     Ok(Value::Bool(stands))
-}
-
-/// `startswith(p)`: whether the string begins with `p`, or with one of a tuple of strings. `BadType` for another `p`.
-pub fn call_startswith(
-    machine: &mut Machine,
-    setting: &Setting,
-    line: usize,
-    text: Value,
-    given: &Given,
-) -> Result<Value, Stop>
-    ensures { Gives (spec.call_edge setting.now line (starts_with nat_eq)
-        (bytes_of (content setting.now machine.old text)) given.now machine.old) result machine.new }
-{
-    call_edge(machine, setting, line, Edge::Front, text, given)
-}
-
-/// `endswith(p)`: whether the string ends with `p`, or with one of a tuple of strings. `BadType` for another `p`.
-pub fn call_endswith(
-    machine: &mut Machine,
-    setting: &Setting,
-    line: usize,
-    text: Value,
-    given: &Given,
-) -> Result<Value, Stop>
-    ensures { Gives (spec.call_edge setting.now line (ends_with nat_eq)
-        (bytes_of (content setting.now machine.old text)) given.now machine.old) result machine.new }
-{
-    call_edge(machine, setting, line, Edge::End, text, given)
 }
 
 /// The characters that `strip` takes off: blanks if none are given. `BadType` if the argument is not a string.
@@ -346,7 +306,7 @@ fn want_set(
     line: usize,
     characters: Option<Value>,
 ) -> Result<Set, Stop>
-    ensures { GivesBy test_of (spec.want_set setting.now line characters machine.now) result machine.now }
+    ensures { RefinesBy test_of (spec.want_set setting.now line characters machine.now) result machine.now }
 {
     let Some(characters) = characters else {
         return Ok(Set::Blanks);
@@ -407,12 +367,12 @@ pub fn call_strip(
     front: bool,
     end: bool,
     text: Value,
-    given: &Given,
+    given: &Arguments,
 ) -> Result<Value, Stop>
-    ensures { Gives (spec.call_strip setting.now line front end (bytes_of (content setting.now machine.old text))
+    ensures { Refines (spec.call_strip setting.now line front end (bytes_of (content setting.now machine.old text))
         given.now machine.old) result machine.new }
 {
-    let set = machine.none_or_one(line, machine.by_place(line, given)?)?;
+    let set = machine.none_or_one(line, machine.positional(line, given)?)?;
     let set = want_set(machine, setting, line, set)?;
     let made = stripped(machine, setting, text, front, end, &set)?;
     pay_for_bytes(machine, setting, line, text)?;
@@ -438,16 +398,6 @@ fn push_each(
     Ok(())
 }
 
-/// The first of some values, and the others.
-fn first_and_rest(values: &[Value]) -> Option<(Value, &[Value])>
-    ensures { MatchOption result (values.now ≡ []) (λ x. values.now ≡ x.0 ∷ x.1.now) }
-{
-    match values {
-        [first, rest @ ..] => Some((*first, rest)),
-        [] => None,
-    }
-}
-
 /// Strings with another one between them.
 #[tactic(auto, using(crate::proofs::Joining::joined_is))]
 fn joined_texts(
@@ -458,10 +408,10 @@ fn joined_texts(
 ) -> Result<Text, AllocError>
     ensures { IfOk result (λ t. t ≡ joined by.now (bytes_each setting.now machine.now texts.now)) }
 {
-    let Some((first, rest)) = first_and_rest(texts) else {
+    let Some((first, rest)) = texts.split_first() else {
         return Text::new(machine.alloc(), "");
     };
-    let text = machine.copied_text(setting, first)?;
+    let text = machine.copied_text(setting, *first)?;
     let mut made = String::from_str(machine.alloc(), text.as_str())?;
     push_each(machine, setting, &mut made, by, rest)?;
     Text::of(made)
@@ -476,11 +426,11 @@ fn join_all(
     by: &str,
     texts: &[Value],
 ) -> Result<Text, Stop>
-    ensures { Gives (and_then (found BadType line (spec.texts_of setting.now machine.now texts.now) machine.now)
+    ensures { Refines (and_then (found BadType line (spec.texts_of setting.now machine.now texts.now) machine.now)
         (λ us. give (joined by.now us))) result machine.now }
 {
     if !are_texts(machine, setting, texts) {
-        return Err(faulted(Code::BadType, line));
+        return Err(faulted(FaultCode::BadType, line));
     }
     Ok(joined_texts(machine, setting, by, texts)?)
 }
@@ -492,12 +442,12 @@ pub fn call_join(
     setting: &Setting,
     line: usize,
     text: Value,
-    given: &Given,
+    given: &Arguments,
 ) -> Result<Value, Stop>
-    ensures { Gives (spec.call_join setting.now line (bytes_of (content setting.now machine.old text)) given.now
+    ensures { Refines (spec.call_join setting.now line (bytes_of (content setting.now machine.old text)) given.now
         machine.old) result machine.new }
 {
-    let items = machine.only_one(line, machine.by_place(line, given)?)?;
+    let items = machine.only_one(line, machine.positional(line, given)?)?;
     let count = machine.count_of(setting, line, items)?;
     let by = machine.copied_text(setting, text)?;
     pay_for_bytes(machine, setting, line, text)?;

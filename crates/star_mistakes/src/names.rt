@@ -11,7 +11,7 @@ use star_label::files::Files;
 use star_lex::token::{Keyword, Kind, Token};
 use star_parser::parse;
 use star_scope::conflicts::block_conflict;
-use star_scope::error::{Refusal, ScopeFault};
+use star_scope::error::{LocatedFault, ScopeFault};
 use star_scope::loads::find_loads;
 use star_scope::placement::misplaced;
 use star_scope::program::{Prelude, Program, resolve};
@@ -66,7 +66,7 @@ pub(crate) struct Source<'a> {
 #[derive(Drop)]
 pub(crate) struct Found<'a> {
     /// The faults in the order of their tokens.
-    pub faults: Vec<Refusal>,
+    pub faults: Vec<LocatedFault>,
     /// The names that an undefined one can mean.
     pub names: Vec<&'a str>,
 }
@@ -79,8 +79,8 @@ fn without_memory<T>(found: Result<T, ScopeFault>) -> Result<T, AllocError> {
     }
 }
 
-fn undefined_at(at: usize, token: &Token) -> Refusal {
-    Refusal {
+fn undefined_at(at: usize, token: &Token) -> LocatedFault {
+    LocatedFault {
         token: at,
         fault: ScopeFault::Undefined { line: token.line },
     }
@@ -192,7 +192,7 @@ impl<'a> Found<'a> {
         false
     }
 
-    fn add_fault(&mut self, fault: Option<Refusal>) -> Result<(), AllocError> {
+    fn add_fault(&mut self, fault: Option<LocatedFault>) -> Result<(), AllocError> {
         if let Some(fault) = fault {
             self.faults.push(fault)?;
         }
@@ -295,18 +295,18 @@ impl<'a> Source<'a> {
     }
 
     /// The first load statement: the prelude may have none.
-    fn load_in_prelude(self) -> Option<Refusal> {
+    fn load_in_prelude(self) -> Option<LocatedFault> {
         for (at, token) in self.tokens.iter().enumerate() {
             if token.kind == Kind::Keyword(Keyword::Load) {
                 let fault = ScopeFault::BadPlace { line: token.line };
-                return Some(Refusal { token: at, fault });
+                return Some(LocatedFault { token: at, fault });
             }
         }
         None
     }
 
     /// The first misplaced statement.
-    fn first_misplaced(self) -> Option<Refusal> {
+    fn first_misplaced(self) -> Option<LocatedFault> {
         match misplaced(self.tree.statements.as_slice()) {
             None if self.prelude == Some(self.file) => self.load_in_prelude(),
             found => found,
@@ -314,7 +314,7 @@ impl<'a> Source<'a> {
     }
 
     /// The first bad load.
-    fn first_bad_load(self) -> Result<Option<Refusal>, AllocError>
+    fn first_bad_load(self) -> Result<Option<LocatedFault>, AllocError>
         requires { self.file < length self.files.now }
     {
         let statements = self.tree.statements.as_slice();
@@ -333,7 +333,7 @@ impl<'a> Source<'a> {
         found.add_fault(without_memory(block_conflict(self.alloc, statements))?)?;
         if !found.has(first) {
             let token = self.token_of(first)?;
-            found.faults.push(Refusal {
+            found.faults.push(LocatedFault {
                 token,
                 fault: first,
             })?;

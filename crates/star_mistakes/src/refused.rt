@@ -8,7 +8,7 @@ use crate::near::{help_of, meant, nearest};
 use crate::place::{label_of, mark_of, word_of};
 use star_label::files::Files;
 use star_lex::token::Token;
-use star_scope::error::{Refusal, ScopeFault};
+use star_scope::error::{LocatedFault, ScopeFault};
 use std::alloc::{AllocError, Global};
 
 /// The help for names that other dialects have.
@@ -141,7 +141,7 @@ fn unquoted(word: &str) -> &str {
 #[derive(Clone, Copy)]
 struct Spot<'a> {
     source: Source<'a>,
-    refusal: Refusal,
+    refusal: LocatedFault,
     token: &'a Token,
 }
 
@@ -275,7 +275,7 @@ fn meant_label(label: &str) -> [Part<'_>; 3] {
 pub(crate) fn told(
     source: Source,
     names: &[&str],
-    refusal: Refusal,
+    refusal: LocatedFault,
 ) -> Result<Option<Mistake>, AllocError> {
     let Some(token) = source.tokens.get(refusal.token) else {
         return Ok(None);

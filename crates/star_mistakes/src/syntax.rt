@@ -6,7 +6,7 @@ use crate::message::Part::{Number, Plain, Shown};
 use crate::mistake::Mistake;
 use crate::near::{help_of, meant, nearest};
 use crate::place::{Line, Mark, between, mark_of, word_of};
-use star_lex::token::{Keyword, Kind, Sign, Token};
+use star_lex::token::{Keyword, Kind, Punctuator, Token};
 use std::alloc::{AllocError, Global};
 
 const CODE: &str = "syntax";
@@ -119,8 +119,8 @@ fn begins_statement(kind: Kind) -> bool {
 /// The closing bracket of an opening one.
 fn closer(kind: Kind) -> &'static str {
     match kind {
-        Kind::Sign(Sign::LeftParen) => ")",
-        Kind::Sign(Sign::LeftBracket) => "]",
+        Kind::Punctuator(Punctuator::LeftParen) => ")",
+        Kind::Punctuator(Punctuator::LeftBracket) => "]",
         _ => "}",
     }
 }
@@ -128,7 +128,7 @@ fn closer(kind: Kind) -> &'static str {
 fn is_closer(kind: Kind) -> bool {
     matches!(
         kind,
-        Kind::Sign(Sign::RightParen | Sign::RightBracket | Sign::RightBrace)
+        Kind::Punctuator(Punctuator::RightParen | Punctuator::RightBracket | Punctuator::RightBrace)
     )
 }
 
@@ -241,7 +241,7 @@ impl<'a> Spot<'a> {
 
     /// An int before a dot or after one.
     fn float(self) -> Told {
-        let is_dot = self.token.kind == Kind::Sign(Sign::Dot);
+        let is_dot = self.token.kind == Kind::Punctuator(Punctuator::Dot);
         let dot = if is_dot {
             self.miss.token
         } else {
@@ -252,7 +252,7 @@ impl<'a> Spot<'a> {
         };
         let whole = of_kind(token_before(self.tokens, dot), Kind::Int);
         let part = of_kind(token_at(self.tokens, dot.saturating_add(1)), Kind::Int);
-        if sign.kind != Kind::Sign(Sign::Dot) || (whole.is_none() && part.is_none()) {
+        if sign.kind != Kind::Punctuator(Punctuator::Dot) || (whole.is_none() && part.is_none()) {
             return Ok(None);
         }
         let mark = self.mark(whole.unwrap_or(sign), part.unwrap_or(sign));
@@ -424,28 +424,32 @@ impl<'a> Spot<'a> {
 // Every other token.
 impl<'a> Spot<'a> {
     /// The mistake of a sign that newcomers write in a place where it cannot be.
-    fn of_sign(self, sign: Sign) -> Option<&'static str> {
+    fn of_sign(self, sign: Punctuator) -> Option<&'static str> {
         let is_last = self.miss.wanted == LINE_END;
         match sign {
-            Sign::Assign if is_last => Some("a statement binds once: write two statements"),
-            Sign::Assign => Some("a comparison is written `==`"),
-            Sign::Colon if has_kind(self.after, Kind::Sign(Sign::Assign)) => {
+            Punctuator::Assign if is_last => Some("a statement binds once: write two statements"),
+            Punctuator::Assign => Some("a comparison is written `==`"),
+            Punctuator::Colon if has_kind(self.after, Kind::Punctuator(Punctuator::Assign)) => {
                 Some("a name is bound by a statement of its own: there is no `:=`")
             }
-            Sign::Colon if is_last || self.miss.in_list => Some("there are no type annotations"),
-            Sign::Minus if has_kind(self.after, Kind::Sign(Sign::Greater)) => {
+            Punctuator::Colon if is_last || self.miss.in_list => Some(
+                "there are no type annotations",
+            ),
+            Punctuator::Minus if has_kind(self.after, Kind::Punctuator(Punctuator::Greater)) => {
                 Some("there are no type annotations")
             }
-            Sign::Less
-            | Sign::Greater
-            | Sign::LessEqual
-            | Sign::GreaterEqual
-            | Sign::EqualEqual
-            | Sign::NotEqual => Some("comparisons do not chain: write `a < b and b < c`"),
-            Sign::LeftBrace => Some("blocks are indented, and begin after `:`"),
-            Sign::Plus if has_kind(self.before, Kind::Sign(Sign::Plus)) => Some("write `x += 1`"),
-            Sign::RightParen | Sign::RightBracket | Sign::RightBrace if self.miss.open.is_none() =>
-                { Some("no bracket is open here") }
+            Punctuator::Less
+            | Punctuator::Greater
+            | Punctuator::LessEqual
+            | Punctuator::GreaterEqual
+            | Punctuator::EqualEqual
+            | Punctuator::NotEqual => Some("comparisons do not chain: write `a < b and b < c`"),
+            Punctuator::LeftBrace => Some("blocks are indented, and begin after `:`"),
+            Punctuator::Plus if has_kind(self.before, Kind::Punctuator(Punctuator::Plus)) => Some(
+                "write `x += 1`",
+            ),
+            Punctuator::RightParen | Punctuator::RightBracket | Punctuator::RightBrace
+                if self.miss.open.is_none() => { Some("no bracket is open here") }
             _ => None,
         }
     }
@@ -461,7 +465,7 @@ impl<'a> Spot<'a> {
     /// The help for a token that has no form of its own.
     fn help(self) -> Option<&'static str> {
         match self.token.kind {
-            Kind::Sign(sign) => self.of_sign(sign),
+            Kind::Punctuator(sign) => self.of_sign(sign),
             Kind::Keyword(Keyword::If) if self.follows_else() => Some("write `elif`"),
             _ => None,
         }

@@ -32,7 +32,7 @@ fn first_bad(cuts: &[Cut], line: usize) -> Option<usize> {
     for cut in cuts {
         let fits_nothing = match cut.piece {
             Piece::Bad => true,
-            Piece::Joint => cut.line == line,
+            Piece::Continuation => cut.line == line,
             _ => false,
         };
         if fits_nothing {

@@ -6,12 +6,15 @@ use Rattle.star_scope.specs.Names.{Names, has_name}
 use Rattle.star_meaning.specs.Module.{bound_names, loaded_names, without_loaded}
 use Rattle.star_meaning.specs.Program.{Setting, outline_of}
 
--- names that are borrowed; such names with values, and names with values that are owned
+-- names that are borrowed; such names with values; a name with a value that is owned, and such names with values
 abbrev pub all_now : List (Bor (List ℕ)) → Names
 all_now names = map (λ n. n.now) names
 
 abbrev pub borrowed : {A : Type 0} → List (Bor (List ℕ) × A) → List (List ℕ × A)
 borrowed xs = map (λ x. (x.0.now, x.1)) xs
+
+abbrev pub owned_one : {A Z : Type 0} → String Z × A → List ℕ × A
+owned_one x = (string_bytes x.0, x.1)
 
 abbrev pub owned : {A Z : Type 0} → List (String Z × A) → List (List ℕ × A)
 owned xs = map (λ x. (string_bytes x.0, x.1)) xs

@@ -37,10 +37,10 @@ IsOutcome (run.Failed f printed) (outcome.Fault code line lines remains) =
     (f ≡ record { code = code; line = line }) × (lines.items ≡ printed)
 
 -- an outcome as the local meaning of a file
-abbrev pub meant : Setting → Outcome → Local
-meant w (outcome.Good frozen texts lines left) =
+abbrev pub semantics : Setting → Outcome → Local
+semantics w (outcome.Good frozen texts lines left) =
     Good (put_up w.home frozen w.shelf) frozen.globals (owned texts.items) lines.items
-meant w (outcome.Fault code line lines remains) = Stopped (record { code = code; line = line }) lines.items
+semantics w (outcome.Fault code line lines remains) = Stopped (record { code = code; line = line }) lines.items
 
 -- a file is ready to run: each file that has statements has the program that `resolve` answers for it, and each
 -- function of a published module is one of its file's definitions, in frames that fit the blocks around it

@@ -1,21 +1,21 @@
 //! `run_body`: the run of a whole file, and its `Outcome`.
 
-ghost use Rattle.std.specs.Prelude.{◌≡◌, ◌≤◌, ◌<◌, ◌+◌, ◌^◌, length, string_bytes, IfOk};
-ghost use Rattle.star_machine.specs.Gives.{GivesBy};
+ghost use Rattle.std.specs.Prelude.{◌≡◌, ◌≤◌, ◌<◌, ◌+◌, ◌^◌, length, IfOk};
+ghost use Rattle.star_machine.specs.Refines.{RefinesBy};
 ghost use Rattle.star_meaning.specs.Module as spec;
 ghost use Rattle.star_meaning.specs.Places.{FitAfter, Stands};
 ghost use Rattle.star_meaning.specs.Programs.{trees_of};
 ghost use Rattle.star_meaning.specs.Run as run;
 ghost use Rattle.star_world.specs.World.{variables};
-ghost use Rattle.star_module.specs.Globals.{owned};
-ghost use Rattle.star_module.specs.Outcomes.{AreReady, IsOutcome, meant, run_by_names, run_by_places, shown};
+ghost use Rattle.star_module.specs.Globals.{owned, owned_one};
+ghost use Rattle.star_module.specs.Outcomes.{AreReady, IsOutcome, semantics, run_by_names, run_by_places, shown};
 
 use crate::globals::globals_of;
 use star_eval::execute::execute_each;
 use star_machine::fault::Stop;
 use star_machine::machine::Machine;
-use star_meaning::fault::Code;
-use star_meaning::place::Place;
+use star_meaning::fault::FaultCode;
+use star_meaning::site::Site;
 use star_meaning::story::{Step, Story};
 use star_scope::program::Program;
 use star_store::arena::{Frozen, freeze};
@@ -61,7 +61,7 @@ pub enum Outcome {
     },
     /// It stopped, for this reason, at this line.
     Fault {
-        code: Code,
+        code: FaultCode,
         line: usize,
         lines: Vec<Text>,
         remains: Remains,
@@ -87,8 +87,7 @@ fn text_of(
     line: usize,
     global: &(String, Value),
 ) -> Result<(String, Text), Stop>
-    ensures { GivesBy (λ g. (string_bytes g.0, g.1))
-        (spec.global_text world.now.setting levels line (string_bytes global.now.0, global.now.1) machine.old)
+    ensures { RefinesBy owned_one (spec.global_text world.now.setting levels line (owned_one global.now) machine.old)
         result machine.new }
 {
     let text = machine.repr(world.setting(), levels, line, global.1)?;
@@ -105,7 +104,7 @@ fn texts_of(
     line: usize,
     globals: &[(String, Value)],
 ) -> Result<Vec<(String, Text)>, Stop>
-    ensures { GivesBy (λ ts. owned ts.items)
+    ensures { RefinesBy (λ ts. owned ts.items)
         (run.each (spec.global_text world.now.setting levels line) (owned globals.now) machine.old) result machine.new }
 {
     let mut texts = Vec::new(machine.alloc());
@@ -123,7 +122,7 @@ fn end(
     line: usize,
     frame: Value,
 ) -> Result<Ended, Stop>
-    ensures { GivesBy shown (spec.end world.now.setting levels line frame machine.old) result machine.new }
+    ensures { RefinesBy shown (spec.end world.now.setting levels line frame machine.old) result machine.new }
 {
     let globals = globals_of(machine, world, frame)?;
     let texts = texts_of(machine, world, levels, line, globals.as_slice())?;
@@ -138,24 +137,24 @@ fn run_file(
     levels: u32,
 ) -> Result<Ended, Stop>
     requires { length machine.old.store.cells + machine.old.steps + 1 < 2 ^ 32 }
-    ensures { GivesBy shown (spec.run_file (variables world.now) world.now.setting levels statements.now machine.old)
+    ensures { RefinesBy shown (spec.run_file (variables world.now) world.now.setting levels statements.now machine.old)
         result machine.new }
 {
     let file = world.setting().home();
     let frame = new_frame(machine, world, file, 0, None)?;
-    let place = Place {
+    let site = Site {
         file,
         frame,
         line: 1,
     };
     // Outside of functions and loops a program has no `return`, `break` or `continue`, so nothing is lost here.
-    let _flow = execute_each(machine, world, levels, &place, statements)?;
+    let _flow = execute_each(machine, world, levels, &site, statements)?;
     end(machine, world, levels, last_line(statements), frame)
 }
 
 /// How a run has ended on this machine. The only error is want of memory.
 fn outcome_of(machine: Machine, ended: Result<Ended, Stop>) -> Result<Outcome, AllocError>
-    ensures { (o : run.Outcome spec.Ended) → GivesBy shown o ended machine → IfOk result (λ out. IsOutcome o out) }
+    ensures { (o : run.Outcome spec.Ended) → RefinesBy shown o ended machine → IfOk result (λ out. IsOutcome o out) }
 {
     let left = machine.steps_left();
     let alloc = machine.alloc();
@@ -195,9 +194,10 @@ pub fn run_body(
     requires steps { steps ≤ MOST_STEPS }
     ensures run { IfOk result (λ o. IsOutcome (run_by_places world.now steps program.now.statements.now) o) }
     ensures places { let w = world.now in IfOk
-        result (λ o. meant w.setting o ≡ spec.local_of w.setting (run_by_places w steps program.now.statements.now)) }
+        result (λ o. semantics w.setting o ≡ spec.local_of w.setting
+        (run_by_places w steps program.now.statements.now)) }
     ensures names { let w = world.now in AreReady w steps
-        → IfOk result (λ o. meant w.setting o ≡ spec.local w.setting steps program.now.statements.now) }
+        → IfOk result (λ o. semantics w.setting o ≡ spec.local w.setting steps program.now.statements.now) }
     ensures named { let w = world.now in AreReady w steps
         → IfOk result (λ o. IsOutcome (run_by_names w.setting steps program.now.statements.now) o) }
     ensures fit { let w = world.now in AreReady w steps

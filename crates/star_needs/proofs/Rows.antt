@@ -19,12 +19,12 @@ IsAnswer files prelude n f = (p : Program) × (placed_file p ≡ f) × Resolves 
 abbrev statements_of : PlacedFile → List Statement
 statements_of f = f.statements
 
-record Place (files : List File) (prelude : Option Prelude) (n : ℕ) (o : Option Reading) : Type 0 where
+record Site (files : List File) (prelude : Option Prelude) (n : ℕ) (o : Option Reading) : Type 0 where
   file : Option PlacedFile
   statements : option_map statements_of file ≡ tree_in o
   right : (f : PlacedFile) → file ≡ Some f → IsAnswer files prelude n f
 
-place : (files : List File) (prelude : Option Prelude) (n : ℕ) (o : Option Reading) → ((r : Reading) → o ≡ Some r → IsRead files prelude n r) → Place files prelude n o
+place : (files : List File) (prelude : Option Prelude) (n : ℕ) (o : Option Reading) → ((r : Reading) → o ≡ Some r → IsRead files prelude n r) → Site files prelude n o
 place files prelude n None h = record { file = None; statements = refl; right = λ f e. absurd (let no : ⊥ = cc in no) }
 place files prelude n (Some (Faulty f)) h = record { file = None; statements = refl; right = λ f e. absurd (let no : ⊥ = cc in no) }
 place files prelude n (Some (Sound ss loads)) h =
@@ -49,7 +49,7 @@ row files prelude i [] h = record { placed = []; statements = refl; right = λ k
 row files prelude i (o ∷ rs) h =
     let first : i + 0 ≡ i = omega arith in
     let next : (k : ℕ) → i + suc k ≡ (i + 1) + k = λ k. omega arith in
-    let one : Place files prelude i o = place files prelude i o (λ r e. subst (λ n. IsRead files prelude n r) first (h 0 r e)) in
+    let one : Site files prelude i o = place files prelude i o (λ r e. subst (λ n. IsRead files prelude n r) first (h 0 r e)) in
     let more : Row files prelude (i + 1) rs = row files prelude (i + 1) rs (λ k r e. subst (λ n. IsRead files prelude n r) (next k) (h (suc k) r e)) in
     record {
       placed = one.file ∷ more.placed;
@@ -57,7 +57,7 @@ row files prelude i (o ∷ rs) h =
       right = at i o rs one more;
     }
   where
-    at : (i : ℕ) (o : Option Reading) (rs : List (Option Reading)) (one : Place files prelude i o) (more : Row files prelude (i + 1) rs) (k : ℕ) (f : PlacedFile) → file_in (one.file ∷ more.placed) k ≡ Some f → IsAnswer files prelude (i + k) f
+    at : (i : ℕ) (o : Option Reading) (rs : List (Option Reading)) (one : Site files prelude i o) (more : Row files prelude (i + 1) rs) (k : ℕ) (f : PlacedFile) → file_in (one.file ∷ more.placed) k ≡ Some f → IsAnswer files prelude (i + k) f
     at i o rs one more zero f e =
         let first : i ≡ i + 0 = omega arith in
         subst (λ n. IsAnswer files prelude n f) first (one.right f e)

@@ -2,7 +2,7 @@
 use Rattle.std.proofs.Common.{◌≡◌, ℕ, List, [], Option, Some, refl, ap, ◌∙◌}
 use Rattle.star_store.specs.declared.values.Cell.TheVariants as cell
 use Rattle.star_tree.specs.declared.tree.BinaryOperator.TheVariants as binary
-use Rattle.star_meaning.specs.declared.given.NamedValue.{NamedValue}
+use Rattle.star_meaning.specs.declared.given.KeywordArgument.{KeywordArgument}
 use Rattle.star_meaning.specs.Run.{Action, ◌>>=◌, give}
 use Rattle.star_store.specs.declared.values.Value.{Value}
 use Rattle.star_store.specs.declared.names.BuiltIn.{BuiltIn}
@@ -12,8 +12,8 @@ use Rattle.star_tree.specs.declared.tree.BinaryOperator.{BinaryOperator}
 use Rattle.star_tree.specs.declared.tree.UnaryOperator.{UnaryOperator}
 use Rattle.star_tree.specs.declared.tree.Comparator.{Comparator}
 use Rattle.star_scope.specs.Outlines.{Outline}
-use Rattle.star_meaning.specs.declared.given.Given.{Given}
-use Rattle.star_meaning.specs.Arguments.{Passed}
+use Rattle.star_meaning.specs.declared.given.Arguments.{Arguments}
+use Rattle.star_meaning.specs.Arguments.{EvaluatedArgument}
 use Rattle.star_meaning.specs.Program.{Setting}
 use Rattle.star_needs.proofs.Outlines.{with_outlines}
 use Rattle.star_meaning.specs.Arguments.{given, name_key}
@@ -27,15 +27,15 @@ use Rattle.star_meaning.specs.Statements.{augment_content, augmented}
 use Rattle.star_meaning.specs.Subscript.{index, put_entry, set_index, slice}
 use Rattle.star_meaning.specs.Values.{Content, Held, change, check_key, compare, count_of, equal, guard, is_true, iterate, repr, str, take_all, take_item, with_content}
 
-pub same-given : (os : List (Option Outline)) (w : Setting) (line : ℕ) (ps : List Passed) → given (with_outlines os w) line ps ≡ given w line ps
+pub same-given : (os : List (Option Outline)) (w : Setting) (line : ℕ) (ps : List EvaluatedArgument) → given (with_outlines os w) line ps ≡ given w line ps
 unfolding given name_key count_of take_item
 same-given os w line ps = refl
 
-pub same-call_built_in : (os : List (Option Outline)) (w : Setting) (levels line : ℕ) (b : BuiltIn) (g : Given) → call_built_in (with_outlines os w) levels line b g ≡ call_built_in w levels line b g
+pub same-call_built_in : (os : List (Option Outline)) (w : Setting) (levels line : ℕ) (b : BuiltIn) (g : Arguments) → call_built_in (with_outlines os w) levels line b g ≡ call_built_in w levels line b g
 unfolding call_built_in operate prefix compared pairs_of put_pairs dict_of update_with index put_entry set_index slice count_of take_item iterate is_true equal compare check_key repr str guard change extend name_key
 same-call_built_in os w levels line b g = refl
 
-pub same-call_method : (os : List (Option Outline)) (w : Setting) (levels line : ℕ) (b : Method) (x : Value) (g : Given) → call_method (with_outlines os w) levels line b x g ≡ call_method w levels line b x g
+pub same-call_method : (os : List (Option Outline)) (w : Setting) (levels line : ℕ) (b : Method) (x : Value) (g : Arguments) → call_method (with_outlines os w) levels line b x g ≡ call_method w levels line b x g
 unfolding call_method call_built_in attribute operate prefix compared pairs_of put_pairs dict_of update_with index put_entry set_index slice count_of take_item iterate is_true equal compare check_key repr str guard change extend name_key
 same-call_method os w levels line b x g = refl
 
@@ -106,7 +106,7 @@ same-guard : (os : List (Option Outline)) (w : Setting) (line : ℕ) (x : Value)
 unfolding guard
 same-guard os w line x = refl
 
-same-update_with : (os : List (Option Outline)) (w : Setting) (levels line : ℕ) (x : Value) (o : Option Value) (ns : List NamedValue) (a : Action (Unit {0})) → update_with (with_outlines os w) levels line x o ns a ≡ update_with w levels line x o ns a
+same-update_with : (os : List (Option Outline)) (w : Setting) (levels line : ℕ) (x : Value) (o : Option Value) (ns : List KeywordArgument) (a : Action (Unit {0})) → update_with (with_outlines os w) levels line x o ns a ≡ update_with w levels line x o ns a
 unfolding update_with put_pairs pairs_of put_entry check_key count_of take_item guard change name_key
 same-update_with os w levels line x o ns a = refl
 

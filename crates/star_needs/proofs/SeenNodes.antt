@@ -16,14 +16,14 @@ use Rattle.star_tree.specs.declared.tree.Argument.TheOpen as tree
 use Rattle.star_tree.specs.declared.tree.Form.TheOpen as form
 use Rattle.star_scope.specs.Syntax.{ExpressionForm, StatementForm, TargetForm, target}
 use Rattle.star_scope.specs.Uses.{Named, Use, all_uses, in_arm, in_entry, in_expression, in_returned, in_statement, in_target, loaded_uses, maybe_use, outer_of, uses}
-use Rattle.star_meaning.specs.declared.fault.Code.TheVariants as code
-use Rattle.star_meaning.specs.declared.place.Place.{Place}
-use Rattle.star_meaning.specs.declared.place.Flow.{Flow}
-use Rattle.star_meaning.specs.declared.place.Flow.TheVariants as flow
+use Rattle.star_meaning.specs.declared.fault.FaultCode.TheVariants as code
+use Rattle.star_meaning.specs.declared.site.Site.{Site}
+use Rattle.star_meaning.specs.declared.site.Flow.{Flow}
+use Rattle.star_meaning.specs.declared.site.Flow.TheVariants as flow
 use Rattle.star_meaning.specs.Run.{Action}
 use Rattle.star_meaning.specs.Program.{Setting}
 use Rattle.star_meaning.specs.Variables.{by_names}
-use Rattle.star_meaning.specs.Meaning.{Meaning}
+use Rattle.star_meaning.specs.Semantics.{Semantics}
 use Rattle.star_meaning.specs.Expressions.{node}
 use Rattle.star_meaning.specs.Statements.{augment, arms, loop, load_name, module_of, returned, statement}
 use Rattle.star_meaning.specs.Local.{Trees}
@@ -43,7 +43,7 @@ use Rattle.star_needs.proofs.Outlines.{with_outlines}
 use Rattle.star_needs.proofs.Sight.{Sight, alike, alike_quiet, see_read}
 use Rattle.star_needs.proofs.Same.{same-attribute, same-augmented, same-compared, same-fresh_entries, same-index, same-is_true, same-iterate, same-operate, same-prefix, same-set_index, same-slice, same-take_item}
 
-pub agree-node : (tables : Tables) (trees : Trees) (w : Setting) (sight : Sight trees w) (m n : Meaning) (p : Place) (ss : List Statement) (chain : List ℕ) → Scene tables trees w m n p ss chain → (levels : ℕ) (x : ExpressionForm) → Sub (expression_level x chain) (uses ss) → Agree trees w p.file chain (Some p.frame) (node (by_places tables (with_outlines sight.outlines w)) (with_outlines sight.outlines w) levels m p x) (node (by_names w) w levels n p x)
+pub agree-node : (tables : Tables) (trees : Trees) (w : Setting) (sight : Sight trees w) (m n : Semantics) (p : Site) (ss : List Statement) (chain : List ℕ) → Scene tables trees w m n p ss chain → (levels : ℕ) (x : ExpressionForm) → Sub (expression_level x chain) (uses ss) → Agree trees w p.file chain (Some p.frame) (node (by_places tables (with_outlines sight.outlines w)) (with_outlines sight.outlines w) levels m p x) (node (by_names w) w levels n p x)
 agree-node tables trees w sight m n p ss chain h levels (tree.Expression-F.Expression::Name x) k = see_read tables trees w sight h.known.resolved p x ss chain h.stands (first _ _ (uses ss) k)
 agree-node tables trees w sight m n p ss chain h levels (tree.Int i) k = agree_give trees w p.file chain (Some p.frame) (value.Int i)
 agree-node tables trees w sight m n p ss chain h levels (tree.Text t) k = agree_kept trees w p.file chain (Some p.frame) _ (keeps-new_text p.line t)
@@ -66,19 +66,19 @@ agree-node tables trees w sight m n p ss chain h levels (tree.Slice e a b c) k =
 
 -- ---- statements
 
-pub agree-augment : (tables : Tables) (trees : Trees) (w : Setting) (sight : Sight trees w) (m n : Meaning) (p : Place) (ss : List Statement) (chain : List ℕ) → Scene tables trees w m n p ss chain → (levels : ℕ) (op : BinaryOperator) (e : Expression) (x : TargetForm) → Sub (target_level x chain) (uses ss) → Sub (in_expression e chain) (uses ss) → Agree trees w p.file chain (Some p.frame) (augment (by_places tables (with_outlines sight.outlines w)) (with_outlines sight.outlines w) levels m p op e x) (augment (by_names w) w levels n p op e x)
+pub agree-augment : (tables : Tables) (trees : Trees) (w : Setting) (sight : Sight trees w) (m n : Semantics) (p : Site) (ss : List Statement) (chain : List ℕ) → Scene tables trees w m n p ss chain → (levels : ℕ) (op : BinaryOperator) (e : Expression) (x : TargetForm) → Sub (target_level x chain) (uses ss) → Sub (in_expression e chain) (uses ss) → Agree trees w p.file chain (Some p.frame) (augment (by_places tables (with_outlines sight.outlines w)) (with_outlines sight.outlines w) levels m p op e x) (augment (by_names w) w levels n p op e x)
 agree-augment tables trees w sight m n p ss chain h levels op e (tree.Target-F.Target::Name x) k l = agree_then trees w p.file chain (Some p.frame) _ _ _ _ (see_read tables trees w sight h.known.resolved p x ss chain h.stands (first _ _ (uses ss) k)) (λ u. agree_then trees w p.file chain (Some p.frame) _ _ _ _ (h.parts.expr p e ss chain h.stands (l)) (λ v. agree_then trees w p.file chain (Some p.frame) _ _ _ _ (alike trees w p.file chain (Some p.frame) _ _ (same-augmented sight.outlines w levels p.line op u v) (keeps-augmented w levels p.line op u v)) (λ z. agree_bind tables trees w h.known.resolved p x z ss chain h.stands (first _ _ (uses ss) k))))
 agree-augment tables trees w sight m n p ss chain h levels op e (tree.Target-F.Target::Index b i) k l = agree_then trees w p.file chain (Some p.frame) _ _ _ _ (h.parts.parts p b i ss chain h.stands (left _ _ (uses ss) (k)) (right _ _ (uses ss) (k))) (λ r. agree_then trees w p.file chain (Some p.frame) _ _ _ _ (h.parts.expr p e ss chain h.stands (l)) (λ v. agree_then trees w p.file chain (Some p.frame) _ _ _ _ (alike trees w p.file chain (Some p.frame) _ _ (same-augmented sight.outlines w levels p.line op r.old v) (keeps-augmented w levels p.line op r.old v)) (λ z. alike trees w p.file chain (Some p.frame) _ _ (same-set_index sight.outlines w levels p.line r.base r.index z) (keeps-set_index w levels p.line r.base r.index z))))
 agree-augment tables trees w sight m n p ss chain h levels op e (tree.Target-F.Target::Tuple ts) k l = agree_fail (Unit {0}) trees w p.file chain (Some p.frame) code.BadType p.line
 agree-augment tables trees w sight m n p ss chain h levels op e (tree.Target-F.Target::List ts) k l = agree_fail (Unit {0}) trees w p.file chain (Some p.frame) code.BadType p.line
 
-pub agree-arms : (tables : Tables) (trees : Trees) (w : Setting) (sight : Sight trees w) (m n : Meaning) (p : Place) (ss : List Statement) (chain : List ℕ) → Scene tables trees w m n p ss chain → (cases : List Arm) (a b : Action Flow) → Sub (all_uses in_arm cases chain) (uses ss) → Agree trees w p.file chain (Some p.frame) (a) (b) → Agree trees w p.file chain (Some p.frame) (arms (with_outlines sight.outlines w) m p cases a) (arms w n p cases b)
+pub agree-arms : (tables : Tables) (trees : Trees) (w : Setting) (sight : Sight trees w) (m n : Semantics) (p : Site) (ss : List Statement) (chain : List ℕ) → Scene tables trees w m n p ss chain → (cases : List Arm) (a b : Action Flow) → Sub (all_uses in_arm cases chain) (uses ss) → Agree trees w p.file chain (Some p.frame) (a) (b) → Agree trees w p.file chain (Some p.frame) (arms (with_outlines sight.outlines w) m p cases a) (arms w n p cases b)
 agree-arms tables trees w sight m n p ss chain h [] a b k r = r
 agree-arms tables trees w sight m n p ss chain h (x ∷ more) a b k r =
     let l : Sub (in_expression (out-Arm x).condition chain ++ all_uses in_statement (out-Arm x).body chain) (uses ss) = by _ _ (uses ss) (of_arm x chain) (left _ _ (uses ss) (k)) in
     agree_then trees w p.file chain (Some p.frame) _ _ _ _ (agree_then trees w p.file chain (Some p.frame) _ _ _ _ (h.parts.expr p (out-Arm x).condition ss chain h.stands (left _ _ (uses ss) (l))) (λ v. alike trees w p.file chain (Some p.frame) _ _ (same-is_true sight.outlines w v) (keeps-is_true w v))) (λ t. agree_if trees w p.file chain (Some p.frame) t _ _ _ _ (agree_block trees w p.file chain (Some p.frame) (λ x. Sub (in_statement x chain) (uses ss)) _ _ (λ x j. h.parts.stmt p x ss chain h.stands j) (out-Arm x).body (every in_statement (out-Arm x).body chain (uses ss) (right _ _ (uses ss) (l)))) (agree-arms tables trees w sight m n p ss chain h more a b (right _ _ (uses ss) (k)) r))
 
-pub agree-loop : (tables : Tables) (trees : Trees) (w : Setting) (sight : Sight trees w) (m n : Meaning) (p : Place) (ss : List Statement) (chain : List ℕ) → Scene tables trees w m n p ss chain → (t : Target) (body : List Statement) (v : Value) → Sub (in_target t chain) (uses ss) → Sub (all_uses in_statement body chain) (uses ss) → Agree trees w p.file chain (Some p.frame) (loop (by_places tables (with_outlines sight.outlines w)) (with_outlines sight.outlines w) m p t body v) (loop (by_names w) w n p t body v)
+pub agree-loop : (tables : Tables) (trees : Trees) (w : Setting) (sight : Sight trees w) (m n : Semantics) (p : Site) (ss : List Statement) (chain : List ℕ) → Scene tables trees w m n p ss chain → (t : Target) (body : List Statement) (v : Value) → Sub (in_target t chain) (uses ss) → Sub (all_uses in_statement body chain) (uses ss) → Agree trees w p.file chain (Some p.frame) (loop (by_places tables (with_outlines sight.outlines w)) (with_outlines sight.outlines w) m p t body v) (loop (by_names w) w n p t body v)
 agree-loop tables trees w sight m n p ss chain h t body v k l =
     agree_then trees w p.file chain (Some p.frame) _ _ _ _ (alike_quiet trees w p.file chain (Some p.frame) _ _ (same-iterate sight.outlines w p.line v) (quiet.keeps_iterate w p.line v)) (λ c. agree_then trees w p.file chain (Some p.frame) _ _ _ _ (agree_turns trees w p.file chain (Some p.frame) _ _ c 0 (λ i. agree_then trees w p.file chain (Some p.frame) _ _ _ _ (alike trees w p.file chain (Some p.frame) _ _ (same-take_item sight.outlines w p.line v i) (keeps-take_item w p.line v i)) (λ x. agree_then trees w p.file chain (Some p.frame) _ _ _ _ (agree-to_target tables trees w sight m n p ss chain h t x k) (λ _. agree_block trees w p.file chain (Some p.frame) (λ x. Sub (in_statement x chain) (uses ss)) _ _ (λ x j. h.parts.stmt p x ss chain h.stands j) body (every in_statement body chain (uses ss) (l)))))) (λ f. agree_then trees w p.file chain (Some p.frame) _ _ _ _ (agree_quiet trees w p.file chain (Some p.frame) _ (quiet.keeps_leave v)) (λ _. agree_give trees w p.file chain (Some p.frame) f)))
 
@@ -86,14 +86,14 @@ loaded_each : (xs : List LoadedName) (chain : List ℕ) (us : List Use) → Sub 
 loaded_each [] chain us h = tt
 loaded_each (x ∷ xs) chain us h = (first _ _ us h, loaded_each xs chain us (rest _ _ us h))
 
-pub agree-load_name : (tables : Tables) (trees : Trees) (w : Setting) (sight : Sight trees w) (m n : Meaning) (p : Place) (ss : List Statement) (chain : List ℕ) → Scene tables trees w m n p ss chain → (o : Option Published) (x : LoadedName) → Contains (uses ss) (Named x.local chain) → Agree trees w p.file chain (Some p.frame) (load_name (by_places tables (with_outlines sight.outlines w)) p o x) (load_name (by_names w) p o x)
+pub agree-load_name : (tables : Tables) (trees : Trees) (w : Setting) (sight : Sight trees w) (m n : Semantics) (p : Site) (ss : List Statement) (chain : List ℕ) → Scene tables trees w m n p ss chain → (o : Option Published) (x : LoadedName) → Contains (uses ss) (Named x.local chain) → Agree trees w p.file chain (Some p.frame) (load_name (by_places tables (with_outlines sight.outlines w)) p o x) (load_name (by_names w) p o x)
 agree-load_name tables trees w sight m n p ss chain h o x k = agree_then trees w p.file chain (Some p.frame) _ _ _ _ (agree_quiet trees w p.file chain (Some p.frame) _ (quiet.keeps_found code.NoName p.line (option_and_then (λ q. global_of x.loaded.text q.globals) o))) (λ v. agree_bind tables trees w h.known.resolved p x.local v ss chain h.stands k)
 
-pub agree-returned : (tables : Tables) (trees : Trees) (w : Setting) (sight : Sight trees w) (m n : Meaning) (p : Place) (ss : List Statement) (chain : List ℕ) → Scene tables trees w m n p ss chain → (o : Option Expression) → Sub (in_returned o chain) (uses ss) → Agree trees w p.file chain (Some p.frame) (returned m p o) (returned n p o)
+pub agree-returned : (tables : Tables) (trees : Trees) (w : Setting) (sight : Sight trees w) (m n : Semantics) (p : Site) (ss : List Statement) (chain : List ℕ) → Scene tables trees w m n p ss chain → (o : Option Expression) → Sub (in_returned o chain) (uses ss) → Agree trees w p.file chain (Some p.frame) (returned m p o) (returned n p o)
 agree-returned tables trees w sight m n p ss chain h None k = agree_give trees w p.file chain (Some p.frame) (flow.Return value.NoneValue)
 agree-returned tables trees w sight m n p ss chain h (Some e) k = agree_then trees w p.file chain (Some p.frame) _ _ _ _ (h.parts.expr p e ss chain h.stands (k)) (λ v. agree_give trees w p.file chain (Some p.frame) (flow.Return v))
 
-pub agree-statement : (tables : Tables) (trees : Trees) (w : Setting) (sight : Sight trees w) (m n : Meaning) (p : Place) (ss : List Statement) (chain : List ℕ) → Scene tables trees w m n p ss chain → (levels : ℕ) (at : Position) (x : StatementForm) → Sub (form_level x at.token chain) (uses ss) → Agree trees w p.file chain (Some p.frame) (statement (by_places tables (with_outlines sight.outlines w)) (with_outlines sight.outlines w) levels m p at x) (statement (by_names w) w levels n p at x)
+pub agree-statement : (tables : Tables) (trees : Trees) (w : Setting) (sight : Sight trees w) (m n : Semantics) (p : Site) (ss : List Statement) (chain : List ℕ) → Scene tables trees w m n p ss chain → (levels : ℕ) (at : Position) (x : StatementForm) → Sub (form_level x at.token chain) (uses ss) → Agree trees w p.file chain (Some p.frame) (statement (by_places tables (with_outlines sight.outlines w)) (with_outlines sight.outlines w) levels m p at x) (statement (by_names w) w levels n p at x)
 agree-statement tables trees w sight m n p ss chain h levels at (form.Expression e) k = agree_then trees w p.file chain (Some p.frame) _ _ _ _ (h.parts.expr p e ss chain h.stands (k)) (λ _. agree_give trees w p.file chain (Some p.frame) flow.Next)
 agree-statement tables trees w sight m n p ss chain h levels at (form.Assign t e) k = agree_then trees w p.file chain (Some p.frame) _ _ _ _ (h.parts.expr p e ss chain h.stands (left _ _ (uses ss) (k))) (λ v. agree_then trees w p.file chain (Some p.frame) _ _ _ _ (agree-to_target tables trees w sight m n p ss chain h t v (right _ _ (uses ss) (k))) (λ _. agree_give trees w p.file chain (Some p.frame) flow.Next))
 agree-statement tables trees w sight m n p ss chain h levels at (form.Augment t op e) k = agree_then trees w p.file chain (Some p.frame) _ _ _ _ (agree-augment tables trees w sight m n p ss chain h levels op e (target t) (by _ _ (uses ss) (of_target t chain) (left _ _ (uses ss) (k))) (right _ _ (uses ss) (k))) (λ _. agree_give trees w p.file chain (Some p.frame) flow.Next)

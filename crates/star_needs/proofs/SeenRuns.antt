@@ -5,13 +5,13 @@ use Rattle.star_store.specs.declared.values.Value.{Value}
 use Rattle.star_tree.specs.declared.tree.Statement.{Statement}
 use Rattle.star_scope.specs.Syntax.{expression, form_of, position_of, target}
 use Rattle.star_scope.specs.Uses.{in_statement, uses}
-use Rattle.star_meaning.specs.declared.place.Place.{Place}
+use Rattle.star_meaning.specs.declared.site.Site.{Site}
 use Rattle.star_meaning.specs.Run.{Action, ◌>>=◌, each, give, pay, seeing}
 use Rattle.star_meaning.specs.Program.{Setting, blocks_in, outline_of, seen}
 use Rattle.star_meaning.specs.Values.{repr}
 use Rattle.star_scope.specs.Outlines.{Outline, names_in}
 use Rattle.star_meaning.specs.Variables.{by_names, frame_of}
-use Rattle.star_meaning.specs.Meaning.{Meaning}
+use Rattle.star_meaning.specs.Semantics.{Semantics}
 use Rattle.star_meaning.specs.Module.{Ended, bound_names, by_name, global_text, loaded_names, slots_of, without_loaded, at_line, end, last_line, meaning, most_levels, nothing_opens, one_more, run_file, start}
 use Rattle.star_meaning.specs.Local.{Trees, outlines}
 use Rattle.star_meaning.specs.Places.{AllFit, IsResolved, Stands, Tables, by_places}
@@ -28,11 +28,11 @@ use Rattle.star_needs.proofs.Outlines.{with_outlines}
 use Rattle.star_needs.proofs.Sight.{Sight, alike}
 
 -- a statement of the running file has a line of its own, and has the same place
-line_file : (b : Bool) (p : Place) (line : ℕ) → (if b then record p { line = line } else p).file ≡ p.file
+line_file : (b : Bool) (p : Site) (line : ℕ) → (if b then record p { line = line } else p).file ≡ p.file
 line_file true p line = refl
 line_file false p line = refl
 
-line_frame : (b : Bool) (p : Place) (line : ℕ) → (if b then record p { line = line } else p).frame ≡ p.frame
+line_frame : (b : Bool) (p : Site) (line : ℕ) → (if b then record p { line = line } else p).frame ≡ p.frame
 line_frame true p line = refl
 line_frame false p line = refl
 
@@ -45,19 +45,19 @@ none_agree trees w = record {
   call = λ p f d xs ss chain h k l named. agree_fail _ trees w f.file chain (Some f.frame) _ _;
 }
 
-scene : (tables : Tables) (trees : Trees) (w : Setting) (sight : Sight trees w) (m n : Meaning) (p : Place) (ss : List Statement) (chain : List ℕ) → Known tables trees w → AllAgree trees w m n → Stands trees p.file ss → Scene tables trees w m n p ss chain
+scene : (tables : Tables) (trees : Trees) (w : Setting) (sight : Sight trees w) (m n : Semantics) (p : Site) (ss : List Statement) (chain : List ℕ) → Known tables trees w → AllAgree trees w m n → Stands trees p.file ss → Scene tables trees w m n p ss chain
 scene tables trees w sight m n p ss chain k a h = record { known = k; parts = a; stands = h }
 
 paying : {A : Type 0} (trees : Trees) (w : Setting) (file : ℕ) (chain : List ℕ) (frame : Option Value) (line : ℕ) (a b : Action A) → Agree trees w file chain frame a b → Agree trees w file chain frame (pay line 1 >>= λ _. a) (pay line 1 >>= λ _. b)
 paying trees w file chain frame line a b h = agree_then trees w file chain frame _ _ _ _ (agree_kept trees w file chain frame _ (keeps_pay line 1)) (λ _. h)
 
-abbrev StatementAgrees : Tables → (trees : Trees) → (w : Setting) → Sight trees w → ℕ → Meaning → Meaning → Statement → List ℕ → Place → ℕ → Value → Type 0
+abbrev StatementAgrees : Tables → (trees : Trees) → (w : Setting) → Sight trees w → ℕ → Semantics → Semantics → Statement → List ℕ → Site → ℕ → Value → Type 0
 StatementAgrees tables trees w sight levels m n x chain p file frame = Agree trees w file chain (Some frame) ((one_more (by_places tables (with_outlines sight.outlines w)) (with_outlines sight.outlines w) levels m).stmt p x) ((one_more (by_names w) w levels n).stmt p x)
 
-stmt_agree : (tables : Tables) (trees : Trees) (w : Setting) (sight : Sight trees w) (levels : ℕ) (m n : Meaning) (p : Place) (x : Statement) (ss : List Statement) (chain : List ℕ) → Known tables trees w → AllAgree trees w m n → Stands trees p.file ss → Sub (in_statement x chain) (uses ss)
+stmt_agree : (tables : Tables) (trees : Trees) (w : Setting) (sight : Sight trees w) (levels : ℕ) (m n : Semantics) (p : Site) (x : Statement) (ss : List Statement) (chain : List ℕ) → Known tables trees w → AllAgree trees w m n → Stands trees p.file ss → Sub (in_statement x chain) (uses ss)
     → Agree trees w p.file chain (Some p.frame) ((one_more (by_places tables (with_outlines sight.outlines w)) (with_outlines sight.outlines w) levels m).stmt p x) ((one_more (by_names w) w levels n).stmt p x)
 stmt_agree tables trees w sight levels m n p x ss chain k a h s =
-    let q : Place = at_line w p x in
+    let q : Site = at_line w p x in
     let file : q.file ≡ p.file = line_file (nat_eq p.file w.home) p (position_of x).line in
     let frame : q.frame ≡ p.frame = line_frame (nat_eq p.file w.home) p (position_of x).line in
     let there : Stands trees q.file ss = subst (λ z. Stands trees z ss) (sym file) h in
@@ -65,7 +65,7 @@ stmt_agree tables trees w sight levels m n p x ss chain k a h s =
     paying trees w q.file chain (Some q.frame) q.line _ _ (agree-statement tables trees w sight m n q ss chain (scene tables trees w sight m n q ss chain k a there) levels (position_of x) (form_of x) (by _ _ (uses ss) (of_statement x chain) s)) in
     subst (λ z. StatementAgrees tables trees w sight levels m n x chain p z p.frame) file (subst (λ z. StatementAgrees tables trees w sight levels m n x chain p q.file z) frame agrees)
 
-more_agree : (tables : Tables) (trees : Trees) (w : Setting) (sight : Sight trees w) (levels : ℕ) (m n : Meaning) → Known tables trees w → AllAgree trees w m n → AllAgree trees w (one_more (by_places tables (with_outlines sight.outlines w)) (with_outlines sight.outlines w) levels m) (one_more (by_names w) w levels n)
+more_agree : (tables : Tables) (trees : Trees) (w : Setting) (sight : Sight trees w) (levels : ℕ) (m n : Semantics) → Known tables trees w → AllAgree trees w m n → AllAgree trees w (one_more (by_places tables (with_outlines sight.outlines w)) (with_outlines sight.outlines w) levels m) (one_more (by_names w) w levels n)
 more_agree tables trees w sight levels m n k a = record {
   expr = λ p e ss chain h s. paying trees w p.file chain (Some p.frame) p.line _ _ (agree-node tables trees w sight m n p ss chain (scene tables trees w sight m n p ss chain k a h) levels (expression e) (by _ _ (uses ss) (of_expression e chain) s));
   stmt = λ p x ss chain h s. stmt_agree tables trees w sight levels m n p x ss chain k a h s;

@@ -6,7 +6,7 @@ use Rattle.star_tree.specs.declared.tree.Statement.{Statement}
 use Rattle.star_store.specs.declared.values.Value.{Value}
 use Rattle.star_scope.specs.Outlines.{Outline}
 use Rattle.star_scope.specs.Uses.{Named, uses}
-use Rattle.star_meaning.specs.declared.place.Place.{Place}
+use Rattle.star_meaning.specs.declared.site.Site.{Site}
 use Rattle.star_meaning.specs.Run.{Action}
 use Rattle.star_meaning.specs.Program.{Setting, outline_of}
 use Rattle.star_meaning.specs.Variables.{read_name}
@@ -32,10 +32,10 @@ alike trees w file chain frame a b e k = turned trees w file chain frame a b b e
 pub alike_quiet : {A : Type 0} (trees : Trees) (w : Setting) (file : ℕ) (chain : List ℕ) (frame : Option Value) (a b : Action A) → a ≡ b → quiet.Keeps b → Agree trees w file chain frame a b
 alike_quiet trees w file chain frame a b e k = turned trees w file chain frame a b b e (agree_quiet trees w file chain frame b k)
 
-same-read_spot : (os : List (Option Outline)) (tables : Tables) (w : Setting) (p : Place) (n : Name) → read_spot tables (with_outlines os w) p n ≡ read_spot tables w p n
+same-read_spot : (os : List (Option Outline)) (tables : Tables) (w : Setting) (p : Site) (n : Name) → read_spot tables (with_outlines os w) p n ≡ read_spot tables w p n
 unfolding read_spot
 same-read_spot os tables w p n = refl
 
-pub see_read : (tables : Tables) (trees : Trees) (w : Setting) (sight : Sight trees w) → Resolved tables trees w → (p : Place) (n : Name) (ss : List Statement) (chain : List ℕ)
+pub see_read : (tables : Tables) (trees : Trees) (w : Setting) (sight : Sight trees w) → Resolved tables trees w → (p : Site) (n : Name) (ss : List Statement) (chain : List ℕ)
     → Stands trees p.file ss → Contains (uses ss) (Named n chain) → Agree trees w p.file chain (Some p.frame) (read_spot tables (with_outlines sight.outlines w) p n) (read_name w p n)
 see_read tables trees w sight r p n ss chain stands h = turned trees w p.file chain (Some p.frame) _ _ _ (same-read_spot sight.outlines tables w p n) (agree_read tables trees w r p n ss chain stands h)

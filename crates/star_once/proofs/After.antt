@@ -4,15 +4,15 @@ use Rattle.star_store.specs.declared.values.Value.{Value}
 use Rattle.star_store.specs.declared.values.Value.TheVariants as value
 use Rattle.star_store.specs.declared.values.Cell.{Cell}
 use Rattle.star_store.specs.declared.values.Cell.TheVariants as cell
-use Rattle.star_store.specs.declared.values.Counted.{Counted}
+use Rattle.star_store.specs.declared.values.HeapCell.{HeapCell}
 use Rattle.star_store.specs.declared.fault.StoreFault.{StoreFault}
 use Rattle.star_store.specs.declared.fault.StoreFault.TheVariants as refused
 use Rattle.star_store.specs.Key as keys
 use Rattle.star_store.specs.Spend.{Enough, Lacks, Spend, Spent}
 use Rattle.star_store.specs.Store.{Shelf, Store, look, made, next_value, published_cells}
 use Rattle.star_store.specs.Write.{cell_at, put}
-use Rattle.star_meaning.specs.declared.fault.Code.{Code}
-use Rattle.star_meaning.specs.declared.fault.Code.TheVariants as code
+use Rattle.star_meaning.specs.declared.fault.FaultCode.{FaultCode}
+use Rattle.star_meaning.specs.declared.fault.FaultCode.TheVariants as code
 use Rattle.star_meaning.specs.Operators.{entries_after, with_entries, with_entry}
 use Rattle.star_meaning.specs.Program.{Setting, seen}
 use Rattle.star_meaning.specs.Run.{Action, Done, Failed, Outcome, State, and_then, build, check, fail, give, make, pay, settled}
@@ -21,7 +21,7 @@ use Rattle.star_meaning.proofs.Stays as stays
 use Rattle.star_once.specs.Keys.{Differ, IsThere, KeysDiffer, LeadsToFixed}
 use Rattle.star_once.proofs.Keeps.{Keeps, make_differs}
 use Rattle.star_once.proofs.Keys.{Stay, there_stays}
-use Rattle.star_once.proofs.Shares.{IsText}
+use Rattle.star_once.proofs.BoundArguments.{IsText}
 use Rattle.star_once.proofs.Stores.{stays_seen}
 use Rattle.star_once.proofs.Writes.{Held, put_in}
 
@@ -81,7 +81,7 @@ pub pay_same : (w : Setting) (line n : ℕ) (s : State) (P : (Value → Option C
 unfolding pay
 pay_same w line n s P h p = paid_same w (nat_lt s.steps n) line n s P h p
 
-pub check_after : (w : Setting) (c : Code) (line : ℕ) (b : Bool) (s : State) → KeysDiffer w s → After w s (λ t x. b ≡ true) (check c line b s)
+pub check_after : (w : Setting) (c : FaultCode) (line : ℕ) (b : Bool) (s : State) → KeysDiffer w s → After w s (λ t x. b ≡ true) (check c line b s)
 check_after w c line true s h = (h, (λ v d e f. e), refl)
 check_after w c line false s h = tt
 
@@ -170,7 +170,7 @@ with_entries_differ w s es (f ∷ fs) d t = with_entries_differ w s (with_entry 
 
 -- ---- a new string
 
-last_is : (xs : List Counted) (x : Counted) → cell_at (xs ++ x ∷ []) (length xs) ≡ Some x.cell
+last_is : (xs : List HeapCell) (x : HeapCell) → cell_at (xs ++ x ∷ []) (length xs) ≡ Some x.cell
 last_is [] x = refl
 last_is (y ∷ xs) x = last_is xs x
 

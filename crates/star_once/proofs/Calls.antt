@@ -9,14 +9,14 @@ use Rattle.star_tree.specs.declared.tree.Argument.{Argument}
 use Rattle.star_tree.specs.declared.tree.Expression.{Expression}
 use Rattle.star_tree.specs.declared.tree.Name.{Name}
 use Rattle.star_scope.specs.Definitions.{Definition}
-use Rattle.star_meaning.specs.declared.fault.Code.TheVariants as code
-use Rattle.star_meaning.specs.declared.given.Given.{Given}
-use Rattle.star_meaning.specs.declared.place.Place.{Place}
-use Rattle.star_meaning.specs.Arguments.{Passed, given, none_or_one}
-use Rattle.star_meaning.specs.Binding.{Names, One, Rest, Share, bound_to, made_of, make_shares}
+use Rattle.star_meaning.specs.declared.fault.FaultCode.TheVariants as code
+use Rattle.star_meaning.specs.declared.given.Arguments.{Arguments}
+use Rattle.star_meaning.specs.declared.site.Site.{Site}
+use Rattle.star_meaning.specs.Arguments.{EvaluatedArgument, given, none_or_one}
+use Rattle.star_meaning.specs.Binding.{Names, One, Rest, BoundArgument, bound_to, build_argument, build_arguments}
 use Rattle.star_meaning.specs.BuiltIns.{call_built_in, call_dict}
 use Rattle.star_meaning.specs.Calls.{ABuiltIn, AFunction, AMethod, Callee, activate, call_node, called, deactivate, run, run_body}
-use Rattle.star_meaning.specs.Meaning.{Meaning}
+use Rattle.star_meaning.specs.Semantics.{Semantics}
 use Rattle.star_meaning.specs.Pairs.{dict_of, pairs_count, pairs_of}
 use Rattle.star_meaning.specs.Program.{Setting, Variables, seen}
 use Rattle.star_meaning.specs.Run.{Done, Failed, Outcome, State, all_of, each, found, give, pay, ◌>>=◌}
@@ -27,7 +27,7 @@ use Rattle.star_meaning.proofs.Stays as stays
 use Rattle.star_once.specs.Keys.{KeysDiffer}
 use Rattle.star_once.proofs.After.{After, Some_answer, after_then, given_now, held_then, plain}
 use Rattle.star_once.proofs.Dicts.{dict_of_differs, named_dict, pairs_of_after}
-use Rattle.star_once.proofs.Given.{given_after}
+use Rattle.star_once.proofs.Arguments.{given_after}
 use Rattle.star_once.proofs.Keeps.{AllKeep, Keeps, KeepsWhere, VariablesKeep, keeps}
 use Rattle.star_once.proofs.KeepsArguments.{keeps-none_or_one}
 use Rattle.star_once.proofs.KeepsBuiltIns.{keeps-call_abs, keeps-call_all, keeps-call_any, keeps-call_best, keeps-call_bool, keeps-call_enumerate, keeps-call_fail, keeps-call_int, keeps-call_len, keeps-call_list, keeps-call_print, keeps-call_range, keeps-call_repr, keeps-call_reversed, keeps-call_sorted, keeps-call_str, keeps-call_tuple, keeps-call_type, keeps-call_zip}
@@ -36,13 +36,13 @@ use Rattle.star_once.proofs.KeepsCalls.{keeps-pass, keeps-run_body}
 use Rattle.star_once.proofs.KeepsMethods.{keeps-call_method}
 use Rattle.star_once.proofs.KeepsPairs.{keeps-pairs_count}
 use Rattle.star_once.proofs.KeepsValues.{keeps-new_tuple}
-use Rattle.star_once.proofs.Shares.{NamedAll, NamedOnce, ShareOnce, SharesOnce, bound_once, named_stays, shares_stay}
+use Rattle.star_once.proofs.BoundArguments.{NamedAll, NamedOnce, ShareOnce, SharesOnce, bound_once, named_stays, shares_stay}
 use Rattle.star_once.proofs.Stores.{stays_seen}
 use Rattle.star_once.proofs.Writes as writes
 
 -- ---- shares
 
-made_differs : (w : Setting) (line : ℕ) (x : Share) (s : State) → KeysDiffer w s → ShareOnce (seen w s) x → writes.Held w (made_of line x s)
+made_differs : (w : Setting) (line : ℕ) (x : BoundArgument) (s : State) → KeysDiffer w s → ShareOnce (seen w s) x → writes.Held w (build_argument line x s)
 made_differs w line (One v) s h o = h
 made_differs w line (Rest xs) s h o = (keeps-new_tuple {w = w} line xs).holds s h
 made_differs w line (Names ns) s h o = named_dict w line ns s h o.0 o.1
@@ -51,41 +51,41 @@ with_stay : {A : Type 0} (w : Setting) (s : State) (o : Outcome A) → writes.He
 with_stay w s (Done x t) h k = (h, stays_seen w s t k, tt)
 with_stay w s (Failed f lines) h k = tt
 
-made_after : (w : Setting) (line : ℕ) (x : Share) (s : State) → KeysDiffer w s → ShareOnce (seen w s) x → After w s Some_answer (made_of line x s)
-made_after w line x s h o = with_stay w s (made_of line x s) (made_differs w line x s h o) ((base.keeps-made_of {q = false} line x).stays.holds s)
+made_after : (w : Setting) (line : ℕ) (x : BoundArgument) (s : State) → KeysDiffer w s → ShareOnce (seen w s) x → After w s Some_answer (build_argument line x s)
+made_after w line x s h o = with_stay w s (build_argument line x s) (made_differs w line x s h o) ((base.keeps-build_argument {q = false} line x).stays.holds s)
 
-each_made : (w : Setting) (line : ℕ) (xs : List (Name × Share)) (s : State) → KeysDiffer w s → SharesOnce (seen w s) xs → After w s Some_answer (each {B = Name × Value} (λ (x : Name × Share). made_of line x.1 >>= λ v. give (x.0, v)) xs s)
+each_made : (w : Setting) (line : ℕ) (xs : List (Name × BoundArgument)) (s : State) → KeysDiffer w s → SharesOnce (seen w s) xs → After w s Some_answer (each {B = Name × Value} (λ (x : Name × BoundArgument). build_argument line x.1 >>= λ v. give (x.0, v)) xs s)
 each_made w line [] s h o = given_now {A = List (Name × Value)} w s Some_answer [] h tt
 each_made w line (x ∷ xs) s h o =
-    after_then w s Some_answer Some_answer ((made_of line x.1 >>= λ v. give {A = Name × Value} (x.0, v)) s) (λ y. each {B = Name × Value} (λ (x : Name × Share). made_of line x.1 >>= λ v. give (x.0, v)) xs >>= λ ys. give (y ∷ ys))
-    (after_then w s Some_answer Some_answer (made_of line x.1 s) (λ v. give {A = Name × Value} (x.0, v)) (made_after w line x.1 s h o.0) (λ v t k stay p. given_now {A = Name × Value} w t Some_answer (x.0, v) k tt))
-    (λ y t k stay p. after_then w t Some_answer Some_answer (each {B = Name × Value} (λ (x : Name × Share). made_of line x.1 >>= λ v. give (x.0, v)) xs t) (λ ys. give (y ∷ ys))
+    after_then w s Some_answer Some_answer ((build_argument line x.1 >>= λ v. give {A = Name × Value} (x.0, v)) s) (λ y. each {B = Name × Value} (λ (x : Name × BoundArgument). build_argument line x.1 >>= λ v. give (x.0, v)) xs >>= λ ys. give (y ∷ ys))
+    (after_then w s Some_answer Some_answer (build_argument line x.1 s) (λ v. give {A = Name × Value} (x.0, v)) (made_after w line x.1 s h o.0) (λ v t k stay p. given_now {A = Name × Value} w t Some_answer (x.0, v) k tt))
+    (λ y t k stay p. after_then w t Some_answer Some_answer (each {B = Name × Value} (λ (x : Name × BoundArgument). build_argument line x.1 >>= λ v. give (x.0, v)) xs t) (λ ys. give (y ∷ ys))
     (each_made w line xs t k (shares_stay (seen w s) (seen w t) stay xs o.1)) (λ ys u l stays q. given_now w u Some_answer (y ∷ ys) l tt))
 
-shares_after : (w : Setting) (line : ℕ) (xs : List (Name × Share)) (s : State) → KeysDiffer w s → SharesOnce (seen w s) xs → After w s Some_answer (make_shares line xs s)
-unfolding make_shares
+shares_after : (w : Setting) (line : ℕ) (xs : List (Name × BoundArgument)) (s : State) → KeysDiffer w s → SharesOnce (seen w s) xs → After w s Some_answer (build_arguments line xs s)
+unfolding build_arguments
 shares_after w line xs s h o = each_made w line xs s h o
 
 -- ---- the run of a function
 
-body_keeps : (w : Setting) (vs : Variables) (m : Meaning) (q : Place) (f : Function) (d : Definition) (values : List (Name × Value)) → VariablesKeep w vs → AllKeep w m
+body_keeps : (w : Setting) (vs : Variables) (m : Semantics) (q : Site) (f : Function) (d : Definition) (values : List (Name × Value)) → VariablesKeep w vs → AllKeep w m
     → Keeps w (all_of (λ (x : Name × Value). vs.bind q x.0 x.1) values >>= λ _. activate f >>= λ _. run_body m q d.body >>= λ v. deactivate >>= λ _. give v)
 body_keeps w vs m q f d values k l = search (keeps, keeps-run_body) depth 14
 
-frame_keeps : (w : Setting) (vs : Variables) (m : Meaning) (p : Place) (f : Function) (d : Definition) (values : List (Name × Value)) → VariablesKeep w vs → AllKeep w m
+frame_keeps : (w : Setting) (vs : Variables) (m : Semantics) (p : Site) (f : Function) (d : Definition) (values : List (Name × Value)) → VariablesKeep w vs → AllKeep w m
     → Keeps w (pay p.line 1 >>= λ _. vs.frame f.file (1 + f.definition) (Some f.frame) >>= λ frame.
     all_of (λ (x : Name × Value). vs.bind (record { file = f.file; frame = frame; line = p.line }) x.0 x.1) values >>= λ _. activate f >>= λ _. run_body m (record { file = f.file; frame = frame; line = p.line }) d.body >>= λ v. deactivate >>= λ _. give v)
 frame_keeps w vs m p f d values k l = search (keeps, body_keeps) depth 14
 
-pub run_keeps : (w : Setting) (vs : Variables) (m : Meaning) (p : Place) (f : Function) (d : Definition) (shares : List (Name × Share)) → VariablesKeep w vs → AllKeep w m → KeepsWhere w (λ s. SharesOnce (seen w s) shares) (run vs m p f d shares)
-run_keeps w vs m p f d shares k l = record { holds = λ s h o. held_then w s Some_answer (make_shares p.line shares s) _ (shares_after w p.line shares s h o) (λ values t i stay x. (frame_keeps w vs m p f d values k l).holds t i) }
+pub run_keeps : (w : Setting) (vs : Variables) (m : Semantics) (p : Site) (f : Function) (d : Definition) (shares : List (Name × BoundArgument)) → VariablesKeep w vs → AllKeep w m → KeepsWhere w (λ s. SharesOnce (seen w s) shares) (run vs m p f d shares)
+run_keeps w vs m p f d shares k l = record { holds = λ s h o. held_then w s Some_answer (build_arguments p.line shares s) _ (shares_after w p.line shares s h o) (λ values t i stay x. (frame_keeps w vs m p f d values k l).holds t i) }
 
 -- ---- calls
 
-dict_differs : (w : Setting) (levels line : ℕ) (g : Given) (s : State) → KeysDiffer w s → NamedAll (seen w s) g.named → writes.Held w (call_dict w levels line g s)
+dict_differs : (w : Setting) (levels line : ℕ) (g : Arguments) (s : State) → KeysDiffer w s → NamedAll (seen w s) g.named → writes.Held w (call_dict w levels line g s)
 dict_differs w levels line g s h n =
-    held_then w s Some_answer (none_or_one line g.plain s) _
-    (plain w (none_or_one line g.plain) (keeps-none_or_one line g.plain) (base_arguments.keeps-none_or_one {q = false} line g.plain).stays s h)
+    held_then w s Some_answer (none_or_one line g.positional s) _
+    (plain w (none_or_one line g.positional) (keeps-none_or_one line g.positional) (base_arguments.keeps-none_or_one {q = false} line g.positional).stays s h)
     (λ x t k stay p. held_then w t Some_answer (pairs_count w line x t) _
     (plain w (pairs_count w line x) (keeps-pairs_count w line x) (base_pairs.keeps-pairs_count {q = false} w line x).stays t k)
     (λ c u l stays q. held_then w u _ (pairs_of w line x c u) (λ ps. dict_of w levels line ps g.named)
@@ -93,7 +93,7 @@ dict_differs w levels line g s h n =
     (λ ps v m stayed r. dict_of_differs w levels line ps g.named v m r
     (named_stays (seen w u) (seen w v) stayed g.named (named_stays (seen w t) (seen w u) stays g.named (named_stays (seen w s) (seen w t) stay g.named n))))))
 
-built_in_differs : (w : Setting) (levels line : ℕ) (b : BuiltIn) (g : Given) (s : State) → KeysDiffer w s → NamedAll (seen w s) g.named → writes.Held w (call_built_in w levels line b g s)
+built_in_differs : (w : Setting) (levels line : ℕ) (b : BuiltIn) (g : Arguments) (s : State) → KeysDiffer w s → NamedAll (seen w s) g.named → writes.Held w (call_built_in w levels line b g s)
 unfolding call_built_in
 built_in_differs w levels line built_in.Abs g s h n = (keeps-call_abs w line g).holds s h
 built_in_differs w levels line built_in.All g s h n = (keeps-call_all w line g).holds s h
@@ -117,17 +117,17 @@ built_in_differs w levels line built_in.Tuple g s h n = (keeps-call_tuple w line
 built_in_differs w levels line built_in.Type g s h n = (keeps-call_type w line g).holds s h
 built_in_differs w levels line built_in.Zip g s h n = (keeps-call_zip w line g).holds s h
 
-found_call : (w : Setting) (m : Meaning) (p : Place) (f : Function) (d : Definition) (o : Option (List (Name × Share))) (s : State) → AllKeep w m → KeysDiffer w s → ((xs : List (Name × Share)) → o ≡ Some xs → SharesOnce (seen w s) xs) → writes.Held w ((found code.Args p.line o >>= m.call p f d) s)
+found_call : (w : Setting) (m : Semantics) (p : Site) (f : Function) (d : Definition) (o : Option (List (Name × BoundArgument))) (s : State) → AllKeep w m → KeysDiffer w s → ((xs : List (Name × BoundArgument)) → o ≡ Some xs → SharesOnce (seen w s) xs) → writes.Held w ((found code.Args p.line o >>= m.call p f d) s)
 found_call w m p f d None s k h a = tt
 found_call w m p f d (Some xs) s k h a = (k.call p f d xs).holds s h (a xs refl)
 
-called_differs : (w : Setting) (levels : ℕ) (m : Meaning) (p : Place) (c : Callee) (g : Given) (s : State) → AllKeep w m → KeysDiffer w s → NamedOnce (seen w s) g.named → writes.Held w (called w levels m p c g s)
+called_differs : (w : Setting) (levels : ℕ) (m : Semantics) (p : Site) (c : Callee) (g : Arguments) (s : State) → AllKeep w m → KeysDiffer w s → NamedOnce (seen w s) g.named → writes.Held w (called w levels m p c g s)
 called_differs w levels m p (AFunction f d) g s k h n = found_call w m p f d (bound_to d.parameters f.defaults g) s k h (bound_once (seen w s) d.parameters f.defaults g n)
 called_differs w levels m p (ABuiltIn b) g s k h n = built_in_differs w levels p.line b g s h n.0
 called_differs w levels m p (AMethod b x) g s k h n = (keeps-call_method w levels p.line b x g).holds s h
 
-given_called : (w : Setting) (levels : ℕ) (m : Meaning) (p : Place) (ps : List Passed) (c : Callee) → AllKeep w m → Keeps w (given w p.line ps >>= λ g. called w levels m p c g)
+given_called : (w : Setting) (levels : ℕ) (m : Semantics) (p : Site) (ps : List EvaluatedArgument) (c : Callee) → AllKeep w m → Keeps w (given w p.line ps >>= λ g. called w levels m p c g)
 given_called w levels m p ps c k = record { holds = λ s h. held_then w s _ (given w p.line ps s) (λ g. called w levels m p c g) (given_after w p.line ps s h) (λ g t i stay n. called_differs w levels m p c g t k i n) }
 
-pub keeps-call_node : (w : Setting) (levels : ℕ) (m : Meaning) (p : Place) (f : Expression) (es : List Argument) → AllKeep w m → Keeps w (call_node w levels m p f es)
+pub keeps-call_node : (w : Setting) (levels : ℕ) (m : Semantics) (p : Site) (f : Expression) (es : List Argument) → AllKeep w m → Keeps w (call_node w levels m p f es)
 keeps-call_node w levels m p f es k = search (keeps, keeps-pass, keeps-callee, given_called) depth 14

@@ -4,8 +4,8 @@ use Rattle.star_store.specs.declared.values.Value.{Value}
 use Rattle.star_store.specs.declared.values.Value.TheVariants as value
 use Rattle.star_store.specs.declared.values.Cell.{Cell}
 use Rattle.star_store.specs.declared.values.Cell.TheVariants as cell
-use Rattle.star_meaning.specs.declared.fault.Code.TheVariants as code
-use Rattle.star_meaning.specs.declared.given.NamedValue.{NamedValue}
+use Rattle.star_meaning.specs.declared.fault.FaultCode.TheVariants as code
+use Rattle.star_meaning.specs.declared.given.KeywordArgument.{KeywordArgument}
 use Rattle.star_meaning.specs.Arguments.{comes_twice, key_for, name_key}
 use Rattle.star_meaning.specs.Binding.{key_and_value}
 use Rattle.star_meaning.specs.Expressions.{fresh_entries, fresh_entry}
@@ -23,7 +23,7 @@ use Rattle.star_once.proofs.Keeps.{keeps_each}
 use Rattle.star_once.proofs.KeepsPairs.{keeps-pair_of}
 use Rattle.star_once.proofs.KeepsValues.{keeps-take_items}
 use Rattle.star_once.proofs.Keys.{differ_stays, there_stays}
-use Rattle.star_once.proofs.Shares.{IsText, KeyIsText, KeysAre, NamedAll, named_stays, names_differ, text_there}
+use Rattle.star_once.proofs.BoundArguments.{IsText, KeyIsText, KeysAre, NamedAll, named_stays, names_differ, text_there}
 use Rattle.star_once.proofs.Writes as writes
 
 -- ---- displays
@@ -65,15 +65,15 @@ with_pairs_after w levels line b es (e ∷ ps) s h d t =
     (λ fs u k stay p. with_pairs_after w levels line b fs ps u k p (λ c. all_stay (seen w s) (seen w u) ps stay (t c).1))
 
 -- the key of a value by name leads to the string of the name
-name_key_after : (w : Setting) (line : ℕ) (n : NamedValue) (o : Option Value) (s : State) → KeysDiffer w s → KeyIsText (seen w s) o n.name → After w s (λ t k. IsText (seen w t) k n.name) (name_key line n o s)
+name_key_after : (w : Setting) (line : ℕ) (n : KeywordArgument) (o : Option Value) (s : State) → KeysDiffer w s → KeyIsText (seen w s) o n.name → After w s (λ t k. IsText (seen w t) k n.name) (name_key line n o s)
 unfolding name_key
 name_key_after w line n (Some k) s h t = given_now w s (λ t k. IsText (seen w t) k n.name) k h t
 name_key_after w line n None s h t = new_text_after w line n.name s h
 
-pub key_for_after : (w : Setting) (line : ℕ) (n : NamedValue) (s : State) → KeysDiffer w s → KeyIsText (seen w s) n.key n.name → After w s (λ t k. IsText (seen w t) k n.name) (key_for line n s)
+pub key_for_after : (w : Setting) (line : ℕ) (n : KeywordArgument) (s : State) → KeysDiffer w s → KeyIsText (seen w s) n.key n.name → After w s (λ t k. IsText (seen w t) k n.name) (key_for line n s)
 key_for_after w line n s h t = name_key_after w line n n.key s h t
 
-with_named_after : (w : Setting) (line : ℕ) (es : List (Value × Value)) (ns : List NamedValue) (s : State) → KeysDiffer w s → Differ (seen w s) es → NamedAll (seen w s) ns → After w s (λ t fs. Differ (seen w t) fs) (with_named w line es ns s)
+with_named_after : (w : Setting) (line : ℕ) (es : List (Value × Value)) (ns : List KeywordArgument) (s : State) → KeysDiffer w s → Differ (seen w s) es → NamedAll (seen w s) ns → After w s (λ t fs. Differ (seen w t) fs) (with_named w line es ns s)
 with_named_after w line es [] s h d t = given_now w s (λ t fs. Differ (seen w t) fs) es h d
 with_named_after w line es (n ∷ ns) s h d t =
     after_then w s (λ t k. IsText (seen w t) k n.name) (λ t fs. Differ (seen w t) fs) (key_for line n s) (λ k. seeing (λ s. with_named w line (with_entry w s es (k, n.value)) ns))
@@ -81,7 +81,7 @@ with_named_after w line es (n ∷ ns) s h d t =
     (λ k u l stay p. with_named_after w line (with_entry w u es (k, n.value)) ns u l
     (with_entry_differs w u es (k, n.value) (differ_stays (seen w s) (seen w u) es stay d) (text_there (seen w u) k n.name p)) (named_stays (seen w s) (seen w u) stay ns t.1))
 
-pub dict_of_differs : (w : Setting) (levels line : ℕ) (ps : Pairs) (ns : List NamedValue) (s : State) → KeysDiffer w s → PairsThere (seen w s) ps → NamedAll (seen w s) ns → writes.Held w (dict_of w levels line ps ns s)
+pub dict_of_differs : (w : Setting) (levels line : ℕ) (ps : Pairs) (ns : List KeywordArgument) (s : State) → KeysDiffer w s → PairsThere (seen w s) ps → NamedAll (seen w s) ns → writes.Held w (dict_of w levels line ps ns s)
 unfolding dict_of
 dict_of_differs w levels line ps ns s h t n =
     held_then w s (λ t fs. Differ (seen w t) fs) (with_pairs w levels line ps.are_keys [] ps.pairs s) (λ es. with_named w line es ns >>= new_dict line)
@@ -142,7 +142,7 @@ pairs_of_after w line (Some x) n s h = pairs_in_after w line x n (content w s x)
 
 -- ---- entries of names
 
-pub entries_after_names : (w : Setting) (line : ℕ) (ns : List NamedValue) (s : State) → KeysDiffer w s → NamedAll (seen w s) ns → After w s (λ t es. KeysAre (seen w t) ns es) (each (key_and_value line) ns s)
+pub entries_after_names : (w : Setting) (line : ℕ) (ns : List KeywordArgument) (s : State) → KeysDiffer w s → NamedAll (seen w s) ns → After w s (λ t es. KeysAre (seen w t) ns es) (each (key_and_value line) ns s)
 entries_after_names w line [] s h t = given_now w s (λ t es. KeysAre (seen w t) [] es) [] h tt
 entries_after_names w line (n ∷ ns) s h t =
     after_then w s (λ t e. IsText (seen w t) e.0 n.name) (λ t es. KeysAre (seen w t) (n ∷ ns) es) (key_and_value line n s) (λ y. each (key_and_value line) ns >>= λ ys. give (y ∷ ys))
@@ -152,7 +152,7 @@ entries_after_names w line (n ∷ ns) s h t =
     (entries_after_names w line ns u k (named_stays (seen w s) (seen w u) stay ns t.1))
     (λ es v l stays q. given_now w v (λ t es. KeysAre (seen w t) (n ∷ ns) es) (e ∷ es) l (stays e.0 (cell.Text n.name) p tt, q)))
 
-pub named_dict : (w : Setting) (line : ℕ) (ns : List NamedValue) (s : State) → KeysDiffer w s → NamedAll (seen w s) ns → comes_twice ns ≡ false → writes.Held w ((each (key_and_value line) ns >>= new_dict line) s)
+pub named_dict : (w : Setting) (line : ℕ) (ns : List KeywordArgument) (s : State) → KeysDiffer w s → NamedAll (seen w s) ns → comes_twice ns ≡ false → writes.Held w ((each (key_and_value line) ns >>= new_dict line) s)
 named_dict w line ns s h t once =
     held_then w s (λ t es. KeysAre (seen w t) ns es) (each (key_and_value line) ns s) (new_dict line)
     (entries_after_names w line ns s h t) (λ es u k stay p. new_dict_differs w line es u k (names_differ (seen w u) ns es once p))

@@ -3,7 +3,7 @@ use Rattle.std.proofs.Common.{◌≡◌, ◌⊎◌, inl, inr, ℕ, zero, suc, �
 use Rattle.star_store.specs.declared.values.Value.{Value}
 use Rattle.star_store.specs.declared.values.Cell.{Cell}
 use Rattle.star_store.specs.declared.values.Cell.TheVariants as cell
-use Rattle.star_store.specs.declared.values.Counted.{Counted}
+use Rattle.star_store.specs.declared.values.HeapCell.{HeapCell}
 use Rattle.star_store.specs.declared.values.Frame.{Frame}
 use Rattle.star_store.specs.declared.values.Function.{Function}
 use Rattle.star_store.specs.declared.range.Range.{Range}
@@ -17,20 +17,20 @@ use Rattle.star_tree.specs.declared.tree.Statement.{Statement}
 use Rattle.star_tree.specs.declared.tree.Target.{Target}
 use Rattle.star_tree.specs.declared.tree.Name.{Name}
 use Rattle.star_scope.specs.Definitions.{Definition}
-use Rattle.star_meaning.specs.declared.fault.Code.{Code}
-use Rattle.star_meaning.specs.declared.fault.Code.TheVariants as code
-use Rattle.star_meaning.specs.declared.place.Place.{Place}
-use Rattle.star_meaning.specs.declared.place.Flow.{Flow}
-use Rattle.star_meaning.specs.declared.place.Flow.TheVariants as flow
+use Rattle.star_meaning.specs.declared.fault.FaultCode.{FaultCode}
+use Rattle.star_meaning.specs.declared.fault.FaultCode.TheVariants as code
+use Rattle.star_meaning.specs.declared.site.Site.{Site}
+use Rattle.star_meaning.specs.declared.site.Flow.{Flow}
+use Rattle.star_meaning.specs.declared.site.Flow.TheVariants as flow
 use Rattle.star_meaning.specs.Run.{State, Outcome, Done, Failed, Action, and_then, ◌>>=◌, give, fail, pay, check, found, code_of, agreed, settled, visiting, seeing, storing, make, build, each, all_of, collect, until, add_line}
 use Rattle.star_meaning.specs.Program.{Setting, Variables, seen}
 use Rattle.star_meaning.specs.Values.{change, count_of, iterate, leave}
-use Rattle.star_meaning.specs.Binding.{Share}
-use Rattle.star_meaning.specs.Meaning.{Meaning, block, then_go, then_turn, turns, repeat}
+use Rattle.star_meaning.specs.Binding.{BoundArgument}
+use Rattle.star_meaning.specs.Semantics.{Semantics, block, then_go, then_turn, turns, repeat}
 use Rattle.star_meaning.specs.Calls.{activate, deactivate}
 use Rattle.star_meaning.proofs.Stays as stays
 use Rattle.star_once.specs.Keys.{Differ, KeysDiffer}
-use Rattle.star_once.proofs.Shares.{SharesOnce}
+use Rattle.star_once.proofs.BoundArguments.{SharesOnce}
 use Rattle.star_once.proofs.Stores.{after_same, after_step, changed_look, made_look, same_look, stays_seen}
 use Rattle.star_once.proofs.Writes.{Held, write_differs}
 
@@ -47,14 +47,14 @@ keeps_then {w = w} m f k l = record { holds = λ s h. held_then w (m s) f (k.hol
 pub keeps_give : {w : Setting} {A : Type 0} (x : A) → Keeps w (give x)
 keeps_give x = record { holds = λ s h. h }
 
-pub keeps_fail : {w : Setting} (A : Type 0) (c : Code) (line : ℕ) → Keeps w (fail {A = A} c line)
+pub keeps_fail : {w : Setting} (A : Type 0) (c : FaultCode) (line : ℕ) → Keeps w (fail {A = A} c line)
 keeps_fail A c line = record { holds = λ s h. tt }
 
 pub keeps_if : {w : Setting} {A : Type 0} (b : Bool) (m n : Action A) → Keeps w m → Keeps w n → Keeps w (if b then m else n)
 keeps_if true m n k l = k
 keeps_if false m n k l = l
 
-pub keeps_found : {w : Setting} {A : Type 0} (c : Code) (line : ℕ) (o : Option A) → Keeps w (found c line o)
+pub keeps_found : {w : Setting} {A : Type 0} (c : FaultCode) (line : ℕ) (o : Option A) → Keeps w (found c line o)
 keeps_found {A = A} c line None = keeps_fail A c line
 keeps_found {A = A} c line (Some x) = keeps_give x
 
@@ -69,7 +69,7 @@ keeps_pay {w = w} line n = record { holds = λ s h. paid w (nat_lt s.steps n) li
 pub keeps_seeing : {w : Setting} {A : Type 0} (f : State → Action A) → ((s : State) → Keeps w (f s)) → Keeps w (seeing f)
 keeps_seeing f k = record { holds = λ s h. (k s).holds s h }
 
-pub keeps_check : {w : Setting} (c : Code) (line : ℕ) (b : Bool) → Keeps w (check c line b)
+pub keeps_check : {w : Setting} (c : FaultCode) (line : ℕ) (b : Bool) → Keeps w (check c line b)
 keeps_check c line b = keeps_if b _ _ (keeps_give {A = Unit {0}} tt) (keeps_fail (Unit {0}) c line)
 
 -- ---- new cells
@@ -162,7 +162,7 @@ keeps_bound {w = w} frame slot v = record {
       (λ x es e. inl (by s x es (changed_look (λ e. record e { cell = bound_cell slot v e.cell }) frame s.store w.shelf x (cell.Dict es) e)));
 }
   where
-    by : (s : State) (x : Value) (es : List (Value × Value)) → (a : Counted) × (look s.store w.shelf x ≡ Some a.cell) × ((a.cell ≡ cell.Dict es) ⊎ (bound_cell slot v a.cell ≡ cell.Dict es)) → seen w s x ≡ Some (cell.Dict es)
+    by : (s : State) (x : Value) (es : List (Value × Value)) → (a : HeapCell) × (look s.store w.shelf x ≡ Some a.cell) × ((a.cell ≡ cell.Dict es) ⊎ (bound_cell slot v a.cell ≡ cell.Dict es)) → seen w s x ≡ Some (cell.Dict es)
     by s x es (a, there, inl old) = there ∙ ap Some old
     by s x es (a, there, inr new) = there ∙ ap Some (bound_dict slot v a.cell es new)
 
@@ -175,14 +175,14 @@ keeps_change w line v c = record { holds = λ s h. write_differs w line v c s h 
 
 -- ---- iterations
 
-changing : {w : Setting} (f : Counted → Counted) → ((e : Counted) → (f e).cell ≡ e.cell) → (v : Value) → Keeps w (storing (changed f v))
+changing : {w : Setting} (f : HeapCell → HeapCell) → ((e : HeapCell) → (f e).cell ≡ e.cell) → (v : Value) → Keeps w (storing (changed f v))
 changing {w = w} f same v = record { holds = λ s h. after_same w s (record s { store = changed f v s.store }) h (λ x. same_look f same v s.store w.shelf x) }
 
-open_cell : (b : Bool) (e : Counted) → (if b then record e { iterations = e.iterations + 1 } else e).cell ≡ e.cell
+open_cell : (b : Bool) (e : HeapCell) → (if b then record e { iterations = e.iterations + 1 } else e).cell ≡ e.cell
 open_cell true e = refl
 open_cell false e = refl
 
-close_cell : (b : Bool) (e : Counted) → (if b then record e { iterations = e.iterations - 1 } else e).cell ≡ e.cell
+close_cell : (b : Bool) (e : HeapCell) → (if b then record e { iterations = e.iterations - 1 } else e).cell ≡ e.cell
 close_cell true e = refl
 close_cell false e = refl
 
@@ -237,37 +237,37 @@ pub record KeepsWhere {A : Type 0} (w : Setting) (P : State → Type 0) (m : Act
 
 -- the three actions on variables keep it
 pub record VariablesKeep (w : Setting) (vs : Variables) : Type 0 where
-  pub read : (p : Place) (n : Name) → Keeps w (vs.read p n)
-  pub bind : (p : Place) (n : Name) (v : Value) → Keeps w (vs.bind p n v)
+  pub read : (p : Site) (n : Name) → Keeps w (vs.read p n)
+  pub bind : (p : Site) (n : Name) (v : Value) → Keeps w (vs.bind p n v)
   pub frame : (file number : ℕ) (parent : Option Value) → Keeps w (vs.frame file number parent)
 
-pub keeps_read : {w : Setting} (vs : Variables) → VariablesKeep w vs → (p : Place) (n : Name) → Keeps w (vs.read p n)
+pub keeps_read : {w : Setting} (vs : Variables) → VariablesKeep w vs → (p : Site) (n : Name) → Keeps w (vs.read p n)
 keeps_read vs k = k.read
 
-pub keeps_bind : {w : Setting} (vs : Variables) → VariablesKeep w vs → (p : Place) (n : Name) (v : Value) → Keeps w (vs.bind p n v)
+pub keeps_bind : {w : Setting} (vs : Variables) → VariablesKeep w vs → (p : Site) (n : Name) (v : Value) → Keeps w (vs.bind p n v)
 keeps_bind vs k = k.bind
 
 pub keeps_frame : {w : Setting} (vs : Variables) → VariablesKeep w vs → (file number : ℕ) (parent : Option Value) → Keeps w (vs.frame file number parent)
 keeps_frame vs k = k.frame
 
 -- all parts of a program keep it, a call where the names of its arguments differ
-pub record AllKeep (w : Setting) (m : Meaning) : Type 0 where
-  pub expr : (p : Place) (e : Expression) → Keeps w (m.expr p e)
-  pub stmt : (p : Place) (x : Statement) → Keeps w (m.stmt p x)
-  pub assign : (p : Place) (t : Target) (v : Value) → Keeps w (m.assign p t v)
-  pub parts : (p : Place) (e i : Expression) → Keeps w (m.parts p e i)
-  pub call : (p : Place) (f : Function) (d : Definition) (shares : List (Name × Share)) → KeepsWhere w (λ s. SharesOnce (seen w s) shares) (m.call p f d shares)
+pub record AllKeep (w : Setting) (m : Semantics) : Type 0 where
+  pub expr : (p : Site) (e : Expression) → Keeps w (m.expr p e)
+  pub stmt : (p : Site) (x : Statement) → Keeps w (m.stmt p x)
+  pub assign : (p : Site) (t : Target) (v : Value) → Keeps w (m.assign p t v)
+  pub parts : (p : Site) (e i : Expression) → Keeps w (m.parts p e i)
+  pub call : (p : Site) (f : Function) (d : Definition) (shares : List (Name × BoundArgument)) → KeepsWhere w (λ s. SharesOnce (seen w s) shares) (m.call p f d shares)
 
-pub keeps_expr : {w : Setting} (m : Meaning) → AllKeep w m → (p : Place) (e : Expression) → Keeps w (m.expr p e)
+pub keeps_expr : {w : Setting} (m : Semantics) → AllKeep w m → (p : Site) (e : Expression) → Keeps w (m.expr p e)
 keeps_expr m k = k.expr
 
-pub keeps_stmt : {w : Setting} (m : Meaning) → AllKeep w m → (p : Place) (x : Statement) → Keeps w (m.stmt p x)
+pub keeps_stmt : {w : Setting} (m : Semantics) → AllKeep w m → (p : Site) (x : Statement) → Keeps w (m.stmt p x)
 keeps_stmt m k = k.stmt
 
-pub keeps_assign : {w : Setting} (m : Meaning) → AllKeep w m → (p : Place) (t : Target) (v : Value) → Keeps w (m.assign p t v)
+pub keeps_assign : {w : Setting} (m : Semantics) → AllKeep w m → (p : Site) (t : Target) (v : Value) → Keeps w (m.assign p t v)
 keeps_assign m k = k.assign
 
-pub keeps_parts : {w : Setting} (m : Meaning) → AllKeep w m → (p : Place) (e i : Expression) → Keeps w (m.parts p e i)
+pub keeps_parts : {w : Setting} (m : Semantics) → AllKeep w m → (p : Site) (e i : Expression) → Keeps w (m.parts p e i)
 keeps_parts m k = k.parts
 
 pub ruleset keeps = (refl, keeps_then, keeps_give, keeps_fail, keeps_if, keeps_found, keeps_pay, keeps_seeing, keeps_check, keeps_make_text, keeps_make_tuple, keeps_make_list, keeps_make_range, keeps_make_bound, keeps_make_frame, keeps_make_function, keeps_make_none, keeps_build, keeps_each, keeps_all_of, keeps_collect, keeps_until, keeps_agreed, keeps_visiting, keeps_bound, keeps_change, keeps_iterate, keeps_leave, keeps_activate, keeps_deactivate, keeps_add_line, keeps_block, keeps_turns, keeps_repeat, keeps_read, keeps_bind, keeps_frame, keeps_expr, keeps_stmt, keeps_assign, keeps_parts)

@@ -2,9 +2,9 @@
 use Rattle.star_store.specs.declared.values.Value.{Value}
 use Rattle.star_meaning.specs.Program.{Setting}
 use Rattle.std.proofs.Common.{ℕ, List, [], ◌∷◌, Option, Some, None}
-use Rattle.star_meaning.specs.declared.given.NamedValue.{NamedValue}
-use Rattle.star_meaning.specs.declared.given.Given.{Given}
-use Rattle.star_meaning.specs.Arguments.{star_count, take_star, star_star_names, take_names, name_key, key_for, by_place, with_name, only_one, none_or_one, one_or_two, two, no_value}
+use Rattle.star_meaning.specs.declared.given.KeywordArgument.{KeywordArgument}
+use Rattle.star_meaning.specs.declared.given.Arguments.{Arguments}
+use Rattle.star_meaning.specs.Arguments.{star_count, take_star, star_star_names, take_names, name_key, key_for, positional, with_name, only_one, none_or_one, one_or_two, two, no_value}
 use Rattle.star_once.proofs.Keeps.{keeps, Keeps}
 use Rattle.star_once.proofs.KeepsValues.{keeps-new_text, keeps-count_of, keeps-take_items}
 
@@ -20,21 +20,21 @@ pub keeps-star_star_names : (w : Setting) (line : ℕ) (a2 : Option Value) → K
 keeps-star_star_names w line None = search keeps depth 14
 keeps-star_star_names w line (Some v) = search keeps depth 14
 
-pub keeps-take_names : {w : Setting} → (line : ℕ) (ns : List NamedValue) → Keeps w (take_names line ns)
+pub keeps-take_names : {w : Setting} → (line : ℕ) (ns : List KeywordArgument) → Keeps w (take_names line ns)
 keeps-take_names line ns = search keeps depth 14
 
-pub keeps-name_key : {w : Setting} → (line : ℕ) (n : NamedValue) (a2 : Option Value) → Keeps w (name_key line n a2)
+pub keeps-name_key : {w : Setting} → (line : ℕ) (n : KeywordArgument) (a2 : Option Value) → Keeps w (name_key line n a2)
 unfolding name_key
 keeps-name_key line n (Some k) = search keeps depth 14
 keeps-name_key line n None = search (keeps, keeps-new_text) depth 14
 
-pub keeps-key_for : {w : Setting} → (line : ℕ) (n : NamedValue) → Keeps w (key_for line n)
+pub keeps-key_for : {w : Setting} → (line : ℕ) (n : KeywordArgument) → Keeps w (key_for line n)
 keeps-key_for line n = search (keeps, keeps-name_key) depth 14
 
-pub keeps-by_place : {w : Setting} → (line : ℕ) (g : Given) → Keeps w (by_place line g)
-keeps-by_place line g = search keeps depth 14
+pub keeps-positional : {w : Setting} → (line : ℕ) (g : Arguments) → Keeps w (positional line g)
+keeps-positional line g = search keeps depth 14
 
-pub keeps-with_name : {w : Setting} → (line : ℕ) (name : List ℕ) (g : Given) → Keeps w (with_name line name g)
+pub keeps-with_name : {w : Setting} → (line : ℕ) (name : List ℕ) (g : Arguments) → Keeps w (with_name line name g)
 keeps-with_name line name g = search keeps depth 14
 
 pub keeps-only_one : {w : Setting} → (line : ℕ) (a1 : List Value) → Keeps w (only_one line a1)

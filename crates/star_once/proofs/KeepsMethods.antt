@@ -3,7 +3,7 @@ use Rattle.star_store.specs.declared.values.Value.{Value}
 use Rattle.star_store.specs.declared.names.Method.{Method}
 use Rattle.star_store.specs.declared.names.Method.TheVariants as method
 use Rattle.star_meaning.specs.Program.{Setting}
-use Rattle.star_meaning.specs.declared.given.Given.{Given}
+use Rattle.star_meaning.specs.declared.given.Arguments.{Arguments}
 use Rattle.std.proofs.Common.{ℕ, List}
 use Rattle.star_meaning.specs.Methods.{attribute, on_text, call_method}
 use Rattle.star_once.proofs.Keeps.{keeps, Keeps}
@@ -16,7 +16,7 @@ pub keeps-attribute : (w : Setting) (line : ℕ) (x : Value) (name : List ℕ) �
 unfolding attribute
 keeps-attribute w line x name = search (keeps, keeps-with_content) depth 14
 
-pub keeps-on_text : (w : Setting) (levels : ℕ) (line : ℕ) (a3 : Method) (t : List ℕ) (g : Given) → Keeps w (on_text w levels line a3 t g)
+pub keeps-on_text : (w : Setting) (levels : ℕ) (line : ℕ) (a3 : Method) (t : List ℕ) (g : Arguments) → Keeps w (on_text w levels line a3 t g)
 keeps-on_text w levels line method.StringEndswith t g = search (keeps, keeps-call_edge) depth 14
 keeps-on_text w levels line method.StringFind t g = search (keeps, keeps-call_find) depth 14
 keeps-on_text w levels line method.StringFormat t g = search (keeps, keeps-call_format) depth 14
@@ -31,7 +31,7 @@ keeps-on_text w levels line method.StringStrip t g = search (keeps, keeps-call_s
 keeps-on_text w levels line method.StringUpper t g = search (keeps, keeps-call_case) depth 14
 keeps-on_text w levels line _ t g = search keeps depth 14
 
-pub keeps-call_method : (w : Setting) (levels : ℕ) (line : ℕ) (a3 : Method) (x : Value) (g : Given) → Keeps w (call_method w levels line a3 x g)
+pub keeps-call_method : (w : Setting) (levels : ℕ) (line : ℕ) (a3 : Method) (x : Value) (g : Arguments) → Keeps w (call_method w levels line a3 x g)
 unfolding call_method
 keeps-call_method w levels line method.ListAppend x g = search (keeps, keeps-call_append) depth 14
 keeps-call_method w levels line method.ListClear x g = search (keeps, keeps-call_clear) depth 14

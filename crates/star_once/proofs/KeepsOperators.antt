@@ -12,7 +12,7 @@ use Rattle.star_meaning.specs.Program.{Setting}
 use Rattle.star_meaning.specs.Values.{Content, Number, Held}
 use Rattle.std.proofs.Common.{ℕ, List, [], ◌∷◌, Bool, ℤ, pos, negsuc}
 use Rattle.star_meaning.specs.Run.{Action}
-use Rattle.star_meaning.specs.Operators.{add, repeated, multiply, divide, remainder, shift_left, shift_right, union, on_ints, on_others, on_contents, operate, signed, negated, on_one, prefix, has_item, has, contains, ordered, tested, compared}
+use Rattle.star_meaning.specs.Operators.{add, repeated, multiply, divide, remainder, shift_left, shift_right, union, on_ints, on_others, on_contents, operate, signed, negated, on_one, prefix, list_contains, has, contains, ordered, tested, compared}
 use Rattle.star_once.proofs.Keeps.{keeps, Keeps}
 use Rattle.star_once.proofs.KeepsValues.{keeps-with_content, keeps-want_text, keeps-new_int, keeps-new_text, keeps-new_tuple, keeps-new_list, keeps-is_true, keeps-equal, keeps-compare, keeps-check_key}
 use Rattle.star_meaning.specs.Operators.{with_entries}
@@ -89,13 +89,13 @@ pub keeps-prefix : (w : Setting) (line : ℕ) (op : UnaryOperator) (v : Value) �
 unfolding prefix
 keeps-prefix w line op v = search (keeps, keeps-on_one) depth 14
 
-pub keeps-has_item : (w : Setting) (levels : ℕ) (line : ℕ) (a3 : List Value) (x : Value) → Keeps w (has_item w levels line a3 x)
-keeps-has_item w levels line [] x = search keeps depth 14
-keeps-has_item w levels line (y ∷ ys) x = let h1 : (z5 : Value) → Keeps w (has_item w levels line ys z5) = λ z5. keeps-has_item w levels line ys z5 in search (keeps, keeps-equal, h1) depth 14
+pub keeps-list_contains : (w : Setting) (levels : ℕ) (line : ℕ) (a3 : List Value) (x : Value) → Keeps w (list_contains w levels line a3 x)
+keeps-list_contains w levels line [] x = search keeps depth 14
+keeps-list_contains w levels line (y ∷ ys) x = let h1 : (z5 : Value) → Keeps w (list_contains w levels line ys z5) = λ z5. keeps-list_contains w levels line ys z5 in search (keeps, keeps-equal, h1) depth 14
 
 pub keeps-has : (w : Setting) (levels : ℕ) (line : ℕ) (a3 : Content) (x : Value) → Keeps w (has w levels line a3 x)
-keeps-has w levels line (Held (cell.List ys)) x = search (keeps, keeps-has_item) depth 14
-keeps-has w levels line (Held (cell.Tuple ys)) x = search (keeps, keeps-has_item) depth 14
+keeps-has w levels line (Held (cell.List ys)) x = search (keeps, keeps-list_contains) depth 14
+keeps-has w levels line (Held (cell.Tuple ys)) x = search (keeps, keeps-list_contains) depth 14
 keeps-has w levels line (Held (cell.Dict es)) x = search (keeps, keeps-check_key) depth 14
 keeps-has w levels line (Held (cell.Range r)) x = search (keeps, keeps-with_content) depth 14
 keeps-has w levels line (Held (cell.Text t)) x = search (keeps, keeps-want_text) depth 14

@@ -3,7 +3,7 @@ use Rattle.star_store.specs.declared.values.Value.{Value}
 use Rattle.star_store.specs.declared.values.Cell.TheVariants as cell
 use Rattle.star_meaning.specs.Program.{Setting}
 use Rattle.star_meaning.specs.Values.{Content, Held}
-use Rattle.star_meaning.specs.declared.given.NamedValue.{NamedValue}
+use Rattle.star_meaning.specs.declared.given.KeywordArgument.{KeywordArgument}
 use Rattle.std.proofs.Common.{ℕ, List, [], ◌∷◌, Option, Some, None, Bool}
 use Rattle.star_meaning.specs.Run.{Action}
 use Rattle.star_meaning.specs.Pairs.{two_items, pair_of, taken_entries, pairs_in, pairs_of, pairs_count, check_pair, put_pair, put_named, put_pairs, update_with, Pairs}
@@ -41,13 +41,13 @@ keeps-check_pair w levels line are_keys k = search (keeps, keeps-check_key) dept
 pub keeps-put_pair : (w : Setting) (levels : ℕ) (line : ℕ) (d : Value) (are_keys : Bool) (e : Value × Value) → Keeps w (put_pair w levels line d are_keys e)
 keeps-put_pair w levels line d are_keys e = search (keeps, keeps-put_entry, keeps-check_pair) depth 14
 
-pub keeps-put_named : (w : Setting) (line : ℕ) (d : Value) (n : NamedValue) → Keeps w (put_named w line d n)
+pub keeps-put_named : (w : Setting) (line : ℕ) (d : Value) (n : KeywordArgument) → Keeps w (put_named w line d n)
 keeps-put_named w line d n = search (keeps, keeps-put_entry, keeps-key_for) depth 14
 
-pub keeps-put_pairs : (w : Setting) (levels : ℕ) (line : ℕ) (d : Value) (ps : Pairs) (ns : List NamedValue) → Keeps w (put_pairs w levels line d ps ns)
+pub keeps-put_pairs : (w : Setting) (levels : ℕ) (line : ℕ) (d : Value) (ps : Pairs) (ns : List KeywordArgument) → Keeps w (put_pairs w levels line d ps ns)
 unfolding put_pairs
 keeps-put_pairs w levels line d ps ns = search (keeps, keeps-put_pair, keeps-put_named) depth 14
 
-pub keeps-update_with : (w : Setting) (levels : ℕ) (line : ℕ) (d : Value) (x : Option Value) (ns : List NamedValue) (guarded : Action (Unit {0})) → Keeps w guarded → Keeps w (update_with w levels line d x ns guarded)
+pub keeps-update_with : (w : Setting) (levels : ℕ) (line : ℕ) (d : Value) (x : Option Value) (ns : List KeywordArgument) (guarded : Action (Unit {0})) → Keeps w guarded → Keeps w (update_with w levels line d x ns guarded)
 unfolding update_with
 keeps-update_with w levels line d x ns guarded k0 = search (keeps, keeps-pairs_of, keeps-pairs_count, keeps-put_pairs) depth 14

@@ -3,16 +3,16 @@ use Rattle.star_store.specs.declared.values.Value.{Value}
 use Rattle.star_meaning.specs.Program.{Setting}
 use Rattle.star_meaning.specs.Values.{Content}
 use Rattle.std.proofs.Common.{ℕ, List, [], ◌∷◌, Bool, true, false}
-use Rattle.star_meaning.specs.Percent.{lettered, next_text, filled, percent}
+use Rattle.star_meaning.specs.Percent.{format_letter, next_text, filled, percent}
 use Rattle.star_once.proofs.Keeps.{keeps, Keeps}
 use Rattle.star_once.proofs.KeepsValues.{keeps-want_int, keeps-new_text, keeps-repr, keeps-str}
 
-pub keeps-lettered : (w : Setting) (levels : ℕ) (line : ℕ) (letter : ℕ) (x : Value) → Keeps w (lettered w levels line letter x)
-keeps-lettered w levels line letter x = search (keeps, keeps-want_int, keeps-repr, keeps-str) depth 14
+pub keeps-format_letter : (w : Setting) (levels : ℕ) (line : ℕ) (letter : ℕ) (x : Value) → Keeps w (format_letter w levels line letter x)
+keeps-format_letter w levels line letter x = search (keeps, keeps-want_int, keeps-repr, keeps-str) depth 14
 
 pub keeps-next_text : (w : Setting) (levels : ℕ) (line : ℕ) (letter : ℕ) (a4 : List Value) → Keeps w (next_text w levels line letter a4)
 keeps-next_text w levels line letter [] = search keeps depth 14
-keeps-next_text w levels line letter (x ∷ xs) = search (keeps, keeps-lettered) depth 14
+keeps-next_text w levels line letter (x ∷ xs) = search (keeps, keeps-format_letter) depth 14
 
 pub keeps-filled : (w : Setting) (levels : ℕ) (line : ℕ) (a3 : Bool) (a4 : List ℕ) (a5 : List Value) (out : List ℕ) → Keeps w (filled w levels line a3 a4 a5 out)
 keeps-filled w levels line false [] [] out = search keeps depth 14

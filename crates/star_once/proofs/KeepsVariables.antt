@@ -1,7 +1,7 @@
 -- Keys differ after every run: variables.
 use Rattle.star_store.specs.declared.values.Value.{Value}
 use Rattle.star_tree.specs.declared.tree.Name.{Name}
-use Rattle.star_meaning.specs.declared.place.Place.{Place}
+use Rattle.star_meaning.specs.declared.site.Site.{Site}
 use Rattle.star_meaning.specs.Program.{Setting}
 use Rattle.std.proofs.Common.{ℕ, List, Option, Some, None}
 use Rattle.star_meaning.specs.Variables.{outside_prelude, outside, read_found, read_name, bind_at, bind_name, new_frame}
@@ -14,11 +14,11 @@ pub keeps-outside : (w : Setting) (a1 : Option ℕ) (file : ℕ) (line : ℕ) (n
 keeps-outside w None file line name = search (keeps, keeps-outside_prelude) depth 14
 keeps-outside w (Some prelude) file line name = search (keeps, keeps-outside_prelude) depth 14
 
-pub keeps-read_found : (w : Setting) (p : Place) (name : List ℕ) (a3 : Option (Option Value)) → Keeps w (read_found w p name a3)
+pub keeps-read_found : (w : Setting) (p : Site) (name : List ℕ) (a3 : Option (Option Value)) → Keeps w (read_found w p name a3)
 keeps-read_found w p name (Some v) = search keeps depth 14
 keeps-read_found w p name None = search (keeps, keeps-outside) depth 14
 
-pub keeps-read_name : (w : Setting) (p : Place) (n : Name) → Keeps w (read_name w p n)
+pub keeps-read_name : (w : Setting) (p : Site) (n : Name) → Keeps w (read_name w p n)
 unfolding read_name
 keeps-read_name w p n = search (keeps, keeps-read_found) depth 14
 
@@ -26,7 +26,7 @@ pub keeps-bind_at : {w : Setting} → (frame : Value) (v : Value) (a2 : Option �
 keeps-bind_at frame v None = search keeps depth 14
 keeps-bind_at frame v (Some i) = search keeps depth 14
 
-pub keeps-bind_name : (w : Setting) (p : Place) (n : Name) (v : Value) → Keeps w (bind_name w p n v)
+pub keeps-bind_name : (w : Setting) (p : Site) (n : Name) (v : Value) → Keeps w (bind_name w p n v)
 unfolding bind_name
 keeps-bind_name w p n v = search (keeps, keeps-bind_at) depth 14
 

@@ -1,7 +1,7 @@
 mod After
 mod Calls
 mod Dicts
-mod Given
+mod Arguments
 mod Keeps
 mod KeepsArguments
 mod KeepsBuiltIns
@@ -27,7 +27,7 @@ mod KeepsVariables
 mod Keys
 mod Once
 mod Runs
-mod Shares
+mod BoundArguments
 mod Stores
 mod Writes
 mod Results

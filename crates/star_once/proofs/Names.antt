@@ -11,7 +11,7 @@ use Rattle.star_tree.specs.declared.tree.Statement.{Statement}
 use Rattle.star_scope.specs.Names.{once, same_name}
 use Rattle.star_scope.specs.Outlines.{block_names, loaded_names, names_in, outline}
 use Rattle.star_meaning.specs.Local.{Trees}
-use Rattle.star_meaning.specs.Meaning.{block}
+use Rattle.star_meaning.specs.Semantics.{block}
 use Rattle.star_meaning.specs.Module.{Ended, Good, Local, Stopped, bound_names, by_name, end, global_text, globals_of, if_bound, last_line, local_of, meaning, most_levels, put_by_name, run_file, slots_of, start, without_loaded}
 use Rattle.star_meaning.specs.Module as modules
 use Rattle.star_meaning.specs.Program.{Setting, Variables, blocks_in, names_of, outline_of, seen}

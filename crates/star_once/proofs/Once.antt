@@ -5,7 +5,7 @@ use Rattle.star_store.specs.declared.values.Value.{Value}
 use Rattle.star_store.specs.declared.values.Value.TheVariants as value
 use Rattle.star_store.specs.declared.values.Cell.{Cell}
 use Rattle.star_store.specs.declared.values.Cell.TheVariants as cell
-use Rattle.star_store.specs.declared.values.Counted.{Counted}
+use Rattle.star_store.specs.declared.values.HeapCell.{HeapCell}
 use Rattle.star_store.specs.Store.{Published, Shelf, is_taken, published_cells, put_up, widened}
 use Rattle.star_store.specs.Write.{cell_at}
 use Rattle.star_tree.specs.declared.tree.Statement.{Statement}
@@ -51,7 +51,7 @@ other_number : (b : Bool) (m n : ℕ) → nat_eq m n ≡ b → (m ≡ n → ⊥)
 other_number true m n e h = absurd (h (equal_numbers m n e))
 other_number false m n e h = refl
 
-abbrev cells_in : Option Published → List Counted
+abbrev cells_in : Option Published → List HeapCell
 cells_in None = []
 cells_in (Some p) = p.cells
 

@@ -5,9 +5,9 @@ use Rattle.star_tree.specs.declared.tree.Argument.TheOpen as tree
 use Rattle.star_tree.specs.declared.tree.Entry.{Entry}
 use Rattle.star_tree.specs.declared.tree.Statement.{Statement}
 use Rattle.star_scope.specs.Syntax.{ExpressionForm, expression, form_of, position_of, target}
-use Rattle.star_meaning.specs.declared.place.Place.{Place}
+use Rattle.star_meaning.specs.declared.site.Site.{Site}
 use Rattle.star_meaning.specs.Expressions.{entry_of, fresh_entries, node}
-use Rattle.star_meaning.specs.Meaning.{Meaning}
+use Rattle.star_meaning.specs.Semantics.{Semantics}
 use Rattle.star_meaning.specs.Module.{at_line, end, meaning, nothing_opens, one_more, run_file}
 use Rattle.star_meaning.specs.Program.{Setting, Variables, seen}
 use Rattle.star_meaning.specs.Run.{Action, Done, Failed, Outcome, and_then, each, ◌>>=◌}
@@ -38,10 +38,10 @@ joined : {A B C : Type 0} (w : Setting) (o : Outcome A) (f : A → Action B) (g 
 joined w (Done x t) f g h k = (k x).holds t h
 joined w (Failed e lines) f g h k = tt
 
-keeps-display : (w : Setting) (levels : ℕ) (m : Meaning) (p : Place) (es : List Entry) → AllKeep w m → Keeps w (each (entry_of m p) es >>= fresh_entries w levels p.line [] >>= new_dict p.line)
+keeps-display : (w : Setting) (levels : ℕ) (m : Semantics) (p : Site) (es : List Entry) → AllKeep w m → Keeps w (each (entry_of m p) es >>= fresh_entries w levels p.line [] >>= new_dict p.line)
 keeps-display w levels m p es k = record { holds = λ s h. joined w (each (entry_of m p) es s) (fresh_entries w levels p.line []) (new_dict p.line) ((keeps_each (entry_of m p) es (λ e. keeps-entry_of m p e k)).holds s h) (λ xs. display_made w levels p.line xs) }
 
-keeps-node : (vs : Variables) (w : Setting) (levels : ℕ) (m : Meaning) (p : Place) (a5 : ExpressionForm) → VariablesKeep w vs → AllKeep w m → Keeps w (node vs w levels m p a5)
+keeps-node : (vs : Variables) (w : Setting) (levels : ℕ) (m : Semantics) (p : Site) (a5 : ExpressionForm) → VariablesKeep w vs → AllKeep w m → Keeps w (node vs w levels m p a5)
 keeps-node vs w levels m p (tree.Expression-F.Expression::Name n) k0 k1 = search keeps depth 14
 keeps-node vs w levels m p (tree.Int n) k0 k1 = search keeps depth 14
 keeps-node vs w levels m p (tree.Text t) k0 k1 = search (keeps, keeps-new_text) depth 14
@@ -74,7 +74,7 @@ none_keep w = record {
   call = λ p f d shares. record { holds = λ s h o. tt };
 }
 
-more_keep : (vs : Variables) (w : Setting) (n : ℕ) (m : Meaning) → VariablesKeep w vs → AllKeep w m → AllKeep w (one_more vs w n m)
+more_keep : (vs : Variables) (w : Setting) (n : ℕ) (m : Semantics) → VariablesKeep w vs → AllKeep w m → AllKeep w (one_more vs w n m)
 more_keep vs w n m k h = record {
   expr = λ p e. keeps_then _ _ (keeps_pay p.line 1) (λ _. keeps-node vs w n m p (expression e) k h);
   stmt = λ p x. keeps_then _ _ (keeps_pay (at_line w p x).line 1) (λ _. keeps-statement vs w n m (at_line w p x) (position_of x) (form_of x) k h);

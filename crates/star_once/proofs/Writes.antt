@@ -5,7 +5,7 @@ use Rattle.std.specs.Option.{option_map}
 use Rattle.star_store.specs.declared.values.Value.{Value}
 use Rattle.star_store.specs.declared.values.Cell.{Cell}
 use Rattle.star_store.specs.declared.values.Cell.TheVariants as cell
-use Rattle.star_store.specs.declared.values.Counted.{Counted}
+use Rattle.star_store.specs.declared.values.HeapCell.{HeapCell}
 use Rattle.star_store.specs.declared.arena.write.Change.{Change}
 use Rattle.star_store.specs.declared.arena.write.Change.TheVariants as change_to
 use Rattle.star_store.specs.declared.fault.StoreFault.{StoreFault}
@@ -92,7 +92,7 @@ written_differ : (w : Setting) (line : ℕ) (v : Value) (s : State) (p : Result 
 written_differ w line v s (Ok u) (Ok r) h ok k =
     after_step w s (record s { store = changed (λ e. record e { cell = r.1 }) v s.store }) h (stays_seen w s (record s { store = changed (λ e. record e { cell = r.1 }) v s.store }) k) (λ x es e. by x es (changed_look (λ e. record e { cell = r.1 }) v s.store w.shelf x (cell.Dict es) e))
   where
-    by : (x : Value) (es : List (Value × Value)) → (a : Counted) × (look s.store w.shelf x ≡ Some a.cell) × ((a.cell ≡ cell.Dict es) ⊎ (r.1 ≡ cell.Dict es)) → (seen w s x ≡ Some (cell.Dict es)) ⊎ Differ (seen w s) es
+    by : (x : Value) (es : List (Value × Value)) → (a : HeapCell) × (look s.store w.shelf x ≡ Some a.cell) × ((a.cell ≡ cell.Dict es) ⊎ (r.1 ≡ cell.Dict es)) → (seen w s x ≡ Some (cell.Dict es)) ⊎ Differ (seen w s) es
     by x es (a, there, inl old) = inl (there ∙ ap Some old)
     by x es (a, there, inr new) = inr (ok u r.0 es refl (ap (λ z. Ok (r.0, z)) new))
 written_differ w line v s (Ok u) (Err f) h ok k = tt

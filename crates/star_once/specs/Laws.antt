@@ -5,8 +5,8 @@ use Rattle.star_store.specs.declared.values.Cell.TheVariants as cell
 use Rattle.star_store.specs.Store.{Shelf}
 use Rattle.star_tree.specs.declared.tree.Expression.{Expression}
 use Rattle.star_tree.specs.declared.tree.Statement.{Statement}
-use Rattle.star_meaning.specs.declared.place.Place.{Place}
-use Rattle.star_meaning.specs.declared.place.Flow.{Flow}
+use Rattle.star_meaning.specs.declared.site.Site.{Site}
+use Rattle.star_meaning.specs.declared.site.Flow.{Flow}
 use Rattle.star_meaning.specs.Run.{State, Done}
 use Rattle.star_meaning.specs.Program.{Setting, published_of, seen}
 use Rattle.star_meaning.specs.Variables.{by_names}
@@ -18,7 +18,7 @@ use Rattle.star_once.specs.Keys.{KeysDiffer}
 
 -- The law: where keys differ before an expression or a statement that ends well, they differ after it.
 abbrev pub RunsKeepKeys : Type 0
-RunsKeepKeys = (w : Setting) (levels : ℕ) (p : Place) (s t : State) → KeysDiffer w s
+RunsKeepKeys = (w : Setting) (levels : ℕ) (p : Site) (s t : State) → KeysDiffer w s
     → ((e : Expression) (v : Value) → (meaning (by_names w) w levels).expr p e s ≡ Done v t → KeysDiffer w t)
     × ((x : Statement) (f : Flow) → (meaning (by_names w) w levels).stmt p x s ≡ Done f t → KeysDiffer w t)
 

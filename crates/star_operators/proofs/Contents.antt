@@ -1,6 +1,6 @@
 -- The contents of values, by their cells.
 use Rattle.std.proofs.Common.{◌≡◌, ℕ, Some, None, ℤ, ◌*ℤ◌, refl}
-use Rattle.star_meaning.specs.declared.fault.Code.TheVariants.{BadType}
+use Rattle.star_meaning.specs.declared.fault.FaultCode.TheVariants.{BadType}
 use Rattle.star_meaning.specs.Run.{fail}
 use Rattle.star_meaning.specs.Values.{Content, Nothing, Truth, Number, BuiltInFunction, Held, Nowhere, int_of, new_int}
 use Rattle.star_meaning.specs.Operators.{multiply, repeated, count_from}

@@ -1,24 +1,15 @@
 -- `%` on a string: its bytes are read from one `%` to the next.
-use Rattle.std.proofs.Common.{◌≡◌, ℕ, zero, suc, nat_eq, Bool, true, false, not, ◌&&◌, ◌||◌, nat_lt, ◌+◌, ◌<◌, ◌≤◌, Some, None, slice_get, drop, arith, List, [], ◌∷◌, ◌++◌, length, if◌then◌else◌, refl, ap, sym, ◌∙◌, add-one, append_assoc, append-nil}
+use Rattle.std.proofs.Common.{◌≡◌, ℕ, nat_eq, Bool, true, false, not, ◌||◌, nat_lt, ◌<◌, arith, List, [], ◌∷◌, ◌++◌, length, if◌then◌else◌, refl, ap, sym, ◌∙◌, append_assoc, append-nil}
+use Rattle.std.proofs.lemmas.Bool.{and_parts}
 use Rattle.std.proofs.lemmas.Bool.Decides.{nat_tests}
-use Rattle.std.proofs.Math.Seq.{drop-cons, drop-nil}
-use Rattle.std.proofs.lemmas.Option.{slice_get_within, get_or_from_slice_get}
 use Rattle.std.specs.List.{list_all}
 use Rattle.star_store.specs.declared.values.Value.{Value}
-use Rattle.star_meaning.specs.declared.fault.Code.TheVariants.{BadValue}
+use Rattle.star_meaning.specs.declared.fault.FaultCode.TheVariants.{BadValue}
 use Rattle.star_meaning.specs.Run.{State, Outcome, Done, Failed, Action, ◌>>=◌, and_then, give, fail}
 use Rattle.star_meaning.specs.Program.{Setting}
 use Rattle.star_meaning.specs.Percent.{filled, next_text}
 use Rattle.star_machine.specs.Cuts.{is_neither, begins_plainly}
 use Rattle.star_operators.specs.Fills.{letter_put}
-
-and_left : (p q : Bool) → (p && q) ≡ true → p ≡ true
-and_left true q h = refl
-and_left false q h = cc
-
-and_right : (p q : Bool) → (p && q) ≡ true → q ≡ true
-and_right true q h = h
-and_right false q h = cc
 
 not_it : (e : Bool) → not (e || e) ≡ true → e ≡ false
 not_it true h = cc
@@ -31,8 +22,9 @@ just_it false h = cc
 filled_before : (w : Setting) (levels line : ℕ) (before after : List ℕ) (xs : List Value) (out : List ℕ) → list_all (is_neither 37 37) before ≡ true → filled w levels line false (before ++ after) xs out ≡ filled w levels line false after xs (out ++ before)
 filled_before w levels line [] after xs out h = ap (λ t. filled w levels line false after xs t) (sym (append-nil out))
 filled_before w levels line (b ∷ bs) after xs out h =
-    let p = not_it (nat_eq b 37) (and_left (is_neither 37 37 b) (list_all (is_neither 37 37) bs) h) in
-    let q = and_right (is_neither 37 37 b) (list_all (is_neither 37 37) bs) h in
+    let all = and_parts (is_neither 37 37 b) (list_all (is_neither 37 37) bs) h in
+    let p = not_it (nat_eq b 37) all.0 in
+    let q = all.1 in
     ap (λ e. if e then filled w levels line true (bs ++ after) xs out else filled w levels line false (bs ++ after) xs (out ++ b ∷ [])) p ∙ filled_before w levels line bs after xs (out ++ b ∷ []) q ∙ ap (λ t. filled w levels line false after xs t) (append_assoc out (b ∷ []) bs)
 
 filled_at : (w : Setting) (levels line b : ℕ) (after : List ℕ) (xs : List Value) (out : List ℕ) → is_neither 37 37 b ≡ false → filled w levels line false (b ∷ after) xs out ≡ filled w levels line true after xs out
@@ -81,21 +73,10 @@ pub filled_bad_turn : (w : Setting) (levels line : ℕ) (t before after : List �
 filled_bad_turn w levels line t before after b xs out s e h k j = ap (λ f. f s) (filled_cut w levels line t before after b xs out e h k ∙ filled_badly w levels line after xs (out ++ before) j)
 
 -- the end
-pub filled_well : (w : Setting) (levels line : ℕ) (t : List ℕ) (xs : List Value) (out : List ℕ) (s : State) → list_all (is_neither 37 37) t ≡ true → length xs ≤ 0 → filled w levels line false t xs out s ≡ Done (out ++ t) s
+pub filled_well : (w : Setting) (levels line : ℕ) (t : List ℕ) (xs : List Value) (out : List ℕ) (s : State) → list_all (is_neither 37 37) t ≡ true → length xs ≡ 0 → filled w levels line false t xs out s ≡ Done (out ++ t) s
 filled_well w levels line t [] out s h k = ap (λ f. f s) (filled_last w levels line t [] out h)
 filled_well w levels line t (x ∷ xs) out s h k = absurd (omega arith)
 
 pub filled_too_few : (w : Setting) (levels line : ℕ) (t : List ℕ) (xs : List Value) (out : List ℕ) (s : State) → list_all (is_neither 37 37) t ≡ true → 0 < length xs → filled w levels line false t xs out s ≡ fail BadValue line s
 filled_too_few w levels line t [] out s h k = absurd (omega arith)
 filled_too_few w levels line t (x ∷ xs) out s h k = ap (λ f. f s) (filled_last w levels line t (x ∷ xs) out h)
-
--- the values that are left
-pub drop_some : (xs : List Value) (n : ℕ) (x : Value) → slice_get xs n ≡ Some x → drop n xs ≡ x ∷ drop (n + 1) xs
-drop_some xs n x h =
-    let k = slice_get_within xs n x h in
-    rw add-one (drop-cons xs n x k ∙ ap (λ z. z ∷ drop (suc n) xs) (get_or_from_slice_get xs n x x h))
-
-pub drop_none : (xs : List Value) (n : ℕ) → slice_get xs n ≡ None → drop n xs ≡ []
-drop_none [] n h = drop-nil n
-drop_none (y ∷ ys) zero h = cc
-drop_none (y ∷ ys) (suc n) h = drop_none ys n h

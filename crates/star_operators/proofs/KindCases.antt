@@ -5,11 +5,11 @@ use Rattle.star_store.specs.declared.values.Cell.TheVariants as cell
 use Rattle.star_store.specs.declared.range.Range.{Range}
 use Rattle.star_tree.specs.declared.tree.BinaryOperator.TheVariants as binary
 use Rattle.star_machine.specs.declared.content.Kind.TheVariants as kind
-use Rattle.star_meaning.specs.declared.fault.Code.TheVariants.{BadType}
+use Rattle.star_meaning.specs.declared.fault.FaultCode.TheVariants.{BadType}
 use Rattle.star_meaning.specs.Run.{State, fail, give}
 use Rattle.star_meaning.specs.Program.{Setting, seen}
 use Rattle.star_meaning.specs.Values.{Content, Nothing, Truth, Number, BuiltInFunction, Held, Nowhere, content, int_of, with_content}
-use Rattle.star_meaning.specs.Operators.{on_others, has, has_item, range_has_value}
+use Rattle.star_meaning.specs.Operators.{on_others, has, list_contains, range_has_value}
 use Rattle.star_meaning.specs.Percent.{percent}
 use Rattle.star_meaning.specs.Subscript.{entries_in}
 use Rattle.star_machine.specs.Kinds.{kind_of, row_in, bytes_of}
@@ -35,11 +35,11 @@ modulo_other w levels line (Held (cell.Bound m v)) d y h = refl
 modulo_other w levels line Nowhere d y h = refl
 
 -- `in`
-pub has_list : (w : Setting) (levels line : ℕ) (s : State) (v x : Value) → kind_of (content w s v) ≡ kind.List → has w levels line (content w s v) x ≡ has_item w levels line (row_in (seen w s v)) x
-has_list w levels line s v x h = ap (λ c. has w levels line c x) (is_list (content w s v) h) ∙ ap (λ ys. has_item w levels line ys x) (row_seen w s v)
+pub has_list : (w : Setting) (levels line : ℕ) (s : State) (v x : Value) → kind_of (content w s v) ≡ kind.List → has w levels line (content w s v) x ≡ list_contains w levels line (row_in (seen w s v)) x
+has_list w levels line s v x h = ap (λ c. has w levels line c x) (is_list (content w s v) h) ∙ ap (λ ys. list_contains w levels line ys x) (row_seen w s v)
 
-pub has_tuple : (w : Setting) (levels line : ℕ) (s : State) (v x : Value) → kind_of (content w s v) ≡ kind.Tuple → has w levels line (content w s v) x ≡ has_item w levels line (row_in (seen w s v)) x
-has_tuple w levels line s v x h = ap (λ c. has w levels line c x) (is_tuple (content w s v) h) ∙ ap (λ ys. has_item w levels line ys x) (row_seen w s v)
+pub has_tuple : (w : Setting) (levels line : ℕ) (s : State) (v x : Value) → kind_of (content w s v) ≡ kind.Tuple → has w levels line (content w s v) x ≡ list_contains w levels line (row_in (seen w s v)) x
+has_tuple w levels line s v x h = ap (λ c. has w levels line c x) (is_tuple (content w s v) h) ∙ ap (λ ys. list_contains w levels line ys x) (row_seen w s v)
 
 pub has_dict : (w : Setting) (levels line : ℕ) (c : Content) (x : Value) → kind_of c ≡ kind.Dict → has w levels line c x ≡ has w levels line (Held (cell.Dict (entries_in c))) x
 has_dict w levels line c x h = ap (λ k. has w levels line k x) (is_dict c h)

@@ -4,7 +4,7 @@ use Rattle.std.specs.Int.{int_shr}
 use Rattle.std.proofs.lemmas.Int.{ints}
 use Rattle.std.proofs.Math.Nat.{div-eq_of_lt, pow-le-pow_right}
 use Rattle.star_store.specs.Arithmetic.{floored_by}
-use Rattle.star_meaning.specs.declared.fault.Code.TheVariants.{BadValue}
+use Rattle.star_meaning.specs.declared.fault.FaultCode.TheVariants.{BadValue}
 use Rattle.star_meaning.specs.Run.{fail}
 use Rattle.star_meaning.specs.Values.{new_int}
 use Rattle.star_meaning.specs.Operators.{shift_left, shift_right}
@@ -25,9 +25,9 @@ pub right_below : (line : ℕ) (x y : ℤ) → y <ℤ pos 0 → shift_right line
 right_below line x (pos n) h = absurd (omega (arith, ints))
 right_below line x (negsuc n) h = refl
 
-pub halved : (x : ℤ) (n : ℕ) → int_shr x n ≡ floored_by x (2 ^ n)
-halved (pos a) n = refl
-halved (negsuc a) n = refl
+pub shifted_right : (x : ℤ) (n : ℕ) → int_shr x n ≡ floored_by x (2 ^ n)
+shifted_right (pos a) n = refl
+shifted_right (negsuc a) n = refl
 
 under : (a n : ℕ) → a < 2 ^ 63 → 63 ≤ n → a / 2 ^ 63 ≡ a / 2 ^ n
 under a n h k =

@@ -2,6 +2,7 @@
 use Rattle.std.proofs.Common.{◌≢◌, ◌≤◌, ◌*◌, ◌/◌, ℤ, nat_eq, nat_lt, Bool, true, false, ◌&&◌, if◌then◌else◌, length, take, drop, get_or}
 use Rattle.std.specs.Ordering.{int_eq}
 use Rattle.std.specs.List.{list_all}
+use Rattle.std.proofs.lemmas.Bool.{and_from, and_right}
 use Rattle.std.proofs.lemmas.Bool.Decides.{nat_tests, Decides-int_eq}
 use Rattle.std.proofs.lemmas.Option.{slice_get-get_or}
 use Rattle.std.proofs.Math.Seq.{drop-cons}
@@ -15,15 +16,6 @@ use Rattle.star_store.specs.declared.values.Value.{Value}
 use Rattle.star_store.specs.declared.values.Cell.TheVariants as cell
 use Rattle.star_meaning.specs.Values.{Content, Held, new_list, new_tuple}
 use Rattle.std.proofs.lemmas.List.Folds.{list_all-append}
-
-and_true : (p q : Bool) → p ≡ true → q ≡ true → (p && q) ≡ true
-and_true true true h k = refl
-and_true true false h k = k
-and_true false q h k = h
-
-and_false : (p q : Bool) → q ≡ false → (p && q) ≡ false
-and_false true q h = h
-and_false false q h = refl
 
 abbrev pub place : Range → ℕ → ℕ
 place r i = unsigned_abs (r.start +ℤ pos i *ℤ r.step)
@@ -69,13 +61,13 @@ pub empty_part : (t u : List ℕ) (a b : ℕ) → b ≤ a → u ≡ [] → Parts
 empty_part t u a b h e = let z : b - a ≡ 0 = omega arith in (rw (run_length a b, z) refl, e ∙ sym (rw (run_length a b, z) refl))
 
 pub whole_part : (t u : List ℕ) (a b : ℕ) → a < b → b ≤ length t → is_boundary t a ≡ true → is_boundary t b ≡ true → u ≡ take (b - a) (drop a t) → Parts (Some u) t (run a b)
-whole_part t u a b h k p q e = (is_whole_run t a b h ∙ and_true (is_boundary t a) (is_boundary t b) p q, e ∙ sym (picked_run t a b (omega arith) k))
+whole_part t u a b h k p q e = (is_whole_run t a b h ∙ and_from (is_boundary t a) (is_boundary t b) p q, e ∙ sym (picked_run t a b (omega arith) k))
 
 pub cut_before : (t : List ℕ) (a b : ℕ) → a < b → is_boundary t a ≡ false → Parts None t (run a b)
 cut_before t a b h p = is_whole_run t a b h ∙ ap (λ e. e && is_boundary t b) p
 
 pub cut_after : (t : List ℕ) (a b : ℕ) → a < b → is_boundary t a ≡ true → is_boundary t b ≡ false → Parts None t (run a b)
-cut_after t a b h p q = is_whole_run t a b h ∙ and_false (is_boundary t a) (is_boundary t b) q
+cut_after t a b h p q = is_whole_run t a b h ∙ and_right (is_boundary t a) (is_boundary t b) q
 
 pub run_is : (t : List ℕ) (o : Option (List ℕ)) (s : Span) (a b : ℕ) → Parts o t (run a b) → s.step ≡ pos 1 → s.start ≡ pos a → s.stop ≡ pos b → Parts o t (as_range s)
 run_is t o s a b h e f g = rw (e, f, g) h
@@ -96,13 +88,13 @@ pub spread_whole : (t u : List ℕ) (r : Range) → r.step ≢ pos 1 → u ≡ p
 spread_whole t u r h e k = (is_whole_spread t r h ∙ ap (list_all (λ (b : ℕ). nat_lt b 128)) (sym e) ∙ k, e)
 
 ascii_both : (u v : List ℕ) → all_ascii u ≡ true → all_ascii v ≡ true → all_ascii (u ++ v) ≡ true
-ascii_both u v h k = list_all-append (λ b. nat_lt b 128) u v ∙ and_true (all_ascii u) (all_ascii v) h k
+ascii_both u v h k = list_all-append (λ b. nat_lt b 128) u v ∙ and_from (all_ascii u) (all_ascii v) h k
 
 ascii_cut : (u v rest : List ℕ) → all_ascii v ≡ false → all_ascii (u ++ (v ++ rest)) ≡ false
 ascii_cut u v rest h =
     let e = list_all-append (λ b. nat_lt b 128) u (v ++ rest) in
     let f = list_all-append (λ b. nat_lt b 128) v rest in
-    e ∙ and_false (all_ascii u) (all_ascii (v ++ rest)) (f ∙ ap (λ e. e && all_ascii rest) h)
+    e ∙ and_right (all_ascii u) (all_ascii (v ++ rest)) (f ∙ ap (λ e. e && all_ascii rest) h)
 
 pub spread_next : (u v : List ℕ) (o : Option ℕ) → all_ascii u ≡ true → v ≡ u ++ item_list o → all_ascii (item_list o) ≡ true → all_ascii v ≡ true
 spread_next u v o h e k = rw e (ascii_both u (item_list o) h k)

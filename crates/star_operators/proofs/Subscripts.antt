@@ -4,7 +4,7 @@ use Rattle.star_store.specs.declared.values.Value.{Value}
 use Rattle.star_store.specs.declared.values.Cell.TheVariants as cell
 use Rattle.star_store.specs.declared.range.Range.{Range}
 use Rattle.star_machine.specs.declared.content.Kind.TheVariants as kind
-use Rattle.star_meaning.specs.declared.fault.Code.TheVariants.{BadType}
+use Rattle.star_meaning.specs.declared.fault.FaultCode.TheVariants.{BadType}
 use Rattle.star_meaning.specs.Run.{fail}
 use Rattle.star_meaning.specs.Program.{Setting}
 use Rattle.star_meaning.specs.Values.{Content, Nothing, Truth, Number, BuiltInFunction, Held, Nowhere}

@@ -3,7 +3,7 @@ use Rattle.std.specs.Prelude.{◌≡◌, ◌++◌, nat_lt, Bool, ℕ, true, fals
 use Rattle.std.specs.List.{list_all}
 use Rattle.star_store.specs.declared.range.Range.{Range}
 use Rattle.star_operators.specs.declared.slices.Span.{Span}
-use Rattle.star_meaning.specs.declared.fault.Code.TheVariants as code
+use Rattle.star_meaning.specs.declared.fault.FaultCode.TheVariants as code
 use Rattle.star_meaning.specs.Run.{Action, check}
 use Rattle.star_meaning.specs.Program.{Setting}
 use Rattle.star_meaning.specs.Values.{with_content}

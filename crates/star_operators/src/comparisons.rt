@@ -1,11 +1,12 @@
 //! `== != < > <= >=`, `in` and `not in`.
 
-ghost use Rattle.std.specs.Prelude.{◌≡◌, ◌<◌, ◌<ℤ◌, ◌-ℤ◌, is_some, length, pos};
+ghost use Rattle.std.specs.Prelude.{◌≡◌, ◌<◌, ◌<ℤ◌, ◌-ℤ◌, pos};
 ghost use Rattle.star_store.specs.declared.values.Cell.TheVariants as cell;
-ghost use Rattle.star_machine.specs.Gives.{Gives};
+ghost use Rattle.star_machine.specs.Refines.{Refines};
 ghost use Rattle.star_machine.specs.Kinds.{bytes_of, row_in};
 ghost use Rattle.star_meaning.specs.Operators as spec;
 ghost use Rattle.star_meaning.specs.Program.{seen};
+ghost use Rattle.star_operators.specs.Operands.{is_within};
 ghost use Rattle.star_operators.specs.Reached.{reached};
 ghost use Rattle.star_meaning.specs.Subscript.{entries_in};
 ghost use Rattle.star_meaning.specs.Values.{Held, content};
@@ -15,14 +16,14 @@ use star_machine::fault::{Stop, faulted};
 use star_machine::machine::Machine;
 use star_machine::setting::Setting;
 use star_machine::texts::place_between;
-use star_meaning::fault::Code;
+use star_meaning::fault::FaultCode;
 use star_store::range::Range;
 use star_store::values::Value;
 use star_tree::tree::Comparator;
 
 /// Whether one of the items of a list or tuple is equal to a value.
 #[tactic(auto, unfolding(star_machine::specs::Search::found_place), using(crate::proofs::FirstEqual::has_some))]
-fn has_item(
+fn list_contains(
     machine: &mut Machine,
     setting: &Setting,
     levels: u32,
@@ -30,7 +31,7 @@ fn has_item(
     value: Value,
     row: Value,
 ) -> Result<bool, Stop>
-    ensures { Gives (spec.has_item setting.now levels line (row_in (seen setting.now machine.old row)) value
+    ensures { Refines (spec.list_contains setting.now levels line (row_in (seen setting.now machine.old row)) value
         machine.old) result machine.new }
 {
     let place = machine.equal_place(setting, levels, line, row, value)?;
@@ -38,7 +39,7 @@ fn has_item(
 }
 
 /// Whether a value is a key of a dictionary. `BadType` if it is not hashable.
-fn has_entry(
+fn dict_contains(
     machine: &mut Machine,
     setting: &Setting,
     levels: u32,
@@ -46,7 +47,7 @@ fn has_entry(
     value: Value,
     dict: Value,
 ) -> Result<bool, Stop>
-    ensures { Gives (spec.has setting.now levels line
+    ensures { Refines (spec.has setting.now levels line
         (Held (cell.Dict (entries_in (content setting.now machine.old dict)))) value machine.old)
         result machine.new }
 {
@@ -63,19 +64,18 @@ fn has_text(
     value: Value,
     text: Value,
 ) -> Result<bool, Stop>
-    ensures { Gives (spec.has setting.now levels line
+    ensures { Refines (spec.has setting.now levels line
         (Held (cell.Text (bytes_of (content setting.now machine.old text)))) value machine.old) result machine.new }
 {
     machine.check_text(setting, line, value)?;
     machine.pay(line, machine.text_size(setting, text) as u128)?;
-    Ok(stands_within(machine, setting, value, text))
+    Ok(is_substring(machine, setting, value, text))
 }
 
 /// Whether a string is a substring of another one.
-fn stands_within(machine: &Machine, setting: &Setting, part: Value, text: Value) -> bool
-    ensures { result ≡ is_some (spec.place_between (bytes_of (content setting.now machine.now text))
-        (bytes_of (content setting.now machine.now part)) 0
-        (length (bytes_of (content setting.now machine.now text)))) }
+fn is_substring(machine: &Machine, setting: &Setting, part: Value, text: Value) -> bool
+    ensures { result ≡ is_within (bytes_of (content setting.now machine.now text))
+        (bytes_of (content setting.now machine.now part)) }
 {
     let text = machine.bytes(setting, text);
     place_between(text, machine.bytes(setting, part), 0, text.len()).is_some()
@@ -92,15 +92,15 @@ fn has(
     value: Value,
     container: Value,
 ) -> Result<bool, Stop>
-    ensures { Gives (spec.contains setting.now levels line value container machine.old) result machine.new }
+    ensures { Refines (spec.contains setting.now levels line value container machine.old) result machine.new }
 {
     match machine.kind(setting, container) {
-        Kind::List => has_item(machine, setting, levels, line, value, container),
-        Kind::Tuple => has_item(machine, setting, levels, line, value, container),
-        Kind::Dict => has_entry(machine, setting, levels, line, value, container),
+        Kind::List => list_contains(machine, setting, levels, line, value, container),
+        Kind::Tuple => list_contains(machine, setting, levels, line, value, container),
+        Kind::Dict => dict_contains(machine, setting, levels, line, value, container),
         Kind::Text => has_text(machine, setting, levels, line, value, container),
         Kind::Range(range) => Ok(has_int(range, machine.int_of(setting, value))),
-        _ => Err(faulted(Code::BadType, line)),
+        _ => Err(faulted(FaultCode::BadType, line)),
     }
 }
 
@@ -124,7 +124,7 @@ fn tested(
     x: Value,
     y: Value,
 ) -> Result<bool, Stop>
-    ensures { Gives (spec.tested setting.now levels line comparator x y machine.old) result machine.new }
+    ensures { Refines (spec.tested setting.now levels line comparator x y machine.old) result machine.new }
 {
     match comparator {
         Comparator::Equal => machine.equal(setting, levels, line, x, y),
@@ -149,7 +149,7 @@ pub fn compared(
     x: Value,
     y: Value,
 ) -> Result<Value, Stop>
-    ensures { Gives (spec.compared setting.now levels line comparator x y machine.old) result machine.new }
+    ensures { Refines (spec.compared setting.now levels line comparator x y machine.old) result machine.new }
 {
     let answer = tested(machine, setting, levels, line, comparator, x, y)?;
     Ok(Value::Bool(answer))

@@ -10,7 +10,7 @@
 //! Begin with the last function of a file: it has the `match` over types, and the work is above it. It has no types of
 //! its own and no state.
 //!
-//! The promise of each function is `Gives` of `star_machine`: it has the result of the definition of the same name in
+//! The promise of each function is `Refines` of `star_machine`: it has the result of the definition of the same name in
 //! `star_meaning` (`Operators`, `Percent`, `Subscript`), the fault and the payments included. See `docs/LANGUAGE.md`,
 //! "Operators".
 #![tactic(auto)]

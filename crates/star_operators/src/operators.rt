@@ -5,17 +5,18 @@
 
 ghost use Rattle.std.specs.Prelude.{◌≡◌, ◌<◌, ◌+◌, ◌*◌, ◌^◌, ◌++◌, IfOk};
 ghost use Rattle.star_store.specs.Arithmetic.{checked, floored_by};
-ghost use Rattle.star_machine.specs.Gives.{Gives};
+ghost use Rattle.star_machine.specs.Refines.{Refines};
 ghost use Rattle.star_meaning.specs.Operators as spec;
 ghost use Rattle.star_meaning.specs.Values.{content};
+ghost use Rattle.star_operators.specs.Operands.{on_operands};
 
 use crate::percent::percent;
 use star_machine::content::{Content, Kind};
 use star_machine::fault::{Stop, faulted};
-use star_machine::gathered::Gathered;
+use star_machine::gathered::DictBuilder;
 use star_machine::machine::Machine;
 use star_machine::setting::Setting;
-use star_meaning::fault::Code;
+use star_meaning::fault::FaultCode;
 use star_store::arithmetic::{add, floor_div, floor_mod, mul, neg, shl, sub};
 use star_store::fault::StoreFault;
 use star_store::values::{Cell, Entries, Value, Values};
@@ -39,7 +40,7 @@ fn on_ints(
     x: i64,
     y: i64,
 ) -> Result<Value, Stop>
-    ensures { Gives (spec.on_ints line operator x y machine.now) result machine.now }
+    ensures { Refines (spec.on_ints line operator x y machine.now) result machine.now }
 {
     match operator {
         BinaryOperator::Add => machine.new_int(line, add(x, y)),
@@ -57,47 +58,47 @@ fn on_ints(
 
 #[inline(always)]
 fn divide(machine: &Machine, line: usize, x: i64, y: i64) -> Result<Value, Stop>
-    ensures { Gives (spec.divide line x y machine.now) result machine.now }
+    ensures { Refines (spec.divide line x y machine.now) result machine.now }
 {
     if y == 0 {
-        return Err(faulted(Code::Zero, line));
+        return Err(faulted(FaultCode::Zero, line));
     }
     machine.new_int(line, floor_div(x, y))
 }
 
 #[inline(always)]
 fn remainder(machine: &Machine, line: usize, x: i64, y: i64) -> Result<Value, Stop>
-    ensures { Gives (spec.remainder line x y machine.now) result machine.now }
+    ensures { Refines (spec.remainder line x y machine.now) result machine.now }
 {
     if y == 0 {
-        return Err(faulted(Code::Zero, line));
+        return Err(faulted(FaultCode::Zero, line));
     }
     machine.new_int(line, floor_mod(x, y))
 }
 
 #[tactic(auto, using(crate::proofs::Shifts::left_up, crate::proofs::Shifts::left_below))]
 fn shift_left(machine: &Machine, line: usize, x: i64, count: i64) -> Result<Value, Stop>
-    ensures { Gives (spec.shift_left line x count machine.now) result machine.now }
+    ensures { Refines (spec.shift_left line x count machine.now) result machine.now }
 {
     if count < 0 {
-        return Err(faulted(Code::BadValue, line));
+        return Err(faulted(FaultCode::BadValue, line));
     }
     machine.new_int(line, shl(x, count))
 }
 
 #[tactic(auto, using(crate::proofs::Shifts::right_up, crate::proofs::Shifts::right_below))]
 fn shift_right(machine: &Machine, line: usize, x: i64, count: i64) -> Result<Value, Stop>
-    ensures { Gives (spec.shift_right line x count machine.now) result machine.now }
+    ensures { Refines (spec.shift_right line x count machine.now) result machine.now }
 {
     if count < 0 {
-        return Err(faulted(Code::BadValue, line));
+        return Err(faulted(FaultCode::BadValue, line));
     }
-    machine.new_int(line, whole(halved(x, count.unsigned_abs())))
+    machine.new_int(line, whole(shifted_right(x, count.unsigned_abs())))
 }
 
 /// An int, halved and rounded down `count` times.
-#[tactic(auto, using(crate::proofs::Shifts::halved, crate::proofs::Shifts::halved_far))]
-fn halved(x: i64, count: u64) -> i64
+#[tactic(auto, using(crate::proofs::Shifts::shifted_right, crate::proofs::Shifts::halved_far))]
+fn shifted_right(x: i64, count: u64) -> i64
     ensures { result ≡ floored_by x (2 ^ count) }
 {
     if count < 63 { x >> count } else { x >> 63 }
@@ -105,7 +106,7 @@ fn halved(x: i64, count: u64) -> i64
 
 /// A sign before an int. `Overflow` outside 64 bits.
 fn signed(machine: &Machine, line: usize, operator: UnaryOperator, x: i64) -> Result<Value, Stop>
-    ensures { Gives (spec.signed line operator x machine.now) result machine.now }
+    ensures { Refines (spec.signed line operator x machine.now) result machine.now }
 {
     match operator {
         UnaryOperator::Plus => Ok(Value::Int(x)),
@@ -124,7 +125,7 @@ pub fn prefix(
     operator: UnaryOperator,
     value: Value,
 ) -> Result<Value, Stop>
-    ensures { Gives (spec.prefix setting.now line operator value machine.now) result machine.now }
+    ensures { Refines (spec.prefix setting.now line operator value machine.now) result machine.now }
 {
     if let UnaryOperator::Not = operator {
         return Ok(Value::Bool(!machine.is_true(setting, value)));
@@ -160,7 +161,8 @@ fn add_values(
     x: Value,
     y: Value,
 ) -> Result<Value, Stop>
-    ensures { Gives (spec.add line (content setting.now machine.old x) (content setting.now machine.old y) machine.old)
+    ensures { Refines (spec.add line (content setting.now machine.old x)
+        (content setting.now machine.old y) machine.old)
         result machine.new }
 {
     let alloc = machine.alloc();
@@ -178,7 +180,7 @@ fn add_values(
             let items = joined(alloc, xs, ys)?;
             machine.new_tuple(line, items)
         }
-        _ => Err(faulted(Code::BadType, line)),
+        _ => Err(faulted(FaultCode::BadType, line)),
     }
 }
 
@@ -234,7 +236,8 @@ fn repeated(
     value: Value,
     count: u64,
 ) -> Result<Value, Stop>
-    ensures { Gives (spec.repeated line (content setting.now machine.old value) count machine.old) result machine.new }
+    ensures { Refines (spec.repeated line (content setting.now machine.old value) count machine.old)
+        result machine.new }
 {
     let alloc = machine.alloc();
     match machine.content(setting, value) {
@@ -256,7 +259,7 @@ fn repeated(
             let items = repeated_row(alloc, items, count)?;
             machine.build(line, cost, Cell::Tuple(items))
         }
-        _ => Err(faulted(Code::BadType, line)),
+        _ => Err(faulted(FaultCode::BadType, line)),
     }
 }
 
@@ -269,14 +272,14 @@ fn multiply(
     x: Value,
     y: Value,
 ) -> Result<Value, Stop>
-    ensures { Gives (spec.multiply line (content setting.now machine.old x) (content setting.now machine.old y)
+    ensures { Refines (spec.multiply line (content setting.now machine.old x) (content setting.now machine.old y)
         machine.old) result machine.new }
 {
     match (machine.int_of(setting, x), machine.int_of(setting, y)) {
         (Some(a), Some(b)) => machine.new_int(line, mul(a, b)),
         (Some(a), None) => repeated(machine, setting, line, y, count_from(a)),
         (None, Some(b)) => repeated(machine, setting, line, x, count_from(b)),
-        (None, None) => Err(faulted(Code::BadType, line)),
+        (None, None) => Err(faulted(FaultCode::BadType, line)),
     }
 }
 
@@ -292,7 +295,7 @@ fn copied(alloc: Global, entries: &Entries) -> Result<Entries, AllocError>
 }
 
 /// The entries of one dictionary, with those of another put in.
-fn united(
+fn union_of(
     machine: &Machine,
     setting: &Setting,
     left: &Entries,
@@ -301,7 +304,7 @@ fn united(
     ensures { IfOk result (λ r. r ≡ spec.with_entries setting.now machine.now left.now right.now) }
 {
     let copy = copied(machine.alloc(), left)?;
-    let mut made = Gathered::of(machine, setting, copy, right.len());
+    let mut made = DictBuilder::of(machine, setting, copy, right.len());
     for entry in right.as_slice() {
         made.put(machine, setting, *entry)?;
     }
@@ -317,15 +320,14 @@ fn unite(
     x: Value,
     y: Value,
 ) -> Result<Value, Stop>
-    ensures { Gives (spec.on_others setting.now levels line BinaryOperator.BitOr (content setting.now machine.old x)
-        (content setting.now machine.old y) y machine.old) result machine.new }
+    ensures { Refines (on_operands setting.now levels line BinaryOperator.BitOr x y machine.old) result machine.new }
 {
     match (machine.content(setting, x), machine.content(setting, y)) {
         (Content::Held(Cell::Dict(left)), Content::Held(Cell::Dict(right))) => {
-            let entries = united(machine, setting, left, right)?;
+            let entries = union_of(machine, setting, left, right)?;
             machine.new_dict(line, entries)
         }
-        _ => Err(faulted(Code::BadType, line)),
+        _ => Err(faulted(FaultCode::BadType, line)),
     }
 }
 
@@ -339,15 +341,14 @@ fn on_others(
     x: Value,
     y: Value,
 ) -> Result<Value, Stop>
-    ensures { Gives (spec.on_others setting.now levels line operator (content setting.now machine.old x)
-        (content setting.now machine.old y) y machine.old) result machine.new }
+    ensures { Refines (on_operands setting.now levels line operator x y machine.old) result machine.new }
 {
     match operator {
         BinaryOperator::Add => add_values(machine, setting, line, x, y),
         BinaryOperator::Multiply => multiply(machine, setting, line, x, y),
         BinaryOperator::BitOr => unite(machine, setting, levels, line, x, y),
         BinaryOperator::Modulo => modulo(machine, setting, levels, line, x, y),
-        _ => Err(faulted(Code::BadType, line)),
+        _ => Err(faulted(FaultCode::BadType, line)),
     }
 }
 
@@ -363,7 +364,7 @@ pub fn operate(
     x: Value,
     y: Value,
 ) -> Result<Value, Stop>
-    ensures { Gives (spec.operate setting.now levels line operator x y machine.old) result machine.new }
+    ensures { Refines (spec.operate setting.now levels line operator x y machine.old) result machine.new }
 {
     if let (Value::Int(x), Value::Int(y)) = (x, y) {
         return on_ints(machine, line, operator, x, y);
@@ -381,11 +382,10 @@ fn modulo(
     x: Value,
     y: Value,
 ) -> Result<Value, Stop>
-    ensures { Gives (spec.on_others setting.now levels line BinaryOperator.Modulo (content setting.now machine.old x)
-        (content setting.now machine.old y) y machine.old) result machine.new }
+    ensures { Refines (on_operands setting.now levels line BinaryOperator.Modulo x y machine.old) result machine.new }
 {
     match machine.kind(setting, x) {
         Kind::Text => percent(machine, setting, levels, line, x, y),
-        _ => Err(faulted(Code::BadType, line)),
+        _ => Err(faulted(FaultCode::BadType, line)),
     }
 }

@@ -1,9 +1,8 @@
 //! `%` on a string: walks over the format, letter by letter.
 
-ghost use Rattle.std.specs.Prelude.{◌≡◌, ◌≤◌, [], drop, length, false, IfOk, string_bytes};
-ghost use Rattle.star_machine.specs.Gives.{Gives};
-ghost use Rattle.star_machine.specs.Kinds.{bytes_of};
-ghost use Rattle.star_operators.specs.Fills.{Fills, letter_put};
+ghost use Rattle.std.specs.Prelude.{◌≡◌, [], false, IfOk, string_bytes};
+ghost use Rattle.star_machine.specs.Refines.{Refines};
+ghost use Rattle.star_operators.specs.Fills.{Fills, letter_put, percent_of};
 ghost use Rattle.star_meaning.specs.Percent as spec;
 ghost use Rattle.star_meaning.specs.Values.{content};
 
@@ -12,14 +11,14 @@ use star_machine::cuts::{cut_at, first_ascii};
 use star_machine::fault::{Stop, faulted};
 use star_machine::machine::Machine;
 use star_machine::setting::Setting;
-use star_meaning::fault::Code;
+use star_meaning::fault::FaultCode;
 use star_store::values::{Cell, Value};
 use star_text::Text;
 use std::alloc::AllocError;
 
 /// The text of one value for a letter: `s` and `r` make its two texts, `d` that of an int. `BadValue` for another
 /// letter, `BadType` for `d` if the value is not an int.
-fn lettered(
+fn format_letter(
     machine: &mut Machine,
     setting: &Setting,
     levels: u32,
@@ -27,7 +26,7 @@ fn lettered(
     letter: u8,
     value: Value,
 ) -> Result<Text, Stop>
-    ensures { Gives (spec.lettered setting.now levels line letter value machine.old) result machine.new }
+    ensures { Refines (spec.format_letter setting.now levels line letter value machine.old) result machine.new }
 {
     match letter {
         b's' => machine.str(setting, levels, line, value),
@@ -36,38 +35,34 @@ fn lettered(
             let _int = machine.want_int(setting, line, value)?;
             machine.repr(setting, levels, line, value)
         }
-        _ => Err(faulted(Code::BadValue, line)),
+        _ => Err(faulted(FaultCode::BadValue, line)),
     }
 }
 
-/// Puts the text that a letter after a `%` makes of the next value, or a `%` for another `%`; and returns how many
-/// values are used then. `BadValue` if no value is left.
-#[tactic(auto, using(crate::proofs::Filling::drop_some, crate::proofs::Filling::drop_none))]
-fn put_letter(
+/// Puts the text that a letter after a `%` makes of the next value, or a `%` for another `%`. Returns the values that
+/// are left. `BadValue` if the letter needs a value and there is none.
+fn put_letter<'v>(
     machine: &mut Machine,
     setting: &Setting,
     levels: u32,
     line: usize,
     out: &mut String,
     letter: u8,
-    values: &[Value],
-    used: usize,
-) -> Result<usize, Stop>
-    requires { used ≤ length values.now }
-    ensures put { Fills (letter_put setting.now levels line letter (drop used values.now) (string_bytes out.old)
-        machine.old) values.now result (string_bytes out.new) machine.new }
-    ensures within { IfOk result (λ n. n ≤ length values.now) }
+    values: &'v [Value],
+) -> Result<&'v [Value], Stop>
+    ensures { Fills (letter_put setting.now levels line letter values.now (string_bytes out.old) machine.old) result
+        (string_bytes out.new) machine.new }
 {
     if letter == b'%' {
         out.push('%')?;
-        return Ok(used);
+        return Ok(values);
     }
-    let Some(value) = values.get(used).copied() else {
-        return Err(faulted(Code::BadValue, line));
+    let Some((value, left)) = values.split_first() else {
+        return Err(faulted(FaultCode::BadValue, line));
     };
-    let text = lettered(machine, setting, levels, line, letter, value)?;
+    let text = format_letter(machine, setting, levels, line, letter, *value)?;
     out.push_str(text.as_str())?;
-    Ok(used + 1)
+    Ok(left)
 }
 
 /// The format from left to right, with the texts of the values in place of its letters. `BadValue` for another letter,
@@ -81,25 +76,23 @@ fn filled(
     format: &str,
     values: &[Value],
 ) -> Result<Text, Stop>
-    ensures { Gives (spec.filled setting.now levels line false format.now values.now [] machine.old)
+    ensures { Refines (spec.filled setting.now levels line false format.now values.now [] machine.old)
         result machine.new }
 {
     let mut out = String::new(machine.alloc());
     let mut rest = format;
-    let mut used = 0;
+    let mut left = values;
     while let Some((before, _percent, after)) = cut_at(rest, b'%', b'%') {
         out.push_str(before)?;
         let Some((letter, more)) = first_ascii(after) else {
-            return Err(faulted(Code::BadValue, line));
+            return Err(faulted(FaultCode::BadValue, line));
         };
-        used = put_letter(
-            machine, setting, levels, line, &mut out, letter, values, used,
-        )?;
+        left = put_letter(machine, setting, levels, line, &mut out, letter, left)?;
         rest = more;
     }
     out.push_str(rest)?;
-    if used < values.len() {
-        return Err(faulted(Code::BadValue, line));
+    if !left.is_empty() {
+        return Err(faulted(FaultCode::BadValue, line));
     }
     Ok(Text::of(out)?)
 }
@@ -123,8 +116,7 @@ pub fn percent(
     text: Value,
     value: Value,
 ) -> Result<Value, Stop>
-    ensures { Gives (spec.percent setting.now levels line (bytes_of (content setting.now machine.old text))
-        (content setting.now machine.old value) value machine.old) result machine.new }
+    ensures { Refines (percent_of setting.now levels line text value machine.old) result machine.new }
 {
     let format = machine.copied_text(setting, text)?;
     let values = put_in(machine, setting, value)?;

@@ -3,7 +3,7 @@
 ghost use Rattle.std.specs.Prelude.{◌≡◌, ◌≢◌, ◌<◌, ◌≤◌, ◌+◌, ◌*◌, ◌+ℤ◌, ◌-ℤ◌, ◌*ℤ◌, ◌≤ℤ◌, ◌<ℤ◌, ◌++◌, IfOk, OnOk, false, length, neg_ℤ, pos, slice_get, string_bytes, true, unsigned_abs};
 ghost use Rattle.std.specs.Int.{int_gap};
 ghost use Rattle.star_store.specs.Range.{range_length};
-ghost use Rattle.star_machine.specs.Gives.{Gives};
+ghost use Rattle.star_machine.specs.Refines.{Refines};
 ghost use Rattle.star_operators.specs.Slices.{Parts, Pushes, as_range, has_low_ends, item_list, lies_within, run, slices_checked};
 ghost use Rattle.star_meaning.specs.Subscript as spec;
 ghost use Rattle.star_meaning.specs.Values.{content};
@@ -13,7 +13,7 @@ use star_machine::fault::{Stop, faulted};
 use star_machine::machine::Machine;
 use star_machine::setting::Setting;
 use star_machine::slices::{bound_of, want_part};
-use star_meaning::fault::Code;
+use star_meaning::fault::FaultCode;
 use star_store::values::{Cell, Value, Values};
 use star_text::Text;
 use std::alloc::{AllocError, Global};
@@ -91,8 +91,8 @@ fn place_below(start: i128, stop: i128, step: u128, at: u128) -> u128
     (start - (at * step) as i128).unsigned_abs()
 }
 
-/// The item at a place; `None` outside.
-fn item_at(items: &[Value], at: u128) -> Option<Value>
+/// The item or byte at a place; `None` outside.
+fn item_at<T: Copy>(items: &[T], at: u128) -> Option<T>
     ensures { result ≡ slice_get items.now at }
 {
     if at < items.len() as u128 {
@@ -176,7 +176,7 @@ fn spread(alloc: Global, text: &str, span: Span) -> Result<Option<Text>, AllocEr
 {
     let mut made = String::new(alloc);
     for i in 0..span.count() {
-        if !push_ascii(&mut made, byte_at(text.as_bytes(), span.place(i)))? {
+        if !push_ascii(&mut made, item_at(text.as_bytes(), span.place(i)))? {
             return Ok(None);
         }
     }
@@ -195,17 +195,6 @@ fn push_ascii(made: &mut String, byte: Option<u8>) -> Result<bool, AllocError>
     }
     made.push(byte as char)?;
     Ok(true)
-}
-
-/// The byte at a place; `None` outside.
-fn byte_at(text: &[u8], at: u128) -> Option<u8>
-    ensures { result ≡ slice_get text.now at }
-{
-    if at < text.len() as u128 {
-        text.get(at as usize).copied()
-    } else {
-        None
-    }
 }
 
 /// The part of a string at the places of a slice; `None` if it would cut a character.
@@ -232,7 +221,8 @@ fn sliced(
     stop: Option<i64>,
     step: i64,
 ) -> Result<Value, Stop>
-    ensures { Gives (spec.sliced line (content setting.now machine.old value) (λ n. spec.slice_range n start stop step)
+    ensures { Refines (spec.sliced line (content setting.now machine.old value)
+        (λ n. spec.slice_range n start stop step)
         machine.old) result machine.new }
 {
     let alloc = machine.alloc();
@@ -249,22 +239,22 @@ fn sliced(
             let span = span_of(text.as_str().len(), start, stop, step);
             match picked_text(alloc, text.as_str(), span)? {
                 Some(text) => machine.new_text(line, text),
-                None => Err(faulted(Code::Cut, line)),
+                None => Err(faulted(FaultCode::Cut, line)),
             }
         }
-        _ => Err(faulted(Code::BadType, line)),
+        _ => Err(faulted(FaultCode::BadType, line)),
     }
 }
 
 /// That a value has slices: else `BadType`.
 fn check_slices(machine: &Machine, setting: &Setting, line: usize, value: Value) -> Result<(), Stop>
-    ensures { Gives (slices_checked setting.now line value machine.now) result machine.now }
+    ensures { Refines (slices_checked setting.now line value machine.now) result machine.now }
 {
     match machine.content(setting, value) {
         Content::Held(Cell::List(_)) => Ok(()),
         Content::Held(Cell::Tuple(_)) => Ok(()),
         Content::Held(Cell::Text(_)) => Ok(()),
-        _ => Err(faulted(Code::BadType, line)),
+        _ => Err(faulted(FaultCode::BadType, line)),
     }
 }
 
@@ -289,14 +279,14 @@ pub fn slice(
     stop: Option<Value>,
     stride: Option<Value>,
 ) -> Result<Value, Stop>
-    ensures { Gives (spec.slice setting.now line value start stop stride machine.old) result machine.new }
+    ensures { Refines (spec.slice setting.now line value start stop stride machine.old) result machine.new }
 {
     check_slices(machine, setting, line, value)?;
     let start = want_part(machine, setting, line, start)?;
     let stop = want_part(machine, setting, line, stop)?;
     let step = stride_of(want_part(machine, setting, line, stride)?);
     if step == 0 {
-        return Err(faulted(Code::BadValue, line));
+        return Err(faulted(FaultCode::BadValue, line));
     }
     sliced(machine, setting, line, value, start, stop, step)
 }

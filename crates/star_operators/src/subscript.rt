@@ -1,10 +1,10 @@
 //! `x[i]` of lists, tuples, ranges, strings and dictionaries, and `x[i] = v` of lists and dictionaries.
 
 ghost use Rattle.std.specs.Prelude.{◌≡◌, [], ◌∷◌, ◌<◌, IfOk};
-ghost use Rattle.star_machine.specs.Gives.{Gives};
+ghost use Rattle.star_machine.specs.Refines.{Refines};
 ghost use Rattle.star_machine.specs.Kinds.{bytes_of, size_of};
 ghost use Rattle.star_meaning.specs.Subscript as spec;
-ghost use Rattle.star_operators.specs.Wanted.{place_wanted};
+ghost use Rattle.star_operators.specs.Wanted.{item_of_row, place_wanted};
 ghost use Rattle.star_meaning.specs.Values.{content};
 
 use star_machine::content::Kind;
@@ -12,7 +12,7 @@ use star_machine::fault::{Stop, faulted};
 use star_machine::machine::Machine;
 use star_machine::setting::Setting;
 use star_machine::subscript::{place_from, put_entry};
-use star_meaning::fault::Code;
+use star_meaning::fault::FaultCode;
 use star_store::arena::write::Change;
 use star_store::values::{Value, Values};
 use star_text::Text;
@@ -26,12 +26,12 @@ fn want_place(
     len: usize,
     index: Value,
 ) -> Result<usize, Stop>
-    ensures { Gives (place_wanted setting.now line len index machine.now) result machine.now }
+    ensures { Refines (place_wanted setting.now line len index machine.now) result machine.now }
 {
     let int = machine.want_int(setting, line, index)?;
     match place_from(len, int) {
         Some(at) => Ok(at),
-        None => Err(faulted(Code::Index, line)),
+        None => Err(faulted(FaultCode::Index, line)),
     }
 }
 
@@ -43,13 +43,12 @@ fn row_item(
     row: Value,
     index: Value,
 ) -> Result<Value, Stop>
-    ensures { Gives (spec.row_item setting.now line (content setting.now machine.now row)
-        (size_of (content setting.now machine.now row)) index machine.now) result machine.now }
+    ensures { Refines (item_of_row setting.now line row index machine.now) result machine.now }
 {
     let at = want_place(machine, setting, line, machine.size(setting, row), index)?;
     match machine.content(setting, row).item(at) {
         Some(item) => Ok(item),
-        None => Err(faulted(Code::Index, line)),
+        None => Err(faulted(FaultCode::Index, line)),
     }
 }
 
@@ -72,18 +71,19 @@ fn byte_at(
     text: Value,
     index: Value,
 ) -> Result<Value, Stop>
-    ensures { Gives (spec.byte_at setting.now line (bytes_of (content setting.now machine.old text)) index machine.old)
+    ensures { Refines (spec.byte_at setting.now line (bytes_of
+        (content setting.now machine.old text)) index machine.old)
         result machine.new }
 {
     let int = machine.want_int(setting, line, index)?;
     let Some(at) = place_from(machine.text_size(setting, text), int) else {
-        return Err(faulted(Code::Index, line));
+        return Err(faulted(FaultCode::Index, line));
     };
     let Some(byte) = machine.byte(setting, text, at) else {
-        return Err(faulted(Code::Index, line));
+        return Err(faulted(FaultCode::Index, line));
     };
     if byte >= 128 {
-        return Err(faulted(Code::Cut, line));
+        return Err(faulted(FaultCode::Cut, line));
     }
     let text = one_byte(machine.alloc(), byte)?;
     machine.new_text(line, text)
@@ -100,12 +100,12 @@ fn entry_value(
     dict: Value,
     key: Value,
 ) -> Result<Value, Stop>
-    ensures { Gives (spec.entry_value setting.now levels line (spec.entries_in (content setting.now machine.old dict))
+    ensures { Refines (spec.entry_value setting.now levels line (spec.entries_in (content setting.now machine.old dict))
         key machine.old) result machine.new }
 {
     machine.check_key(setting, levels, line, key)?;
     let Some(value) = machine.value_in(setting, dict, key) else {
-        return Err(faulted(Code::Key, line));
+        return Err(faulted(FaultCode::Key, line));
     };
     Ok(value)
 }
@@ -120,7 +120,7 @@ pub fn index(
     value: Value,
     at: Value,
 ) -> Result<Value, Stop>
-    ensures { Gives (spec.index setting.now levels line value at machine.old) result machine.new }
+    ensures { Refines (spec.index setting.now levels line value at machine.old) result machine.new }
 {
     match machine.kind(setting, value) {
         Kind::List => row_item(machine, setting, line, value, at),
@@ -128,7 +128,7 @@ pub fn index(
         Kind::Range(_) => row_item(machine, setting, line, value, at),
         Kind::Text => byte_at(machine, setting, line, value, at),
         Kind::Dict => entry_value(machine, setting, levels, line, value, at),
-        _ => Err(faulted(Code::BadType, line)),
+        _ => Err(faulted(FaultCode::BadType, line)),
     }
 }
 
@@ -141,7 +141,7 @@ fn set_item(
     index: Value,
     value: Value,
 ) -> Result<(), Stop>
-    ensures { Gives (spec.set_item setting.now line list (size_of (content setting.now machine.old list)) index value
+    ensures { Refines (spec.set_item setting.now line list (size_of (content setting.now machine.old list)) index value
         machine.old) result machine.new }
 {
     machine.guard(setting, line, list)?;
@@ -160,7 +160,7 @@ fn set_entry(
     key: Value,
     value: Value,
 ) -> Result<(), Stop>
-    ensures { Gives (spec.set_entry setting.now levels line dict key value machine.old) result machine.new }
+    ensures { Refines (spec.set_entry setting.now levels line dict key value machine.old) result machine.new }
 {
     machine.guard(setting, line, dict)?;
     machine.check_key(setting, levels, line, key)?;
@@ -178,11 +178,11 @@ pub fn set_index(
     at: Value,
     value: Value,
 ) -> Result<(), Stop>
-    ensures { Gives (spec.set_index setting.now levels line target at value machine.old) result machine.new }
+    ensures { Refines (spec.set_index setting.now levels line target at value machine.old) result machine.new }
 {
     match machine.kind(setting, target) {
         Kind::List => set_item(machine, setting, line, target, at, value),
         Kind::Dict => set_entry(machine, setting, levels, line, target, at, value),
-        _ => Err(faulted(Code::BadType, line)),
+        _ => Err(faulted(FaultCode::BadType, line)),
     }
 }

@@ -1,5 +1,5 @@
 -- The ends of files whose runs went well.
-use Rattle.std.proofs.Common.{◌≡◌, ◌+◌, ◌<◌, inl, inr, ℕ, zero, suc, true, false, List, [], ◌∷◌, map, length, get_or, Option, Some, None, refl, ap, sym, ◌∙◌, subst, arith}
+use Rattle.std.proofs.Common.{◌≡◌, ◌+◌, ◌<◌, inl, inr, ℕ, true, false, List, map, length, get_or, Option, Some, None, refl, ap, sym, ◌∙◌, subst, arith}
 use Rattle.std.specs.Arc.{arc_value}
 use Rattle.std.specs.Prelude.{All, Any, Contains, MatchOption, slice_get, slice_set}
 use Rattle.std.proofs.lemmas.List.{get_or-map, get_or_default, length-map}
@@ -7,6 +7,7 @@ use Rattle.std.proofs.lemmas.Option.{get_or_from_slice_get, slice_get_within}
 use Rattle.star_plan.specs.Plan.{Plan}
 use Rattle.star_plan.specs.Reached.{IsReached}
 use Rattle.star_plan.proofs.Plans.{one-plan}
+use Rattle.star_plan.proofs.Rows.{get_set_other, get_set_same}
 use Rattle.star_reading.proofs.Finds.{by_cases, same_or_not}
 use Rattle.star_outcome.specs.GoodEnds.{AreEndsAgain, AreEndsAmong, AreEndsInPlans, HaveEnd, IsEndOf, IsGoodEnd, IsPut, KnowsEnd, body_in}
 use Rattle.star_outcome.specs.Kept.{AreModules, KeptView}
@@ -29,18 +30,6 @@ end_is_good : (plan : Plan) (n : ℕ) (m : Module) (e : GoodEnd) → IsModule pl
 end_is_good plan n m e is end = record { loads = end.loads ∙ is.loads; body = body_is plan n m.ended (arc_value e.body) end.body is.ended }
 
 -- ---- a row of ends
-
-pub get_set_same : {X : Type 0} (xs : List X) (i : ℕ) (x : X) → i < length xs → slice_get (slice_set xs i x) i ≡ Some x
-get_set_same [] i x less = absurd (let no : ⊥ = omega (arith, less) in no)
-get_set_same (y ∷ ys) zero x less = refl
-get_set_same (y ∷ ys) (suc i) x less = get_set_same ys i x (omega (arith, less))
-
-pub get_set_other : {X : Type 0} (xs : List X) (i j : ℕ) (x : X) → (j ≡ i → ⊥) → slice_get (slice_set xs i x) j ≡ slice_get xs j
-get_set_other [] i j x other = refl
-get_set_other (y ∷ ys) zero zero x other = absurd (other refl)
-get_set_other (y ∷ ys) zero (suc j) x other = refl
-get_set_other (y ∷ ys) (suc i) zero x other = refl
-get_set_other (y ∷ ys) (suc i) (suc j) x other = get_set_other ys i j x (λ e. other (ap suc e))
 
 pub own_none : (ks : List KeptView) (es : List (Option GoodEnd)) → All (λ o. o ≡ None) es → AreEndsAmong ks es
 own_none ks es none n e at =

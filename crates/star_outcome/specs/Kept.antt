@@ -9,7 +9,7 @@ use Rattle.star_outcome.specs.Views.{IsModule, ended_well}
 use Rattle.star_outcome.specs.declared.module.Ended.{Ended}
 use Rattle.star_outcome.specs.declared.module.Ended.TheVariants.{Static, Load as Unloaded, Stopped, Good}
 use Rattle.star_outcome.specs.declared.module.Module.{Module}
-use Rattle.star_outcome.specs.declared.trace.Refused.{Refused}
+use Rattle.star_outcome.specs.declared.trace.CyclicLoad.{CyclicLoad}
 
 pub record KeptView : Type 0 where
   pub number : ℕ
@@ -21,7 +21,7 @@ pub record RunView : Type 0 where
   pub kept : List KeptView
   pub begun : ℕ
   pub per_loader : List ℕ
-  pub refused : List Refused
+  pub refused : List CyclicLoad
 
 -- the index of the load that is not good is below `count`
 abbrev pub IsLoadBelow : ℕ → Ended → Type 0

@@ -7,8 +7,8 @@
 //!   a cell has been set to a certain module; with it the module is read without a lock.
 //! - `Told` is the product that the cache hands out for a file that has ended: its number, whether it is good, and a
 //!   note. Its invariant is that the module has just the outcome that the definitions give its file.
-//! - `Frame` is a file whose loads are being asked for, on the stack of a loader. It is not a frame of variables.
-//!   `Given` and `StoreRow` collect the stores that its body may read.
+//! - `OpenFile` is a file whose loads are being asked for, on the stack of a loader. It is not a frame of variables.
+//!   `ReachableStores` and `StoreRow` collect the stores that its body may read.
 //! - `Trace` has the refused loads; each is on a cycle. `Run` is the result of a run: the modules of all reached files,
 //!   by number. `GoodEnd` is the end of a file whose run went well; a caller may keep it, and give it to a later run.
 //! - `Naming`, called `J` in signatures, is the identity of one run: its files, their plan, its shelf. Only contracts
@@ -18,13 +18,13 @@
 //! `docs/OUTCOMES.md` and `docs/LOADING.md`.
 #![tactic(auto)]
 
-pub mod frame;
-pub mod given;
 pub mod good_end;
 pub mod homes;
 pub mod module;
 pub mod naming;
+pub mod open_file;
 pub mod outcome;
+pub mod reachable;
 pub mod shelf;
 pub mod store_row;
 pub mod told;

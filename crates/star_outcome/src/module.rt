@@ -5,7 +5,7 @@ ghost use Rattle.star_outcome.specs.Views.{ended_well};
 
 use crate::store_row::StoreRow;
 use star_found::about::Found;
-use star_meaning::fault::Code;
+use star_meaning::fault::FaultCode;
 use star_meaning::story::Step;
 use star_reading::code::StaticFault;
 use star_text::Text;
@@ -44,7 +44,7 @@ pub enum Ended {
     },
     /// Its run stopped at this line, for this reason, after it had printed these lines.
     Stopped {
-        code: Code,
+        code: FaultCode,
         line: usize,
         lines: Vec<Text>,
         left: Left,

@@ -5,7 +5,7 @@ ghost use Rattle.star_outcome.specs.Kept.{AllKept, IsSound, KeptView};
 
 use crate::module::Module;
 use crate::shelf::Shelf;
-use crate::trace::Refused;
+use crate::trace::CyclicLoad;
 use once_cell::race::Note;
 use std::alloc::{AllocError, Global};
 use std::marker::Model;
@@ -73,7 +73,7 @@ pub struct Run {
     kept: Vec<Kept>,
     begun: u32,
     per_loader: [u32; 64],
-    refused: Vec<Refused>,
+    refused: Vec<CyclicLoad>,
 }
 
 impl Model for Run {
@@ -99,7 +99,7 @@ impl Run {
         kept: Vec<Kept>,
         begun: u32,
         per_loader: [u32; 64],
-        refused: Vec<Refused>,
+        refused: Vec<CyclicLoad>,
     ) -> Run
         requires { AllKept shelf kept.items }
         ensures { result ≡ record {
@@ -148,7 +148,7 @@ impl Run {
     }
 
     /// The loads that were refused since they lie on a load cycle.
-    pub fn refused(&self) -> &[Refused]
+    pub fn refused(&self) -> &[CyclicLoad]
         ensures { result.now ≡ self.now.refused }
     {
         self.refused.as_slice()

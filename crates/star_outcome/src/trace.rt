@@ -14,7 +14,7 @@ use std::sync::Wait;
 /// A load that was refused: a file, the index of the load among its loads, and the file that it loads. Files are given
 /// by their numbers.
 #[derive(Clone, Copy, Debug, PartialEq, Eq)]
-pub struct Refused {
+pub struct CyclicLoad {
     pub file: usize,
     pub index: usize,
     pub loaded: usize,
@@ -23,19 +23,19 @@ pub struct Refused {
 /// The rule of a trace: the load lies on a load cycle.
 pub struct OnCycle<J>(PhantomData<J>);
 
-impl<J: Naming> Keeps<Refused> for OnCycle<J> {
+impl<J: Naming> Keeps<CyclicLoad> for OnCycle<J> {
     ghost use Rattle.star_outcome.specs.Refusals.{IsRefusal};
 
     ghost holds = { λ _ _ r. IsRefusal J.plan r };
 }
 
 /// A token to read an item back with.
-pub type Token<J> = Pushed<Refused, Global, OnCycle<J>>;
+pub type Token<J> = Pushed<CyclicLoad, Global, OnCycle<J>>;
 
 /// The refused loads, in the order of their places.
 #[derive(Drop)]
 pub struct Trace<J: Naming> {
-    items: boxcar::Vec<Refused, Global, OnCycle<J>>,
+    items: boxcar::Vec<CyclicLoad, Global, OnCycle<J>>,
 }
 
 impl<J: Naming> Trace<J> {
@@ -47,7 +47,7 @@ impl<J: Naming> Trace<J> {
     }
 
     /// Adds a load. The error: an allocation failed.
-    pub fn push<R: Wait>(&self, rt: &R, refused: Refused) -> Result<Token<J>, AllocError>
+    pub fn push<R: Wait>(&self, rt: &R, refused: CyclicLoad) -> Result<Token<J>, AllocError>
         requires { IsRefusal J.plan refused }
         ensures { IfOk result (λ t. Shows self.now.items t × (t.value ≡ refused)) }
     {
@@ -58,7 +58,7 @@ impl<J: Naming> Trace<J> {
     }
 
     /// The item of a token.
-    pub fn read(&self, token: &Token<J>) -> Refused
+    pub fn read(&self, token: &Token<J>) -> CyclicLoad
         requires { Shows self.now.items token.now }
         ensures { result ≡ token.now.value }
     {
@@ -66,7 +66,7 @@ impl<J: Naming> Trace<J> {
     }
 
     /// The item with `i` items before it; `None` if there are at most `i` items.
-    pub fn nth(&self, i: usize) -> Option<Refused>
+    pub fn nth(&self, i: usize) -> Option<CyclicLoad>
         ensures { IfSome result (IsRefusal J.plan) }
     {
         let mut left = i;
@@ -81,7 +81,7 @@ impl<J: Naming> Trace<J> {
     }
 
     /// All items, in order. The error: an allocation failed.
-    pub fn all(&self, alloc: Global) -> Result<Vec<Refused>, AllocError>
+    pub fn all(&self, alloc: Global) -> Result<Vec<CyclicLoad>, AllocError>
         ensures { IfOk result (λ all. AreRefusals J.plan all.items) }
     {
         let mut all = Vec::new(alloc);

@@ -6,7 +6,7 @@ use Rattle.star_lex.specs.declared.token.SyntaxFault.{SyntaxFault}
 use Rattle.star_lex.specs.declared.token.SyntaxFault.TheVariants.{BadToken, BadIndent, TooNested, BadSyntax, Memory}
 use Rattle.star_lex.specs.Values.{Text}
 use Rattle.star_lex.specs.Lines.{lexed}
-use Rattle.star_syntax.specs.declared.leaf.Leaf.{Leaf}
+use Rattle.star_syntax.specs.declared.leaf.ValuedToken.{ValuedToken}
 use Rattle.star_tree.specs.declared.tree.Statement.{Statement}
 use Rattle.star_tree.specs.declared.tree.Tree.{Tree}
 use Rattle.star_syntax.specs.Leaves.{leaves_of}
@@ -18,13 +18,13 @@ use Rattle.star_parser.specs.Laws.{OneAnswer}
 abbrev as_tree : List Statement → Result Tree SyntaxFault
 as_tree z = Ok (record { statements = z })
 
-read-once : (leaves : List Leaf) (r t : Result Tree SyntaxFault) → ReadAs leaves r → ReadAs leaves t → r ≡ t
+read-once : (leaves : List ValuedToken) (r t : Result Tree SyntaxFault) → ReadAs leaves r → ReadAs leaves t → r ≡ t
 read-once leaves (Ok a) (Ok b) i j = ap as_tree (one_reading leaves a.statements b.statements i j)
 read-once leaves (Ok a) (Err f) i j = absurd (j.1 a.statements i)
 read-once leaves (Err f) (Ok b) i j = absurd (i.1 b.statements j)
 read-once leaves (Err f) (Err g) i j = ap (λ (z : SyntaxFault). Err z) (i.0 ∙ sym j.0)
 
-weighed-once : (o : Option ℕ) (leaves : List Leaf) (r t : Result Tree SyntaxFault) → Weighed o leaves r → Weighed o leaves t → r ≡ t
+weighed-once : (o : Option ℕ) (leaves : List ValuedToken) (r t : Result Tree SyntaxFault) → Weighed o leaves r → Weighed o leaves t → r ≡ t
 weighed-once None leaves r t i j = read-once leaves r t i j
 weighed-once (Some line) leaves r t i j = i ∙ sym j
 

@@ -2,8 +2,8 @@
 use Rattle.std.specs.Prelude.{ℕ, ◌+◌, ◌-◌, ◌≤◌, nat_lt, if◌then◌else◌, List, [], ◌∷◌, Option, Some, None}
 use Rattle.star_lex.specs.declared.token.Keyword.{Keyword}
 use Rattle.star_lex.specs.declared.token.Keyword.TheVariants as word
-use Rattle.star_lex.specs.declared.token.Sign.{Sign}
-use Rattle.star_lex.specs.declared.token.Sign.TheVariants as s
+use Rattle.star_lex.specs.declared.token.Punctuator.{Punctuator}
+use Rattle.star_lex.specs.declared.token.Punctuator.TheVariants as s
 use Rattle.star_lex.specs.declared.token.Kind.{Kind}
 use Rattle.star_lex.specs.declared.token.Kind.TheVariants as k
 use Rattle.star_lex.specs.declared.token.Token.{Token}
@@ -12,7 +12,7 @@ use Rattle.star_parser.specs.declared.nest.Effect.TheVariants as e
 use Rattle.star_parser.specs.declared.nest.Nesting.{Nesting}
 
 -- `+ - * ** // % ~ & | ^ << >> < > <= >= == != .` add 1
-abbrev pub of_sign : Sign → Effect
+abbrev pub of_sign : Punctuator → Effect
 of_sign s.Comma = e.Comma
 of_sign s.Semicolon = e.Semicolon
 of_sign s.LeftParen = e.Opens
@@ -55,7 +55,7 @@ of_keyword word.Lambda = e.Lambda
 of_keyword _ = e.Nothing
 
 abbrev pub of_kind : Kind → Effect
-of_kind (k.Sign sign) = of_sign sign
+of_kind (k.Punctuator sign) = of_sign sign
 of_kind (k.Keyword keyword) = of_keyword keyword
 of_kind k.Newline = e.Newline
 of_kind k.Indent = e.Indent

@@ -5,7 +5,7 @@ use Rattle.star_lex.specs.declared.token.SyntaxFault.{SyntaxFault}
 use Rattle.star_lex.specs.declared.token.SyntaxFault.TheVariants.{TooNested, BadSyntax, Memory}
 use Rattle.star_lex.specs.Values.{Text}
 use Rattle.star_lex.specs.Lines.{lexed}
-use Rattle.star_syntax.specs.declared.leaf.Leaf.{Leaf}
+use Rattle.star_syntax.specs.declared.leaf.ValuedToken.{ValuedToken}
 use Rattle.star_tree.specs.declared.tree.Statement.{Statement}
 use Rattle.star_tree.specs.declared.tree.Tree.{Tree}
 use Rattle.star_syntax.specs.Leaves.{leaves_of}
@@ -13,16 +13,16 @@ use Rattle.star_parser.specs.Nesting.{too_nested}
 use Rattle.star_syntax.specs.Language.{Reading}
 
 -- the grammar gives no tree
-abbrev pub Unreadable : List Leaf → Type 0
+abbrev pub Unreadable : List ValuedToken → Type 0
 Unreadable leaves = (statements : List Statement) → Reading statements leaves → ⊥
 
 -- the answer for leaves that are not nested too deeply: their reading, or that there is none
-abbrev pub ReadAs : List Leaf → Result Tree SyntaxFault → Type 0
+abbrev pub ReadAs : List ValuedToken → Result Tree SyntaxFault → Type 0
 ReadAs leaves (Ok tree) = Reading tree.statements leaves
 ReadAs leaves (Err fault) = (fault ≡ BadSyntax) × Unreadable leaves
 
 -- the answer for tokens, with the line of the first that is nested too deeply
-abbrev pub Weighed : Option ℕ → List Leaf → Result Tree SyntaxFault → Type 0
+abbrev pub Weighed : Option ℕ → List ValuedToken → Result Tree SyntaxFault → Type 0
 Weighed (Some line) leaves result = result ≡ Err (TooNested line)
 Weighed None leaves result = ReadAs leaves result
 

@@ -7,9 +7,9 @@ ghost use Rattle.star_syntax.specs.Language.{Blocks, Finds, Gives, Parsed, reads
 
 use crate::simple::{Simple, newline, only};
 use sqlite_items::{Boxed, Items};
-use star_lex::token::{Keyword, Sign};
+use star_lex::token::{Keyword, Punctuator};
 use star_syntax::expressions::{expression, parameters_at, targets_at, tests_at};
-use star_syntax::leaf::{Leaf, Word};
+use star_syntax::leaf::{TokenValue, ValuedToken};
 use star_syntax::level::Level;
 use star_syntax::reader::{Read, exact, keyword, name, sign};
 use star_tree::tree::{Arm, Expression, Form, Parameter, Statement, Target};
@@ -25,57 +25,57 @@ pub struct Nested<F> {
     pub statement: F,
 }
 
-fn indent(leaves: &[Leaf]) -> Option<((), &[Leaf])>
+fn indent(leaves: &[ValuedToken]) -> Option<((), &[ValuedToken])>
     ensures { Finds (first (λ t. spec.is_indent t.word) leaves.now) result }
 {
     match leaves {
         [leaf, rest @ ..] => match &leaf.word {
-            Word::Indent => Some(((), rest)),
+            TokenValue::Indent => Some(((), rest)),
             _ => None,
         },
         [] => None,
     }
 }
 
-fn outdent(leaves: &[Leaf]) -> Option<((), &[Leaf])>
+fn outdent(leaves: &[ValuedToken]) -> Option<((), &[ValuedToken])>
     ensures { Finds (first (λ t. spec.is_outdent t.word) leaves.now) result }
 {
     match leaves {
         [leaf, rest @ ..] => match &leaf.word {
-            Word::Outdent => Some(((), rest)),
+            TokenValue::Outdent => Some(((), rest)),
             _ => None,
         },
         [] => None,
     }
 }
 
-fn end(leaves: &[Leaf]) -> Option<((), &[Leaf])>
+fn end(leaves: &[ValuedToken]) -> Option<((), &[ValuedToken])>
     ensures { Finds (first (λ t. spec.is_end t.word) leaves.now) result }
 {
     match leaves {
         [leaf, rest @ ..] => match &leaf.word {
-            Word::End => Some(((), rest)),
+            TokenValue::End => Some(((), rest)),
             _ => None,
         },
         [] => None,
     }
 }
 
-impl<F: Fn(Global, u128, &[Leaf]) -> Read<'_, Items<Statement>>> Nested<F> {
-    fn nested<'a>(&self, leaves: &'a [Leaf]) -> Read<'a, Items<Statement>>
+impl<F: Fn(Global, u128, &[ValuedToken]) -> Read<'_, Items<Statement>>> Nested<F> {
+    fn nested<'a>(&self, leaves: &'a [ValuedToken]) -> Read<'a, Items<Statement>>
         requires { Blocks self.now.depth (F.pre self.now.statement) (F.post self.now.statement) }
         ensures { Gives (run rule self.now.depth at_statement leaves.now) result }
     {
         (self.statement)(self.alloc, self.depth, leaves)
     }
 
-    fn test<'a>(&self, leaves: &'a [Leaf]) -> Read<'a, Boxed<Expression>>
+    fn test<'a>(&self, leaves: &'a [ValuedToken]) -> Read<'a, Boxed<Expression>>
         ensures { Gives (reads self.now.depth expressions.a_test leaves.now) result }
     {
         expression(self.alloc, self.depth, Level::Test, leaves)
     }
 
-    fn simple<'a>(&self, leaves: &'a [Leaf]) -> Read<'a, Items<Statement>>
+    fn simple<'a>(&self, leaves: &'a [ValuedToken]) -> Read<'a, Items<Statement>>
         ensures { Gives (reads self.now.depth spec.simple leaves.now) result }
     {
         let readers = Simple {
@@ -87,7 +87,7 @@ impl<F: Fn(Global, u128, &[Leaf]) -> Read<'_, Items<Statement>>> Nested<F> {
 
     /// `Statement {Statement}`
     #[tactic(auto, unfolding(star_syntax::specs::Statements::body))]
-    fn body<'a>(&self, leaves: &'a [Leaf]) -> Read<'a, Items<Statement>>
+    fn body<'a>(&self, leaves: &'a [ValuedToken]) -> Read<'a, Items<Statement>>
         requires { Blocks self.now.depth (F.pre self.now.statement) (F.post self.now.statement) }
         ensures { Gives (reads self.now.depth spec.body leaves.now) result }
     {
@@ -106,7 +106,7 @@ impl<F: Fn(Global, u128, &[Leaf]) -> Read<'_, Items<Statement>>> Nested<F> {
 
     /// `NEWLINE INDENT Statement {Statement} OUTDENT`
     #[tactic(auto, unfolding(star_syntax::specs::Statements::block))]
-    fn block<'a>(&self, leaves: &'a [Leaf]) -> Read<'a, Items<Statement>>
+    fn block<'a>(&self, leaves: &'a [ValuedToken]) -> Read<'a, Items<Statement>>
         requires { Blocks self.now.depth (F.pre self.now.statement) (F.post self.now.statement) }
         ensures { Gives (reads self.now.depth spec.block leaves.now) result }
     {
@@ -127,7 +127,7 @@ impl<F: Fn(Global, u128, &[Leaf]) -> Read<'_, Items<Statement>>> Nested<F> {
 
     /// `Suite = Simple | NEWLINE INDENT Statement {Statement} OUTDENT`
     #[tactic(auto, unfolding(star_syntax::specs::Statements::suite))]
-    fn suite<'a>(&self, leaves: &'a [Leaf]) -> Read<'a, Items<Statement>>
+    fn suite<'a>(&self, leaves: &'a [ValuedToken]) -> Read<'a, Items<Statement>>
         requires { Blocks self.now.depth (F.pre self.now.statement) (F.post self.now.statement) }
         ensures { Gives (reads self.now.depth spec.suite leaves.now) result }
     {
@@ -139,11 +139,11 @@ impl<F: Fn(Global, u128, &[Leaf]) -> Read<'_, Items<Statement>>> Nested<F> {
 
     /// `':' Suite`
     #[tactic(auto, unfolding(star_syntax::specs::Statements::colon_suite))]
-    fn colon_suite<'a>(&self, leaves: &'a [Leaf]) -> Read<'a, Items<Statement>>
+    fn colon_suite<'a>(&self, leaves: &'a [ValuedToken]) -> Read<'a, Items<Statement>>
         requires { Blocks self.now.depth (F.pre self.now.statement) (F.post self.now.statement) }
         ensures { Gives (reads self.now.depth spec.colon_suite leaves.now) result }
     {
-        let Some((_, rest)) = sign(Sign::Colon, leaves) else {
+        let Some((_, rest)) = sign(Punctuator::Colon, leaves) else {
             return Ok(None);
         };
         self.suite(rest)
@@ -151,7 +151,7 @@ impl<F: Fn(Global, u128, &[Leaf]) -> Read<'_, Items<Statement>>> Nested<F> {
 
     /// `Test ':' Suite`
     #[tactic(auto, unfolding(star_syntax::specs::Statements::arm))]
-    fn arm<'a>(&self, leaves: &'a [Leaf]) -> Read<'a, Arm>
+    fn arm<'a>(&self, leaves: &'a [ValuedToken]) -> Read<'a, Arm>
         requires { Blocks self.now.depth (F.pre self.now.statement) (F.post self.now.statement) }
         ensures { Gives (reads self.now.depth spec.arm leaves.now) result }
     {
@@ -167,7 +167,7 @@ impl<F: Fn(Global, u128, &[Leaf]) -> Read<'_, Items<Statement>>> Nested<F> {
 
     /// `'elif' Test ':' Suite`
     #[tactic(auto, unfolding(star_syntax::specs::Statements::next_arm))]
-    fn next_arm<'a>(&self, leaves: &'a [Leaf]) -> Read<'a, Arm>
+    fn next_arm<'a>(&self, leaves: &'a [ValuedToken]) -> Read<'a, Arm>
         requires { Blocks self.now.depth (F.pre self.now.statement) (F.post self.now.statement) }
         ensures { Gives (reads self.now.depth spec.next_arm leaves.now) result }
     {
@@ -179,7 +179,7 @@ impl<F: Fn(Global, u128, &[Leaf]) -> Read<'_, Items<Statement>>> Nested<F> {
 
     /// `'if' Test ':' Suite`
     #[tactic(auto, unfolding(star_syntax::specs::Statements::first_arm))]
-    fn first_arm<'a>(&self, leaves: &'a [Leaf]) -> Read<'a, Arm>
+    fn first_arm<'a>(&self, leaves: &'a [ValuedToken]) -> Read<'a, Arm>
         requires { Blocks self.now.depth (F.pre self.now.statement) (F.post self.now.statement) }
         ensures { Gives (reads self.now.depth spec.first_arm leaves.now) result }
     {
@@ -191,7 +191,7 @@ impl<F: Fn(Global, u128, &[Leaf]) -> Read<'_, Items<Statement>>> Nested<F> {
 
     /// `'if' Test ':' Suite {'elif' Test ':' Suite}`
     #[tactic(auto, unfolding(star_syntax::specs::Statements::arms))]
-    fn arms<'a>(&self, leaves: &'a [Leaf]) -> Read<'a, Items<Arm>>
+    fn arms<'a>(&self, leaves: &'a [ValuedToken]) -> Read<'a, Items<Arm>>
         requires { Blocks self.now.depth (F.pre self.now.statement) (F.post self.now.statement) }
         ensures { Gives (reads self.now.depth spec.arms leaves.now) result }
     {
@@ -211,7 +211,7 @@ impl<F: Fn(Global, u128, &[Leaf]) -> Read<'_, Items<Statement>>> Nested<F> {
 
     /// `'else' ':' Suite`
     #[tactic(auto, unfolding(star_syntax::specs::Statements::otherwise))]
-    fn otherwise<'a>(&self, leaves: &'a [Leaf]) -> Read<'a, Items<Statement>>
+    fn otherwise<'a>(&self, leaves: &'a [ValuedToken]) -> Read<'a, Items<Statement>>
         requires { Blocks self.now.depth (F.pre self.now.statement) (F.post self.now.statement) }
         ensures { Gives (reads self.now.depth spec.otherwise leaves.now) result }
     {
@@ -223,7 +223,7 @@ impl<F: Fn(Global, u128, &[Leaf]) -> Read<'_, Items<Statement>>> Nested<F> {
 
     /// `If = 'if' Test ':' Suite {'elif' Test ':' Suite} ['else' ':' Suite]`
     #[tactic(auto, unfolding(star_syntax::specs::Statements::condition))]
-    fn condition<'a>(&self, leaves: &'a [Leaf]) -> Read<'a, Form>
+    fn condition<'a>(&self, leaves: &'a [ValuedToken]) -> Read<'a, Form>
         requires { Blocks self.now.depth (F.pre self.now.statement) (F.post self.now.statement) }
         ensures { Gives (reads self.now.depth spec.condition leaves.now) result }
     {
@@ -238,19 +238,19 @@ impl<F: Fn(Global, u128, &[Leaf]) -> Read<'_, Items<Statement>>> Nested<F> {
         Ok(Some((Form::If { arms, otherwise }, rest)))
     }
 
-    fn targets<'a>(&self, leaves: &'a [Leaf]) -> Read<'a, Boxed<Target>>
+    fn targets<'a>(&self, leaves: &'a [ValuedToken]) -> Read<'a, Boxed<Target>>
         ensures { Gives (reads self.now.depth expressions.targets leaves.now) result }
     {
         targets_at(self.alloc, self.depth, leaves)
     }
 
-    fn tests<'a>(&self, leaves: &'a [Leaf]) -> Read<'a, Boxed<Expression>>
+    fn tests<'a>(&self, leaves: &'a [ValuedToken]) -> Read<'a, Boxed<Expression>>
         ensures { Gives (reads self.now.depth expressions.tests leaves.now) result }
     {
         tests_at(self.alloc, self.depth, leaves)
     }
 
-    fn parameters<'a>(&self, leaves: &'a [Leaf]) -> Read<'a, Items<Parameter>>
+    fn parameters<'a>(&self, leaves: &'a [ValuedToken]) -> Read<'a, Items<Parameter>>
         ensures { Gives (reads self.now.depth expressions.parameters_in_parentheses leaves.now) result }
     {
         parameters_at(self.alloc, self.depth, leaves)
@@ -258,7 +258,7 @@ impl<F: Fn(Global, u128, &[Leaf]) -> Read<'_, Items<Statement>>> Nested<F> {
 
     /// `For = 'for' Targets 'in' Tests ':' Suite`
     #[tactic(auto, unfolding(star_syntax::specs::Statements::iteration))]
-    fn iteration<'a>(&self, leaves: &'a [Leaf]) -> Read<'a, Form>
+    fn iteration<'a>(&self, leaves: &'a [ValuedToken]) -> Read<'a, Form>
         requires { Blocks self.now.depth (F.pre self.now.statement) (F.post self.now.statement) }
         ensures { Gives (reads self.now.depth spec.iteration leaves.now) result }
     {
@@ -291,7 +291,7 @@ impl<F: Fn(Global, u128, &[Leaf]) -> Read<'_, Items<Statement>>> Nested<F> {
 
     /// `Def = 'def' name '(' [Params [',']] ')' ':' Suite`
     #[tactic(auto, unfolding(star_syntax::specs::Statements::definition))]
-    fn definition<'a>(&self, leaves: &'a [Leaf]) -> Read<'a, Form>
+    fn definition<'a>(&self, leaves: &'a [ValuedToken]) -> Read<'a, Form>
         requires { Blocks self.now.depth (F.pre self.now.statement) (F.post self.now.statement) }
         ensures { Gives (reads self.now.depth spec.definition leaves.now) result }
     {
@@ -319,7 +319,7 @@ impl<F: Fn(Global, u128, &[Leaf]) -> Read<'_, Items<Statement>>> Nested<F> {
 
     /// `Def | If | For`, without its position.
     #[tactic(auto, unfolding(star_syntax::specs::Statements::compound_form))]
-    fn compound_form<'a>(&self, leaves: &'a [Leaf]) -> Read<'a, Form>
+    fn compound_form<'a>(&self, leaves: &'a [ValuedToken]) -> Read<'a, Form>
         requires { Blocks self.now.depth (F.pre self.now.statement) (F.post self.now.statement) }
         ensures { Gives (reads self.now.depth spec.compound_form leaves.now) result }
     {
@@ -334,7 +334,7 @@ impl<F: Fn(Global, u128, &[Leaf]) -> Read<'_, Items<Statement>>> Nested<F> {
 
     /// `Def | If | For`, with the position of its first token.
     #[tactic(auto, unfolding(star_syntax::specs::Statements::compound))]
-    fn compound<'a>(&self, leaves: &'a [Leaf]) -> Read<'a, Statement>
+    fn compound<'a>(&self, leaves: &'a [ValuedToken]) -> Read<'a, Statement>
         requires { Blocks self.now.depth (F.pre self.now.statement) (F.post self.now.statement) }
         ensures { Gives (reads self.now.depth spec.compound leaves.now) result }
     {
@@ -350,7 +350,7 @@ impl<F: Fn(Global, u128, &[Leaf]) -> Read<'_, Items<Statement>>> Nested<F> {
 
     /// `Statement = Def | If | For | Simple`
     #[tactic(auto, unfolding(star_syntax::specs::Statements::one_statement))]
-    fn one_statement<'a>(&self, leaves: &'a [Leaf]) -> Read<'a, Items<Statement>>
+    fn one_statement<'a>(&self, leaves: &'a [ValuedToken]) -> Read<'a, Items<Statement>>
         requires { Blocks self.now.depth (F.pre self.now.statement) (F.post self.now.statement) }
         ensures { Gives (reads self.now.depth spec.one_statement leaves.now) result }
     {
@@ -362,7 +362,7 @@ impl<F: Fn(Global, u128, &[Leaf]) -> Read<'_, Items<Statement>>> Nested<F> {
 
     /// `{Statement}`
     #[tactic(auto, unfolding(star_syntax::specs::Statements::statements))]
-    fn statements<'a>(&self, leaves: &'a [Leaf]) -> Read<'a, Items<Statement>>
+    fn statements<'a>(&self, leaves: &'a [ValuedToken]) -> Read<'a, Items<Statement>>
         requires { Blocks self.now.depth (F.pre self.now.statement) (F.post self.now.statement) }
         ensures { Gives (reads self.now.depth spec.statements leaves.now) result }
     {
@@ -380,7 +380,7 @@ impl<F: Fn(Global, u128, &[Leaf]) -> Read<'_, Items<Statement>>> Nested<F> {
 
     /// `File = {Statement} END`
     #[tactic(auto, unfolding(star_syntax::specs::Statements::file))]
-    fn file<'a>(&self, leaves: &'a [Leaf]) -> Read<'a, Items<Statement>>
+    fn file<'a>(&self, leaves: &'a [ValuedToken]) -> Read<'a, Items<Statement>>
         requires { Blocks self.now.depth (F.pre self.now.statement) (F.post self.now.statement) }
         ensures { Gives (reads self.now.depth spec.file leaves.now) result }
     {
@@ -395,7 +395,7 @@ impl<F: Fn(Global, u128, &[Leaf]) -> Read<'_, Items<Statement>>> Nested<F> {
 }
 
 /// A statement, or a line of them, with others nested in it no deeper than a depth.
-pub fn statement(alloc: Global, depth: u128, leaves: &[Leaf]) -> Read<'_, Items<Statement>>
+pub fn statement(alloc: Global, depth: u128, leaves: &[ValuedToken]) -> Read<'_, Items<Statement>>
     ensures { Gives (run rule depth at_statement leaves.now) result }
 {
     if depth == 0 {
@@ -410,7 +410,10 @@ pub fn statement(alloc: Global, depth: u128, leaves: &[Leaf]) -> Read<'_, Items<
 }
 
 /// The statements of a file's leaves; `None` if the grammar gives none.
-pub fn file_of(alloc: Global, leaves: &[Leaf]) -> Result<Option<Items<Statement>>, AllocError>
+pub fn file_of(
+    alloc: Global,
+    leaves: &[ValuedToken],
+) -> Result<Option<Items<Statement>>, AllocError>
     ensures { Parsed leaves.now result }
 {
     let nested = Nested {

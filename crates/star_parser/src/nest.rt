@@ -3,7 +3,7 @@
 ghost use Rattle.std.specs.Prelude.{◌≡◌, ◌+◌, ◌<◌, ◌^◌, IfOk};
 ghost use Rattle.star_parser.specs.Nesting as spec;
 
-use star_lex::token::{Keyword, Kind, Sign, Token};
+use star_lex::token::{Keyword, Kind, Punctuator, Token};
 use std::alloc::{AllocError, Global};
 use std::collections::VecDeque;
 
@@ -35,20 +35,27 @@ struct Nesting {
     indents: usize,
 }
 
-fn of_sign(sign: Sign) -> Effect
+fn of_sign(sign: Punctuator) -> Effect
     ensures { result ≡ spec.of_sign sign }
 {
     match sign {
-        Sign::Comma => Effect::Comma,
-        Sign::Semicolon => Effect::Semicolon,
-        Sign::LeftParen | Sign::LeftBracket | Sign::LeftBrace => Effect::Opens,
-        Sign::RightParen | Sign::RightBracket | Sign::RightBrace => Effect::Closes,
-        Sign::Plus | Sign::Minus | Sign::Star | Sign::StarStar | Sign::SlashSlash | Sign::Percent =>
+        Punctuator::Comma => Effect::Comma,
+        Punctuator::Semicolon => Effect::Semicolon,
+        Punctuator::LeftParen | Punctuator::LeftBracket | Punctuator::LeftBrace => Effect::Opens,
+        Punctuator::RightParen | Punctuator::RightBracket | Punctuator::RightBrace =>
+            Effect::Closes,
+        Punctuator::Plus
+        | Punctuator::Minus
+        | Punctuator::Star
+        | Punctuator::StarStar
+        | Punctuator::SlashSlash
+        | Punctuator::Percent => Effect::Adds,
+        Punctuator::Tilde | Punctuator::Ampersand | Punctuator::Bar | Punctuator::Caret =>
             Effect::Adds,
-        Sign::Tilde | Sign::Ampersand | Sign::Bar | Sign::Caret => Effect::Adds,
-        Sign::ShiftLeft | Sign::ShiftRight | Sign::Dot => Effect::Adds,
-        Sign::Less | Sign::Greater | Sign::LessEqual | Sign::GreaterEqual => Effect::Adds,
-        Sign::EqualEqual | Sign::NotEqual => Effect::Adds,
+        Punctuator::ShiftLeft | Punctuator::ShiftRight | Punctuator::Dot => Effect::Adds,
+        Punctuator::Less | Punctuator::Greater | Punctuator::LessEqual | Punctuator::GreaterEqual =>
+            Effect::Adds,
+        Punctuator::EqualEqual | Punctuator::NotEqual => Effect::Adds,
         _ => Effect::Nothing,
     }
 }
@@ -68,7 +75,7 @@ fn of_kind(kind: Kind) -> Effect
     ensures { result ≡ spec.of_kind kind }
 {
     match kind {
-        Kind::Sign(sign) => of_sign(sign),
+        Kind::Punctuator(sign) => of_sign(sign),
         Kind::Keyword(keyword) => of_keyword(keyword),
         Kind::Newline => Effect::Newline,
         Kind::Indent => Effect::Indent,

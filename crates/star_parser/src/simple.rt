@@ -8,9 +8,9 @@ ghost use Rattle.star_syntax.specs.Statements as spec;
 ghost use Rattle.star_syntax.specs.Language.{Finds, Gives, reads};
 
 use sqlite_items::{Boxed, Items};
-use star_lex::token::{Keyword, Sign};
+use star_lex::token::{Keyword, Punctuator};
 use star_syntax::expressions::tests_at;
-use star_syntax::leaf::{Leaf, Word};
+use star_syntax::leaf::{TokenValue, ValuedToken};
 use star_syntax::make::{augmented_of, target_of};
 use star_syntax::name::is_name;
 use star_syntax::reader::{Read, exact, keyword, name, sign};
@@ -26,12 +26,12 @@ pub struct Simple {
 }
 
 /// NEWLINE, if it is at the front of the leaves.
-pub fn newline(leaves: &[Leaf]) -> Option<((), &[Leaf])>
+pub fn newline(leaves: &[ValuedToken]) -> Option<((), &[ValuedToken])>
     ensures { Finds (first (λ t. spec.is_newline t.word) leaves.now) result }
 {
     match leaves {
         [leaf, rest @ ..] => match &leaf.word {
-            Word::Newline => Some(((), rest)),
+            TokenValue::Newline => Some(((), rest)),
             _ => None,
         },
         [] => None,
@@ -39,12 +39,12 @@ pub fn newline(leaves: &[Leaf]) -> Option<((), &[Leaf])>
 }
 
 /// The string at the front of the leaves.
-fn literal(leaves: &[Leaf]) -> Read<'_, Literal>
+fn literal(leaves: &[ValuedToken]) -> Read<'_, Literal>
     ensures { Gives (first (λ t. spec.literal_of t.position t.word) leaves.now) result }
 {
     match leaves {
         [leaf, rest @ ..] => match &leaf.word {
-            Word::Text(text) => {
+            TokenValue::Text(text) => {
                 let text = text.share()?;
                 let position = leaf.position;
                 Ok(Some((Literal { text, position }, rest)))
@@ -55,35 +55,35 @@ fn literal(leaves: &[Leaf]) -> Read<'_, Literal>
     }
 }
 
-fn augmenting_sign(sign: Sign) -> Option<BinaryOperator>
+fn augmenting_sign(sign: Punctuator) -> Option<BinaryOperator>
     ensures { result ≡ spec.augmenting_sign sign }
 {
     match sign {
-        Sign::PlusAssign => Some(BinaryOperator::Add),
-        Sign::MinusAssign => Some(BinaryOperator::Subtract),
-        Sign::StarAssign => Some(BinaryOperator::Multiply),
-        Sign::SlashSlashAssign => Some(BinaryOperator::FloorDivide),
-        Sign::PercentAssign => Some(BinaryOperator::Modulo),
-        Sign::AmpersandAssign => Some(BinaryOperator::BitAnd),
-        Sign::BarAssign => Some(BinaryOperator::BitOr),
-        Sign::CaretAssign => Some(BinaryOperator::BitXor),
-        Sign::ShiftLeftAssign => Some(BinaryOperator::ShiftLeft),
-        Sign::ShiftRightAssign => Some(BinaryOperator::ShiftRight),
+        Punctuator::PlusAssign => Some(BinaryOperator::Add),
+        Punctuator::MinusAssign => Some(BinaryOperator::Subtract),
+        Punctuator::StarAssign => Some(BinaryOperator::Multiply),
+        Punctuator::SlashSlashAssign => Some(BinaryOperator::FloorDivide),
+        Punctuator::PercentAssign => Some(BinaryOperator::Modulo),
+        Punctuator::AmpersandAssign => Some(BinaryOperator::BitAnd),
+        Punctuator::BarAssign => Some(BinaryOperator::BitOr),
+        Punctuator::CaretAssign => Some(BinaryOperator::BitXor),
+        Punctuator::ShiftLeftAssign => Some(BinaryOperator::ShiftLeft),
+        Punctuator::ShiftRightAssign => Some(BinaryOperator::ShiftRight),
         _ => None,
     }
 }
 
-fn augmenting_word(word: &Word) -> Option<BinaryOperator>
+fn augmenting_word(word: &TokenValue) -> Option<BinaryOperator>
     ensures { result ≡ spec.augmenting_word word.now }
 {
     match word {
-        Word::Sign(sign) => augmenting_sign(*sign),
+        TokenValue::Punctuator(sign) => augmenting_sign(*sign),
         _ => None,
     }
 }
 
 /// `AugOp = '+=' | '-=' | '*=' | '//=' | '%=' | '&=' | '|=' | '^=' | '<<=' | '>>='`
-fn augmenting(leaves: &[Leaf]) -> Option<(BinaryOperator, &[Leaf])>
+fn augmenting(leaves: &[ValuedToken]) -> Option<(BinaryOperator, &[ValuedToken])>
     ensures { Finds (first (λ t. spec.augmenting_word t.word) leaves.now) result }
 {
     match leaves {
@@ -164,7 +164,7 @@ pub fn only<T: Drop>(alloc: Global, item: T) -> Result<Items<T>, AllocError>
 }
 
 impl Simple {
-    fn tests<'a>(&self, leaves: &'a [Leaf]) -> Read<'a, Boxed<Expression>>
+    fn tests<'a>(&self, leaves: &'a [ValuedToken]) -> Read<'a, Boxed<Expression>>
         ensures { Gives (reads self.now.depth tests leaves.now) result }
     {
         tests_at(self.alloc, self.depth, leaves)
@@ -172,7 +172,7 @@ impl Simple {
 
     /// `'return' [Tests]`
     #[tactic(auto, unfolding(star_syntax::specs::Statements::returned))]
-    fn returned<'a>(&self, leaves: &'a [Leaf]) -> Read<'a, Form>
+    fn returned<'a>(&self, leaves: &'a [ValuedToken]) -> Read<'a, Form>
         ensures { Gives (reads self.now.depth spec.returned leaves.now) result }
     {
         let Some((_, rest)) = keyword(Keyword::Return, leaves) else {
@@ -186,13 +186,13 @@ impl Simple {
 
     /// `[name '=']`
     #[tactic(auto, unfolding(star_syntax::specs::Statements::local))]
-    fn local<'a>(&self, leaves: &'a [Leaf]) -> Read<'a, Option<Name>>
+    fn local<'a>(&self, leaves: &'a [ValuedToken]) -> Read<'a, Option<Name>>
         ensures { Gives (reads self.now.depth spec.local leaves.now) result }
     {
         let Some((bound, rest)) = name(leaves)? else {
             return Ok(Some((None, leaves)));
         };
-        match sign(Sign::Assign, rest) {
+        match sign(Punctuator::Assign, rest) {
             Some((_, rest)) => Ok(Some((Some(bound), rest))),
             None => Ok(Some((None, leaves))),
         }
@@ -200,7 +200,7 @@ impl Simple {
 
     /// `[name '='] string`
     #[tactic(auto, unfolding(star_syntax::specs::Statements::loaded))]
-    fn loaded<'a>(&self, leaves: &'a [Leaf]) -> Read<'a, LoadedName>
+    fn loaded<'a>(&self, leaves: &'a [ValuedToken]) -> Read<'a, LoadedName>
         ensures { Gives (reads self.now.depth spec.loaded leaves.now) result }
     {
         let Some((local, rest)) = self.local(leaves)? else {
@@ -217,10 +217,10 @@ impl Simple {
 
     /// `',' [name '='] string`
     #[tactic(auto, unfolding(star_syntax::specs::Statements::next_loaded))]
-    fn next_loaded<'a>(&self, leaves: &'a [Leaf]) -> Read<'a, LoadedName>
+    fn next_loaded<'a>(&self, leaves: &'a [ValuedToken]) -> Read<'a, LoadedName>
         ensures { Gives (reads self.now.depth spec.next_loaded leaves.now) result }
     {
-        let Some((_, rest)) = sign(Sign::Comma, leaves) else {
+        let Some((_, rest)) = sign(Punctuator::Comma, leaves) else {
             return Ok(None);
         };
         self.loaded(rest)
@@ -228,7 +228,7 @@ impl Simple {
 
     /// `{',' [name '='] string}`
     #[tactic(auto, unfolding(star_syntax::specs::Statements::all_loaded))]
-    fn all_loaded<'a>(&self, leaves: &'a [Leaf]) -> Read<'a, Items<LoadedName>>
+    fn all_loaded<'a>(&self, leaves: &'a [ValuedToken]) -> Read<'a, Items<LoadedName>>
         ensures { Gives (reads self.now.depth spec.all_loaded leaves.now) result }
     {
         let mut found = Items::new(self.alloc);
@@ -245,10 +245,10 @@ impl Simple {
 
     /// `'(' string {',' [name '='] string} [','] ')'`
     #[tactic(auto, unfolding(star_syntax::specs::Statements::loads))]
-    fn loads<'a>(&self, leaves: &'a [Leaf]) -> Read<'a, (Literal, Items<LoadedName>)>
+    fn loads<'a>(&self, leaves: &'a [ValuedToken]) -> Read<'a, (Literal, Items<LoadedName>)>
         ensures { Gives (reads self.now.depth spec.loads leaves.now) result }
     {
-        let Some((_, rest)) = sign(Sign::LeftParen, leaves) else {
+        let Some((_, rest)) = sign(Punctuator::LeftParen, leaves) else {
             return Ok(None);
         };
         let Some((module, rest)) = literal(rest)? else {
@@ -257,11 +257,11 @@ impl Simple {
         let Some((names, rest)) = self.all_loaded(rest)? else {
             return Ok(None);
         };
-        let rest = match sign(Sign::Comma, rest) {
+        let rest = match sign(Punctuator::Comma, rest) {
             Some((_, rest)) => rest,
             None => rest,
         };
-        let Some((_, rest)) = sign(Sign::RightParen, rest) else {
+        let Some((_, rest)) = sign(Punctuator::RightParen, rest) else {
             return Ok(None);
         };
         Ok(Some(((module, names), rest)))
@@ -269,7 +269,7 @@ impl Simple {
 
     /// `Load = 'load' '(' string {',' [name '='] string} [','] ')'`
     #[tactic(auto, unfolding(star_syntax::specs::Statements::load))]
-    fn load<'a>(&self, leaves: &'a [Leaf]) -> Read<'a, Form>
+    fn load<'a>(&self, leaves: &'a [ValuedToken]) -> Read<'a, Form>
         ensures { Gives (reads self.now.depth spec.load leaves.now) result }
     {
         let Some((_, rest)) = keyword(Keyword::Load, leaves) else {
@@ -284,10 +284,13 @@ impl Simple {
 
     /// `'=' | AugOp`
     #[tactic(auto, unfolding(star_syntax::specs::Statements::assigning))]
-    fn assigning<'a>(&self, leaves: &'a [Leaf]) -> Option<(Option<BinaryOperator>, &'a [Leaf])>
+    fn assigning<'a>(
+        &self,
+        leaves: &'a [ValuedToken],
+    ) -> Option<(Option<BinaryOperator>, &'a [ValuedToken])>
         ensures { Finds (reads self.now.depth spec.assigning leaves.now) result }
     {
-        if let Some((_, rest)) = sign(Sign::Assign, leaves) {
+        if let Some((_, rest)) = sign(Punctuator::Assign, leaves) {
             return Some((None, rest));
         }
         match augmenting(leaves) {
@@ -300,7 +303,7 @@ impl Simple {
     #[tactic(auto, unfolding(star_syntax::specs::Statements::right_side))]
     fn right_side<'a>(
         &self,
-        leaves: &'a [Leaf],
+        leaves: &'a [ValuedToken],
     ) -> Read<'a, (Option<BinaryOperator>, Boxed<Expression>)>
         ensures { Gives (reads self.now.depth spec.right_side leaves.now) result }
     {
@@ -315,7 +318,7 @@ impl Simple {
 
     /// `Tests | Tests '=' Tests | Tests AugOp Tests`: an expression or an assignment.
     #[tactic(auto, unfolding(star_syntax::specs::Statements::told))]
-    fn told<'a>(&self, leaves: &'a [Leaf]) -> Read<'a, Form>
+    fn told<'a>(&self, leaves: &'a [ValuedToken]) -> Read<'a, Form>
         ensures { Gives (reads self.now.depth spec.told leaves.now) result }
     {
         let Some((left, rest)) = self.tests(leaves)? else {
@@ -332,7 +335,7 @@ impl Simple {
 
     /// `'break' | 'continue' | 'pass'`
     #[tactic(auto, unfolding(star_syntax::specs::Statements::keyword_form))]
-    fn keyword_form<'a>(&self, leaves: &'a [Leaf]) -> Option<(Form, &'a [Leaf])>
+    fn keyword_form<'a>(&self, leaves: &'a [ValuedToken]) -> Option<(Form, &'a [ValuedToken])>
         ensures { Finds (reads self.now.depth spec.keyword_form leaves.now) result }
     {
         if let Some((_, rest)) = keyword(Keyword::Break, leaves) {
@@ -350,7 +353,7 @@ impl Simple {
     /// `Small = 'return' [Tests] | 'break' | 'continue' | 'pass' | Load | Tests | Tests '=' Tests | Tests AugOp Tests`,
     /// without its position.
     #[tactic(auto, unfolding(star_syntax::specs::Statements::small_form))]
-    fn small_form<'a>(&self, leaves: &'a [Leaf]) -> Read<'a, Form>
+    fn small_form<'a>(&self, leaves: &'a [ValuedToken]) -> Read<'a, Form>
         ensures { Gives (reads self.now.depth spec.small_form leaves.now) result }
     {
         if let Some(found) = self.returned(leaves)? {
@@ -367,7 +370,7 @@ impl Simple {
 
     /// `Small`, with the position of its first token.
     #[tactic(auto, unfolding(star_syntax::specs::Statements::small))]
-    fn small<'a>(&self, leaves: &'a [Leaf]) -> Read<'a, Statement>
+    fn small<'a>(&self, leaves: &'a [ValuedToken]) -> Read<'a, Statement>
         ensures { Gives (reads self.now.depth spec.small leaves.now) result }
     {
         let [leaf, ..] = leaves else {
@@ -382,10 +385,10 @@ impl Simple {
 
     /// `';' Small`
     #[tactic(auto, unfolding(star_syntax::specs::Statements::next_small))]
-    fn next_small<'a>(&self, leaves: &'a [Leaf]) -> Read<'a, Statement>
+    fn next_small<'a>(&self, leaves: &'a [ValuedToken]) -> Read<'a, Statement>
         ensures { Gives (reads self.now.depth spec.next_small leaves.now) result }
     {
-        let Some((_, rest)) = sign(Sign::Semicolon, leaves) else {
+        let Some((_, rest)) = sign(Punctuator::Semicolon, leaves) else {
             return Ok(None);
         };
         self.small(rest)
@@ -393,7 +396,7 @@ impl Simple {
 
     /// `Small {';' Small}`
     #[tactic(auto, unfolding(star_syntax::specs::Statements::smalls))]
-    fn smalls<'a>(&self, leaves: &'a [Leaf]) -> Read<'a, Items<Statement>>
+    fn smalls<'a>(&self, leaves: &'a [ValuedToken]) -> Read<'a, Items<Statement>>
         ensures { Gives (reads self.now.depth spec.smalls leaves.now) result }
     {
         let Some((first, mut rest)) = self.small(leaves)? else {
@@ -412,13 +415,13 @@ impl Simple {
 
     /// `Simple = Small {';' Small} [';'] NEWLINE`
     #[tactic(auto, unfolding(star_syntax::specs::Statements::simple))]
-    pub fn simple<'a>(&self, leaves: &'a [Leaf]) -> Read<'a, Items<Statement>>
+    pub fn simple<'a>(&self, leaves: &'a [ValuedToken]) -> Read<'a, Items<Statement>>
         ensures { Gives (reads self.now.depth spec.simple leaves.now) result }
     {
         let Some((found, rest)) = self.smalls(leaves)? else {
             return Ok(None);
         };
-        let rest = match sign(Sign::Semicolon, rest) {
+        let rest = match sign(Punctuator::Semicolon, rest) {
             Some((_, rest)) => rest,
             None => rest,
         };

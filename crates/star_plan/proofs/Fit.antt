@@ -52,16 +52,16 @@ found_in false (Some (Some p)) at c e = (p, refl, e)
 -- a load of a file: the place of its outcome among those of all loads, and its run, over good results at a smaller
 -- depth
 pub record Source (plan : Plan) (d n : ℕ) (ms : List Local) (k : ℕ) (m : Local) : Type 0 where
-  all : all_good (map (result plan (suc d)) (loaded plan n)) ≡ Some ms
-  place : ℕ
-  loads : slice_get (loaded plan n) place ≡ Some k
-  among : slice_get ms place ≡ Some m
-  is : result plan (suc d) k ≡ Some m
-  outcomes : List Local
-  below : all_good (map (result plan d) (loaded plan k)) ≡ Some outcomes
-  statements : List Statement
-  sound : tree_in (read_of plan k) ≡ Some statements
-  run : EndsWell plan k statements outcomes m
+  pub all : all_good (map (result plan (suc d)) (loaded plan n)) ≡ Some ms
+  pub place : ℕ
+  pub loads : slice_get (loaded plan n) place ≡ Some k
+  pub among : slice_get ms place ≡ Some m
+  pub is : result plan (suc d) k ≡ Some m
+  pub outcomes : List Local
+  pub below : all_good (map (result plan d) (loaded plan k)) ≡ Some outcomes
+  pub statements : List Statement
+  pub sound : tree_in (read_of plan k) ≡ Some statements
+  pub run : EndsWell plan k statements outcomes m
 
 pub source : (plan : Plan) (d n : ℕ) (ms : List Local) → all_good (map (result plan (suc d)) (loaded plan n)) ≡ Some ms → (home : ℕ) (p : Published) → (one : StandsOn (result plan (suc d)) (loaded plan n) ms home p) → Source plan d n ms one.file one.outcome
 source plan d n ms all home p one =
@@ -135,6 +135,24 @@ seen_there plan d n ms k m s home p there at c here =
     seen_on shelf s.run.state k home (own plan d n ms k m s) p at c (ends_at_home (given plan k s.outcomes) s.statements plan.steps s.run.ended s.run.state s.run.done) refl (not_own plan d k s.outcomes s.below)
     (from_put (is_taken (slice_get shelf k)) k (own plan d n ms k m s) shelf home p (subst (λ x. slice_get x home ≡ Some (Some p)) s.run.shelf there)) here
 
+-- a cell that a file sees was seen at the end of a load's run
+pub seen_before : (plan : Plan) (d n : ℕ) (ms : List Local) → all_good (map (result plan (suc d)) (loaded plan n)) ≡ Some ms → (v : Value) (c : Cell) → seen (given plan n ms) (start (given plan n ms) plan.steps) v ≡ Some c
+    → (k : ℕ) × (m : Local) × (s : Source plan d n ms k m) × (seen (given plan k s.outcomes) s.run.state v ≡ Some c)
+seen_before plan d n ms all (value.Ref home at) c e =
+    let found = found_in (nat_eq home n) (slice_get (union (map reached ms)) home) at c e in
+    let one = from_loads (result plan (suc d)) (loaded plan n) ms all home found.0 found.1 in
+    let s = source plan d n ms all home found.0 one in
+    (one.file, one.outcome, s, seen_there plan d n ms one.file one.outcome s home found.0 one.there at c found.2)
+seen_before plan d n ms all _ c e = absurd (let no : ⊥ = cc in no)
+
+-- at depth 0 no load is good, so that nothing is seen
+pub none_seen : (plan : Plan) (n : ℕ) (ms : List Local) → all_good (map (result plan zero) (loaded plan n)) ≡ Some ms → (v : Value) (c : Cell) → seen (given plan n ms) (start (given plan n ms) plan.steps) v ≡ Some c → ⊥
+none_seen plan n ms all (value.Ref home at) c e =
+    let found = found_in (nat_eq home n) (slice_get (union (map reached ms)) home) at c e in
+    let one = from_loads (result plan zero) (loaded plan n) ms all home found.0 found.1 in
+    never plan one.file (good_there plan zero one.file one.outcome home found.0 one.result one.there)
+none_seen plan n ms all _ c e = let no : ⊥ = cc in no
+
 -- after the load's run all functions fit
 fits_after : (plan : Plan) (tables : Tables) → Right plan tables → (d n : ℕ) (ms : List Local) (k : ℕ) (m : Local) (s : Source plan d n ms k m) → FitAt plan d → AllFit (trees plan) (given plan k s.outcomes) s.run.state
 fits_after plan tables right d n ms k m s fit =
@@ -145,27 +163,16 @@ fits_after plan tables right d n ms k m s fit =
 was_seen : (plan : Plan) (tables : Tables) → Right plan tables → (d n : ℕ) (ms : List Local) → all_good (map (result plan (suc d)) (loaded plan n)) ≡ Some ms → FitAt plan d
     → (v : Value) (f : Function) → seen (given plan n ms) (start (given plan n ms) plan.steps) v ≡ Some (cell.Func f)
     → (u : Setting) × (t : State) × Loaded u t (given plan n ms) × AllFit (trees plan) u t × (seen u t v ≡ Some (cell.Func f))
-was_seen plan tables right d n ms all fit (value.Ref home at) f e =
-    let found = found_in (nat_eq home n) (slice_get (union (map reached ms)) home) at (cell.Func f) e in
-    let one = from_loads (result plan (suc d)) (loaded plan n) ms all home found.0 found.1 in
-    let s = source plan d n ms all home found.0 one in (
-      given plan one.file s.outcomes,
+was_seen plan tables right d n ms all fit v f e =
+    let it = seen_before plan d n ms all v (cell.Func f) e in
+    let s = it.2 in (
+      given plan it.0 s.outcomes,
       s.run.state,
-      is_loaded plan d n ms one.file one.outcome s,
-      fits_after plan tables right d n ms one.file one.outcome s fit,
-      seen_there plan d n ms one.file one.outcome s home found.0 one.there at (cell.Func f) found.2,
+      is_loaded plan d n ms it.0 it.1 s,
+      fits_after plan tables right d n ms it.0 it.1 s fit,
+      it.3,
     )
-was_seen plan tables right d n ms all fit _ f e = absurd (let no : ⊥ = cc in no)
-
--- at depth 0 no load is good, so that nothing is seen
-none_seen : (plan : Plan) (n : ℕ) (ms : List Local) → all_good (map (result plan zero) (loaded plan n)) ≡ Some ms
-    → (v : Value) (f : Function) → seen (given plan n ms) (start (given plan n ms) plan.steps) v ≡ Some (cell.Func f) → ⊥
-none_seen plan n ms all (value.Ref home at) f e =
-    let found = found_in (nat_eq home n) (slice_get (union (map reached ms)) home) at (cell.Func f) e in
-    let one = from_loads (result plan zero) (loaded plan n) ms all home found.0 found.1 in
-    never plan one.file (good_there plan zero one.file one.outcome home found.0 one.result one.there)
-none_seen plan n ms all _ f e = let no : ⊥ = cc in no
 
 pub fit_at : (plan : Plan) (tables : Tables) → Right plan tables → (d : ℕ) → FitAt plan d
-fit_at plan tables right zero = λ n ms all. loads_fit (trees plan) (given plan n ms) plan.steps (λ v f e. absurd (none_seen plan n ms all v f e))
+fit_at plan tables right zero = λ n ms all. loads_fit (trees plan) (given plan n ms) plan.steps (λ v f e. absurd (none_seen plan n ms all v (cell.Func f) e))
 fit_at plan tables right (suc d) = λ n ms all. loads_fit (trees plan) (given plan n ms) plan.steps (was_seen plan tables right d n ms all (fit_at plan tables right d))

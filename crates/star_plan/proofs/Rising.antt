@@ -1,7 +1,10 @@
 -- Rising lists with the same members.
-use Rattle.std.proofs.Common.{arith, ◌≡◌, ◌⊎◌, ◌<◌, ℕ, zero, suc, List, [], ◌∷◌, refl, ap, sym, subst, ◌∙◌, inl, inr}
-use Rattle.std.specs.Prelude.{Contains}
+use Rattle.std.proofs.Common.{arith, ◌≡◌, ◌⊎◌, ◌<◌, ◌+◌, ℕ, zero, suc, List, [], ◌∷◌, ◌++◌, get_or, length, length-append, refl, ap, sym, subst, ◌∙◌, inl, inr}
+use Rattle.std.specs.Prelude.{All, Contains}
 use Rattle.std.specs.List.{AllPairs}
+use Rattle.std.specs.List.Sorted.{IsStrictlyIncreasing}
+use Rattle.std.proofs.lemmas.Bool.{cases_order}
+use Rattle.std.proofs.lemmas.List.{get_or_append_left, get_or_push}
 
 member : (x : ℕ) (xs : List ℕ) (n : ℕ) → Contains (x ∷ xs) n → (x ≡ n) ⊎ Contains xs n
 member x xs n (zero, less, e) = inl e
@@ -42,3 +45,26 @@ same_rising (x ∷ xs) (y ∷ ys) p q to from =
         pick : ((z ≡ n) ⊎ Contains zs n) → Contains zs n
         pick (inl e) = absurd (differ e)
         pick (inr k) = k
+
+-- one more number, above all others
+pub rising_push : (xs : List ℕ) (n : ℕ) → IsStrictlyIncreasing xs → All (λ m. m < n) xs → IsStrictlyIncreasing (xs ++ n ∷ [])
+rising_push xs n up below k h = by_order (cases_order (k + 1) (length xs))
+  where
+    long : length (xs ++ n ∷ []) ≡ length xs + 1
+    long = length-append xs (n ∷ [])
+
+    front : (i : ℕ) → i < length xs → get_or (xs ++ n ∷ []) i 0 ≡ get_or xs i 0
+    front i less = get_or_append_left xs (n ∷ []) 0 i less
+
+    by_order : ((k + 1 ≡ length xs) ⊎ ((k + 1 < length xs) ⊎ (length xs < k + 1))) → get_or (xs ++ n ∷ []) k 0 < get_or (xs ++ n ∷ []) (k + 1) 0
+    by_order (inl same) =
+        let a = front k (omega (arith, same)) in
+        let b : get_or (xs ++ n ∷ []) (k + 1) 0 ≡ n = get_or_push xs n 0 (k + 1) (sym same) in
+        let c = below k 0 (omega (arith, same)) in
+        omega (arith, a, b, c)
+    by_order (inr (inl less)) =
+        let a = front k (omega (arith, less)) in
+        let b = front (k + 1) less in
+        let c = up k less in
+        omega (arith, a, b, c)
+    by_order (inr (inr more)) = absurd (let no : ⊥ = omega (arith, more, h, long) in no)

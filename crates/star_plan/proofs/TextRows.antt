@@ -4,7 +4,7 @@ use Rattle.std.specs.Fmt.{digits}
 use Rattle.std.proofs.Common.{refl}
 use Rattle.serde_json.proofs.OnLiterals.{serde_json_on_literals}
 use Rattle.star_label.specs.Files.{File}
-use Rattle.star_meaning.specs.declared.fault.Code.TheVariants as code
+use Rattle.star_meaning.specs.declared.fault.FaultCode.TheVariants as code
 use Rattle.star_plan.specs.Causes.{Culprit, Cycle}
 use Rattle.star_plan.specs.Report.{HadFault, HadLoad, WentWell}
 use Rattle.star_plan.specs.Text.{report_text}

@@ -8,14 +8,14 @@ use Rattle.star_lex.specs.declared.token.SyntaxFault.{SyntaxFault}
 use Rattle.star_lex.specs.declared.token.SyntaxFault.TheVariants as syntax
 use Rattle.star_scope.specs.declared.error.ScopeFault.{ScopeFault}
 use Rattle.star_scope.specs.declared.error.ScopeFault.TheVariants as names
-use Rattle.star_meaning.specs.declared.fault.Code.{Code}
-use Rattle.star_meaning.specs.declared.fault.Code.TheVariants as code
+use Rattle.star_meaning.specs.declared.fault.FaultCode.{FaultCode}
+use Rattle.star_meaning.specs.declared.fault.FaultCode.TheVariants as code
 use Rattle.star_plan.specs.Causes.{Cause, Culprit, Cycle}
 use Rattle.star_plan.specs.Plan.{Plan, StaticFault, OfNames, OfText}
 use Rattle.star_plan.specs.Report.{Ended, HadFault, HadLoad, HadStatic, IsReport, Module, WentWell}
 
 -- the word of a fault of a run
-abbrev pub code_word : Code → List ℕ
+abbrev pub code_word : FaultCode → List ℕ
 code_word code.Frozen = codes "frozen"
 code_word code.Iterating = codes "iterating"
 code_word code.BadType = codes "type"
@@ -99,6 +99,10 @@ ill_data key fault label line lines status =
     object (member key fault (member (codes "label") (string label) (member (codes "line") (number (unsigned line))
     (member (codes "lines") (texts_data lines) (member (codes "status") (string status) no_members)))))
 
+-- of a static fault: its word and its line
+abbrev pub static_data : List ℕ → StaticFault → Data
+static_data label f = ill_data (codes "fault") (string (static_word f)) label (static_line f) [] (codes "static")
+
 -- of a load that is not good: the label of its cause, or the labels of the cycle
 abbrev pub load_data : List File → List ℕ → Cause → ℕ → Data
 load_data files label (Culprit n) line =
@@ -110,8 +114,7 @@ abbrev pub ended_data : List File → List ℕ → Ended → Data
 ended_data files label (WentWell texts lines) = well_data label texts lines
 ended_data files label (HadFault f lines) =
     ill_data (codes "fault") (string (code_word f.code)) label f.line lines (codes "fault")
-ended_data files label (HadStatic f) =
-    ill_data (codes "fault") (string (static_word f)) label (static_line f) [] (codes "static")
+ended_data files label (HadStatic f) = static_data label f
 ended_data files label (HadLoad cause line) = load_data files label cause line
 
 abbrev pub module_data : List File → Module → Data

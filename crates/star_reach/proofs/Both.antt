@@ -27,30 +27,9 @@ use Rattle.star_repo.specs.Reach.{IsReachedOf, root as is_root, prelude as is_pr
 use Rattle.star_repo.specs.Laws.{AreAllFiles}
 use Rattle.star_reach.specs.Laws.{AllSound, PlansReachAll, words_of}
 use Rattle.star_words.specs.Rows.{IsIn}
+use Rattle.star_repo.proofs.Loads.{one_label}
 use Rattle.star_repo.proofs.Rows.{from_in, to_in}
 use Rattle.star_reach.proofs.Plans.{file, some_same}
-
-abbrev slash : ℕ
-slash = 47
-
-abbrev colon : ℕ
-colon = 58
-
-differ : (xs ys : List ℕ) → slash ∷ xs ≡ colon ∷ ys → ⊥
-differ xs ys e = let heads : slash ≡ colon = cc in let no : ⊥ = omega arith in no
-
-rest_of : (x : ℕ) (xs ys : List ℕ) → x ∷ xs ≡ x ∷ ys → xs ≡ ys
-rest_of x xs ys e = cc
-
--- a module string is one label
-one_label : (here text p n q m : List ℕ) → Reads here text p n → Reads here text q m → label_text p n ≡ label_text q m
-one_label here text p n q m a b = pick a.form b.form
-  where
-    pick : ((text ≡ label_text p n) ⊎ ((text ≡ 58 ∷ n) × (p ≡ here))) → ((text ≡ label_text q m) ⊎ ((text ≡ 58 ∷ m) × (q ≡ here))) → label_text p n ≡ label_text q m
-    pick (inl e) (inl f) = sym e ∙ f
-    pick (inl e) (inr (f, g)) = absurd (differ (47 ∷ (p ++ 58 ∷ n)) m (sym e ∙ f))
-    pick (inr (e, g)) (inl f) = absurd (differ (47 ∷ (q ++ 58 ∷ m)) n (sym f ∙ e))
-    pick (inr (e, g)) (inr (f, h)) = ap (λ z. label_text z n) (g ∙ sym h) ∙ ap (label_text q) (rest_of 58 n m (sym e ∙ f))
 
 one_tree : (text : List ℕ) (a b : Tree) → Parses text (Ok a) → Parses text (Ok b) → a ≡ b
 one_tree text a b h k =

@@ -6,3 +6,4 @@ pub mod Crossing
 pub mod Closures
 pub mod Moving
 pub mod Plans
+pub mod Listed

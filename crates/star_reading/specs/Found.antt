@@ -1,11 +1,13 @@
 -- The files that were found and read so far, and at the end all that roots reach.
-use Rattle.std.specs.Prelude.{◌≡◌, ◌+◌, ◌<◌, ◌⊎◌, ℕ, Bool, true, false, List, None, Option, length, All, IsSome, Contains, count_by, not, slice_index_or}
+use Rattle.std.specs.Prelude.{◌≡◌, ◌+◌, ◌<◌, ◌⊎◌, ℕ, Bool, true, false, List, [], ◌∷◌, ◌++◌, None, Option, length, All, IsSome, Contains, count_by, nat_eq, not, slice_index_or}
+use Rattle.std.specs.List.{list_any}
 use Rattle.star_label.specs.Files.{File}
 use Rattle.star_scope.specs.declared.program.Prelude.{Prelude}
 use Rattle.star_plan.specs.Plan.{Plan}
 use Rattle.star_plan.specs.Reached.{IsReached}
 use Rattle.star_plan.specs.Reading.{IsPrelude}
 use Rattle.star_reading.specs.Readings.{AreReadAs, Row, loads_at, read_at, readings}
+use Rattle.star_reading.specs.declared.reading.Found.{Found}
 
 -- numbers of files
 abbrev pub Within : List File → List ℕ → Type 0
@@ -31,6 +33,10 @@ IsReachedBy roots row n = IsReached (plan_by roots row) n
 -- a file was found
 abbrev pub IsMarked : List Bool → ℕ → Type 0
 IsMarked marks n = slice_index_or marks n false ≡ true
+
+-- each file is marked that is a root, and no other
+abbrev pub AreMarked : List ℕ → List Bool → Type 0
+AreMarked roots marks = (n : ℕ) → n < length marks → slice_index_or marks n false ≡ list_any (nat_eq n) roots
 
 -- the number of files left: files not found yet, and files that wait to be read
 abbrev pub left_of : List Bool → List ℕ → ℕ
@@ -58,6 +64,14 @@ pub record AreFound (files : List File) (prelude : Option Prelude) (roots : List
   pub read : (n : ℕ) → IsSome (read_at row n) → IsMarked marks n
   pub done : (n : ℕ) → IsMarked marks n → IsSome (read_at row n) ⊎ Contains todo n
   pub waits : All (IsMarked marks) todo
+
+-- so it is of what the code has found
+abbrev pub HasFound : List File → Option Prelude → List ℕ → Found → Type 0
+HasFound files prelude roots f = AreFound files prelude roots f.reads.items f.marks.items f.todo.items
+
+-- so it is where one file more waits, the last
+abbrev pub HasFoundWith : List File → Option Prelude → List ℕ → Found → ℕ → Type 0
+HasFoundWith files prelude roots f n = AreFound files prelude roots f.reads.items f.marks.items (f.todo.items ++ n ∷ [])
 
 -- the row has the readings of all files that the roots reach, and of no others
 pub record IsRowOf (files : List File) (prelude : Option Prelude) (roots : List ℕ) (row : Row) : Type 0 where

@@ -3,3 +3,5 @@ pub mod Codes
 pub mod Parsed
 pub mod Readings
 pub mod Found
+pub mod Ahead
+pub mod Listed

@@ -8,7 +8,7 @@ use Rattle.star_scope.specs.declared.loads.Load.{Load}
 use Rattle.star_scope.specs.declared.program.Prelude.{Prelude}
 use Rattle.star_scope.specs.Resolve.{Resolves}
 use Rattle.star_meaning.specs.Programs.{Files, IsOfFile, PlacedFile, placed_file}
-use Rattle.star_plan.specs.Plan.{Reading, Sound, Faulty, loads_in}
+use Rattle.star_plan.specs.Plan.{Plan, Reading, Sound, Faulty, loads_in}
 use Rattle.star_plan.specs.Reading.{IsRead}
 use Rattle.star_reading.specs.Codes.{fault_of}
 use Rattle.star_reading.specs.declared.reading.Read.{Read}
@@ -32,6 +32,14 @@ read_at row n = option_flatten (slice_get row n)
 -- the loads of a file in a row
 abbrev pub loads_at : Row → ℕ → List Load
 loads_at row n = loads_in (option_map reading_of (read_at row n))
+
+-- the loads of all that was read lead to places of the row
+abbrev pub LeadWithin : Row → Type 0
+LeadWithin row = (n : ℕ) → All (λ l. l.file < length row) (loads_at row n)
+
+-- so it is in each plan that has what was read
+abbrev pub InReadPlans : Row → (Plan → Type 0) → Type 0
+InReadPlans row P = (plan : Plan) → readings row ≡ plan.reads → P plan
 
 -- the loads of a read file; none if it has a static fault
 abbrev pub loads_read : Read → List Load

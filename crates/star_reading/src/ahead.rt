@@ -1,9 +1,8 @@
 //! Reading in parallel: several threads read files as they are found, and some before that, when they would sleep.
 
-ghost use Rattle.std.specs.Prelude.{◌<◌, All, IfOk, IfSome, List, OnOk, Option, length};
+ghost use Rattle.std.specs.Prelude.{◌<◌, IfOk, OnOk, length};
 ghost use Rattle.std.specs.Option.{option_copied};
-ghost use Rattle.star_label.specs.Files.{File};
-ghost use Rattle.star_scope.specs.declared.program.Prelude.{Prelude as PreludeView};
+ghost use Rattle.star_reading.specs.Ahead.{AreSharesReadAs, IsTaken, StayReadings, StaysRight};
 ghost use Rattle.star_reading.specs.Parsed.{AreParsesOf};
 ghost use Rattle.star_reading.specs.Readings.{AreReadAs, AreAllReadAs, IsReadAs};
 
@@ -36,9 +35,8 @@ impl<'s, 't> Reader<'s, 't> {
         n: usize,
     ) -> Result<Vec<usize>, AllocError>
         requires parses { AreParsesOf self.now.files.now self.now.parses.now }
-        ensures { OnOk result (
-            AreAllReadAs self.now.files.now (option_copied self.now.prelude) reads.old.items
-            → AreAllReadAs self.now.files.now (option_copied self.now.prelude) reads.new.items) }
+        ensures { OnOk result (StayReadings self.now.files.now (option_copied self.now.prelude) reads.old.items
+            reads.new.items) }
     {
         if n >= self.files.len() {
             return Ok(Vec::new(self.alloc));
@@ -96,8 +94,8 @@ impl<'s, 't> Reader<'s, 't> {
         threads: usize,
     ) -> Result<Vec<Result<Vec<(usize, Read<'t>)>, AllocError>>, AllocError>
         requires parses { AreParsesOf self.now.files.now self.now.parses.now }
-        ensures { IfOk result (λ shares. All (λ r. IfOk r (λ reads.
-            AreAllReadAs self.now.files.now (option_copied self.now.prelude) reads.items)) shares.items) }
+        ensures { IfOk result (λ shares.
+            AreSharesReadAs self.now.files.now (option_copied self.now.prelude) shares.items) }
     {
         thread::map_indices(
             rt,
@@ -157,8 +155,7 @@ impl<'s, 't> Reader<'s, 't> {
 impl<'t> Found<'t> {
     /// Takes the result of reading a file ahead out, if there is one.
     fn take(&mut self, n: usize) -> Option<Read<'t>>
-        ensures { (files : List File) (prelude : Option PreludeView) → AreReadAs files prelude self.old.reads.items
-            → IfSome result (IsReadAs files prelude n) × AreReadAs files prelude self.new.reads.items }
+        ensures { IsTaken n result self.old.reads.items self.new.reads.items }
     {
         if n < self.reads.len() {
             self.reads[n].take()
@@ -169,8 +166,8 @@ impl<'t> Found<'t> {
 
     /// Records that a file was read, if there is one with this number.
     fn add_read(&mut self, n: usize, read: Read<'t>) -> Result<(), AllocError>
-        ensures { OnOk result ((files : List File) (prelude : Option PreludeView) → IsReadAs files prelude n read.entry
-            → AreReadAs files prelude self.old.reads.items → AreReadAs files prelude self.new.reads.items) }
+        ensures { OnOk result (StaysRight (λ files prelude. IsReadAs files prelude n read.entry)
+            self.old.reads.items self.new.reads.items) }
     {
         if n >= self.reads.len() {
             return Ok(());
@@ -181,9 +178,8 @@ impl<'t> Found<'t> {
 
     /// Records that several files were read.
     fn add_each(&mut self, reads: Vec<(usize, Read<'t>)>) -> Result<(), AllocError>
-        ensures { OnOk result ((files : List File) (prelude : Option PreludeView)
-            → AreAllReadAs files prelude reads.entry.items
-            → AreReadAs files prelude self.old.reads.items → AreReadAs files prelude self.new.reads.items) }
+        ensures { OnOk result (StaysRight (λ files prelude. AreAllReadAs files prelude reads.entry.items)
+            self.old.reads.items self.new.reads.items) }
     {
         for (n, read) in reads {
             self.add_read(n, read)?;
@@ -196,9 +192,8 @@ impl<'t> Found<'t> {
         &mut self,
         shares: Vec<Result<Vec<(usize, Read<'t>)>, AllocError>>,
     ) -> Result<(), AllocError>
-        ensures { OnOk result ((files : List File) (prelude : Option PreludeView)
-            → All (λ r. IfOk r (λ reads. AreAllReadAs files prelude reads.items)) shares.entry.items
-            → AreReadAs files prelude self.old.reads.items → AreReadAs files prelude self.new.reads.items) }
+        ensures { OnOk result (StaysRight (λ files prelude. AreSharesReadAs files prelude shares.entry.items)
+            self.old.reads.items self.new.reads.items) }
     {
         for share in shares {
             self.add_each(share?)?;

@@ -8,7 +8,7 @@ ghost use Rattle.star_plan.specs.Text.{code_word, static_line};
 ghost use Rattle.star_reading.specs.Codes.{fault_of, word_of};
 
 use star_lex::token::SyntaxFault;
-use star_meaning::fault::Code;
+use star_meaning::fault::FaultCode;
 use star_scope::error::ScopeFault;
 
 /// The kinds of static faults: why a file is not run.
@@ -96,25 +96,25 @@ impl StaticFault {
 }
 
 /// The word of a fault in the report.
-pub fn code_text(code: Code) -> &'static str
+pub fn code_text(code: FaultCode) -> &'static str
     ensures { result.now ≡ code_word code }
 {
     match code {
-        Code::Frozen => "frozen",
-        Code::Iterating => "iterating",
-        Code::BadType => "type",
-        Code::Index => "index",
-        Code::Key => "key",
-        Code::Overflow => "overflow",
-        Code::Unbound => "unbound",
-        Code::Recursion => "recursion",
-        Code::Args => "args",
-        Code::Zero => "zero",
-        Code::Fail => "fail",
-        Code::NoName => "no_name",
-        Code::Steps => "steps",
-        Code::Deep => "deep",
-        Code::Cut => "cut",
-        Code::BadValue => "value",
+        FaultCode::Frozen => "frozen",
+        FaultCode::Iterating => "iterating",
+        FaultCode::BadType => "type",
+        FaultCode::Index => "index",
+        FaultCode::Key => "key",
+        FaultCode::Overflow => "overflow",
+        FaultCode::Unbound => "unbound",
+        FaultCode::Recursion => "recursion",
+        FaultCode::Args => "args",
+        FaultCode::Zero => "zero",
+        FaultCode::Fail => "fail",
+        FaultCode::NoName => "no_name",
+        FaultCode::Steps => "steps",
+        FaultCode::Deep => "deep",
+        FaultCode::Cut => "cut",
+        FaultCode::BadValue => "value",
     }
 }

@@ -5,7 +5,7 @@
 //! - `Trees` owns the trees. Programs borrow them, so whoever keeps `Reads` keeps the trees too.
 //! - `ahead` lets several threads read files as they are found. `reading` then goes over the reached files in one
 //!   thread, takes the files that were read ahead and reads the others. So the result is that of one thread.
-//! - `parses` parses a text once, if several need its tree.
+//! - `parses` parses a text once, if several need its tree. `roots` marks the files that are roots.
 //!
 //! Begin at `files.rt::read_files`. The promise is its clause `read`: the result has exactly the files that the roots
 //! reach, each with the reading that the definition (`star_plan/specs/Reading`) gives it.
@@ -16,3 +16,4 @@ pub mod code;
 pub mod files;
 pub mod parses;
 pub mod reading;
+pub mod roots;

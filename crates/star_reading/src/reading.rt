@@ -1,14 +1,15 @@
 //! The reading of all files that roots reach, before any body runs.
 
-ghost use Rattle.std.specs.Prelude.{◌≡◌, ◌<◌, ◌∷◌, ◌++◌, None, Some, Ok, [], All, IfOk, IfSome, IsTrue, IsFalse};
-ghost use Rattle.std.specs.Prelude.{IsSome, MatchOption, MatchResult, OnOk, false, length, map, replicate};
+ghost use Rattle.std.specs.Prelude.{◌≡◌, ◌<◌, ◌∷◌, ◌++◌, None, Option, Some, Ok, [], All, IfOk, IfSome, IsTrue, IsFalse};
+ghost use Rattle.std.specs.Prelude.{IsSome, MatchOption, OnOk, false, length, map, replicate};
 ghost use Rattle.std.specs.Prelude.{slice_set, vec_len};
 ghost use Rattle.std.specs.Option.{option_copied};
 ghost use Rattle.star_label.specs.Files.{text_at};
 ghost use Rattle.star_parser.specs.Sources.{Parses};
-ghost use Rattle.star_reading.specs.Found.{AreFound, Grew, IsMarked, IsRowOf, Within, left_of};
+ghost use Rattle.star_scope.specs.declared.program.Prelude.{Prelude as PreludeView};
+ghost use Rattle.star_reading.specs.Found.{Grew, HasFound, HasFoundWith, IsMarked, IsRowOf, Within, left_of};
 ghost use Rattle.star_reading.specs.Parsed.{AreParsesOf};
-ghost use Rattle.star_reading.specs.Readings.{AreReadAs, IsReadAs, loads_read, read_at};
+ghost use Rattle.star_reading.specs.Readings.{AreReadAs, IsReadAs, loads_at, loads_read, read_at};
 
 use crate::code::{StaticFault, of_scope, of_syntax};
 use crate::parses::{Parsed, parsed_once};
@@ -58,6 +59,23 @@ impl<'t> Reads<'t> {
         Reads {
             all: Vec::new(alloc),
         }
+    }
+
+    /// The loads of a file; none if it has a static fault, or was not read.
+    pub fn loads(&self, n: usize) -> &[Load]
+        ensures { result.now ≡ loads_at self.now.all.items n }
+    {
+        loads_in(self.all.as_slice(), n)
+    }
+}
+
+/// The loads of a file among those that were read; none if it has a static fault, or was not read.
+pub fn loads_in<'s, 't>(reads: &'s [Option<Read<'t>>], n: usize) -> &'s [Load]
+    ensures { result.now ≡ loads_at reads.now n }
+{
+    match reads.get(n) {
+        Some(Some(Read::Program(program))) => program.loads(),
+        _ => &[],
     }
 }
 
@@ -123,10 +141,10 @@ impl<'s, 't> Reader<'s, 't> {
         requires ahead { AreReadAs self.now.files.now (option_copied self.now.prelude) ahead.old.reads.items }
         requires file { n < length self.now.files.now }
         requires prelude { IfSome self.now.prelude (λ p. p.now.file < length self.now.files.now) }
-        requires found { AreFound self.now.files.now (option_copied self.now.prelude) self.now.roots.now
-            found.old.reads.items found.old.marks.items (found.old.todo.items ++ n ∷ []) }
-        ensures found { OnOk result (AreFound self.now.files.now (option_copied self.now.prelude) self.now.roots.now
-            found.new.reads.items found.new.marks.items found.new.todo.items) }
+        requires found { HasFoundWith self.now.files.now (option_copied self.now.prelude) self.now.roots.now found.old
+            n }
+        ensures found { OnOk result
+            (HasFound self.now.files.now (option_copied self.now.prelude) self.now.roots.now found.new) }
         ensures left { OnOk result (left_of found.new.marks.items found.new.todo.items
             ≡ left_of found.old.marks.items found.old.todo.items) }
         ensures ahead { AreReadAs self.now.files.now (option_copied self.now.prelude) ahead.new.reads.items }
@@ -137,17 +155,6 @@ impl<'s, 't> Reader<'s, 't> {
         let read = self.read_once(rt, ahead, n)?;
         found.add(n, read)?;
         Ok(())
-    }
-
-    /// The start: the roots are found, and nothing is read yet.
-    fn start(&self) -> Result<Found<'t>, AllocError>
-        requires { Within self.now.files.now self.now.roots.now }
-        ensures { IfOk result (λ f. AreFound self.now.files.now (option_copied self.now.prelude) self.now.roots.now
-            f.reads.items f.marks.items f.todo.items) }
-    {
-        let mut found = Found::new(self.alloc, self.files.len())?;
-        found.mark_each(self.roots)?;
-        Ok(found)
     }
 
     /// Reads all files that the roots reach, by `threads` threads: the roots, and the loads of all that is read. A file
@@ -165,7 +172,7 @@ impl<'s, 't> Reader<'s, 't> {
             self.now.roots.now row.items) }
     {
         let mut ahead = self.read_ahead(rt, threads)?;
-        let mut found = self.start()?;
+        let mut found = Found::from_roots(self.alloc, self.files, self.roots)?;
         while let Some(n) = found.next() {
             self.read_next(rt, &mut found, &mut ahead, n)?;
         }
@@ -217,6 +224,20 @@ impl<'t> Found<'t> {
             marks: vec![in alloc; false; count]?,
             todo: Vec::new(alloc),
         })
+    }
+
+    /// The roots are found, and nothing is read yet. The error: an allocation failed.
+    pub fn from_roots(
+        alloc: Global,
+        files: &Labels,
+        roots: &[usize],
+    ) -> Result<Found<'t>, AllocError>
+        requires { Within files.now roots.now }
+        ensures { IfOk result (λ f. (prelude : Option PreludeView) → HasFound files.now prelude roots.now f) }
+    {
+        let mut found = Found::new(alloc, files.len())?;
+        found.mark_each(roots)?;
+        Ok(found)
     }
 
     /// Takes a file that waits to be read; `None` if none waits.

@@ -24,22 +24,8 @@ use Rattle.star_repo.proofs.Rows.{R, below, from_in, never_less, same_rows, to_i
 
 -- there is a file at a refusal other than a failed read
 stands : (held : Held) (l bytes : List ℕ) (e : ServeError) → e ≢ error.BadFile → Stands held l bytes e → held l ≡ Some bytes
-stands held l bytes error.Read k h = h
-stands held l bytes error.TooBig k h = h
-stands held l bytes error.BadDir k h = h
 stands held l bytes error.BadFile k h = absurd (k refl)
-stands held l bytes error.NotText k h = h
-stands held l bytes error.BadBundle k h = h
-stands held l bytes error.BadKey k h = h
-stands held l bytes error.TooMany k h = h
-stands held l bytes error.TooLong k h = h
-stands held l bytes error.BadRoot k h = h
-stands held l bytes error.NoRoot k h = h
-stands held l bytes error.BadPrelude k h = h
-stands held l bytes error.NoPrelude k h = h
-stands held l bytes error.Memory k h = h
-stands held l bytes error.Write k h = h
-stands held l bytes error.Unpublished k h = h
+stands held l bytes e k h = h
 
 -- a label that follows x in order is not before it
 later : (x : File) (xs : List File) (y : File) (ys : List File) → IsOrdered (x ∷ xs) → IsOrdered (y ∷ ys) → IsIn x ys → ((z : File) → IsIn z (x ∷ xs) → IsIn z (y ∷ ys)) → (z : File) → IsIn z (x ∷ xs) → IsIn z ys
@@ -153,22 +139,12 @@ module _ (held : Held) (words : Words) where
       fits = let w = weight (λ g. length g.1) in let x = total_is (λ g. length g.1) a.front in let y = total_is (λ g. length g.1) ys in let z = pass.small in omega (arith, w, x, y, z)
 
       by : (r : ServeError) → Refuses (length a.front) (size_of a.front) a.bytes r → r ≢ error.BadFile → ⊥
-      by error.Read h k = h
       by error.TooBig h k = let p = fits in let q = h.3 in omega (arith, p, q)
-      by error.BadDir h k = h
       by error.BadFile h k = k refl
       by error.NotText h k = h.2 passed.1
-      by error.BadBundle h k = h
-      by error.BadKey h k = h
       by error.TooMany h k = let m = more in omega (arith, h, m)
       by error.TooLong h k = let p = passed.0 in let q = h.1 in omega (arith, p, q)
-      by error.BadRoot h k = h
-      by error.NoRoot h k = h
-      by error.BadPrelude h k = h
-      by error.NoPrelude h k = h
-      by error.Memory h k = h
-      by error.Write h k = h
-      by error.Unpublished h k = h
+      by e h k = h
 
   -- a refusal at an earlier place would have been one of the files that passed
   earlier : (l m : List ℕ) (e f : ServeError) (a : IsRefusedAt held words l e) (b : IsRefusedAt held words m f) → ComesFirst a.rounds l b.rounds m → e ≢ error.BadFile → ⊥
@@ -179,94 +155,44 @@ module _ (held : Held) (words : Words) where
 
   -- at one place there is one reason
   only_TooMany : (c s : ℕ) (b : List ℕ) (f : ServeError) → Refuses c s b error.TooMany → Refuses c s b f → f ≢ error.BadFile → error.TooMany ≡ f
-  only_TooMany c s b error.Read m h k = absurd h
   only_TooMany c s b error.TooBig m h k = absurd (let q = h.0 in omega (arith, m, q))
-  only_TooMany c s b error.BadDir m h k = absurd h
   only_TooMany c s b error.BadFile m h k = absurd (k refl)
   only_TooMany c s b error.NotText m h k = absurd (let q = h.0 in omega (arith, m, q))
-  only_TooMany c s b error.BadBundle m h k = absurd h
-  only_TooMany c s b error.BadKey m h k = absurd h
   only_TooMany c s b error.TooMany m h k = refl
   only_TooMany c s b error.TooLong m h k = absurd (let q = h.0 in omega (arith, m, q))
-  only_TooMany c s b error.BadRoot m h k = absurd h
-  only_TooMany c s b error.NoRoot m h k = absurd h
-  only_TooMany c s b error.BadPrelude m h k = absurd h
-  only_TooMany c s b error.NoPrelude m h k = absurd h
-  only_TooMany c s b error.Memory m h k = absurd h
-  only_TooMany c s b error.Write m h k = absurd h
-  only_TooMany c s b error.Unpublished m h k = absurd h
+  only_TooMany c s b e m h k = absurd h
 
   only_TooLong : (c s : ℕ) (b : List ℕ) (f : ServeError) → Refuses c s b error.TooLong → Refuses c s b f → f ≢ error.BadFile → error.TooLong ≡ f
-  only_TooLong c s b error.Read m h k = absurd h
   only_TooLong c s b error.TooBig m h k = absurd (let p = m.1 in let q = h.1 in omega (arith, p, q))
-  only_TooLong c s b error.BadDir m h k = absurd h
   only_TooLong c s b error.BadFile m h k = absurd (k refl)
   only_TooLong c s b error.NotText m h k = absurd (let p = m.1 in let q = h.1 in omega (arith, p, q))
-  only_TooLong c s b error.BadBundle m h k = absurd h
-  only_TooLong c s b error.BadKey m h k = absurd h
   only_TooLong c s b error.TooMany m h k = absurd (let q = m.0 in omega (arith, h, q))
   only_TooLong c s b error.TooLong m h k = refl
-  only_TooLong c s b error.BadRoot m h k = absurd h
-  only_TooLong c s b error.NoRoot m h k = absurd h
-  only_TooLong c s b error.BadPrelude m h k = absurd h
-  only_TooLong c s b error.NoPrelude m h k = absurd h
-  only_TooLong c s b error.Memory m h k = absurd h
-  only_TooLong c s b error.Write m h k = absurd h
-  only_TooLong c s b error.Unpublished m h k = absurd h
+  only_TooLong c s b e m h k = absurd h
 
   only_NotText : (c s : ℕ) (b : List ℕ) (f : ServeError) → Refuses c s b error.NotText → Refuses c s b f → f ≢ error.BadFile → error.NotText ≡ f
-  only_NotText c s b error.Read m h k = absurd h
   only_NotText c s b error.TooBig m h k = absurd (m.2 h.2)
-  only_NotText c s b error.BadDir m h k = absurd h
   only_NotText c s b error.BadFile m h k = absurd (k refl)
   only_NotText c s b error.NotText m h k = refl
-  only_NotText c s b error.BadBundle m h k = absurd h
-  only_NotText c s b error.BadKey m h k = absurd h
   only_NotText c s b error.TooMany m h k = absurd (let q = m.0 in omega (arith, h, q))
   only_NotText c s b error.TooLong m h k = absurd (let p = m.1 in let q = h.1 in omega (arith, p, q))
-  only_NotText c s b error.BadRoot m h k = absurd h
-  only_NotText c s b error.NoRoot m h k = absurd h
-  only_NotText c s b error.BadPrelude m h k = absurd h
-  only_NotText c s b error.NoPrelude m h k = absurd h
-  only_NotText c s b error.Memory m h k = absurd h
-  only_NotText c s b error.Write m h k = absurd h
-  only_NotText c s b error.Unpublished m h k = absurd h
+  only_NotText c s b e m h k = absurd h
 
   only_TooBig : (c s : ℕ) (b : List ℕ) (f : ServeError) → Refuses c s b error.TooBig → Refuses c s b f → f ≢ error.BadFile → error.TooBig ≡ f
-  only_TooBig c s b error.Read m h k = absurd h
   only_TooBig c s b error.TooBig m h k = refl
-  only_TooBig c s b error.BadDir m h k = absurd h
   only_TooBig c s b error.BadFile m h k = absurd (k refl)
   only_TooBig c s b error.NotText m h k = absurd (h.2 m.2)
-  only_TooBig c s b error.BadBundle m h k = absurd h
-  only_TooBig c s b error.BadKey m h k = absurd h
   only_TooBig c s b error.TooMany m h k = absurd (let q = m.0 in omega (arith, h, q))
   only_TooBig c s b error.TooLong m h k = absurd (let p = m.1 in let q = h.1 in omega (arith, p, q))
-  only_TooBig c s b error.BadRoot m h k = absurd h
-  only_TooBig c s b error.NoRoot m h k = absurd h
-  only_TooBig c s b error.BadPrelude m h k = absurd h
-  only_TooBig c s b error.NoPrelude m h k = absurd h
-  only_TooBig c s b error.Memory m h k = absurd h
-  only_TooBig c s b error.Write m h k = absurd h
-  only_TooBig c s b error.Unpublished m h k = absurd h
+  only_TooBig c s b e m h k = absurd h
 
   one_reason : (c s : ℕ) (b : List ℕ) (e f : ServeError) → Refuses c s b e → Refuses c s b f → e ≢ error.BadFile → f ≢ error.BadFile → e ≡ f
-  one_reason c s b error.Read f h j k l = absurd h
   one_reason c s b error.TooBig f h j k l = only_TooBig c s b f h j l
-  one_reason c s b error.BadDir f h j k l = absurd h
   one_reason c s b error.BadFile f h j k l = absurd (k refl)
   one_reason c s b error.NotText f h j k l = only_NotText c s b f h j l
-  one_reason c s b error.BadBundle f h j k l = absurd h
-  one_reason c s b error.BadKey f h j k l = absurd h
   one_reason c s b error.TooMany f h j k l = only_TooMany c s b f h j l
   one_reason c s b error.TooLong f h j k l = only_TooLong c s b f h j l
-  one_reason c s b error.BadRoot f h j k l = absurd h
-  one_reason c s b error.NoRoot f h j k l = absurd h
-  one_reason c s b error.BadPrelude f h j k l = absurd h
-  one_reason c s b error.NoPrelude f h j k l = absurd h
-  one_reason c s b error.Memory f h j k l = absurd h
-  one_reason c s b error.Write f h j k l = absurd h
-  one_reason c s b error.Unpublished f h j k l = absurd h
+  one_reason c s b e f h j k l = absurd h
 
   order_of : (l m : List ℕ) (r : Ordering) → R l m ≡ r → (R l m ≡ Less) ⊎ ((l ≡ m) ⊎ (R m l ≡ Less))
   order_of l m Less e = inl e

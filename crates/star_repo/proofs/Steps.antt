@@ -73,40 +73,12 @@ refuses_all count size all front error.Write q h = h
 refuses_all count size all front error.Unpublished q h = h
 
 stands_so : (held : Held) (l bytes : List ℕ) (e : ServeError) → held l ≡ Some bytes → Stands held l bytes e
-stands_so held l bytes error.Read h = h
-stands_so held l bytes error.TooBig h = h
-stands_so held l bytes error.BadDir h = h
 stands_so held l bytes error.BadFile h = tt
-stands_so held l bytes error.NotText h = h
-stands_so held l bytes error.BadBundle h = h
-stands_so held l bytes error.BadKey h = h
-stands_so held l bytes error.TooMany h = h
-stands_so held l bytes error.TooLong h = h
-stands_so held l bytes error.BadRoot h = h
-stands_so held l bytes error.NoRoot h = h
-stands_so held l bytes error.BadPrelude h = h
-stands_so held l bytes error.NoPrelude h = h
-stands_so held l bytes error.Memory h = h
-stands_so held l bytes error.Write h = h
-stands_so held l bytes error.Unpublished h = h
+stands_so held l bytes e h = h
 
 pub none_failed : (label : Label) (e : ServeError) → e ≢ error.BadFile → failed_read (why.Refused label e) ≡ 0
-none_failed label error.Read k = refl
-none_failed label error.TooBig k = refl
-none_failed label error.BadDir k = refl
 none_failed label error.BadFile k = absurd (k refl)
-none_failed label error.NotText k = refl
-none_failed label error.BadBundle k = refl
-none_failed label error.BadKey k = refl
-none_failed label error.TooMany k = refl
-none_failed label error.TooLong k = refl
-none_failed label error.BadRoot k = refl
-none_failed label error.NoRoot k = refl
-none_failed label error.BadPrelude k = refl
-none_failed label error.NoPrelude k = refl
-none_failed label error.Memory k = refl
-none_failed label error.Write k = refl
-none_failed label error.Unpublished k = refl
+none_failed label e k = refl
 
 -- ---- one label
 

@@ -2,9 +2,10 @@
 use Rattle.std.proofs.Common.{◌≡◌, ◌<◌, ℕ, List, [], ◌∷◌, length, refl, sym, subst, arith}
 use Rattle.star_repo.specs.Held.{Said}
 use Rattle.star_repo.specs.Reach.{Words}
-use Rattle.star_repo.specs.Turn.{IsTurn, Turns}
-use Rattle.star_repo.specs.Views.{AllRead, IsOnWay}
+use Rattle.star_repo.specs.Turn.{IsTurn, Turns, TurnsTo}
+use Rattle.star_repo.specs.Views.{AllRead, IsOnWay, labels_of}
 use Rattle.star_repo.specs.declared.found.Found.{Found}
+use Rattle.star_repo.specs.declared.reach.Round.{Round}
 use Rattle.star_repo.specs.declared.reach.Turn.{Turn}
 use Rattle.star_repo.specs.declared.reach.Turn.TheVariants as turn
 
@@ -24,3 +25,9 @@ pub is_turn : (said : Said) (words : Words) (d count : ℕ) (found : Found) (t :
 is_turn said words d count found (turn.Next r) way all more h = (h.0 said words d way, h.1, h.2, let low = more h.4 in omega (arith, low, h.3))
 is_turn said words d count found (turn.End f) way all more h =
     (subst (λ g. IsOnWay said words d g []) (sym h.0) way, subst (λ (g : Found). AllRead g.looked) (sym h.0) all, subst (λ (g : Found). g.fresh.items ≡ []) (sym h.0) h.1)
+
+-- a round of a reading that has come to it turns so, in a folder that says the same as at first
+pub turned : (old says : Said) (words : Words) (d : ℕ) (round : Round) (t u : Turn) → says ≡ old → IsOnWay old words d round.found (labels_of round.waiting.keys)
+    → AllRead round.found.looked → round.found.fresh.items ≡ [] → TurnsTo says round t → t ≡ u → IsTurn says words d round.found.count u
+turned old says words d round t u same way all fresh turns is =
+    subst (IsTurn says words d round.found.count) is (turns words d (subst (λ (s : Said). IsOnWay s words d round.found (labels_of round.waiting.keys)) (sym same) way) all fresh)

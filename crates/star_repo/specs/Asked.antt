@@ -5,8 +5,8 @@ use Rattle.star_label.specs.View.{text_of}
 use Rattle.star_bundle.specs.declared.error.ServeError.TheVariants.{BadFile}
 use Rattle.star_words.specs.Named.{IsMisnamed}
 use Rattle.star_repo.specs.Held.{Fits, Held, Said}
-use Rattle.star_repo.specs.Reach.{AreReachedFiles, Words}
-use Rattle.star_repo.specs.Refusal.{IsRefusedAt, Pass}
+use Rattle.star_repo.specs.Reach.{Words}
+use Rattle.star_repo.specs.Refusal.{AreFilesBy, IsRefusedAt}
 use Rattle.star_repo.specs.declared.error.RepoError.{RepoError}
 use Rattle.star_repo.specs.declared.error.RepoError.TheVariants as why
 
@@ -16,8 +16,7 @@ words_for roots prelude = record { roots = roots; prelude = prelude }
 
 -- these are the files that the roots and the prelude reach in some folder that fits all that is told, within the limits
 abbrev pub AreFilesFor : Said → List (List ℕ) → Option (List ℕ) → List File → Type 0
-AreFilesFor said roots prelude files =
-    (held : Held) × Fits said held × AreReachedFiles held (words_for roots prelude) files × Pass files
+AreFilesFor said roots prelude files = AreFilesBy said (words_for roots prelude) files
 
 -- why they were not read: in some such folder the file at the label is the first, by its round and its label, that does
 -- not pass; or a root, or else the prelude, is not a label

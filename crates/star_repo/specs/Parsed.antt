@@ -22,6 +22,12 @@ ArePartsParsed files size parts =
     (n : ℕ) (d : Result (Vec ParsedView Global) AllocError) → n < length parts
     → IfOk (slice_index_or parts n d) (λ parses. AreParsed (take size (drop (n * size) files)) parses.items)
 
+-- the results for the parts of a list were joined
+abbrev pub AreJoined : List (Result (Vec ParsedView Global) AllocError) → List ParsedView → Type 0
+AreJoined parts parses =
+    (files : List (Label × String Global)) (size : ℕ) → ArePartsParsed files size parts
+    → AreParsed (take (length parts * size) files) parses
+
 -- of some files, if any are given, some texts were parsed so
 abbrev pub AreKnown : Option Known → Type 0
 AreKnown known = IfSome known (λ k. AreParsesOf k.files.now k.parses.now)

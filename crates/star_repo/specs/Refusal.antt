@@ -8,9 +8,9 @@ use Rattle.star_label.specs.Files.{File, IsOrdered}
 use Rattle.star_label.specs.Label.{package_of}
 use Rattle.star_bundle.specs.declared.error.ServeError.{ServeError}
 use Rattle.star_bundle.specs.declared.error.ServeError.TheVariants.{BadFile, NotText, TooMany, TooLong, TooBig}
-use Rattle.star_repo.specs.Held.{Held}
+use Rattle.star_repo.specs.Held.{Fits, Held, Said}
 use Rattle.star_repo.specs.Loading.{LoadsLabel}
-use Rattle.star_repo.specs.Reach.{Words}
+use Rattle.star_repo.specs.Reach.{AreReachedFiles, Words}
 
 -- a label is reached after this many loads
 abbrev pub ReachedIn : Held → Words → ℕ → List ℕ → Type 0
@@ -41,6 +41,10 @@ pub record Pass (files : List File) : Type 0 where
   pub texts : All (λ f. (length f.1 ≤ 1048576) × IsUtf8 f.1) files
   pub few : length files ≤ 10000
   pub small : size_of files ≤ 268435456
+
+-- the files that these words reach in some folder that fits all that is told, within the limits
+abbrev pub AreFilesBy : Said → Words → List File → Type 0
+AreFilesBy said words files = (held : Held) × Fits said held × AreReachedFiles held words files × Pass files
 
 -- a file with these bytes is refused after this many files and bytes; a read that failed says nothing of them
 abbrev pub Refuses : ℕ → ℕ → List ℕ → ServeError → Type 0

@@ -4,6 +4,7 @@ use Rattle.star_repo.specs.Held.{Said}
 use Rattle.star_repo.specs.Reach.{Words}
 use Rattle.star_repo.specs.Views.{AllRead, IsOnWay, labels_of}
 use Rattle.star_repo.specs.declared.found.Found.{Found}
+use Rattle.star_repo.specs.declared.reach.Round.{Round}
 use Rattle.star_repo.specs.declared.reach.Turn.{Turn}
 use Rattle.star_repo.specs.declared.reach.Turn.TheVariants as turn
 
@@ -23,3 +24,9 @@ IsTurn said words d count (turn.Next r) =
     × (r.found.fresh.items ≡ []) × (count < r.found.count)
 IsTurn said words d count (turn.End f) =
     IsOnWay said words d f [] × AllRead f.looked × (f.fresh.items ≡ [])
+
+-- Of a folder that says so: a reading that has come to this round then turns so.
+abbrev pub TurnsTo : Said → Round → Turn → Type 0
+TurnsTo said round turn =
+    (words : Words) (d : ℕ) → IsOnWay said words d round.found (labels_of round.waiting.keys)
+    → AllRead round.found.looked → round.found.fresh.items ≡ [] → IsTurn said words d round.found.count turn

@@ -1,5 +1,5 @@
 -- The program's states of a reading, as contracts see them.
-use Rattle.std.specs.Prelude.{◌≡◌, ℕ, ⊤, List, [], ◌∷◌, ◌++◌, map, All, Option, None, Some, IfSome, option_map, Result, Ok, Err, String, string_bytes}
+use Rattle.std.specs.Prelude.{◌≡◌, ◌↔◌, ◌⊎◌, ℕ, ⊤, List, [], ◌∷◌, ◌++◌, map, All, Option, None, Some, IfSome, option_map, Result, Ok, Err, String, string_bytes}
 use Rattle.std.specs.BTreeMap.{BTreeMap, insert_entry, values}
 use Rattle.std.specs.Cmp.Lexicographic.{slice_cmp}
 use Rattle.std.specs.Ordering.{nat_cmp}
@@ -7,17 +7,18 @@ use Rattle.std.specs.declared.cmp.Ordering.TheVariants.{Less}
 use Rattle.std.specs.declared.alloc.Global.{Global}
 use Rattle.star_label.specs.declared.label.Label.{Label}
 use Rattle.star_label.specs.Files.{File, file_of}
-use Rattle.star_label.specs.Label.{Reads, label_text}
+use Rattle.star_label.specs.Label.{Reads, label_text, package_of}
 use Rattle.star_label.specs.View.{text_of}
 use Rattle.star_bundle.specs.declared.error.ServeError.TheVariants.{BadFile}
 use Rattle.star_scope.specs.Loads.{Written}
 use Rattle.star_repo.specs.Held.{Fits, Held, Said}
+use Rattle.star_repo.specs.Loading.{LoadsLabel}
 use Rattle.star_reading.specs.Parsed.{IsParsed, ParsedView}
 use Rattle.star_repo.specs.Reach.{Words}
-use Rattle.star_repo.specs.Refusal.{IsRefusedAt}
+use Rattle.star_repo.specs.Refusal.{AreFilesBy, IsRefusedAt}
 use Rattle.star_words.specs.Rows.{IsIn}
 pub use Rattle.star_words.specs.Named.{labels_of}
-use Rattle.star_repo.specs.Way.{Answer, IsLooked, IsWay}
+use Rattle.star_repo.specs.Way.{Answer, IsBelow, IsLooked, IsWay}
 use Rattle.star_repo.specs.declared.error.ReadError.{ReadError}
 use Rattle.star_repo.specs.declared.error.ReadError.TheVariants as why
 use Rattle.star_repo.specs.declared.found.Found.{Found}
@@ -61,6 +62,41 @@ Says said words (why.Refused label error) =
     (held : Held) × Fits said held × IsRefusedAt held words (text_of label) error
 Says said words why.Memory = ⊤
 
+-- Of a folder that says so: a reading that has come to these labels has then looked them all up.
+abbrev pub LooksUpAll : Said → Found → List (List ℕ) → Found → Type 0
+LooksUpAll said found labels after =
+    (words : Words) (d : ℕ) → IsOnWay said words d found labels → IsOnWay said words d after []
+
+-- .. or is refused so
+abbrev pub FailsAmong : Said → Found → List (List ℕ) → ReadError → Type 0
+FailsAmong said found labels e = (words : Words) (d : ℕ) → IsOnWay said words d found labels → Says said words e
+
+-- Of a folder that says so: a reading that has come to this label has then looked it up.
+abbrev pub LooksUp : Said → Found → Label → Found → Type 0
+LooksUp said found label after =
+    (words : Words) (d : ℕ) (rest : List (List ℕ)) → IsBelow (text_of label) rest
+    → IsOnWay said words d found (text_of label ∷ rest) → IsOnWay said words d after rest
+
+-- .. or is refused so
+abbrev pub FailsAt : Said → Found → Label → ReadError → Type 0
+FailsAt said found label e =
+    (words : Words) (d : ℕ) (rest : List (List ℕ)) → IsBelow (text_of label) rest
+    → IsOnWay said words d found (text_of label ∷ rest) → Says said words e
+
+-- Of each folder that tells so of a label: a reading that has come to it for the first time has then looked it up.
+abbrev pub LooksUpNew : Found → Label → (Option (Option (List ℕ)) → Type 0) → Found → Type 0
+LooksUpNew found label Told after =
+    (said : Said) (words : Words) (d : ℕ) (rest : List (List ℕ)) → IsUnknown label found.looked.entries
+    → IsBelow (text_of label) rest → Told (said (text_of label)) → IsOnWay said words d found (text_of label ∷ rest)
+    → IsOnWay said words d after rest
+
+-- .. or is refused so
+abbrev pub FailsAtNew : Found → Label → (Option (Option (List ℕ)) → Type 0) → ReadError → Type 0
+FailsAtNew found label Told e =
+    (said : Said) (words : Words) (d : ℕ) (rest : List (List ℕ)) → IsUnknown label found.looked.entries
+    → IsBelow (text_of label) rest → Told (said (text_of label)) → IsOnWay said words d found (text_of label ∷ rest)
+    → Says said words e
+
 -- one read failed if the answer is so, else none
 abbrev pub failed_read : ReadError → ℕ
 failed_read (why.Refused label BadFile) = 1
@@ -74,6 +110,15 @@ reads_failed (Err e) = failed_read e
 abbrev pub IsNamed : List ℕ → List Written → List ℕ → Type 0
 IsNamed here ws m = (w : Written) × IsIn w ws
     × (p : List ℕ) × (n : List ℕ) × Reads here w.module_string.text p n × (m ≡ label_text p n)
+
+-- labels, and further ones: those of which this holds
+abbrev pub GainsLabels : List Label → List Label → (List ℕ → Type 0) → Type 0
+GainsLabels old new IsNew = (m : List ℕ) → IsIn m (labels_of new) ↔ (IsIn m (labels_of old) ⊎ IsNew m)
+
+-- .. those that the file at this label loads, by the result of parsing its text
+abbrev pub GainsLoads : List Label → List Label → Label → ParsedView → Type 0
+GainsLoads old new label parsed =
+    (text : List ℕ) → IsParsed text parsed → GainsLabels old new (LoadsLabel (package_of (text_of label)) text)
 
 -- a file is kept after the others, beside the result of parsing it; an absent one is not
 abbrev pub IsKept : List (Label × String Global) → List ParsedView → Label → Option ReadFile
@@ -89,6 +134,18 @@ IsAfter label texts = (f : File) → IsIn f (map file_of texts) → slice_cmp na
 -- the entries with that of a file, at the place of its label
 abbrev pub with_read : List (Label × Option ReadFile) → Label → ReadFile → List (Label × Option ReadFile)
 with_read looked label file = insert_entry (λ l m. slice_cmp nat_cmp (text_of l) (text_of m)) looked label (Some file)
+
+-- .. with that of a fresh file, beside the result of parsing it
+abbrev pub GainsFile : List (Label × Option ReadFile) → List (Label × Option ReadFile) → Label × String Global
+    → ParsedView → Type 0
+GainsFile old new fresh parsed =
+    (file : ReadFile) × (file.text ≡ fresh.1) × (file.parsed ≡ parsed) × (new ≡ with_read old fresh.0 file)
+
+-- the files of a reading that has come to its end
+abbrev pub AreEndFiles : Found → List File → Type 0
+AreEndFiles found files =
+    (said : Said) (words : Words) (d : ℕ) → IsOnWay said words d found [] → found.fresh.items ≡ []
+    → AreFilesBy said words files
 
 -- some reading has come to its end with this
 abbrev pub IsEnded : Found → Type 0

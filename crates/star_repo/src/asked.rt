@@ -6,11 +6,10 @@ ghost use Rattle.star_repo.specs.Parsed.{AreFilesParsed, AreKnown};
 ghost use Rattle.star_words.specs.Named.{AreLabels, texts_of};
 
 use crate::error::{ReadError, RepoError};
-use crate::known::Known;
+use crate::parse::Parsing;
 use crate::reach::{Reached, read_reached};
 use crate::repo::Repo;
 use star_bundle::error::ServeError;
-use star_tree::tree::Tree;
 use star_words::named::asked_labels;
 use std::alloc::Global;
 use std::sync::Wait;
@@ -22,13 +21,11 @@ pub fn read_asked<'t, R: Threads + Wait + Sync, F: Repo>(
     rt: &R,
     alloc: Global,
     folder: &mut F,
-    trees: &'t boxcar::Vec<Tree>,
-    known: Option<Known<'_, 't>>,
+    parsing: Parsing<'_, 't>,
     roots: &[String],
     prelude: Option<&String>,
-    threads: usize,
 ) -> Result<Reached<'t>, RepoError>
-    requires known { AreKnown known }
+    requires known { AreKnown parsing.known }
     ensures files { IfOk result (λ r. AreFilesFor (F.says folder.old) (texts_of roots.now)
         (option_map (λ p. string_bytes p.now) prelude.entry) r.files) }
     ensures labels { IfOk result (λ _. AreLabels (texts_of roots.now)
@@ -42,7 +39,7 @@ pub fn read_asked<'t, R: Threads + Wait + Sync, F: Repo>(
         Ok(labels) => labels,
         Err(error) => return Err(RepoError::Run { error }),
     };
-    match read_reached(rt, alloc, folder, trees, known, labels, threads) {
+    match read_reached(rt, alloc, folder, parsing, labels) {
         Ok(reached) => Ok(reached),
         Err(ReadError::Refused { label, error }) => Err(RepoError::File { label, error }),
         Err(ReadError::Memory) => Err(RepoError::Run {

@@ -1,10 +1,8 @@
 //! Parsing several texts side by side.
 
-ghost use Rattle.std.specs.Prelude.{◌≡◌, ◌*◌, ◌<◌, ℕ, List, IfOk, String, length, string_bytes, take};
-ghost use Rattle.std.specs.declared.alloc.Global.{Global as GlobalView};
-ghost use Rattle.star_label.specs.declared.label.Label.{Label as LabelView};
+ghost use Rattle.std.specs.Prelude.{◌<◌, IfOk, string_bytes};
 ghost use Rattle.star_reading.specs.Parsed.{AreParsesOf, IsParsed};
-ghost use Rattle.star_repo.specs.Parsed.{AreKnown, AreParsed, ArePartsParsed};
+ghost use Rattle.star_repo.specs.Parsed.{AreJoined, AreKnown, AreParsed};
 
 use crate::known::Known;
 use star_label::label::Label;
@@ -16,6 +14,17 @@ use std::thread::{self, Threads};
 
 /// With each further group of this many texts one more thread parses.
 const SHARE: usize = 16;
+
+/// How texts are parsed.
+#[derive(Clone, Copy)]
+pub struct Parsing<'a, 't> {
+    /// Where the trees are kept.
+    pub trees: &'t boxcar::Vec<Tree>,
+    /// Texts that were parsed before, which are not parsed again. If there are any, one thread parses the others.
+    pub known: Option<Known<'a, 't>>,
+    /// The most threads that parse.
+    pub threads: usize,
+}
 
 /// Parses one text after another.
 fn parsed_each<'t, R: Wait>(
@@ -74,9 +83,7 @@ fn joined<'t>(
     alloc: Global,
     parts: Vec<Result<Vec<Parsed<'t>>, AllocError>>,
 ) -> Result<Vec<Parsed<'t>>, AllocError>
-    ensures { IfOk result (λ parses. (files : List (LabelView × String GlobalView)) (size : ℕ)
-        → ArePartsParsed files size parts.entry.items
-        → AreParsed (take (length parts.entry.items * size) files) parses.items) }
+    ensures { IfOk result (λ parses. AreJoined parts.entry.items parses.items) }
 {
     let mut parses = Vec::new(alloc);
     for part in parts {
@@ -108,22 +115,21 @@ fn parsed_parts<'t, R: Threads + Wait + Sync>(
     joined(alloc, parts)
 }
 
-/// Parses texts by at most `threads` threads; if some are known, by one, which does not parse these again.
+/// Parses texts, but for those that are known.
 pub(crate) fn parsed_all<'t, R: Threads + Wait + Sync>(
     rt: &R,
     alloc: Global,
-    trees: &'t boxcar::Vec<Tree>,
-    known: Option<Known<'_, 't>>,
+    parsing: Parsing<'_, 't>,
     files: &[(Label, String)],
-    threads: usize,
 ) -> Result<Vec<Parsed<'t>>, AllocError>
-    requires { AreKnown known }
+    requires { AreKnown parsing.known }
     ensures { IfOk result (λ parses. AreParsed files.now parses.items) }
 {
-    if let Some(known) = known {
+    let trees = parsing.trees;
+    if let Some(known) = parsing.known {
         return parsed_again(rt, alloc, trees, &known, files);
     }
-    let threads = threads.min(files.len() / SHARE + 1);
+    let threads = parsing.threads.min(files.len() / SHARE + 1);
     if threads < 2 {
         return parsed_each(rt, alloc, trees, files);
     }

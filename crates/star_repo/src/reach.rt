@@ -2,18 +2,16 @@
 
 ghost use Rattle.std.specs.Prelude.{◌≡◌, ◌+◌, ◌↔◌, ℕ, List, [], None, Some, IfOk, IfErr, OnOk, map};
 ghost use Rattle.star_label.specs.Files.{IsOrdered, file_of, limit_passed};
-ghost use Rattle.star_repo.specs.Held.{Fits, Held, Said};
+ghost use Rattle.star_repo.specs.Held.{Said};
 ghost use Rattle.star_repo.specs.Parsed.{AreFilesParsed, AreKnown, AreParsed};
-ghost use Rattle.star_repo.specs.Reach.{AreReachedFiles, Words};
-ghost use Rattle.star_repo.specs.Refusal.{Pass};
+ghost use Rattle.star_repo.specs.Refusal.{AreFilesBy};
 ghost use Rattle.star_words.specs.Rows.{IsIn};
-ghost use Rattle.star_repo.specs.Turn.{IsTurn, Turns};
-ghost use Rattle.star_repo.specs.Views.{AllRead, IsAfter, IsEnded, IsKept, IsOnWay, Says, answer_of, labels_of, reads_failed, words_of};
+ghost use Rattle.star_repo.specs.Turn.{Turns, TurnsTo};
+ghost use Rattle.star_repo.specs.Views.{AllRead, AreEndFiles, FailsAmong, IsAfter, IsEnded, IsKept, IsOnWay, Says, answer_of, labels_of, reads_failed, words_of};
 
 use crate::error::ReadError;
 use crate::found::{Found, ReadFile};
-use crate::known::Known;
-use crate::parse::parsed_all;
+use crate::parse::{Parsing, parsed_all};
 use crate::repo::Repo;
 use crate::round::{read_round, settled};
 use star_label::error::LabelError;
@@ -85,9 +83,7 @@ fn numbered(alloc: Global, texts: BTreeMap<Label, String>) -> Result<Files, Allo
 /// The files that a reading has found, which has come to its end.
 fn ended<'t>(alloc: Global, found: Found<'t>) -> Result<Reached<'t>, AllocError>
     requires { IsEnded found }
-    ensures files { IfOk result (λ r. (said : Said) (words : Words) (d : ℕ) → IsOnWay said words d found.entry []
-        → found.entry.fresh.items ≡ []
-        → (held : Held) × Fits said held × AreReachedFiles held words r.files × Pass r.files) }
+    ensures files { IfOk result (λ r. AreEndFiles found.entry r.files) }
     ensures parsed { IfOk result (λ r. AllRead found.entry.looked → AreFilesParsed r.files r.parses.items) }
 {
     let (texts, parses) = kept(alloc, found.looked)?;
@@ -134,18 +130,16 @@ enum Turn<'t> {
 fn turned<'t, R: Threads + Wait + Sync>(
     rt: &R,
     alloc: Global,
-    trees: &'t boxcar::Vec<Tree>,
-    known: Option<Known<'_, 't>>,
+    parsing: Parsing<'_, 't>,
     found: Found<'t>,
-    threads: usize,
 ) -> Result<Turn<'t>, AllocError>
-    requires known { AreKnown known }
+    requires known { AreKnown parsing.known }
     ensures { IfOk result (λ turn. AllRead found.entry.looked → Turns found.entry turn) }
 {
     if found.fresh.is_empty() {
         return Ok(Turn::End(found));
     }
-    let parses = parsed_all(rt, alloc, trees, known, found.fresh.as_slice(), threads)?;
+    let parses = parsed_all(rt, alloc, parsing, found.fresh.as_slice())?;
     let (found, waiting) = settled(alloc, found, parses)?;
     Ok(Turn::Next(Round { found, waiting }))
 }
@@ -155,25 +149,19 @@ fn next_turn<'t, R: Threads + Wait + Sync, F: Repo>(
     rt: &R,
     alloc: Global,
     folder: &mut F,
-    trees: &'t boxcar::Vec<Tree>,
-    known: Option<Known<'_, 't>>,
+    parsing: Parsing<'_, 't>,
     round: Round<'t>,
-    threads: usize,
 ) -> Result<Turn<'t>, ReadError>
-    requires known { AreKnown known }
-    ensures turns { IfOk result (λ turn. (words : Words) (d : ℕ)
-        → IsOnWay (F.says folder.old) words d round.entry.found (labels_of round.entry.waiting.keys)
-        → AllRead round.entry.found.looked → round.entry.found.fresh.items ≡ []
-        → IsTurn (F.says folder.old) words d round.entry.found.count turn) }
-    ensures refused { IfErr result (λ e. (words : Words) (d : ℕ)
-        → IsOnWay (F.says folder.old) words d round.entry.found (labels_of round.entry.waiting.keys)
-        → Says (F.says folder.old) words e) }
+    requires known { AreKnown parsing.known }
+    ensures turns { IfOk result (TurnsTo (F.says folder.old) round.entry) }
+    ensures refused { IfErr result
+        (FailsAmong (F.says folder.old) round.entry.found (labels_of round.entry.waiting.keys)) }
     ensures same { F.says folder.new ≡ F.says folder.old }
     ensures failed { F.failed folder.new ≡ F.failed folder.old + reads_failed result }
 {
     let Round { found, waiting } = round;
     match read_round(alloc, folder, found, waiting) {
-        Ok(found) => match turned(rt, alloc, trees, known, found, threads) {
+        Ok(found) => match turned(rt, alloc, parsing, found) {
             Ok(turn) => Ok(turn),
             Err(_) => Err(ReadError::Memory),
         },
@@ -183,8 +171,7 @@ fn next_turn<'t, R: Threads + Wait + Sync, F: Repo>(
 
 /// The files that these labels reach in a folder. Each label is looked up once, when it is met: first these, and in
 /// each further round those that the files of the round before load; in a round in the order of the labels. The texts
-/// of a round are then parsed by at most `threads` threads, and their trees are kept with the others. If there are
-/// `known` texts, one thread parses the others.
+/// of a round are then parsed, and their trees are kept with the others.
 ///
 /// It stops at the first label, by its round and its bytes, whose file does not pass: `BadFile`, it cannot be read;
 /// `TooMany`, it is the 10,001st; `TooLong`, it has more than 1,048,576 bytes; `NotText`, it is not UTF-8; `TooBig`,
@@ -193,14 +180,11 @@ pub fn read_reached<'t, R: Threads + Wait + Sync, F: Repo>(
     rt: &R,
     alloc: Global,
     folder: &mut F,
-    trees: &'t boxcar::Vec<Tree>,
-    known: Option<Known<'_, 't>>,
+    parsing: Parsing<'_, 't>,
     words: BTreeSet<Label>,
-    threads: usize,
 ) -> Result<Reached<'t>, ReadError>
-    requires known { AreKnown known }
-    ensures files { IfOk result (λ r. (held : Held) × Fits (F.says folder.old) held
-        × AreReachedFiles held (words_of words.keys) r.files × Pass r.files) }
+    requires known { AreKnown parsing.known }
+    ensures files { IfOk result (λ r. AreFilesBy (F.says folder.old) (words_of words.keys) r.files) }
     ensures parsed { IfOk result (λ r. AreFilesParsed r.files r.parses.items) }
     ensures refused { IfErr result (Says (F.says folder.old) (words_of words.keys)) }
     ensures same { F.says folder.new ≡ F.says folder.old }
@@ -208,7 +192,7 @@ pub fn read_reached<'t, R: Threads + Wait + Sync, F: Repo>(
 {
     let mut round = begun(alloc, words);
     'rounds: loop {
-        match next_turn(rt, alloc, folder, trees, known, round, threads) {
+        match next_turn(rt, alloc, folder, parsing, round) {
             Ok(Turn::Next(next)) => round = next,
             Ok(Turn::End(found)) => return Ok(ended(alloc, found)?),
             Err(error) => return Err(error),

@@ -1,13 +1,10 @@
 //! Reads the file of one label, and refuses it if it is one too many, too long or not text.
 
-ghost use Rattle.std.specs.Prelude.{◌≡◌, ◌≢◌, ◌+◌, ◌<◌, ◌≤◌, ◌∷◌, ℕ, List, None, Some, IfOk, IfErr, length, string_bytes, vec_len};
+ghost use Rattle.std.specs.Prelude.{◌≡◌, ◌≢◌, ◌+◌, ◌<◌, ◌≤◌, None, Some, IfOk, IfErr, length, string_bytes, vec_len};
 ghost use Rattle.std.specs.Str.{IsUtf8};
-ghost use Rattle.star_label.specs.View.{text_of};
-ghost use Rattle.star_repo.specs.Held.{Said, Tells, TellsFront};
-ghost use Rattle.star_repo.specs.Reach.{Words};
+ghost use Rattle.star_repo.specs.Held.{Tells, TellsFront};
 ghost use Rattle.star_repo.specs.Refusal.{Refuses};
-ghost use Rattle.star_repo.specs.Views.{AllRead, IsOnWay, IsUnknown, Says, reads_failed};
-ghost use Rattle.star_repo.specs.Way.{IsBelow};
+ghost use Rattle.star_repo.specs.Views.{AllRead, FailsAt, FailsAtNew, LooksUp, LooksUpNew, reads_failed};
 
 use crate::error::ReadError;
 use crate::found::Found;
@@ -56,9 +53,7 @@ fn passed(count: usize, size: usize, bytes: Vec<u8>) -> Result<String, ServeErro
 
 /// There is no file at a label.
 fn without_file<'t>(found: Found<'t>, label: Label) -> Result<Found<'t>, ReadError>
-    ensures on_way { IfOk result (λ after. (said : Said) (words : Words) (d : ℕ) (rest : List (List ℕ))
-        → IsUnknown label found.entry.looked.entries → IsBelow (text_of label) rest → Tells (said (text_of label)) None
-        → IsOnWay said words d found.entry (text_of label ∷ rest) → IsOnWay said words d after rest) }
+    ensures on_way { IfOk result (LooksUpNew found.entry label (λ told. Tells told None)) }
     ensures memory { IfErr result (λ e. e ≡ ReadError.Memory) }
     ensures read { IfOk result (λ after. AllRead found.entry.looked → AllRead after.looked) }
     ensures count { IfOk result (λ after. after.count ≡ found.entry.count) }
@@ -81,14 +76,8 @@ fn without_file<'t>(found: Found<'t>, label: Label) -> Result<Found<'t>, ReadErr
 
 /// The file of a label begins with these bytes.
 fn with_file<'t>(found: Found<'t>, label: Label, bytes: Vec<u8>) -> Result<Found<'t>, ReadError>
-    ensures on_way { IfOk result (λ after. (said : Said) (words : Words) (d : ℕ) (rest : List (List ℕ))
-        → IsUnknown label found.entry.looked.entries → IsBelow (text_of label) rest
-        → TellsFront (said (text_of label)) (Some bytes.items)
-        → IsOnWay said words d found.entry (text_of label ∷ rest) → IsOnWay said words d after rest) }
-    ensures refused { IfErr result (λ e. (said : Said) (words : Words) (d : ℕ) (rest : List (List ℕ))
-        → IsUnknown label found.entry.looked.entries → IsBelow (text_of label) rest
-        → TellsFront (said (text_of label)) (Some bytes.items)
-        → IsOnWay said words d found.entry (text_of label ∷ rest) → Says said words e) }
+    ensures on_way { IfOk result (LooksUpNew found.entry label (λ told. TellsFront told (Some bytes.items))) }
+    ensures refused { IfErr result (FailsAtNew found.entry label (λ told. TellsFront told (Some bytes.items))) }
     ensures no_read_failed { reads_failed result ≡ 0 }
     ensures read { IfOk result (λ after. AllRead found.entry.looked → AllRead after.looked) }
     ensures count { IfOk result (λ after. after.count ≡ found.entry.count + 1) }
@@ -121,12 +110,8 @@ pub(crate) fn after_label<'t, F: Repo>(
     found: Found<'t>,
     label: Label,
 ) -> Result<Found<'t>, ReadError>
-    ensures on_way { IfOk result (λ after. (words : Words) (d : ℕ) (rest : List (List ℕ))
-        → IsBelow (text_of label) rest → IsOnWay (F.says folder.old) words d found.entry (text_of label ∷ rest)
-        → IsOnWay (F.says folder.old) words d after rest) }
-    ensures refused { IfErr result (λ e. (words : Words) (d : ℕ) (rest : List (List ℕ))
-        → IsBelow (text_of label) rest → IsOnWay (F.says folder.old) words d found.entry (text_of label ∷ rest)
-        → Says (F.says folder.old) words e) }
+    ensures on_way { IfOk result (LooksUp (F.says folder.old) found.entry label) }
+    ensures refused { IfErr result (FailsAt (F.says folder.old) found.entry label) }
     ensures read { IfOk result (λ after. AllRead found.entry.looked → AllRead after.looked) }
     ensures counted { IfOk result (λ after.
         after.count + vec_len found.entry.fresh ≡ found.entry.count + vec_len after.fresh) }

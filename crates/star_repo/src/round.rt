@@ -1,17 +1,12 @@
 //! A round of the reading: looks up the labels that wait, parses their texts, and collects their loads.
 
-ghost use Rattle.std.specs.Prelude.{◌≡◌, ◌+◌, ◌↔◌, ◌⊎◌, ℕ, suc, List, [], IfOk, IfErr, OnOk, true, vec_len};
-ghost use Rattle.star_label.specs.Label.{is_package, package_of};
-ghost use Rattle.star_label.specs.View.{text_of};
+ghost use Rattle.std.specs.Prelude.{◌≡◌, ◌+◌, ℕ, suc, [], IfOk, IfErr, OnOk, true, vec_len};
+ghost use Rattle.star_label.specs.Label.{is_package};
 ghost use Rattle.star_scope.specs.Loads.{written, written_in};
 ghost use Rattle.star_repo.specs.Held.{Said};
-ghost use Rattle.star_repo.specs.Loading.{LoadsLabel};
 ghost use Rattle.star_repo.specs.Parsed.{AreParsed};
-ghost use Rattle.star_reading.specs.Parsed.{IsParsed};
 ghost use Rattle.star_repo.specs.Reach.{Words};
-ghost use Rattle.star_words.specs.Rows.{IsIn};
-ghost use Rattle.star_repo.specs.declared.found.ReadFile.{ReadFile as ReadFileView};
-ghost use Rattle.star_repo.specs.Views.{AllRead, IsNamed, IsOnWay, Says, labels_of, reads_failed, with_read};
+ghost use Rattle.star_repo.specs.Views.{AllRead, FailsAmong, GainsFile, GainsLabels, GainsLoads, IsNamed, IsOnWay, LooksUpAll, labels_of, reads_failed};
 
 use crate::error::ReadError;
 use crate::found::{Found, ReadFile};
@@ -31,12 +26,8 @@ pub(crate) fn read_round<'t, F: Repo>(
     found: Found<'t>,
     mut waiting: BTreeSet<Label>,
 ) -> Result<Found<'t>, ReadError>
-    ensures on_way { IfOk result (λ after. (words : Words) (d : ℕ)
-        → IsOnWay (F.says folder.old) words d found.entry (labels_of waiting.keys)
-        → IsOnWay (F.says folder.old) words d after []) }
-    ensures refused { IfErr result (λ e. (words : Words) (d : ℕ)
-        → IsOnWay (F.says folder.old) words d found.entry (labels_of waiting.keys)
-        → Says (F.says folder.old) words e) }
+    ensures on_way { IfOk result (LooksUpAll (F.says folder.old) found.entry (labels_of waiting.keys)) }
+    ensures refused { IfErr result (FailsAmong (F.says folder.old) found.entry (labels_of waiting.keys)) }
     ensures read { IfOk result (λ after. AllRead found.entry.looked → AllRead after.looked) }
     ensures counted { IfOk result (λ after.
         after.count + vec_len found.entry.fresh ≡ found.entry.count + vec_len after.fresh) }
@@ -61,8 +52,8 @@ fn add_load(
     statement: &Statement,
 ) -> Result<(), AllocError>
     requires { is_package «package».now ≡ true }
-    ensures { OnOk result ((m : List ℕ) → IsIn m (labels_of waiting.new.keys)
-        ↔ (IsIn m (labels_of waiting.old.keys) ⊎ IsNamed «package».now (written_in statement.now) m)) }
+    ensures { OnOk result
+        (GainsLabels waiting.old.keys waiting.new.keys (IsNamed «package».now (written_in statement.now))) }
 {
     match &statement.form {
         Form::Load {
@@ -88,8 +79,8 @@ pub(crate) fn add_loads(
     statements: &[Statement],
 ) -> Result<(), AllocError>
     requires { is_package «package».now ≡ true }
-    ensures { OnOk result ((m : List ℕ) → IsIn m (labels_of waiting.new.keys)
-        ↔ (IsIn m (labels_of waiting.old.keys) ⊎ IsNamed «package».now (written statements.now) m)) }
+    ensures { OnOk result
+        (GainsLabels waiting.old.keys waiting.new.keys (IsNamed «package».now (written statements.now))) }
 {
     for statement in statements {
         add_load(alloc, waiting, package, statement)?;
@@ -104,9 +95,7 @@ fn add_file(
     label: &Label,
     parsed: Parsed,
 ) -> Result<(), AllocError>
-    ensures { OnOk result ((text : List ℕ) → IsParsed text parsed.entry
-        → (m : List ℕ) → IsIn m (labels_of waiting.new.keys)
-        ↔ (IsIn m (labels_of waiting.old.keys) ⊎ LoadsLabel (package_of (text_of label.now)) text m)) }
+    ensures { OnOk result (GainsLoads waiting.old.keys waiting.new.keys label.now parsed.entry) }
 {
     match parsed {
         Ok(tree) => add_loads(alloc, waiting, label.package(), tree.statements.as_slice()),
@@ -122,11 +111,8 @@ fn settle<'t>(
     fresh: (Label, String),
     parsed: Parsed<'t>,
 ) -> Result<(), AllocError>
-    ensures looked { OnOk result ((file : ReadFileView) × (file.text ≡ fresh.1) × (file.parsed ≡ parsed.entry)
-        × (looked.new.entries ≡ with_read looked.old.entries fresh.0 file)) }
-    ensures waiting { OnOk result ((text : List ℕ) → IsParsed text parsed.entry
-        → (m : List ℕ) → IsIn m (labels_of waiting.new.keys)
-        ↔ (IsIn m (labels_of waiting.old.keys) ⊎ LoadsLabel (package_of (text_of fresh.0)) text m)) }
+    ensures looked { OnOk result (GainsFile looked.old.entries looked.new.entries fresh parsed.entry) }
+    ensures waiting { OnOk result (GainsLoads waiting.old.keys waiting.new.keys fresh.0 parsed.entry) }
 {
     let (label, text) = fresh;
     add_file(alloc, waiting, &label, parsed)?;

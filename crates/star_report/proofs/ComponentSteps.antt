@@ -3,8 +3,7 @@ use Rattle.std.proofs.Common.{arith, ◌≡◌, ◌<◌, ◌≤◌, ◌+◌, ◌
 use Rattle.std.proofs.lemmas.List.{get_or_default, nil_from_length, reverse-append}
 use Rattle.std.specs.Prelude.{Some, None, map, slice_get}
 use Rattle.star_scope.specs.declared.loads.Load.{Load}
-use Rattle.star_reading.specs.Readings.{Row, loads_at}
-use Rattle.star_report.specs.Drawn.{LeadWithin}
+use Rattle.star_reading.specs.Readings.{LeadWithin, Row, loads_at}
 use Rattle.star_report.specs.declared.components.Frame.{Frame}
 use Rattle.star_report.specs.declared.components.Mark.{Mark}
 use Rattle.star_report.specs.declared.components.Mark.TheVariants.{New, Open, Closed}

@@ -1,13 +1,10 @@
 -- The graph of loads.
-use Rattle.std.proofs.Common.{arith, ◌≡◌, ◌<◌, ◌+◌, ◌↔◌, ◌⊎◌, inl, inr, ℕ, zero, suc, Bool, true, false, List, [], ◌∷◌, ◌++◌, length, map, take, get_or, Some, None, refl, ap, sym, subst, ◌∙◌, if◌then◌else◌, length-append}
+use Rattle.std.proofs.Common.{arith, ◌≡◌, ◌<◌, ◌+◌, ◌↔◌, ℕ, zero, suc, Bool, true, false, List, [], ◌∷◌, ◌++◌, length, map, take, get_or, Some, None, refl, ap, sym, subst, ◌∙◌, if◌then◌else◌}
 use denote.Ref.{Bor}
 use Rattle.std.specs.Prelude.{All, Contains, filter, is_some, nat_eq, slice_get}
 use Rattle.std.specs.List.{list_any}
-use Rattle.std.specs.List.Sorted.{IsStrictlyIncreasing}
-use Rattle.std.proofs.lemmas.Bool.{cases_order}
-use Rattle.std.proofs.lemmas.List.{get_or_append_left, map_push, take_more}
-use Rattle.std.proofs.Math.Seq.{get_or-append_seam}
-use Rattle.std.proofs.lemmas.List.Elements.{All-append, All-contains, Contains-append_cases, Contains-append_left, Contains-append_right}
+use Rattle.std.proofs.lemmas.List.{map_push, take_more}
+use Rattle.std.proofs.lemmas.List.Elements.{All-append, All-contains, Contains-append_left, Contains-append_right}
 use Rattle.indexmap.specs.IndexSet.{insert_all, insert_key}
 use Rattle.star_cache.specs.State.{Loads}
 use Rattle.star_cache.specs.Walk.{LeadsTo}
@@ -16,13 +13,15 @@ use Rattle.star_scope.specs.declared.loads.Load.{Load}
 use Rattle.star_plan.specs.Plan.{Plan, loaded, loads_of}
 use Rattle.star_plan.specs.Reached.{IsReached}
 use Rattle.star_plan.specs.Results.{IsGood}
-use Rattle.star_reading.specs.Readings.{Row, loads_at, readings}
-use Rattle.star_reading.proofs.Finds.{all_one, by_cases, contains_here, contains_one, same_or_not}
+use Rattle.star_reading.specs.Readings.{InReadPlans, LeadWithin, Row, loads_at, readings}
+use Rattle.star_reading.proofs.Finds.{all_one, contains_here}
+use Rattle.star_reading.specs.Listed.{AreListed}
+use Rattle.star_reading.proofs.Listed.{listed_more, listed_on, none_listed}
 use Rattle.star_reading.proofs.Rows.{loads_are}
 use Rattle.star_outcome.specs.Goods.{end_good}
 use Rattle.star_outcome.specs.Views.{IsModule, ended_well}
 use Rattle.star_outcome.specs.declared.module.Module.{Module}
-use Rattle.star_report.specs.Drawn.{EndWithin, InReadPlans, IsGraphBelow, IsNextNode, LeadWithin, SayCycles, SaysCycle, node_view}
+use Rattle.star_report.specs.Drawn.{EndWithin, IsGraphBelow, IsNextNode, SayCycles, SaysCycle, node_view}
 use Rattle.star_report.specs.Graph as graph
 use Rattle.star_report.specs.Graph.{IsGraph, IsNode, targets}
 use Rattle.star_report.specs.Components.{AreComponents, AreOne, loaded_at}
@@ -136,51 +135,13 @@ files_of vs = map (λ (v : graph.Node). v.file) vs
 
 pub graph_none : (plan : Plan) → IsGraphBelow plan 0 []
 graph_none plan = record {
-  in_order = λ k h. absurd (let no : ⊥ = omega (arith, h) in no);
-  below = λ k d lt. absurd (let no : ⊥ = omega (arith, lt) in no);
-  reached = λ n c. absurd (let less = c.1 in let no : ⊥ = omega (arith, less) in no);
-  all = λ n r h. absurd (let no : ⊥ = omega (arith, h) in no);
+  listed = none_listed plan;
   each = λ k d lt. absurd (let no : ⊥ = omega (arith, lt) in no);
 }
 
 -- a file that is not reached is passed by
 pub graph_on : (plan : Plan) (n : ℕ) (vs : List graph.Node) → (IsReached plan n → ⊥) → IsGraphBelow plan n vs → IsGraphBelow plan (n + 1) vs
-graph_on plan n vs never is = record {
-  in_order = is.in_order;
-  below = λ k d lt. let b = is.below k d lt in omega (arith, b);
-  reached = is.reached;
-  all = λ m r h. by_cases (same_or_not m n) (λ e. absurd (never (subst (IsReached plan) e r))) (λ ne. is.all m r (omega (arith, h, ne)));
-  each = is.each;
-}
-
-files_push : (vs : List graph.Node) (v : graph.Node) → files_of (vs ++ v ∷ []) ≡ files_of vs ++ v.file ∷ []
-files_push vs v = map_push (λ (x : graph.Node). x.file) vs v
-
--- one more number, above all others
-rising_push : (xs : List ℕ) (n : ℕ) → IsStrictlyIncreasing xs → All (λ m. m < n) xs → IsStrictlyIncreasing (xs ++ n ∷ [])
-rising_push xs n up below k h = by_order (cases_order (k + 1) (length xs))
-  where
-    long : length (xs ++ n ∷ []) ≡ length xs + 1
-    long = length-append xs (n ∷ [])
-
-    front : (i : ℕ) → i < length xs → get_or (xs ++ n ∷ []) i 0 ≡ get_or xs i 0
-    front i less = get_or_append_left xs (n ∷ []) 0 i less
-
-    last : get_or (xs ++ n ∷ []) (length xs) 0 ≡ n
-    last = get_or-append_seam xs n [] 0
-
-    by_order : ((k + 1 ≡ length xs) ⊎ ((k + 1 < length xs) ⊎ (length xs < k + 1))) → get_or (xs ++ n ∷ []) k 0 < get_or (xs ++ n ∷ []) (k + 1) 0
-    by_order (inl same) =
-        let a = front k (omega (arith, same)) in
-        let b : get_or (xs ++ n ∷ []) (k + 1) 0 ≡ n = ap (λ i. get_or (xs ++ n ∷ []) i 0) same ∙ last in
-        let c = below k 0 (omega (arith, same)) in
-        omega (arith, a, b, c)
-    by_order (inr (inl less)) =
-        let a = front k (omega (arith, less)) in
-        let b = front (k + 1) less in
-        let c = up k less in
-        omega (arith, a, b, c)
-    by_order (inr (inr more)) = absurd (let no : ⊥ = omega (arith, more, h, long) in no)
+graph_on plan n vs never is = record { listed = listed_on plan n (files_of vs) never is.listed; each = is.each }
 
 node_one : (plan : Plan) (v : graph.Node) → IsNode plan v → All (IsNode plan) (v ∷ [])
 node_one plan v h zero d lt = h
@@ -189,12 +150,7 @@ node_one plan v h (suc k) d lt = absurd (let no : ⊥ = omega (arith, lt) in no)
 -- a reached file has a node
 pub graph_more : (plan : Plan) (n : ℕ) (vs : List graph.Node) (v : graph.Node) → v.file ≡ n → IsReached plan n → IsNode plan v → IsGraphBelow plan n vs → IsGraphBelow plan (n + 1) (vs ++ v ∷ [])
 graph_more plan n vs v at reached node is = record {
-  in_order = subst IsStrictlyIncreasing (sym (files_push vs v)) (rising_push (files_of vs) v.file is.in_order (subst (λ m. All (λ x. x < m) (files_of vs)) (sym at) is.below));
-  below = subst (All (λ m. m < n + 1)) (sym (files_push vs v)) (All-append (λ m. m < n + 1) (files_of vs) (v.file ∷ []) (λ i d lt. let b = is.below i d lt in omega (arith, b)) (all_one (λ m. m < n + 1) v.file (omega (arith, at))));
-  reached = λ m c. by_cases (Contains-append_cases (files_of vs) (v.file ∷ []) m (subst (λ ns. Contains ns m) (files_push vs v) c)) (λ old. is.reached m old) (λ new. subst (IsReached plan) (sym at ∙ contains_one v.file m new) reached);
-  all = λ m r h. subst (λ ns. Contains ns m) (sym (files_push vs v)) (by_cases (same_or_not m n)
-      (λ e. Contains-append_right (files_of vs) (v.file ∷ []) m (subst (Contains (v.file ∷ [])) (at ∙ sym e) (contains_here v.file)))
-      (λ ne. Contains-append_left (files_of vs) (v.file ∷ []) m (is.all m r (omega (arith, h, ne)))));
+  listed = subst (AreListed plan (n + 1)) (sym (map_push (λ (x : graph.Node). x.file) vs v)) (listed_more plan n (files_of vs) v.file at reached is.listed);
   each = All-append (IsNode plan) vs (v ∷ []) is.each (node_one plan v node);
 }
 
@@ -206,8 +162,8 @@ within_table (x ∷ xs) (suc n) m e = let less : n < length xs = within_table xs
 -- all files were passed
 pub graph_all : (plan : Plan) (table : Table) (n : ℕ) (vs : List graph.Node) → n ≡ length table → IsTable plan table → IsGraphBelow plan n vs → IsGraph plan vs
 graph_all plan table n vs end is_table is = record {
-  in_order = is.in_order;
-  all = λ m. (λ r. is.all m r (let there = is_table.all m r in let less = within_table table m there.0 there.1 in omega (arith, less, end)), is.reached m);
+  in_order = is.listed.in_order;
+  all = λ m. (λ r. is.listed.all m r (let there = is_table.all m r in let less = within_table table m there.0 there.1 in omega (arith, less, end)), is.listed.reached m);
   each = is.each;
 }
 

@@ -1,21 +1,19 @@
 -- The files by which files fail, as they are found among the modules of a run.
-use Rattle.std.proofs.Common.{arith, ◌≡◌, ◌<◌, ◌≤◌, ◌+◌, ◌↔◌, ◌⊎◌, inl, inr, ℕ, zero, suc, List, [], map, length, replicate, get_or, Option, Some, None, refl, ap, sym, subst, ◌∙◌}
+use Rattle.std.proofs.Common.{arith, ◌≡◌, ◌<◌, ◌+◌, ◌↔◌, ◌⊎◌, inl, inr, ℕ, zero, suc, List, [], map, length, replicate, get_or, Option, Some, None, refl, ap, sym, subst, ◌∙◌}
 use Rattle.std.specs.Arc.{arc_value}
 use Rattle.std.specs.Prelude.{All, Contains, IfSome, slice_get, slice_index_or, slice_set}
-use Rattle.std.proofs.lemmas.Bool.{cases_eq, cases_lt}
-use Rattle.std.proofs.lemmas.List.{get_or-map, length-map}
+use Rattle.std.proofs.lemmas.Bool.{cases_eq}
 use Rattle.std.proofs.lemmas.List.Elements.{All-contains}
 use Rattle.std.proofs.lemmas.Option.{slice_get-get_or}
 use Rattle.star_meaning.specs.Module.{Good as WentWell}
 use Rattle.star_outcome.specs.Views.{shown_texts}
 use Rattle.star_plan.specs.Causes.{FailsBy}
 use Rattle.star_plan.specs.Plan.{Plan, Reading, loaded, loads_in, read_of}
-use Rattle.star_plan.specs.Reached.{IsReached}
 use Rattle.star_plan.proofs.Causes.{one_next, stops}
 use Rattle.star_plan.proofs.Outcomes.{no_bad}
 use Rattle.star_cause.specs.Ends.{AreWithin}
 use Rattle.star_cause.specs.Ways.{Goes, Nexts}
-use Rattle.star_cause.proofs.Settles.{get_set_other, get_set_same}
+use Rattle.star_plan.proofs.Rows.{get_set_other, get_set_same}
 use Rattle.star_reading.specs.Codes.{fault_of}
 use Rattle.star_report.specs.Fails.{AreBelow, AreFails, AreFailsBelow}
 use Rattle.star_outcome.specs.Kept.{AreModules, KeptView}
@@ -23,6 +21,7 @@ use Rattle.star_outcome.specs.Views.{IsEnd, IsModule}
 use Rattle.star_outcome.specs.declared.module.Ended.{Ended}
 use Rattle.star_outcome.specs.declared.module.Ended.TheVariants.{Static, Load as Unloaded, Stopped, Good}
 use Rattle.star_outcome.specs.declared.module.Module.{Module}
+use Rattle.star_report.proofs.Tables.{no_note, note_before, note_of}
 
 -- ---- of one module
 
@@ -87,7 +86,7 @@ pub fails_more : (plan : Plan) (ks : List KeptView) (i n : ℕ) (nexts : Nexts) 
     → AreFailsBelow plan ks i nexts → AreFailsBelow plan ks (i + 1) (slice_set nexts n o)
 fails_more plan ks i n nexts o at inside own was = record {
   right = λ x m goes. right_at x m goes (cases_eq x n);
-  all = λ k d less m fails. all_at (slice_index_or ks k d).number m fails (cases_eq (slice_index_or ks k d).number n) (λ other. was.all k d (low k d less other) m fails);
+  all = λ k d less m fails. all_at (slice_index_or ks k d).number m fails (cases_eq (slice_index_or ks k d).number n) (λ other. was.all k d (note_before ks i n at k d less other) m fails);
 }
   where
     right_at : (x m : ℕ) → Goes (slice_set nexts n o) x m → ((x ≡ n) ⊎ (x ≡ n → ⊥)) → FailsBy plan x m
@@ -97,15 +96,6 @@ fails_more plan ks i n nexts o at inside own was = record {
         subst (λ z. FailsBy plan z m) (sym same) ((own m).0 one)
     right_at x m goes (inr other) = was.right x m (sym (get_set_other nexts n x o other) ∙ goes)
 
-    low : (k : ℕ) (d : KeptView) → k < i + 1 → ((slice_index_or ks k d).number ≡ n → ⊥) → k < i
-    low k d less other = turn (cases_lt k i)
-      where
-        turn : ((k < i) ⊎ (i ≤ k)) → k < i
-        turn (inl below) = below
-        turn (inr above) =
-            let same : k ≡ i = omega (arith, less, above) in
-            absurd (other (ap (λ j. (slice_index_or ks j d).number) same ∙ at d))
-
     all_at : (x m : ℕ) → FailsBy plan x m → ((x ≡ n) ⊎ (x ≡ n → ⊥)) → ((x ≡ n → ⊥) → Goes nexts x m) → Goes (slice_set nexts n o) x m
     all_at x m fails (inl same) others =
         let one : o ≡ Some m = (own m).1 (subst (λ z. FailsBy plan z m) same fails) in
@@ -113,9 +103,6 @@ fails_more plan ks i n nexts o at inside own was = record {
     all_at x m fails (inr other) others = get_set_other nexts n x o other ∙ others other
 
 -- ---- of all modules
-
-no_note : KeptView
-no_note = record { number = 0; cell = 0; known = None }
 
 -- a file that fails by a load was read
 fails_read : (plan : Plan) (n m : ℕ) → FailsBy plan n m → (r : Reading) × (read_of plan n ≡ Some r)
@@ -134,14 +121,10 @@ fails_all ks count nexts size so files plan planned are n m = ((so plan are).rig
     all_at : FailsBy plan n m → Goes nexts n m
     all_at fails =
         let read = fails_read plan n m fails in
-        let reached : IsReached plan n = (planned.reached n).1 read in
-        let among = (are.reached n).0 reached in
-        let long = length-map ks (λ (k : KeptView). k.number) in
-        let less : among.0 < length (map (λ (k : KeptView). k.number) ks) = among.1 in
-        let inside : among.0 < length ks = omega (arith, less, long) in
-        let number : (slice_index_or ks among.0 no_note).number ≡ n = sym (get_or-map (λ (k : KeptView). k.number) ks among.0 no_note n inside) ∙ among.2 in
+        let among = note_of plan ks n are ((planned.reached n).1 read) in
+        let inside = among.1 in
         let low : among.0 < count = omega (arith, inside, size) in
-        subst (λ z. Goes nexts z m) number ((so plan are).all among.0 no_note low m (subst (λ z. FailsBy plan z m) (sym number) fails))
+        subst (λ z. Goes nexts z m) among.2 ((so plan are).all among.0 no_note low m (subst (λ z. FailsBy plan z m) (sym among.2) fails))
 
 pub within_all : (count : ℕ) (nexts : Nexts) → length nexts ≡ count → AreBelow count nexts → AreWithin nexts
 within_all count nexts size below n m goes = let less : m < count = below n m goes in omega (arith, less, size)

@@ -11,7 +11,7 @@ use Rattle.star_label.specs.Files.{File}
 use Rattle.star_store.specs.declared.values.Value.{Value}
 use Rattle.star_store.specs.declared.values.Value.TheVariants as value
 use Rattle.star_store.specs.declared.values.Cell.{Cell}
-use Rattle.star_store.specs.declared.values.Counted.{Counted}
+use Rattle.star_store.specs.declared.values.HeapCell.{HeapCell}
 use Rattle.star_store.specs.Store.{Published, Shelf, global_of, is_taken, look, published_cells}
 use Rattle.star_data.specs.Data.{data_of, on_shelf}
 use Rattle.star_data.proofs.Stays.{data_stays}
@@ -214,12 +214,12 @@ module _ (plan : Plan) (d n : ℕ) (m : Local) (e : result plan d n ≡ Some m) 
   no_cells_by files planned (Some (Some q)) at = absurd (let less : length files < length files = is_file files plan planned (length files) q (holds plan d n m e (length files) q at) in let no : ⊥ = omega arith in no)
 
   cell_by : (files : List File) → IsPlanOf files plan → (b : Bool) (home at : ℕ) → nat_eq home (length files) ≡ b
-      → option_map (λ (c : Counted). c.cell) (slice_get (if b then [] else published_cells (slice_get (fold seated [] rs) home)) at) ≡ option_map (λ (c : Counted). c.cell) (slice_get (published_cells (slice_get (reached m) home)) at)
+      → option_map (λ (c : HeapCell). c.cell) (slice_get (if b then [] else published_cells (slice_get (fold seated [] rs) home)) at) ≡ option_map (λ (c : HeapCell). c.cell) (slice_get (published_cells (slice_get (reached m) home)) at)
   cell_by files planned true home at is =
       let same : home ≡ length files = eqb-true home (length files) is in
       let none : published_cells (slice_get (reached m) home) ≡ [] = ap (λ k. published_cells (slice_get (reached m) k)) same ∙ no_cells_by files planned (slice_get (reached m) (length files)) refl in
-      ap (λ cs. option_map (λ (c : Counted). c.cell) (slice_get cs at)) (sym none)
-  cell_by files planned false home at is = ap (λ cs. option_map (λ (c : Counted). c.cell) (slice_get cs at)) (same_cells home)
+      ap (λ cs. option_map (λ (c : HeapCell). c.cell) (slice_get cs at)) (sym none)
+  cell_by files planned false home at is = ap (λ cs. option_map (λ (c : HeapCell). c.cell) (slice_get cs at)) (same_cells home)
 
   -- what a value leads to by the stores is what it leads to on the shelf
   same_look : (files : List File) → IsPlanOf files plan → (v : Value) → look (record { home = length files; cells = [] }) (fold seated [] rs) v ≡ on_shelf (reached m) v

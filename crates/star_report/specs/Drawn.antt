@@ -1,31 +1,27 @@
 -- The graph of loads as it is found among the modules of a run.
-use Rattle.std.specs.Prelude.{◌≡◌, ◌+◌, ◌<◌, ◌↔◌, ℕ, List, Bool, Option, Some, true, Contains, IfSome, length, map, slice_get}
+use Rattle.std.specs.Prelude.{◌≡◌, ◌+◌, ◌<◌, ◌↔◌, ℕ, List, Bool, Option, Some, true, IfSome, map, slice_get}
 use denote.Ref.{Bor}
 use Rattle.std.specs.List.{All}
-use Rattle.std.specs.List.Sorted.{IsStrictlyIncreasing}
 use Rattle.star_cache.specs.State.{Loads}
 use Rattle.star_cache.specs.Walk.{IsOnCycle}
+use Rattle.star_label.specs.Files.{File}
 use Rattle.star_plan.specs.Plan.{Plan, loaded}
-use Rattle.star_plan.specs.Reached.{IsReached}
+use Rattle.star_plan.specs.Reading.{IsPlanOf}
+use Rattle.star_outcome.specs.Kept.{AreModules, RunView}
 use Rattle.star_outcome.specs.Views.{IsModule}
 use Rattle.star_outcome.specs.declared.module.Module.{Module}
-use Rattle.star_reading.specs.Readings.{Row, loads_at, readings}
+use Rattle.star_reading.specs.Found.{IsReadOf}
+use Rattle.star_reading.specs.Listed.{AreListed}
+use Rattle.star_reading.specs.Readings.{InReadPlans, Row}
+pub use Rattle.star_reading.specs.Readings.{LeadWithin}
 use Rattle.star_report.specs.Graph as graph
-use Rattle.star_report.specs.Graph.{IsNode}
+use Rattle.star_report.specs.Graph.{IsGraphText, IsNode}
 use Rattle.star_report.specs.Table.{IsTable, Table}
 use Rattle.star_report.specs.declared.graph.Edge.{Edge}
 use Rattle.star_report.specs.declared.graph.Node.{Node}
 
 abbrev pub node_view : Node → graph.Node
 node_view v = record { file = v.file; is_ok = v.is_ok; edges = v.edges.items }
-
--- the loads of all that was read lead to places of the row
-abbrev pub LeadWithin : Row → Type 0
-LeadWithin row = (n : ℕ) → All (λ l. l.file < length row) (loads_at row n)
-
--- so it is in each plan that has what was read
-abbrev pub InReadPlans : Row → (Plan → Type 0) → Type 0
-InReadPlans row P = (plan : Plan) → readings row ≡ plan.reads → P plan
 
 -- the answer is whether the load from a file to another lies on a cycle
 abbrev pub SaysCycle : Plan → ℕ → ℕ → Bool → Type 0
@@ -49,10 +45,7 @@ IsTableWithin count table = All (λ o. IfSome o (λ m. m.now.number < count)) ta
 
 -- the nodes of the reached files below a number, in order
 pub record IsGraphBelow (plan : Plan) (count : ℕ) (nodes : List graph.Node) : Type 0 where
-  pub in_order : IsStrictlyIncreasing (map (λ v. v.file) nodes)
-  pub below : All (λ n. n < count) (map (λ v. v.file) nodes)
-  pub reached : (n : ℕ) → Contains (map (λ v. v.file) nodes) n → IsReached plan n
-  pub all : (n : ℕ) → IsReached plan n → n < count → Contains (map (λ v. v.file) nodes) n
+  pub listed : AreListed plan count (map (λ v. v.file) nodes)
   pub each : All (IsNode plan) nodes
 
 -- the file after those of a graph has this entry in the table of modules: with its node the graph goes on
@@ -60,3 +53,9 @@ abbrev pub IsNextNode : Plan → Option (Bor Module) → List Node → List Node
 IsNextNode plan entry old new =
     (table : Table) (n : ℕ) → IsTable plan table → slice_get table n ≡ Some entry
     → IsGraphBelow plan n (map node_view old) → IsGraphBelow plan (n + 1) (map node_view new)
+
+-- a text is the graph of a run over these files, by what was read of them
+abbrev pub DrawsRun : List File → Row → RunView → List ℕ → Type 0
+DrawsRun files row run text =
+    (plan : Plan) → IsPlanOf files plan → IsReadOf files plan.roots plan.prelude row → AreModules plan run.kept
+    → IsGraphText files plan text

@@ -1,8 +1,7 @@
 -- The pages of a report: modules, and their texts.
-use Rattle.std.specs.Prelude.{◌≡◌, ◌<◌, ℕ, List, [], ◌∷◌, ◌++◌, Bool, false, true, Option, Some, None, IfSome, Vec, codes, decimal, filter, length, map, nat_eq, slice_index_or}
-use Rattle.std.specs.List.{list_any}
+use Rattle.std.specs.Prelude.{◌≡◌, ◌<◌, ℕ, List, [], ◌∷◌, ◌++◌, Bool, false, true, Option, Some, None, IfSome, Vec, codes, decimal, filter, length, map, slice_index_or}
 use Rattle.serde_json.specs.View.{view}
-use Rattle.serde_json.specs.Written.{comma_if, compact_text, has_float}
+use Rattle.serde_json.specs.Written.{comma_if}
 use Rattle.serde_json.specs.declared.value.Value.{Value}
 use Rattle.star_label.specs.Files.{File}
 use Rattle.star_cause.specs.Ways.{Nexts}
@@ -10,6 +9,7 @@ use Rattle.star_scope.specs.declared.loads.Load.{Load}
 use Rattle.star_reading.specs.Readings.{Row, loads_at}
 use Rattle.star_report.specs.Shelf.{more_of}
 use Rattle.star_report.specs.Shown.{IsShown}
+use Rattle.star_report.specs.Texts.{IsDataText}
 use Rattle.star_report.specs.Wanted.{added, is_shown_by}
 use Rattle.star_report.specs.declared.wanted.Wanted.{Wanted}
 use Rattle.star_outcome.specs.Views.{ended_well}
@@ -20,8 +20,7 @@ use Rattle.star_report.specs.declared.pages.Page.{Page}
 abbrev pub IsTextOf : Wanted → List File → Nexts → List Load → Module → List ℕ → Type 0
 IsTextOf wanted files nexts loads m text =
     (v : Value) × IsShown files nexts m.number m.ended v
-    × (has_float (added (more_of wanted files loads m) (view v)) ≡ false
-    → text ≡ compact_text (added (more_of wanted files loads m) (view v)))
+    × IsDataText (added (more_of wanted files loads m) (view v)) text
 
 -- the module that a page is about, as what a note of it knows
 abbrev pub known_of : Page → Option Module
@@ -53,10 +52,6 @@ page_text p = text_in p.text
 -- the texts of the pages that are shown
 abbrev pub shown_texts_of : List Page → List (List ℕ)
 shown_texts_of ps = map page_text (filter (λ p. p.shown) ps)
-
--- each file is marked that is a root, and no other
-abbrev pub AreMarked : List ℕ → List Bool → Type 0
-AreMarked roots marks = (n : ℕ) → n < length marks → slice_index_or marks n false ≡ list_any (nat_eq n) roots
 
 -- whether a page says right whether its module is shown
 abbrev pub SaysShown : Wanted → List ℕ → Page → Type 0

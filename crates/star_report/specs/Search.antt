@@ -135,3 +135,15 @@ pub record Goes (row : Row) (f : Frame) (old new : Search) : Type 0 where
   pub search : IsSearching row new
   pub less : left_in row new < left_at row f old
   pub stay : StayFound old.marks.items new.marks.items
+
+-- a step that follows the next load of the frame, which is of this file
+abbrev pub Follows : Frame → ℕ → Search → Search → Type 0
+Follows f to old new =
+    (row : Row) → IsSearchingAt row f old → f.next < length (loaded_at row f.file) → load_of row f ≡ to
+    → Goes row f old new
+
+-- a step after the last load of the frame, which reaches a lower place
+abbrev pub Merges : Frame → Search → Search → Type 0
+Merges f old new =
+    (row : Row) → IsSearchingAt row f old → length (loaded_at row f.file) ≤ f.next → f.low < f.place
+    → Goes row f old new

@@ -1,6 +1,6 @@
 -- The globals of a module, found in its stores.
 use Rattle.std.specs.Arc.{arc_value}
-use Rattle.std.specs.Prelude.{ℕ, ◌<◌, Bool, List, [], ◌∷◌, All, Option, Some, None, codes, fold, length, map, slice_get, string_bytes, if◌then◌else◌}
+use Rattle.std.specs.Prelude.{ℕ, ◌<◌, Bool, List, [], ◌∷◌, All, Option, Some, None, String, codes, fold, length, map, slice_get, string_bytes, if◌then◌else◌}
 use Rattle.std.specs.Option.{option_flatten}
 use Rattle.serde_json.specs.Data.{Data, Members, member, no_members, number, unsigned}
 use Rattle.star_label.specs.Files.{File}
@@ -12,7 +12,7 @@ use Rattle.star_store.specs.Store.{Published, Shelf, Store, look}
 use Rattle.star_outcome.specs.Homes.{seated}
 use Rattle.star_outcome.specs.Reaches.{row_of}
 use Rattle.star_outcome.specs.declared.module.Body.{Body}
-use Rattle.star_report.specs.Values.{global_data, value_members_by}
+use Rattle.star_report.specs.Values.{global_data, is_opaque, value_members_by}
 use Rattle.star_outcome.specs.declared.module.Ended.{Ended}
 use Rattle.star_outcome.specs.declared.module.Ended.TheVariants.{Good}
 use Rattle.star_outcome.specs.declared.module.Module.{Module}
@@ -31,20 +31,36 @@ name_if b name = if b then name ∷ [] else []
 abbrev pub shelf_in : Body → Shelf
 shelf_in b = fold seated [] (row_of b.stores)
 
--- the names of its globals
+-- the names of globals
+abbrev pub names_in : {Z X : Type 0} → List (String Z × X) → List (List ℕ)
+names_in shown = map (λ g. string_bytes g.0) shown
+
+-- the names of the globals of a module
 abbrev pub names_of : Body → List (List ℕ)
-names_of b = map (λ g. string_bytes g.0) b.shown.items
+names_of b = names_in b.shown.items
+
+-- the name of a global that is no data
+abbrev pub opaque_name : (List ℕ → Option Data) → List ℕ → List (List ℕ)
+opaque_name f name = name_if (is_opaque f name) name
+
+-- a global of a published module as data, by its name
+abbrev pub own_data : Store → Shelf → Option Published → List ℕ → Option Data
+own_data s shelf own = global_data (look s shelf) (globals_in own)
 
 -- a global of the file n as data, by its name, where the file's store is on a shelf
 abbrev pub among_data : Store → Shelf → ℕ → List ℕ → Option Data
-among_data s shelf n = global_data (look s shelf) (globals_in (option_flatten (slice_get shelf n)))
+among_data s shelf n = own_data s shelf (option_flatten (slice_get shelf n))
 
 -- the same by the stores of a module: where there are so many files, none has that number
 abbrev pub stored_data : ℕ → ℕ → Body → List ℕ → Option Data
 stored_data files n b = among_data (record { home = files; cells = [] }) (shelf_in b) n
 
+-- the members of a module's values
+abbrev pub stored_members : ℕ → ℕ → Body → Members
+stored_members files n b = value_members_by (stored_data files n b) (names_of b)
+
 abbrev pub values_in : ℕ → ℕ → Ended → Members
-values_in files n (Good b) = value_members_by (stored_data files n (arc_value b)) (names_of (arc_value b))
+values_in files n (Good b) = stored_members files n (arc_value b)
 values_in files n e = no_members
 
 abbrev pub steps_in : Ended → Members

@@ -1,6 +1,6 @@
 -- Modules of the code, as the report shows them.
 use Rattle.std.specs.Arc.{arc_value}
-use Rattle.std.specs.Prelude.{◌≡◌, ℕ, Bool, List, [], map, codes, Option}
+use Rattle.std.specs.Prelude.{◌≡◌, ℕ, Bool, List, length, map, codes, Option}
 use Rattle.std.specs.List.{All}
 use Rattle.serde_json.specs.Data.{Data, string}
 use Rattle.serde_json.specs.View.{view}
@@ -10,12 +10,14 @@ use Rattle.star_plan.specs.Causes.{Cause}
 use Rattle.star_plan.specs.Plan.{Plan}
 use Rattle.star_plan.specs.Reading.{IsPlanOf}
 use Rattle.star_plan.specs.Report.{IsEnded, IsReport}
-use Rattle.star_plan.specs.Text.{code_word, ill_data, load_data, static_line, static_word, well_data}
+use Rattle.star_plan.specs.Text.{code_word, ill_data, load_data, static_data, well_data}
 use Rattle.star_cause.specs.Causes.{IsCauseBy}
 use Rattle.star_cause.specs.Ways.{Nexts}
 use Rattle.star_outcome.specs.Views.{shown_texts}
 use Rattle.star_reading.specs.Codes.{fault_of}
-use Rattle.star_outcome.specs.Kept.{KeptView}
+use Rattle.star_reading.specs.Found.{IsReadOf}
+use Rattle.star_reading.specs.Readings.{Row}
+use Rattle.star_outcome.specs.Kept.{AreModules, KeptView, RunView}
 use Rattle.star_report.specs.Wanted.{AreMore, Full, IsFullText, full_data, full_text, is_shown}
 use Rattle.star_report.specs.declared.wanted.Wanted.{Wanted}
 use Rattle.star_outcome.specs.declared.module.Ended.{Ended}
@@ -29,8 +31,7 @@ IsLoadShown files nexts n line v =
 -- a value shows how the module of a file ended
 abbrev pub IsShown : List File → Nexts → ℕ → Ended → Value → Type 0
 IsShown files nexts n (Static f) v =
-    view v ≡ ill_data (codes "fault") (string (static_word (fault_of f))) (label_at files n) (static_line (fault_of f))
-    [] (codes "static")
+    view v ≡ static_data (label_at files n) (fault_of f)
 IsShown files nexts n (Unloaded index line) v = IsLoadShown files nexts n line v
 IsShown files nexts n (Stopped code line lines trail) v =
     view v ≡ ill_data (codes "fault") (string (code_word code)) (label_at files n) line lines.items (codes "fault")
@@ -56,6 +57,12 @@ pub record IsReportBut (wanted : Wanted) (files : List File) (plan : Plan) (reac
     pub report : IsReport plan reached (map (λ f. f.shown) fulls)
     pub more : All (λ f. AreMore wanted files plan f.shown.file f.more) fulls
     pub text_is : text ≡ full_text wanted files plan begun fulls
+
+-- so it is in the plan that files have for roots, by what was read of them, where a run has its modules
+abbrev pub ReportsRun : Wanted → List File → Row → List ℕ → RunView → List ℕ → Type 0
+ReportsRun wanted files row roots run text =
+    (plan : Plan) → IsPlanOf files plan → plan.roots ≡ roots → IsReadOf files roots plan.prelude row
+    → AreModules plan run.kept → IsReportBut wanted files plan (length run.kept) run.begun text
 
 -- a text is that of the report of the plan that files have for roots, a prelude and a number of steps, with what is
 -- wanted

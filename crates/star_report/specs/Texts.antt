@@ -1,9 +1,13 @@
 -- The texts of members.
-use Rattle.std.specs.Prelude.{◌≡◌, ⊤, ℕ, List, [], ◌∷◌, ◌++◌, Bool, true, Option, Some, None, Vec}
+use Rattle.std.specs.Prelude.{◌≡◌, ⊤, ℕ, List, [], ◌∷◌, ◌++◌, Bool, false, true, OnOk, Option, Some, None, Result, Vec, map}
 use denote.Ref.{Bor}
 use Rattle.json.specs.Print.{quoted}
-use Rattle.serde_json.specs.Data.{Data, Members, member, no_members, object, put}
-use Rattle.serde_json.specs.Written.{comma_if, compact_text}
+use Rattle.serde_json.specs.Data.{Data, Members, member, no_members, object, put, string}
+use Rattle.serde_json.specs.View.{view}
+use Rattle.serde_json.specs.Written.{comma_if, compact_text, has_float}
+use Rattle.serde_json.specs.declared.value.Value.{Value}
+use Rattle.star_report.specs.Values.{put_some, with_value}
+use Rattle.star_report.specs.Wanted.{put_in}
 
 -- names, each with a text
 abbrev pub Texts : Type 0 → Type 0
@@ -22,6 +26,29 @@ IsTextFor None None = ⊤
 IsTextFor None (Some t) = ⊥
 IsTextFor (Some d) None = ⊥
 IsTextFor (Some d) (Some t) = t.items ≡ compact_text d
+
+-- one more text, where there is one, is that of a member: so it is unless an allocation failed
+abbrev pub PutsText : {Z T E : Type 0} → Option (Vec ℕ Z) → List ℕ → Texts Z → Texts Z → Result T E → Type 0
+PutsText text name old new result =
+    (d : Option Data) (ms : Members) → IsTextFor d text → AreTexts old ms
+    → OnOk result (AreTexts new (put_some name d ms))
+
+-- so it is with a global, by its data
+abbrev pub AddsText : {Z T E : Type 0} → (List ℕ → Option Data) → List ℕ → Texts Z → Texts Z → Result T E → Type 0
+AddsText f name old new result = (ms : Members) → AreTexts old ms → OnOk result (AreTexts new (with_value f ms name))
+
+-- these are the values from before, and then these names
+abbrev pub AddsNames : List (List ℕ) → List Value → List Value → Type 0
+AddsNames names old new = map view new ≡ map view old ++ map string names
+
+-- a text is that of data, if no float is in them
+abbrev pub IsDataText : Data → List ℕ → Type 0
+IsDataText d text = has_float d ≡ false → text ≡ compact_text d
+
+-- so it is of data with one member more, an object of the members that have these texts
+abbrev pub IsTextWith : {Z : Type 0} → Data → List ℕ → Texts Z → List ℕ → Type 0
+IsTextWith d name texts text =
+    has_float d ≡ false → (ms : Members) → AreTexts texts ms → text ≡ compact_text (put_in name (object ms) d)
 
 -- names with their texts as an object, without the bracket before them
 abbrev pub joined_members : {Z : Type 0} → Bool → Texts Z → List ℕ

@@ -1,13 +1,11 @@
 //! The components of the graph of loads, by Tarjan's algorithm: in time that grows as the files and their loads do.
 
 ghost use Rattle.std.specs.Prelude.{◌≡◌, ◌<◌, ◌≤◌, ◌↔◌, ◌^◌, [], false, IfOk, OnOk, length, replicate, true};
-ghost use Rattle.star_reading.specs.Readings.{Row};
+ghost use Rattle.star_reading.specs.Readings.{LeadWithin, Row};
 ghost use Rattle.star_report.specs.Components.{AreComponents, AreOne, loaded_at, mark_at};
-ghost use Rattle.star_report.specs.Drawn.{LeadWithin};
-ghost use Rattle.star_report.specs.Search.{Closes, Enters, Goes, IsClosedBy, IsSearch, IsSearchingAt, Pushes, StayFound, load_of, went_on};
+ghost use Rattle.star_report.specs.Search.{Closes, Enters, Follows, Goes, IsClosedBy, IsSearch, IsSearchingAt, Merges, Pushes, StayFound, went_on};
 ghost use Rattle.star_report.specs.declared.components.Mark.TheVariants.{New};
 
-use crate::more::loads_in;
 use star_reading::reading::Reads;
 use std::alloc::{AllocError, Global};
 
@@ -115,9 +113,7 @@ impl Search {
     fn follow(&mut self, frame: Frame, to: usize) -> Result<(), AllocError>
         requires to { to < length self.old.marks.items }
         requires next { frame.next < 2 ^ 63 }
-        ensures { OnOk result ((row : Row) → IsSearchingAt row frame self.old
-            → frame.next < length (loaded_at row frame.file) → load_of row frame ≡ to
-            → Goes row frame self.old self.new) }
+        ensures { OnOk result (Follows frame to self.old self.new) }
     {
         match self.marks[to] {
             Mark::New => {
@@ -142,9 +138,7 @@ impl Search {
 
     /// Ends a frame that reaches a lower place: the frame before it reaches that place, too.
     fn merge(&mut self, frame: Frame) -> Result<(), AllocError>
-        ensures { OnOk result ((row : Row) → IsSearchingAt row frame self.old
-            → length (loaded_at row frame.file) ≤ frame.next → frame.low < frame.place
-            → Goes row frame self.old self.new) }
+        ensures { OnOk result (Merges frame self.old self.new) }
     {
         match self.path.pop() {
             Some(before) => {
@@ -178,7 +172,7 @@ impl Search {
         requires loads { LeadWithin reads.now.all.items }
         ensures { OnOk result (Goes reads.now.all.items frame self.old self.new) }
     {
-        match loads_in(reads, frame.file).get(frame.next) {
+        match reads.loads(frame.file).get(frame.next) {
             Some(load) => self.follow(frame, load.file),
             None => self.leave(frame),
         }

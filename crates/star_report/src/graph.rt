@@ -3,20 +3,15 @@
 ghost use Rattle.std.specs.Prelude.{◌≡◌, ◌<◌, ◌++◌, IfOk, IfSome, OnOk, codes, flat_map, if◌then◌else◌, length, map};
 ghost use Rattle.json.specs.Print.{quoted};
 ghost use Rattle.star_label.specs.Files.{label_at};
-ghost use Rattle.star_outcome.specs.Kept.{AreModules};
 ghost use Rattle.star_outcome.specs.Views.{IsModule};
-ghost use Rattle.star_plan.specs.Plan.{Plan};
-ghost use Rattle.star_plan.specs.Reading.{IsPlanOf};
-ghost use Rattle.star_reading.specs.Found.{IsReadOf};
-ghost use Rattle.star_reading.specs.Readings.{loads_at};
+ghost use Rattle.star_reading.specs.Readings.{InReadPlans, LeadWithin, loads_at};
 ghost use Rattle.star_report.specs.Components.{AreComponents};
 ghost use Rattle.star_report.specs.Graph as spec;
-ghost use Rattle.star_report.specs.Drawn.{AreNodesWithin, EndWithin, InReadPlans, IsNextNode, IsTableWithin, LeadWithin, SayCycles, node_view};
+ghost use Rattle.star_report.specs.Drawn.{AreNodesWithin, DrawsRun, EndWithin, IsNextNode, IsTableWithin, SayCycles, node_view};
 ghost use Rattle.star_report.specs.Table.{IsTable};
 
 use crate::components::Components;
 use crate::modules::modules_by_number;
-use crate::more::loads_in;
 use indexmap::IndexSet;
 use json::Writer;
 use star_label::files::Files as Labels;
@@ -69,7 +64,7 @@ fn edges_of(
     ensures cycles { IfOk result (λ es. SayCycles reads.now.all.items it.now es.items) }
     ensures within { IfOk result (λ es. EndWithin (length reads.now.all.items) es.items) }
 {
-    let files = targets(alloc, loads_in(reads, it.number))?;
+    let files = targets(alloc, reads.loads(it.number))?;
     let mut edges = Vec::with_capacity(alloc, files.len())?;
     for to in files.as_slice() {
         let on_cycle = components.are_one(it.number, *to);
@@ -262,9 +257,7 @@ pub fn graph(
     requires reads { length reads.now.all.items ≡ length files.now }
     requires loads { LeadWithin reads.now.all.items }
     ensures same { run.new ≡ run.old }
-    ensures text { IfOk result (λ s. (plan : Plan) → IsPlanOf files.now plan
-        → IsReadOf files.now plan.roots plan.prelude reads.now.all.items → AreModules plan run.old.kept
-        → spec.IsGraphText files.now plan s.items) }
+    ensures text { IfOk result (λ s. DrawsRun files.now reads.now.all.items run.old s.items) }
 {
     let mut kept = run.kept(alloc)?;
     let table = modules_by_number(alloc, files.len(), run, kept.as_mut_slice())?;

@@ -1,7 +1,7 @@
 //! The report of a run: one JSON text on one line (`docs/REPORT.md`).
 //!
-//! - `report` (in `pages`, for `report.rt`) writes a page for each module, in several threads if there are many, and
-//!   joins the pages in the order of labels. `report.rt` makes the JSON of a module.
+//! - `report::report` writes a page for each module (`pages`), in several threads if there are many, and joins the
+//!   pages in the order of labels. The JSON of a module is made there too; that of a file at fault is `star_check`'s.
 //! - `Wanted` says which further members each module gets: values as JSON (`values`, with `star_data`), loads,
 //!   steps (`more`).
 //! - `Output` says what a run writes: the report, or in its place a global of each root as JSON (`got`), or the

@@ -2,14 +2,12 @@
 
 ghost use Rattle.std.specs.Prelude.{◌≡◌, ◌<◌, ◌++◌, ◌∷◌, [], false, All, IfOk, codes, filter, is_some, length, map};
 ghost use Rattle.json.specs.Print.{quoted};
-ghost use Rattle.serde_json.specs.Data.{Data, Members, object};
+ghost use Rattle.serde_json.specs.Data.{Data};
 ghost use Rattle.serde_json.specs.View.{view};
-ghost use Rattle.serde_json.specs.Written.{comma_if, compact_text, has_float};
-ghost use Rattle.star_reading.specs.Readings.{loads_at};
-ghost use Rattle.star_report.specs.Shelf.{loads_part, more_of, names_of, steps_part, stored_data};
+ghost use Rattle.serde_json.specs.Written.{comma_if};
+ghost use Rattle.star_report.specs.Shelf.{loads_part, more_of, steps_part, stored_members};
 ghost use Rattle.star_report.specs.Shown.{IsShown};
-ghost use Rattle.star_report.specs.Texts.{AreTexts, EndsIn, joined_members};
-ghost use Rattle.star_report.specs.Values.{value_members_by};
+ghost use Rattle.star_report.specs.Texts.{EndsIn, IsDataText, IsTextWith, joined_members};
 ghost use Rattle.star_report.specs.Wanted.{added, load_member, put_in};
 ghost use Rattle.star_cause.specs.Ways.{Nexts};
 
@@ -19,7 +17,6 @@ use json::Writer;
 use serde_json::{Map, Value as Json, json};
 use star_label::files::Files as Labels;
 use star_outcome::module::{Body, Ended, Module};
-use star_reading::reading::{Read, Reads};
 use star_scope::loads::Load;
 use std::alloc::{AllocError, Global};
 
@@ -33,16 +30,6 @@ fn with_member(alloc: Global, shown: Json, key: &str, json: Json) -> Result<Json
             Ok(Json::Object(members))
         }
         other => Ok(other),
-    }
-}
-
-/// The loads of a file; none if it has a static fault.
-pub(crate) fn loads_in<'s, 't>(reads: &'s Reads<'t>, n: usize) -> &'s [Load]
-    ensures { result.now ≡ loads_at reads.now.all.items n }
-{
-    match reads.all.get(n) {
-        Some(Some(Read::Program(program))) => program.loads(),
-        _ => &[],
     }
 }
 
@@ -174,8 +161,7 @@ fn with_last(
     members: &Map<&str, Vec<u8>>,
 ) -> Result<Vec<u8>, AllocError>
     requires { EndsIn name.now (view shown.now) }
-    ensures { IfOk result (λ t. has_float (view shown.now) ≡ false → (ms : Members) → AreTexts members.now.entries ms
-        → t.items ≡ compact_text (put_in name.now (object ms) (view shown.now))) }
+    ensures { IfOk result (λ t. IsTextWith (view shown.now) name.now members.now.entries t.items) }
 {
     let mut text = shown.to_vec(alloc)?;
     text.pop();
@@ -195,8 +181,8 @@ fn text_with_values(
     shown: Json,
 ) -> Result<Vec<u8>, AllocError>
     requires { (d : Data) → EndsIn (codes "values") (put_in (codes "opaque") d (view shown)) }
-    ensures { let more = value_members_by (stored_data (length files.now) n body.now) (names_of body.now) in
-        IfOk result (λ t. has_float (added more (view shown)) ≡ false → t.items ≡ compact_text (added more (view shown))) }
+    ensures { IfOk result (λ t.
+        IsDataText (added (stored_members (length files.now) n body.now) (view shown)) t.items) }
 {
     let Values { values, opaque } = members_of(alloc, files.len(), n, body)?;
     let shown = with_member(alloc, shown, "opaque", Json::Array(opaque))?;
@@ -214,8 +200,8 @@ pub(crate) fn text_with_more(
 ) -> Result<Vec<u8>, AllocError>
     requires loads { All (λ l. l.file < length files.now) loads.now }
     requires shown { (nexts : Nexts) × IsShown files.now nexts it.now.number it.now.ended shown }
-    ensures { let more = more_of wanted files.now loads.now it.now in
-        IfOk result (λ t. has_float (added more (view shown)) ≡ false → t.items ≡ compact_text (added more (view shown))) }
+    ensures { IfOk result (λ t.
+        IsDataText (added (more_of wanted files.now loads.now it.now) (view shown)) t.items) }
 {
     let shown = with_loads(alloc, files, loads, wanted, shown)?;
     let shown = with_steps(alloc, wanted, &it.ended, shown)?;

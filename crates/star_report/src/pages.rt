@@ -1,18 +1,13 @@
-//! The text of the report: a page for each module, which several threads write.
+//! The pages of the report: one for each module. Several threads write them, and they are joined in their order.
 
-ghost use Rattle.std.specs.Prelude.{◌≡◌, ◌<◌, ◌++◌, ◌||◌, [], ℕ, if◌then◌else◌, All, IfOk, IsSome, List, OnOk, length, map, vec_len};
+ghost use Rattle.std.specs.Prelude.{◌≡◌, ◌<◌, ◌++◌, ◌||◌, [], ℕ, if◌then◌else◌, All, IfOk, IsSome, List, OnOk, length, map};
 ghost use Rattle.serde_json.specs.Written.{comma_if};
-ghost use Rattle.star_plan.specs.Plan.{Plan};
-ghost use Rattle.star_plan.specs.Reading.{IsPlanOf};
-ghost use Rattle.star_outcome.specs.Kept.{AreModules};
-ghost use Rattle.star_reading.specs.Found.{IsReadOf};
+ghost use Rattle.star_reading.specs.Found.{AreMarked};
 ghost use Rattle.star_reading.specs.Readings.{loads_at};
-ghost use Rattle.star_report.specs.Shelf.{LeadToFiles};
-ghost use Rattle.star_report.specs.Pages.{AreMarked, AreWritten, HasItsLoads, IsTextOf, IsWritten, SaysShown, joined_text, known_of, page_text, shown_texts_of};
-ghost use Rattle.star_report.specs.Shown.{IsReportBut};
+ghost use Rattle.star_report.specs.Pages.{AreWritten, HasItsLoads, IsTextOf, IsWritten, SaysShown, joined_text, known_of, page_text, shown_texts_of};
 
-use crate::more::{loads_in, text_with_more};
-use crate::report::{module_value, nexts_of};
+use crate::more::text_with_more;
+use crate::report::module_value;
 use crate::wanted::Wanted;
 use star_cause::Causes;
 use star_label::files::Files as Labels;
@@ -70,20 +65,6 @@ fn module_text(
     text_with_more(alloc, files, loads, wanted, it, shown)
 }
 
-/// Whether each file is a root.
-pub fn roots_marked(alloc: Global, files: usize, roots: &[usize]) -> Result<Vec<bool>, AllocError>
-    ensures size { IfOk result (λ v. vec_len v ≡ files) }
-    ensures marks { IfOk result (λ v. AreMarked roots.now v.items) }
-{
-    let mut marks = vec![in alloc; false; files]?;
-    for root in roots {
-        if *root < files {
-            marks[*root] = true;
-        }
-    }
-    Ok(marks)
-}
-
 /// The empty page of a module.
 fn page_of<'a>(wanted: Wanted, marks: &[bool], it: &'a Module, loads: &'a [Load]) -> Page<'a>
     requires { it.now.number < length marks.now }
@@ -121,13 +102,13 @@ pub fn pages_of<'a>(
     let mut pages = Vec::with_capacity(alloc, run.len())?;
     for i in 0..run.len() {
         let it = run.module(i, kept[i].note());
-        pages.push(page_of(wanted, marks, it, loads_in(reads, it.number)))?;
+        pages.push(page_of(wanted, marks, it, reads.loads(it.number)))?;
     }
     Ok(pages)
 }
 
 /// Writes all pages, with at most this number of threads.
-fn write_pages<R: Threads + Sync>(
+pub(crate) fn write_pages<R: Threads + Sync>(
     rt: &R,
     alloc: Global,
     files: &Labels,
@@ -207,40 +188,4 @@ pub fn joined(alloc: Global, begun: u32, pages: &[Page]) -> Result<Vec<u8>, Allo
     }
     all.extend_from_slice(b"]}\n")?;
     Ok(all)
-}
-
-/// The text of the report of a run for these roots over these files, with its line end and the further members of
-/// each module that are wanted: the same bytes with any number of threads.
-pub fn report<R: Threads + Sync>(
-    rt: &R,
-    alloc: Global,
-    files: &Labels,
-    reads: &Reads,
-    run: &mut Run,
-    roots: &[usize],
-    wanted: Wanted,
-    threads: usize,
-) -> Result<Vec<u8>, AllocError>
-    requires files { length run.old.cells ≡ length files.now }
-    requires loads { LeadToFiles files.now reads.now.all.items }
-    ensures same { run.new ≡ run.old }
-    ensures text { IfOk result (λ s. (plan : Plan) → IsPlanOf files.now plan → plan.roots ≡ roots.now
-        → IsReadOf files.now roots.now plan.prelude reads.now.all.items → AreModules plan run.old.kept
-        → IsReportBut wanted files.now plan (length run.old.kept) run.old.begun s.items) }
-{
-    let nexts = nexts_of(alloc, files.len(), run)?;
-    let causes = Causes::new(alloc, nexts)?;
-    let mut kept = run.kept(alloc)?;
-    let marks = roots_marked(alloc, files.len(), roots)?;
-    let mut pages = pages_of(alloc, run, reads, kept.as_mut_slice(), wanted, &marks)?;
-    write_pages(
-        rt,
-        alloc,
-        files,
-        &causes,
-        wanted,
-        pages.as_mut_slice(),
-        threads,
-    );
-    joined(alloc, run.begun(), pages.as_slice())
 }

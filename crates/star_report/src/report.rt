@@ -1,30 +1,41 @@
 //! `report`: the report of a run as one text, and the JSON of each module.
 
-ghost use Rattle.std.specs.Prelude.{◌≡◌, ◌<◌, ◌↔◌, ℕ, true, false, [], All, Contains, Some, IfOk, IfSome, OnOk};
+ghost use Rattle.std.specs.Prelude.{◌≡◌, ◌<◌, ◌↔◌, ℕ, true, false, Contains, Some, IfOk, IfSome, OnOk};
 ghost use Rattle.std.specs.Prelude.{codes, fold, length, map, string_bytes, vec_len};
 ghost use Rattle.serde_json.specs.Data.{no_members, number, string};
 ghost use Rattle.serde_json.specs.View.{members_view, view};
 ghost use Rattle.star_cause.specs.Ends.{AreWithin};
-ghost use Rattle.star_label.specs.Files.{label_at};
 ghost use Rattle.star_outcome.specs.Views.{shown_texts};
-ghost use Rattle.star_plan.specs.Causes.{Culprit, Cycle, FailsBy};
+ghost use Rattle.star_plan.specs.Causes.{FailsBy};
 ghost use Rattle.star_plan.specs.Plan.{Plan};
-ghost use Rattle.star_plan.specs.Text.{ill_data, load_data, static_line, static_word, well_data, with_global};
-ghost use Rattle.star_reading.specs.Codes.{fault_of};
+ghost use Rattle.star_plan.specs.Text.{ill_data, well_data, with_global};
 ghost use Rattle.star_report.specs.Fails.{AreFails};
 ghost use Rattle.star_outcome.specs.Kept.{AllGood, IsLoadBelow};
-ghost use Rattle.star_report.specs.Shown.{IsLoadShown, IsShown};
+ghost use Rattle.star_report.specs.Shelf.{LeadToFiles};
+ghost use Rattle.star_report.specs.Shown.{IsLoadShown, IsShown, ReportsRun};
 ghost use Rattle.star_outcome.specs.Views.{IsModule};
 
-pub use crate::pages::report;
+use crate::pages::{joined, pages_of, write_pages};
+use crate::wanted::Wanted;
 use serde_json::{Map, Value, json};
-use star_cause::{Cause, Causes};
+use star_cause::Causes;
+use star_check::failed::{load_value, static_value};
 use star_label::files::Files as Labels;
 use star_outcome::module::{Ended, Module};
 use star_outcome::outcome::Run;
-use star_reading::code::{StaticFault, code_text};
+use star_reading::code::code_text;
+use star_reading::reading::Reads;
+use star_reading::roots::roots_marked;
 use star_text::Text;
 use std::alloc::{AllocError, Global};
+use std::thread::Threads;
+
+/// What a report shows, and how many threads at most write it.
+#[derive(Clone, Copy, Debug, PartialEq, Eq)]
+pub struct ReportOptions {
+    pub wanted: Wanted,
+    pub threads: usize,
+}
 
 /// Adds the name of a global with its text.
 fn put_global(
@@ -62,20 +73,19 @@ fn strings(alloc: Global, lines: &[Text]) -> Result<Vec<Value>, AllocError>
     Ok(items)
 }
 
-/// A module whose own run failed.
+/// A module whose run failed.
 fn failed_module(
     alloc: Global,
     label: &str,
     code: &str,
     line: usize,
     lines: &[Text],
-    status: &str,
 ) -> Result<Value, AllocError>
     ensures { IfOk result (λ v. view v
-        ≡ ill_data (codes "fault") (string code.now) label.now line lines.now status.now) }
+        ≡ ill_data (codes "fault") (string code.now) label.now line lines.now (codes "fault")) }
 {
     let lines = Value::Array(strings(alloc, lines)?);
-    json!(in alloc; {"fault": code, "label": label, "line": line as u64, "lines": lines, "status": status})
+    json!(in alloc; {"fault": code, "label": label, "line": line as u64, "lines": lines, "status": "fault"})
 }
 
 /// A module that ran to its end.
@@ -125,50 +135,6 @@ pub fn nexts_of(
     Ok(nexts)
 }
 
-/// The labels of files.
-fn labels_of(alloc: Global, files: &Labels, numbers: &[usize]) -> Result<Vec<Value>, AllocError>
-    requires { All (λ n. n < length files.now) numbers.now }
-    ensures { IfOk result (λ v. map view v.items ≡ map string (map (label_at files.now) numbers.now)) }
-{
-    let mut labels = Vec::new(alloc);
-    for n in numbers {
-        labels.push(Value::try_from_str(alloc, files.label(*n).text())?)?;
-    }
-    Ok(labels)
-}
-
-/// A module that failed by a load, because of this file.
-fn caused_module(
-    alloc: Global,
-    files: &Labels,
-    label: &str,
-    cause: usize,
-    line: usize,
-) -> Result<Value, AllocError>
-    requires { cause < length files.now }
-    ensures { IfOk result (λ v. view v ≡ load_data files.now label.now (Culprit cause) line) }
-{
-    let cause = files.label(cause).text();
-    let lines = Value::Array(Vec::new(alloc));
-    json!(in alloc; {"cause": cause, "label": label, "line": line as u64, "lines": lines, "status": "load"})
-}
-
-/// A module that failed by a load, because of this cycle of loads.
-fn cycle_module(
-    alloc: Global,
-    files: &Labels,
-    label: &str,
-    cycle: &[usize],
-    line: usize,
-) -> Result<Value, AllocError>
-    requires { All (λ n. n < length files.now) cycle.now }
-    ensures { IfOk result (λ v. view v ≡ load_data files.now label.now (Cycle cycle.now) line) }
-{
-    let cycle = Value::Array(labels_of(alloc, files, cycle)?);
-    let lines = Value::Array(Vec::new(alloc));
-    json!(in alloc; {"cycle": cycle, "label": label, "line": line as u64, "lines": lines, "status": "load"})
-}
-
 /// A module that failed by a load.
 fn load_module(
     alloc: Global,
@@ -183,26 +149,7 @@ fn load_module(
 {
     let label = files.label(n).text();
     let cause = causes.of(alloc, n)?;
-    match cause {
-        Cause::Culprit(file) => caused_module(alloc, files, label, file, line),
-        Cause::Cycle(cycle) => cycle_module(alloc, files, label, &cycle, line),
-    }
-}
-
-/// A module that has a static fault.
-fn static_module(alloc: Global, label: &str, fault: StaticFault) -> Result<Value, AllocError>
-    ensures { IfOk result (λ v. view v
-        ≡ ill_data (codes "fault") (string (static_word (fault_of fault))) label.now
-        (static_line (fault_of fault)) [] (codes "static")) }
-{
-    failed_module(
-        alloc,
-        label,
-        fault.code.text(),
-        fault.shown_line(),
-        &[],
-        "static",
-    )
+    load_value(alloc, files, label, &cause, line)
 }
 
 /// A module, with its label and how it ended.
@@ -218,14 +165,14 @@ pub(crate) fn module_value(
 {
     let label = files.label(it.number).text();
     match &it.ended {
-        Ended::Static(fault) => static_module(alloc, label, *fault),
+        Ended::Static(fault) => static_value(alloc, label, *fault),
         Ended::Load { line, .. } => load_module(alloc, files, causes, it.number, *line),
         Ended::Stopped {
             code,
             line,
             lines,
             ..
-        } => { failed_module(alloc, label, code_text(*code), *line, &lines, "fault") }
+        } => { failed_module(alloc, label, code_text(*code), *line, &lines) }
         Ended::Good(body) => good_module(alloc, label, &body.shown, &body.lines),
     }
 }
@@ -243,4 +190,45 @@ pub fn all_good(run: &mut Run) -> bool
         }
     }
     true
+}
+
+/// The text of the report of a run for these roots over these files, with its line end and the further members of
+/// each module that are wanted: the same bytes with any number of threads.
+pub fn report<R: Threads + Sync>(
+    rt: &R,
+    alloc: Global,
+    files: &Labels,
+    reads: &Reads,
+    run: &mut Run,
+    roots: &[usize],
+    options: ReportOptions,
+) -> Result<Vec<u8>, AllocError>
+    requires files { length run.old.cells ≡ length files.now }
+    requires loads { LeadToFiles files.now reads.now.all.items }
+    ensures same { run.new ≡ run.old }
+    ensures text { IfOk result (λ s.
+        ReportsRun options.wanted files.now reads.now.all.items roots.now run.old s.items) }
+{
+    let nexts = nexts_of(alloc, files.len(), run)?;
+    let causes = Causes::new(alloc, nexts)?;
+    let mut kept = run.kept(alloc)?;
+    let marks = roots_marked(alloc, files.len(), roots)?;
+    let mut pages = pages_of(
+        alloc,
+        run,
+        reads,
+        kept.as_mut_slice(),
+        options.wanted,
+        &marks,
+    )?;
+    write_pages(
+        rt,
+        alloc,
+        files,
+        &causes,
+        options.wanted,
+        pages.as_mut_slice(),
+        options.threads,
+    );
+    joined(alloc, run.begun(), pages.as_slice())
 }

@@ -1,17 +1,17 @@
 //! The values of a module's globals, as JSON.
 
-ghost use Rattle.std.specs.Prelude.{◌≡◌, ◌≤◌, ◌++◌, [], IfOk, OnOk, filter, fold, is_some, map, not, string_bytes};
+ghost use Rattle.std.specs.Prelude.{◌≡◌, ◌≤◌, [], IfOk, OnOk, is_some, map, not};
 ghost use Rattle.std.specs.Option.{option_copied};
 ghost use Rattle.std.specs.Prelude.{Option};
-ghost use Rattle.serde_json.specs.Data.{Data, Members, no_members, string};
+ghost use Rattle.serde_json.specs.Data.{Data, no_members, string};
 ghost use Rattle.serde_json.specs.View.{view};
 ghost use Rattle.star_store.specs.Store.{look};
 ghost use Rattle.star_data.specs.Data.{data_of};
 ghost use Rattle.star_meaning.specs.Module.{most_levels};
 ghost use Rattle.star_scope.specs.Loads.{is_private};
-ghost use Rattle.star_report.specs.Shelf.{among_data, globals_in, name_if, names_of, stored_data};
-ghost use Rattle.star_report.specs.Texts.{AreTexts, IsTextFor};
-ghost use Rattle.star_report.specs.Values.{global_data, is_opaque, put_some, with_value};
+ghost use Rattle.star_report.specs.Shelf.{among_data, name_if, names_in, names_of, opaque_name, own_data, stored_data};
+ghost use Rattle.star_report.specs.Texts.{AddsNames, AddsText, AreTexts, IsTextFor, PutsText};
+ghost use Rattle.star_report.specs.Values.{opaque_names, shown_values};
 
 use serde_json::{Map, Value as Json};
 use star_data::data::{Written, write_data};
@@ -48,10 +48,9 @@ impl<'b> Values<'b> {
 
     /// Adds a global: its JSON, if it has one.
     fn add(&mut self, alloc: Global, name: &'b str, json: Option<Vec<u8>>) -> Result<(), AllocError>
-        ensures values { (d : Option Data) (ms : Members) → IsTextFor d json → AreTexts self.old.values.entries ms
-            → OnOk result (AreTexts self.new.values.entries (put_some name.now d ms)) }
-        ensures opaque { (d : Option Data) → IsTextFor d json → OnOk result (map view self.new.opaque.items
-            ≡ map view self.old.opaque.items ++ map string (name_if (not (is_some d)) name.now)) }
+        ensures values { PutsText json name.now self.old.values.entries self.new.values.entries result }
+        ensures opaque { (d : Option Data) → IsTextFor d json → OnOk result
+            (AddsNames (name_if (not (is_some d)) name.now) self.old.opaque.items self.new.opaque.items) }
     {
         match json {
             Some(json) => drop(self.values.insert(name, json)?),
@@ -70,11 +69,11 @@ impl<'b> Values<'b> {
         name: &'b str,
         room: usize,
     ) -> Result<(), AllocError>
-        ensures values { (ms : Members) → AreTexts self.old.values.entries ms → OnOk result
-            (AreTexts self.new.values.entries (with_value (global_data (look arena.now homes.now) (globals_in (option_copied own.entry))) ms name.now)) }
-        ensures opaque { OnOk result (map view self.new.opaque.items
-            ≡ map view self.old.opaque.items ++ map string (name_if
-            (is_opaque (global_data (look arena.now homes.now) (globals_in (option_copied own.entry))) name.now) name.now)) }
+        ensures values { AddsText (own_data arena.now homes.now (option_copied own.entry)) name.now
+            self.old.values.entries self.new.values.entries result }
+        ensures opaque { OnOk result (AddsNames
+            (opaque_name (own_data arena.now homes.now (option_copied own.entry)) name.now)
+            self.old.opaque.items self.new.opaque.items) }
     {
         if is_private(name) {
             return Ok(());
@@ -103,7 +102,7 @@ fn global_json<'a>(
     name: &str,
     room: usize,
 ) -> Result<Option<Vec<u8>>, AllocError>
-    ensures { IfOk result (IsTextFor (global_data (look arena.now homes.now) (globals_in (option_copied own.entry)) name.now)) }
+    ensures { IfOk result (IsTextFor (own_data arena.now homes.now (option_copied own.entry) name.now)) }
 {
     let Some(own) = own else {
         return Ok(None);
@@ -144,12 +143,9 @@ fn values_of<'a, 'b>(
     shown: &'b [(String, Text)],
 ) -> Result<Values<'b>, AllocError>
     ensures values { IfOk result (λ v. AreTexts v.values.entries
-        (fold (with_value (global_data (look arena.now homes.now) (globals_in (option_copied own.entry)))) no_members
-        (map (λ g. string_bytes g.0) shown.now))) }
+        (shown_values (own_data arena.now homes.now (option_copied own.entry)) (names_in shown.now))) }
     ensures opaque { IfOk result (λ v. map view v.opaque.items
-        ≡ map string (filter
-        (is_opaque (global_data (look arena.now homes.now) (globals_in (option_copied own.entry))))
-        (map (λ g. string_bytes g.0) shown.now))) }
+        ≡ map string (opaque_names (own_data arena.now homes.now (option_copied own.entry)) (names_in shown.now))) }
 {
     let mut all = Values::new(alloc);
     for global in shown {
@@ -168,9 +164,9 @@ fn values_among<'b>(
     shown: &'b [(String, Text)],
 ) -> Result<Values<'b>, AllocError>
     ensures values { IfOk result (λ v. AreTexts v.values.entries
-        (fold (with_value (among_data arena.now homes.now n)) no_members (map (λ g. string_bytes g.0) shown.now))) }
+        (shown_values (among_data arena.now homes.now n) (names_in shown.now))) }
     ensures opaque { IfOk result (λ v. map view v.opaque.items
-        ≡ map string (filter (is_opaque (among_data arena.now homes.now n)) (map (λ g. string_bytes g.0) shown.now))) }
+        ≡ map string (opaque_names (among_data arena.now homes.now n) (names_in shown.now))) }
 {
     values_of(alloc, arena, homes, homes.published(n), shown)
 }
@@ -184,9 +180,9 @@ pub(crate) fn members_of<'b>(
 ) -> Result<Values<'b>, AllocError>
     requires { files ≤ 10000 }
     ensures values { IfOk result (λ v. AreTexts v.values.entries
-        (fold (with_value (stored_data files n body.now)) no_members (names_of body.now))) }
+        (shown_values (stored_data files n body.now) (names_of body.now))) }
     ensures opaque { IfOk result (λ v. map view v.opaque.items
-        ≡ map string (filter (is_opaque (stored_data files n body.now)) (names_of body.now))) }
+        ≡ map string (opaque_names (stored_data files n body.now) (names_of body.now))) }
 {
     let homes = body.stores.homes(alloc)?;
     let arena = Arena::new(alloc, files as u32);

@@ -1,6 +1,6 @@
 -- The first of several faults: the order of faults, and the first of the faults found in two places.
 use Rattle.std.proofs.Common.{arith, ◌≡◌, ℕ, Bool, true, false, ◌&&◌, ◌||◌, List, [], ◌∷◌, Option, Some, None, refl, ap, sym, ◌∙◌, nat_lt, nat_eq, if◌then◌else◌, ◌⊎◌, inl, inr}
-use Rattle.star_scope.specs.declared.error.Refusal.{Refusal}
+use Rattle.star_scope.specs.declared.error.LocatedFault.{LocatedFault}
 use Rattle.star_scope.specs.Faults.{FirstIsFirst, IsFirst, earlier, first_from, first_of, rank, stands_before}
 
 -- an order of pairs of numbers
@@ -13,50 +13,50 @@ along t r u s v q x y = grind arith
 not_along : (t r u s v q : ℕ) → before u s t r ≡ false → before v q u s ≡ false → before v q t r ≡ false
 not_along t r u s v q x y = grind arith
 
-pub before_along : (a b c : Refusal) → stands_before b a ≡ true → stands_before c b ≡ true → stands_before c a ≡ true
+pub before_along : (a b c : LocatedFault) → stands_before b a ≡ true → stands_before c b ≡ true → stands_before c a ≡ true
 before_along a b c x y = along a.token (rank a.fault) b.token (rank b.fault) c.token (rank c.fault) x y
 
-pub not_before_along : (a b c : Refusal) → stands_before b a ≡ false → stands_before c b ≡ false → stands_before c a ≡ false
+pub not_before_along : (a b c : LocatedFault) → stands_before b a ≡ false → stands_before c b ≡ false → stands_before c a ≡ false
 not_before_along a b c x y = not_along a.token (rank a.fault) b.token (rank b.fault) c.token (rank c.fault) x y
 
-chosen : (p q r : Bool) (a b c : Refusal) → (p ≡ true → q ≡ true → r ≡ true) → (p ≡ false → q ≡ false → r ≡ false) → p ≡ stands_before b a → q ≡ stands_before c b → r ≡ stands_before c a
+chosen : (p q r : Bool) (a b c : LocatedFault) → (p ≡ true → q ≡ true → r ≡ true) → (p ≡ false → q ≡ false → r ≡ false) → p ≡ stands_before b a → q ≡ stands_before c b → r ≡ stands_before c a
     → earlier (if p then Some b else Some a) c ≡ first_of (Some a) (if q then Some c else Some b)
 chosen true true r a b c f g x y z = ap (λ k. if k then Some c else Some b) (sym y) ∙ sym (ap (λ k. if k then Some c else Some a) (sym z ∙ f refl refl))
 chosen true false r a b c f g x y z = ap (λ k. if k then Some c else Some b) (sym y) ∙ sym (ap (λ k. if k then Some b else Some a) (sym x))
 chosen false true r a b c f g x y z = refl
 chosen false false r a b c f g x y z = ap (λ k. if k then Some c else Some a) (sym z ∙ g refl refl) ∙ sym (ap (λ k. if k then Some b else Some a) (sym x))
 
-alone : (k : Bool) (b c : Refusal) → (if k then Some c else Some b) ≡ first_of None (if k then Some c else Some b)
+alone : (k : Bool) (b c : LocatedFault) → (if k then Some c else Some b) ≡ first_of None (if k then Some c else Some b)
 alone true b c = refl
 alone false b c = refl
 
 -- the earliest of three faults, compared in either way
-pub earlier_both : (found : Option Refusal) (b c : Refusal) → earlier (earlier found b) c ≡ first_of found (earlier (Some b) c)
+pub earlier_both : (found : Option LocatedFault) (b c : LocatedFault) → earlier (earlier found b) c ≡ first_of found (earlier (Some b) c)
 earlier_both None b c = alone (stands_before c b) b c
 earlier_both (Some a) b c =
     chosen (stands_before b a) (stands_before c b) (stands_before c a) a b c (before_along a b c) (not_before_along a b c) refl refl refl
 
-joined : (found more : Option Refusal) (f : Refusal) → first_of (earlier found f) more ≡ first_of found (first_of (Some f) more)
+joined : (found more : Option LocatedFault) (f : LocatedFault) → first_of (earlier found f) more ≡ first_of found (first_of (Some f) more)
 joined found None f = refl
 joined found (Some g) f = earlier_both found f g
 
 -- the first of a fault found and further faults is the earlier of it and the first of these
-pub first_apart : (found : Option Refusal) (fs : List Refusal) → first_from found fs ≡ first_of found (first_from None fs)
+pub first_apart : (found : Option LocatedFault) (fs : List LocatedFault) → first_from found fs ≡ first_of found (first_from None fs)
 unfolding first_from
 first_apart found [] = refl
 first_apart found (f ∷ fs) =
     first_apart (earlier found f) fs ∙ joined found (first_from None fs) f ∙ ap (first_of found) (sym (first_apart (Some f) fs))
 
-picked : (k : Bool) (a b : Refusal) → (if k then Some a else Some b) ≡ None → ⊥
+picked : (k : Bool) (a b : LocatedFault) → (if k then Some a else Some b) ≡ None → ⊥
 picked true a b e = cc
 picked false a b e = cc
 
-never : (found : Option Refusal) (more : Refusal) → earlier found more ≡ None → ⊥
+never : (found : Option LocatedFault) (more : LocatedFault) → earlier found more ≡ None → ⊥
 never None more e = cc
 never (Some f) more e = picked (stands_before more f) more f e
 
 -- if nothing was found in two places, nothing was found in the second
-pub none_of : (found more : Option Refusal) → first_of found more ≡ None → more ≡ None
+pub none_of : (found more : Option LocatedFault) → first_of found more ≡ None → more ≡ None
 none_of found None e = refl
 none_of found (Some r) e = elim (never found r e) [ ]
 
@@ -70,7 +70,7 @@ not_less : (p q s : Bool) → (p ≡ true → q ≡ true → s ≡ true) → q �
 not_less false q s f x y = refl
 not_less true q s f x y = let z = f refl x in cc
 
-more_first : (b : Bool) (a g r : Refusal) (gs : List Refusal) → stands_before g a ≡ b → ((x : Refusal) → first_from (Some x) gs ≡ Some r → IsFirst (x ∷ gs) r)
+more_first : (b : Bool) (a g r : LocatedFault) (gs : List LocatedFault) → stands_before g a ≡ b → ((x : LocatedFault) → first_from (Some x) gs ≡ Some r → IsFirst (x ∷ gs) r)
     → first_from (if b then Some g else Some a) gs ≡ Some r → IsFirst (a ∷ g ∷ gs) r
 more_first true a g r gs x rec e =
     let h = rec g e in
@@ -83,28 +83,28 @@ more_first false a g r gs x rec e =
       λ f i. elim i [ inl is ↦ h.1 f (inl is) | inr j ↦ elim j [ inl is ↦ ap (λ y. stands_before y r) is ∙ least | inr k ↦ h.1 f (inr k) ] ],
     )
 
-first_some : (a r : Refusal) (fs : List Refusal) → first_from (Some a) fs ≡ Some r → IsFirst (a ∷ fs) r
+first_some : (a r : LocatedFault) (fs : List LocatedFault) → first_from (Some a) fs ≡ Some r → IsFirst (a ∷ fs) r
 unfolding first_from
 first_some a r [] e =
     let same : a ≡ r = cc in
     (inl (sym same), λ f i. elim i [ inl is ↦ ap (λ y. stands_before y r) (is ∙ same) ∙ not_itself r.token (rank r.fault) | inr absent ↦ elim absent [ ] ])
 first_some a r (g ∷ gs) e = more_first (stands_before g a) a g r gs refl (λ x. first_some x r gs) e
 
-if_some : (b : Bool) (x y : Refusal) → ((if b then Some x else Some y) ≡ Some x) ⊎ ((if b then Some x else Some y) ≡ Some y)
+if_some : (b : Bool) (x y : LocatedFault) → ((if b then Some x else Some y) ≡ Some x) ⊎ ((if b then Some x else Some y) ≡ Some y)
 if_some true x y = inl refl
 if_some false x y = inr refl
 
-never_from : (a : Refusal) (fs : List Refusal) → first_from (Some a) fs ≡ None → ⊥
+never_from : (a : LocatedFault) (fs : List LocatedFault) → first_from (Some a) fs ≡ None → ⊥
 unfolding first_from
 never_from a [] e = cc
 never_from a (g ∷ gs) e = elim (if_some (stands_before g a) g a) [ inl is ↦ never_from g gs (ap (λ o. first_from o gs) (sym is) ∙ e) | inr is ↦ never_from a gs (ap (λ o. first_from o gs) (sym is) ∙ e) ]
 
-pub first_is : (fs : List Refusal) (r : Refusal) → first_from None fs ≡ Some r → IsFirst fs r
+pub first_is : (fs : List LocatedFault) (r : LocatedFault) → first_from None fs ≡ Some r → IsFirst fs r
 unfolding first_from
 first_is [] r e = cc
 first_is (f ∷ fs) r e = first_some f r fs e
 
-pub none_first : (fs : List Refusal) → first_from None fs ≡ None → fs ≡ []
+pub none_first : (fs : List LocatedFault) → first_from None fs ≡ None → fs ≡ []
 unfolding first_from
 none_first [] e = refl
 none_first (f ∷ fs) e = elim (never_from f fs e) [ ]

@@ -5,7 +5,7 @@ use Rattle.std.specs.List.{flat_map}
 use Rattle.std.proofs.lemmas.List.{map-append, append_assoc, take_more}
 use Rattle.std.proofs.lemmas.Grind.{flat_map-append}
 use Rattle.star_label.specs.Files.{File}
-use Rattle.star_scope.specs.declared.error.Refusal.{Refusal}
+use Rattle.star_scope.specs.declared.error.LocatedFault.{LocatedFault}
 use Rattle.star_scope.specs.declared.loads.Lead.{Lead}
 use Rattle.star_scope.specs.declared.loads.Load.{Load}
 use Rattle.star_tree.specs.declared.tree.Form.{Form, out-Form, roll-Form, roll-out-Form, out-roll-Form}
@@ -24,7 +24,7 @@ all_lead : (files : List File) (here : List ℕ) (xs ys : List Read) → AllLead
 all_lead files here [] ys h k = k
 all_lead files here (x ∷ xs) ys h k = (h.0, all_lead files here xs ys h.1 k)
 
-pub add_none : (files : List File) (here : List ℕ) (before : List Load) (found : Option Refusal) → Adds files here [] before before found found
+pub add_none : (files : List File) (here : List ℕ) (before : List Load) (found : Option LocatedFault) → Adds files here [] before before found found
 add_none files here before found = record {
   reads = [];
   are = (refl, tt);
@@ -32,7 +32,7 @@ add_none files here before found = record {
   faults = sym (first_none found);
 }
 
-pub add_one : (files : List File) (here : List ℕ) (w : Written) (l : Lead) (before after : List Load) (found more : Option Refusal)
+pub add_one : (files : List File) (here : List ℕ) (w : Written) (l : Lead) (before after : List Load) (found more : Option LocatedFault)
     → LeadsTo files here w.module_string.text l
     → after ≡ before ++ load_at w.position l
     → more ≡ first_from (first_from found (module_fault w.module_string.position l)) (flat_map private_fault w.names)
@@ -45,7 +45,7 @@ add_one files here w l before after found more leads loads faults = record {
       ∙ ap (λ fs. first_from found fs) (sym (append-nil (faults_of (w, l))));
 }
 
-pub add_both : (files : List File) (here : List ℕ) (vs ws : List Written) (a b c : List Load) (f g h : Option Refusal)
+pub add_both : (files : List File) (here : List ℕ) (vs ws : List Written) (a b c : List Load) (f g h : Option LocatedFault)
     → Adds files here vs a b f g → Adds files here ws b c g h → Adds files here (vs ++ ws) a c f h
 add_both files here vs ws a b c f g h x y = record {
   reads = x.reads ++ y.reads;

@@ -6,14 +6,14 @@ use Rattle.std.proofs.lemmas.List.{append_assoc, take_more}
 use Rattle.std.proofs.lemmas.Grind.{flat_map-append}
 use Rattle.star_tree.specs.declared.tree.Name.{Name}
 use Rattle.star_scope.specs.declared.chain.Scope.{Scope}
-use Rattle.star_scope.specs.declared.error.Refusal.{Refusal}
+use Rattle.star_scope.specs.declared.error.LocatedFault.{LocatedFault}
 use Rattle.star_scope.specs.declared.spot.Spot.{Spot}
-use Rattle.star_scope.specs.declared.uses.Placed.{Placed}
+use Rattle.star_scope.specs.declared.uses.ResolvedNames.{ResolvedNames}
 use Rattle.star_scope.specs.Chains.{names_outside}
 use Rattle.star_scope.specs.Faults.{first_from, stands_before}
 use Rattle.star_scope.specs.Names.{Names}
 use Rattle.star_scope.specs.Outlines.{Block}
-use Rattle.star_scope.specs.Placed.{AllHaveSpots, HasSpot, Places}
+use Rattle.star_scope.specs.ResolvedNames.{AllHaveSpots, HasSpot, Places}
 use Rattle.star_scope.specs.Places.{AllPlaced, IsPlaced, Spots, chain_length, spot_of, undefined, undefined_at, undefined_in}
 use Rattle.star_scope.specs.Spots.{Keeps, spot_at}
 use Rattle.star_scope.specs.Uses.{Defined, Named, Use, Within, all_uses, one_use}
@@ -32,11 +32,11 @@ have_both spots blocks prelude [] vs h k = k
 have_both spots blocks prelude (u ∷ us) vs h k = (h.0, have_both spots blocks prelude us vs h.1 k)
 
 -- nothing is placed
-pub place_none : (scope : Scope) (p : Placed) → Places scope [] p p
+pub place_none : (scope : Scope) (p : ResolvedNames) → Places scope [] p p
 place_none scope p = record { kept = λ t s e. e; have = tt; found = sym (first_none p.first) }
 
 -- one name, with its spot
-pub place_one : (scope : Scope) (n : Name) (chain : List ℕ) (s : Spot) (old new : Placed)
+pub place_one : (scope : Scope) (n : Name) (chain : List ℕ) (s : Spot) (old new : ResolvedNames)
     → length chain ≤ chain_length → spot_of scope.blocks.now (names_outside scope.prelude) n.text chain ≡ Some s
     → Keeps old.spots new.spots → spot_at new.spots n.position.token ≡ Some s → new.first ≡ old.first → Places scope (one_use n chain) old new
 place_one scope n chain s old new short is keeps put same = record {
@@ -46,7 +46,7 @@ place_one scope n chain s old new short is keeps put same = record {
 }
 
 -- one undefined name
-pub place_undefined : (scope : Scope) (n : Name) (chain : List ℕ) (old new : Placed)
+pub place_undefined : (scope : Scope) (n : Name) (chain : List ℕ) (old new : ResolvedNames)
     → length chain ≤ chain_length → spot_of scope.blocks.now (names_outside scope.prelude) n.text chain ≡ None
     → new.spots ≡ old.spots → new.first ≡ first_from old.first (undefined_at n None) → Places scope (one_use n chain) old new
 place_undefined scope n chain old new short is same found = record {
@@ -59,11 +59,11 @@ place_undefined scope n chain old new short is same found = record {
     not_both t e = cc
 
 -- a definition takes no spot
-pub place_defined : (scope : Scope) (number : ℕ) (chain : List ℕ) (us : List Use) (a b : Placed) → Places scope us a b → Places scope (Defined number chain ∷ us) a b
+pub place_defined : (scope : Scope) (number : ℕ) (chain : List ℕ) (us : List Use) (a b : ResolvedNames) → Places scope us a b → Places scope (Defined number chain ∷ us) a b
 place_defined scope number chain us a b p = record { kept = p.kept; have = (tt, p.have); found = p.found }
 
 -- some names, and then others
-pub place_both : (scope : Scope) (us vs : List Use) (a b c : Placed) → Places scope us a b → Places scope vs b c → Places scope (us ++ vs) a c
+pub place_both : (scope : Scope) (us vs : List Use) (a b c : ResolvedNames) → Places scope us a b → Places scope vs b c → Places scope (us ++ vs) a c
 place_both scope us vs a b c x y =
     let blocks = scope.blocks.now in
     let prelude = names_outside scope.prelude in
@@ -75,15 +75,15 @@ place_both scope us vs a b c x y =
     }
 
 -- some names and others, and then still others
-pub place_third : (scope : Scope) (us vs ws : List Use) (a b c : Placed) → Places scope (us ++ vs) a b → Places scope ws b c → Places scope (us ++ (vs ++ ws)) a c
+pub place_third : (scope : Scope) (us vs ws : List Use) (a b c : ResolvedNames) → Places scope (us ++ vs) a b → Places scope ws b c → Places scope (us ++ (vs ++ ws)) a c
 place_third scope us vs ws a b c x y = subst (λ xs. Places scope xs a c) (append_assoc us vs ws) (place_both scope (us ++ vs) ws a b c x y)
 
 -- the same names under another form
-pub place_as : (scope : Scope) (us vs : List Use) (a b : Placed) → vs ≡ us → Places scope us a b → Places scope vs a b
+pub place_as : (scope : Scope) (us vs : List Use) (a b : ResolvedNames) → vs ≡ us → Places scope us a b → Places scope vs a b
 place_as scope us vs a b e p = subst (λ ws. Places scope ws a b) (sym e) p
 
 -- the same part by another name
-pub place_part : {A : Type 0} (one : A → List Use) (scope : Scope) (x y : A) (a b : Placed) → x ≡ y → Places scope (one x) a b → Places scope (one y) a b
+pub place_part : {A : Type 0} (one : A → List Use) (scope : Scope) (x y : A) (a b : ResolvedNames) → x ≡ y → Places scope (one x) a b → Places scope (one y) a b
 place_part one scope x y a b e p = subst (λ z. Places scope (one z) a b) e p
 
 -- a turn of a loop that places the names of a list's items, and its end
@@ -91,28 +91,28 @@ uses_next : {A : Type 0} (one : A → Within) (xs : List A) (x : A) (chain : Lis
 uses_next one [] x chain = append-nil (one x chain)
 uses_next one (y ∷ ys) x chain = ap (λ us. one y chain ++ us) (uses_next one ys x chain) ∙ sym (append_assoc (one y chain) (all_uses one ys chain) (one x chain))
 
-pub place_turn : {A : Type 0} (one : A → Within) (scope : Scope) (chain : List ℕ) (xs : List A) (i : ℕ) (x : A) (a b c : Placed) → i < length xs → x ≡ get_or xs i x
+pub place_turn : {A : Type 0} (one : A → Within) (scope : Scope) (chain : List ℕ) (xs : List A) (i : ℕ) (x : A) (a b c : ResolvedNames) → i < length xs → x ≡ get_or xs i x
     → Places scope (all_uses one (take i xs) chain) a b → Places scope (one x chain) b c → Places scope (all_uses one (take (i + 1) xs) chain) a c
 place_turn one scope chain xs i x a b c lt is f g =
     place_as scope (all_uses one (take i xs) chain ++ one x chain) (all_uses one (take (i + 1) xs) chain) a c
     (ap (λ ys. all_uses one ys chain) (take_more xs i x lt ∙ ap (λ y. take i xs ++ y ∷ []) (sym is)) ∙ uses_next one (take i xs) x chain)
     (place_both scope (all_uses one (take i xs) chain) (one x chain) a b c f g)
 
-pub place_done : {A : Type 0} (one : A → Within) (scope : Scope) (chain : List ℕ) (xs : List A) (i : ℕ) (a b : Placed) → length xs ≤ i → i ≤ length xs
+pub place_done : {A : Type 0} (one : A → Within) (scope : Scope) (chain : List ℕ) (xs : List A) (i : ℕ) (a b : ResolvedNames) → length xs ≤ i → i ≤ length xs
     → Places scope (all_uses one (take i xs) chain) a b → Places scope (all_uses one xs chain) a b
 place_done one scope chain xs i a b le ge f = subst (λ ys. Places scope (all_uses one ys chain) a b) (ap (λ k. take k xs) (omega (arith, le, ge)) ∙ take-length xs) f
 
 -- ---- if no name is undefined, each has its spot
 
-pub found_stays : (fs : List Refusal) (found : Refusal) → first_from (Some found) fs ≡ None → ⊥
+pub found_stays : (fs : List LocatedFault) (found : LocatedFault) → first_from (Some found) fs ≡ None → ⊥
 unfolding first_from
 found_stays [] found e = absurd (not_none found e)
   where
-    not_none : (r : Refusal) → Some r ≡ None → ⊥
+    not_none : (r : LocatedFault) → Some r ≡ None → ⊥
     not_none r e = cc
 found_stays (f ∷ fs) found e = elim (stands_before f found) as (λ b. first_from (if b then Some f else Some found) fs ≡ None → ⊥) [ true ↦ found_stays fs f | false ↦ found_stays fs found ] e
 
-none_undefined : (us : List Refusal) (vs : List Refusal) → first_from None (us ++ vs) ≡ None → (us ≡ []) × (first_from None vs ≡ None)
+none_undefined : (us : List LocatedFault) (vs : List LocatedFault) → first_from None (us ++ vs) ≡ None → (us ≡ []) × (first_from None vs ≡ None)
 unfolding first_from
 none_undefined [] vs e = (refl, e)
 none_undefined (f ∷ fs) vs e = absurd (found_stays (fs ++ vs) f e)
@@ -122,7 +122,7 @@ one_placed : (spots : Spots) (blocks : List Block) (prelude : Option Names) (n :
 one_placed spots blocks prelude n chain (Some s) is none h = (h.0, h.1 s is ∙ sym is)
 one_placed spots blocks prelude n chain None is none h = absurd (one_is_some none)
   where
-    one_is_some : {f : Refusal} → f ∷ [] ≡ [] → ⊥
+    one_is_some : {f : LocatedFault} → f ∷ [] ≡ [] → ⊥
     one_is_some e = cc
 
 is_placed : (spots : Spots) (blocks : List Block) (prelude : Option Names) (u : Use) → undefined_in blocks prelude u ≡ [] → HasSpot spots blocks prelude u → IsPlaced spots blocks prelude u

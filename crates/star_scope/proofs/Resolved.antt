@@ -3,8 +3,8 @@ use Rattle.std.proofs.Common.{◌≡◌, ℕ, List, ◌++◌, Option, None, ap, 
 use Rattle.std.specs.List.{flat_map}
 use Rattle.std.specs.Option.{option_map}
 use Rattle.star_tree.specs.declared.tree.Statement.{Statement}
-use Rattle.star_scope.specs.declared.error.Refusal.{Refusal}
-use Rattle.star_scope.specs.declared.placement.Standing.{Standing}
+use Rattle.star_scope.specs.declared.error.LocatedFault.{LocatedFault}
+use Rattle.star_scope.specs.declared.placement.StatementContext.{StatementContext}
 use Rattle.star_scope.specs.declared.program.Prelude.{Prelude}
 use Rattle.star_scope.specs.Conflicts.{block_conflicts}
 use Rattle.star_scope.specs.Faults.{first, first_from, first_of}
@@ -18,15 +18,15 @@ use Rattle.star_scope.specs.Uses.{uses}
 use Rattle.star_scope.proofs.Faults.{first_joined}
 use Rattle.star_scope.proofs.FirstFaults.{first_apart}
 
-after : (found : Option Refusal) (fs gs : List Refusal) → first_from found (fs ++ gs) ≡ first_from (first_of found (first fs)) gs
+after : (found : Option LocatedFault) (fs gs : List LocatedFault) → first_from found (fs ++ gs) ≡ first_from (first_of found (first fs)) gs
 after found fs gs = first_joined found fs gs ∙ ap (λ o. first_from o gs) (first_apart found fs)
 
-five : (a b c d e : List Refusal) → first (a ++ (b ++ (c ++ (d ++ e)))) ≡ first_of (first_of (first_of (first_of (first a) (first b)) (first c)) (first d)) (first e)
+five : (a b c d e : List LocatedFault) → first (a ++ (b ++ (c ++ (d ++ e)))) ≡ first_of (first_of (first_of (first_of (first a) (first b)) (first c)) (first d)) (first e)
 five a b c d e =
     first_joined None a (b ++ (c ++ (d ++ e))) ∙ after (first a) b (c ++ (d ++ e)) ∙ after (first_of (first a) (first b)) c (d ++ e)
     ∙ after (first_of (first_of (first a) (first b)) (first c)) d e ∙ first_apart (first_of (first_of (first_of (first a) (first b)) (first c)) (first d)) e
 
-pub first_all : (n : ℕ) (prelude : Option Prelude) (ss : List Statement) (reads : List Read) (load unknown result : Option Refusal) (here : Standing) (ds : List Definition) (bs : List Block) (outer : Option Names)
+pub first_all : (n : ℕ) (prelude : Option Prelude) (ss : List Statement) (reads : List Read) (load unknown result : Option LocatedFault) (here : StatementContext) (ds : List Definition) (bs : List Block) (outer : Option Names)
     → load ≡ first (flat_map faults_of reads) → here ≡ standing_in n prelude → ds ≡ (outline ss).definitions → bs ≡ (outline ss).blocks
     → outer ≡ option_map (λ q. q.names) (seen_by n prelude) → unknown ≡ first (undefined bs outer (uses ss))
     → result ≡ first_of (first_of (first_of (first_of (first (in_statements ss here)) load) (first (block_conflicts ss))) (first (repeated ds))) unknown

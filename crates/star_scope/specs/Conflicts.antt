@@ -19,7 +19,7 @@ use Rattle.star_tree.specs.declared.tree.Form.TheOpen as form
 use Rattle.star_tree.specs.declared.tree.Form.TheFolds as form_folds
 use Rattle.star_tree.specs.declared.tree.LoadedName.{LoadedName}
 use Rattle.star_scope.specs.declared.error.ScopeFault.TheVariants as fault
-use Rattle.star_scope.specs.declared.error.Refusal.{Refusal}
+use Rattle.star_scope.specs.declared.error.LocatedFault.{LocatedFault}
 use Rattle.star_scope.specs.Faults.{at}
 use Rattle.star_scope.specs.Names.{same_name}
 
@@ -33,14 +33,14 @@ pub record Binding : Type 0 where
 abbrev pub clashes : List Binding → Binding → Bool
 clashes earlier b = list_any (λ e. same_name b.text e.text && (b.alone || e.alone)) earlier
 
-abbrev pub conflict_at : Bool → Position → List Refusal
+abbrev pub conflict_at : Bool → Position → List LocatedFault
 conflict_at clashes p = if clashes then at p (λ line. fault.Conflict line) ∷ [] else []
 
-abbrev pub conflict : List Binding → Binding → List Refusal
+abbrev pub conflict : List Binding → Binding → List LocatedFault
 conflict earlier b = conflict_at (clashes earlier b) b.position
 
 -- the conflicts of bindings in their order, after earlier ones
-abbrev pub conflicts : List Binding → List Binding → List Refusal
+abbrev pub conflicts : List Binding → List Binding → List LocatedFault
 conflicts earlier [] = []
 conflicts earlier (b ∷ bs) = conflict earlier b ++ conflicts (b ∷ earlier) bs
 
@@ -62,7 +62,7 @@ abbrev pub parameter_bindings : List Parameter → List Binding
 parameter_bindings ps = flat_map parameter_binding ps
 
 -- the names that are given to more than one parameter of a list
-abbrev pub repeated_parameters : List Parameter → List Refusal
+abbrev pub repeated_parameters : List Parameter → List LocatedFault
 repeated_parameters ps = conflicts [] (parameter_bindings ps)
 
 -- ---- the bindings of the file's block
@@ -135,5 +135,5 @@ abbrev pub statements_bindings : List Statement → Bindings
 statements_bindings ss = all_of (map statement_bindings ss)
 
 -- the conflicts in a file's block
-abbrev pub block_conflicts : List Statement → List Refusal
+abbrev pub block_conflicts : List Statement → List LocatedFault
 block_conflicts ss = conflicts [] (statements_bindings ss)

@@ -12,7 +12,7 @@ pub mod Uses
 pub mod Places
 pub mod Spots
 pub mod Chains
-pub mod Placed
+pub mod ResolvedNames
 pub mod Index
 pub mod Binders
 pub mod Definitions

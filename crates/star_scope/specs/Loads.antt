@@ -11,7 +11,7 @@ use Rattle.star_tree.specs.declared.tree.Position.{Position}
 use Rattle.star_tree.specs.declared.tree.Literal.{Literal}
 use Rattle.star_tree.specs.declared.tree.LoadedName.{LoadedName}
 use Rattle.star_scope.specs.declared.error.ScopeFault.TheVariants as fault
-use Rattle.star_scope.specs.declared.error.Refusal.{Refusal}
+use Rattle.star_scope.specs.declared.error.LocatedFault.{LocatedFault}
 use Rattle.star_scope.specs.declared.loads.Lead.{Lead}
 use Rattle.star_scope.specs.declared.loads.Lead.TheVariants as lead
 use Rattle.star_scope.specs.declared.loads.Load.{Load}
@@ -60,16 +60,16 @@ abbrev pub is_private : List ℕ → Bool
 is_private [] = false
 is_private (b ∷ bs) = b == 95
 
-abbrev pub private_fault : LoadedName → List Refusal
+abbrev pub private_fault : LoadedName → List LocatedFault
 private_fault n = if is_private n.loaded.text then at n.loaded.position (λ line. fault.Private line) ∷ [] else []
 
-abbrev pub module_fault : Position → Lead → List Refusal
+abbrev pub module_fault : Position → Lead → List LocatedFault
 module_fault p (lead.File n) = []
 module_fault p lead.NoFile = at p (λ line. fault.NoFile line) ∷ []
 module_fault p lead.BadLabel = at p (λ line. fault.BadLabel line) ∷ []
 
 -- the faults of a load statement are at its module string and at the strings of its names
-abbrev pub faults_of : Read → List Refusal
+abbrev pub faults_of : Read → List LocatedFault
 faults_of r = module_fault r.0.module_string.position r.1 ++ flat_map private_fault r.0.names
 
 -- the load of a statement whose module string leads to a file, with the place of the statement
@@ -83,7 +83,7 @@ load_of r = load_at r.0.position r.1
 
 -- the loads of load statements are added to those before; and the first fault, in these and before
 pub record Adds (files : List File) (here : List ℕ) (ws : List Written) (before after : List Load)
-    (found more : Option Refusal) : Type 0 where
+    (found more : Option LocatedFault) : Type 0 where
   pub reads : List Read
   pub are : AreRead files here ws reads
   pub loads : after ≡ before ++ flat_map load_of reads
@@ -95,6 +95,6 @@ prelude_loads None = []
 prelude_loads (Some n) = record { file = n; line = 1; token = None } ∷ []
 
 -- the loads of the file n: the prelude's, then its statements'; and the first fault of its load statements
-abbrev pub IsLoads : List File → ℕ → Option ℕ → List Statement → List Load → Option Refusal → Type 0
+abbrev pub IsLoads : List File → ℕ → Option ℕ → List Statement → List Load → Option LocatedFault → Type 0
 IsLoads files n prelude ss loads found =
     Adds files (package_of (label_at files n)) (written ss) (prelude_loads prelude) loads None found

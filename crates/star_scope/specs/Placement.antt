@@ -7,38 +7,38 @@ use Rattle.star_tree.specs.declared.tree.Form.TheOpen as form
 use Rattle.star_tree.specs.declared.tree.Form.TheFolds as form_folds
 use Rattle.star_tree.specs.declared.tree.Position.{Position}
 use Rattle.star_scope.specs.declared.error.ScopeFault.TheVariants as fault
-use Rattle.star_scope.specs.declared.error.Refusal.{Refusal}
-use Rattle.star_scope.specs.declared.placement.Standing.{Standing}
+use Rattle.star_scope.specs.declared.error.LocatedFault.{LocatedFault}
+use Rattle.star_scope.specs.declared.placement.StatementContext.{StatementContext}
 use Rattle.star_scope.specs.Faults.{at}
 
 -- the misplaced statements of a part, by its surroundings
 abbrev pub Misplaced : Type 0
-Misplaced = Standing → List Refusal
+Misplaced = StatementContext → List LocatedFault
 
 abbrev pub each : List Misplaced → Misplaced
 each [] here = []
 each (s ∷ ss) here = s here ++ each ss here
 
 -- statements of the file itself
-abbrev pub of_file : Standing
+abbrev pub of_file : StatementContext
 of_file = record { in_file = true; in_function = false; in_loop = false }
 
 -- statements of the prelude's own file, which may load nothing
-abbrev pub of_prelude : Standing
+abbrev pub of_prelude : StatementContext
 of_prelude = record { in_file = false; in_function = false; in_loop = false }
 
 -- inside an `if`, inside the body of a loop, and inside the body of a function, which starts outside of every loop
-abbrev pub of_if : Standing → Standing
+abbrev pub of_if : StatementContext → StatementContext
 of_if here = record { in_file = false; in_function = here.in_function; in_loop = here.in_loop }
 
-abbrev pub of_loop : Standing → Standing
+abbrev pub of_loop : StatementContext → StatementContext
 of_loop here = record { in_file = false; in_function = here.in_function; in_loop = true }
 
-abbrev pub of_function : Standing
+abbrev pub of_function : StatementContext
 of_function = record { in_file = false; in_function = true; in_loop = false }
 
 -- a statement that is misplaced unless this is true
-abbrev pub only : Bool → Position → List Refusal
+abbrev pub only : Bool → Position → List LocatedFault
 only true p = []
 only false p = at p (λ line. fault.BadPlace line) ∷ []
 
@@ -78,5 +78,5 @@ abbrev pub in_arms : List Arm → Misplaced
 in_arms arms = each (map in_arm arms)
 
 -- the misplaced statements of a file
-abbrev pub misplaced : List Statement → List Refusal
+abbrev pub misplaced : List Statement → List LocatedFault
 misplaced ss = in_statements ss of_file

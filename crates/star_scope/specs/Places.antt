@@ -4,7 +4,7 @@ use Rattle.std.specs.List.{flat_map}
 use Rattle.std.specs.Option.{option_and_then}
 use Rattle.star_tree.specs.declared.tree.Name.{Name}
 use Rattle.star_scope.specs.declared.error.ScopeFault.TheVariants as fault
-use Rattle.star_scope.specs.declared.error.Refusal.{Refusal}
+use Rattle.star_scope.specs.declared.error.LocatedFault.{LocatedFault}
 use Rattle.star_scope.specs.declared.spot.Spot.{Spot}
 use Rattle.star_scope.specs.declared.spot.Spot.TheVariants as spot
 use Rattle.star_scope.specs.Faults.{at}
@@ -52,15 +52,15 @@ abbrev pub spot_of : List Block → Option Names → List ℕ → List ℕ → O
 spot_of blocks prelude name chain = spot_in blocks prelude name 0 chain
 
 -- a name that no block around it, no prelude and no built-in binds is undefined
-abbrev pub undefined_at : Name → Option Spot → List Refusal
+abbrev pub undefined_at : Name → Option Spot → List LocatedFault
 undefined_at n (Some s) = []
 undefined_at n None = at n.position (λ line. fault.Undefined line) ∷ []
 
-abbrev pub undefined_in : List Block → Option Names → Use → List Refusal
+abbrev pub undefined_in : List Block → Option Names → Use → List LocatedFault
 undefined_in blocks prelude (Named n chain) = undefined_at n (spot_of blocks prelude n.text chain)
 undefined_in blocks prelude (Defined number chain) = []
 
-abbrev pub undefined : List Block → Option Names → List Use → List Refusal
+abbrev pub undefined : List Block → Option Names → List Use → List LocatedFault
 undefined blocks prelude us = flat_map (undefined_in blocks prelude) us
 
 -- the spots of tokens

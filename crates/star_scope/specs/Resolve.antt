@@ -5,10 +5,10 @@ use Rattle.std.specs.Option.{option_map}
 use Rattle.star_label.specs.Files.{File, label_at}
 use Rattle.star_label.specs.Label.{package_of}
 use Rattle.star_tree.specs.declared.tree.Statement.{Statement}
-use Rattle.star_scope.specs.declared.error.Refusal.{Refusal}
+use Rattle.star_scope.specs.declared.error.LocatedFault.{LocatedFault}
 use Rattle.star_scope.specs.declared.error.ScopeFault.{ScopeFault}
 use Rattle.star_scope.specs.declared.error.ScopeFault.TheVariants as fault
-use Rattle.star_scope.specs.declared.placement.Standing.{Standing}
+use Rattle.star_scope.specs.declared.placement.StatementContext.{StatementContext}
 use Rattle.star_scope.specs.declared.program.Prelude.{Prelude}
 use Rattle.star_scope.specs.declared.program.Program.{Program}
 use Rattle.star_scope.specs.Conflicts.{block_conflicts, repeated_parameters}
@@ -33,17 +33,17 @@ seen_by n None = None
 seen_by n (Some p) = if nat_eq p.file n then None else Some p
 
 -- the surroundings of the statements of a file itself: in the prelude's own file a load is misplaced
-abbrev pub standing_in : ℕ → Option Prelude → Standing
+abbrev pub standing_in : ℕ → Option Prelude → StatementContext
 standing_in n None = of_file
 standing_in n (Some p) = if nat_eq p.file n then of_prelude else of_file
 
 -- the parameters of definitions that have the name of an earlier one of theirs
-abbrev pub repeated : List Definition → List Refusal
+abbrev pub repeated : List Definition → List LocatedFault
 repeated ds = flat_map (λ d. repeated_parameters d.parameters) ds
 
 -- all static faults of a file, by the surroundings of its statements, the names of the prelude that it sees, and its
 -- load statements, each beside its target
-abbrev pub static_faults : Standing → Option Names → List Statement → List Read → List Refusal
+abbrev pub static_faults : StatementContext → Option Names → List Statement → List Read → List LocatedFault
 static_faults here outer ss reads =
     in_statements ss here ++ (flat_map faults_of reads
     ++ (block_conflicts ss ++ (repeated (outline ss).definitions ++ undefined (outline ss).blocks outer (uses ss))))
@@ -61,7 +61,7 @@ pub record IsProgram (n : ℕ) (prelude : Option Prelude) (ss : List Statement) 
   pub spots : AllPlaced (spot_at p.spots) (outline ss).blocks (option_map (λ q. q.names) (seen_by n prelude)) (uses ss)
 
 -- the static faults of a file that sees a prelude or is it
-abbrev pub faults_in : ℕ → Option Prelude → List Statement → List Read → List Refusal
+abbrev pub faults_in : ℕ → Option Prelude → List Statement → List Read → List LocatedFault
 faults_in n prelude ss reads =
     static_faults (standing_in n prelude) (option_map (λ q. q.names) (seen_by n prelude)) ss reads
 
@@ -76,4 +76,4 @@ Resolves files n prelude ss (Ok p) =
     × IsProgram n prelude ss reads p
 Resolves files n prelude ss (Err e) =
     (e ≡ fault.Memory) ⊎ ((reads : List Read) × AreReadIn files n ss reads
-    × ((r : Refusal) × (first (faults_in n prelude ss reads) ≡ Some r) × (e ≡ r.fault)))
+    × ((r : LocatedFault) × (first (faults_in n prelude ss reads) ≡ Some r) × (e ≡ r.fault)))

@@ -10,7 +10,7 @@ ghost use Rattle.star_scope.specs.Bound.{Binds, binding, is_in, names_of};
 ghost use Rattle.star_scope.specs.Conflicts.{arms_bindings, block_conflicts, conflict_at, form_bindings, loaded_binding, parameter_binding, parameter_bindings, repeated_parameters, statements_bindings, target_bindings, targets_bindings};
 ghost use Rattle.star_scope.specs.Faults.{first, first_from};
 
-use crate::error::{Refusal, ScopeFault, earlier};
+use crate::error::{LocatedFault, ScopeFault, earlier};
 use star_tree::tree::{Arm, Form, LoadedName, Name, Parameter, Position, Statement, Target};
 use std::alloc::{AllocError, Global};
 use std::collections::BTreeSet;
@@ -23,7 +23,7 @@ type Names<'a> = BTreeSet<&'a str>;
 struct Bound<'a> {
     all: Names<'a>,
     alone: Names<'a>,
-    found: Option<Refusal>,
+    found: Option<LocatedFault>,
 }
 
 fn insert<'a>(names: &mut Names<'a>, name: &'a str) -> Result<(), AllocError>
@@ -62,7 +62,7 @@ fn clashes(bound: &Bound<'_>, name: &str, alone: bool) -> bool
 
 /// The fault found so far, or the conflict at `position` if it comes first.
 #[tactic(auto, unfolding(crate::specs::Faults::first_from))]
-fn conflict(found: Option<Refusal>, clashes: bool, position: Position) -> Option<Refusal>
+fn conflict(found: Option<LocatedFault>, clashes: bool, position: Position) -> Option<LocatedFault>
     ensures { result ≡ first_from found (conflict_at clashes position) }
 {
     if !clashes {
@@ -70,7 +70,7 @@ fn conflict(found: Option<Refusal>, clashes: bool, position: Position) -> Option
     }
     earlier(
         found,
-        Refusal {
+        LocatedFault {
             token: position.token,
             fault: ScopeFault::Conflict {
                 line: position.line,
@@ -117,7 +117,7 @@ fn bind_parameters<'a>(bound: &mut Bound<'a>, parameters: &'a [Parameter]) -> Re
 pub fn repeated_parameter(
     alloc: Global,
     parameters: &[Parameter],
-) -> Result<Option<Refusal>, ScopeFault>
+) -> Result<Option<LocatedFault>, ScopeFault>
     ensures first { IfOk result (λ found. found ≡ first (repeated_parameters parameters.now)) }
     ensures memory { IfErr result (λ e. e ≡ Memory) }
 {
@@ -208,7 +208,7 @@ fn bind_arms<'a>(bound: &mut Bound<'a>, arms: &'a [Arm]) -> Result<(), AllocErro
 pub fn block_conflict(
     alloc: Global,
     statements: &[Statement],
-) -> Result<Option<Refusal>, ScopeFault>
+) -> Result<Option<LocatedFault>, ScopeFault>
     ensures first { IfOk result (λ found. found ≡ first (block_conflicts statements.now)) }
     ensures memory { IfErr result (λ e. e ≡ Memory) }
 {

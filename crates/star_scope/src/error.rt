@@ -69,14 +69,14 @@ impl ScopeFault {
 
 /// A fault with the number of its token.
 #[derive(Clone, Copy, Debug, PartialEq, Eq)]
-pub struct Refusal {
+pub struct LocatedFault {
     pub token: usize,
     pub fault: ScopeFault,
 }
 
-impl Refusal {
+impl LocatedFault {
     /// Whether it comes before another fault: its token comes first, or it has the same token and the lower number.
-    pub fn stands_before(self, other: Refusal) -> bool
+    pub fn stands_before(self, other: LocatedFault) -> bool
         ensures { result ≡ stands_before self other }
     {
         self.token < other.token
@@ -85,7 +85,7 @@ impl Refusal {
 }
 
 /// The earlier of the fault found so far and one more.
-pub fn earlier(found: Option<Refusal>, more: Refusal) -> Option<Refusal>
+pub fn earlier(found: Option<LocatedFault>, more: LocatedFault) -> Option<LocatedFault>
     ensures { result ≡ earlier found more }
 {
     match found {

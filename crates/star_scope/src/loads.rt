@@ -7,7 +7,7 @@ ghost use Rattle.star_scope.specs.Faults.{at, first_from};
 ghost use Rattle.star_scope.specs.Loads.{Adds, IsLoads, LeadsTo, load_at, is_private, module_fault, prelude_loads, private_fault, written_in};
 ghost use Rattle.std.specs.List.{flat_map};
 
-use crate::error::{Refusal, ScopeFault, earlier};
+use crate::error::{LocatedFault, ScopeFault, earlier};
 use star_label::error::LabelError;
 use star_label::files::Files;
 use star_label::label::Label;
@@ -41,7 +41,7 @@ pub struct Load {
 pub struct Loads {
     /// The loads that lead to a file, in source order.
     pub loads: Vec<Load>,
-    pub first: Option<Refusal>,
+    pub first: Option<LocatedFault>,
 }
 
 /// The target of a module string in a file of this package.
@@ -74,7 +74,7 @@ pub(crate) fn is_private(text: &str) -> bool
 
 /// The fault found so far, or the fault of a module string if it comes first.
 #[tactic(auto, unfolding(crate::specs::Faults::first_from))]
-fn module_fault(found: Option<Refusal>, position: Position, lead: Lead) -> Option<Refusal>
+fn module_fault(found: Option<LocatedFault>, position: Position, lead: Lead) -> Option<LocatedFault>
     ensures { result ≡ first_from found (module_fault position lead) }
 {
     let fault = match lead {
@@ -88,7 +88,7 @@ fn module_fault(found: Option<Refusal>, position: Position, lead: Lead) -> Optio
     };
     earlier(
         found,
-        Refusal {
+        LocatedFault {
             token: position.token,
             fault,
         },
@@ -97,7 +97,7 @@ fn module_fault(found: Option<Refusal>, position: Position, lead: Lead) -> Optio
 
 /// The fault found so far, or `Private` for a loaded name if that comes first.
 #[tactic(auto, unfolding(crate::specs::Faults::first_from))]
-fn private_fault(found: Option<Refusal>, name: &LoadedName) -> Option<Refusal>
+fn private_fault(found: Option<LocatedFault>, name: &LoadedName) -> Option<LocatedFault>
     ensures { result ≡ first_from found (private_fault name.now) }
 {
     if !is_private(name.loaded.text.as_str()) {
@@ -105,7 +105,7 @@ fn private_fault(found: Option<Refusal>, name: &LoadedName) -> Option<Refusal>
     }
     earlier(
         found,
-        Refusal {
+        LocatedFault {
             token: name.loaded.position.token,
             fault: ScopeFault::Private {
                 line: name.loaded.position.line,
@@ -115,7 +115,7 @@ fn private_fault(found: Option<Refusal>, name: &LoadedName) -> Option<Refusal>
 }
 
 /// The fault found so far, or the first private name among loaded names if it comes first.
-fn private_faults(mut found: Option<Refusal>, names: &[LoadedName]) -> Option<Refusal>
+fn private_faults(mut found: Option<LocatedFault>, names: &[LoadedName]) -> Option<LocatedFault>
     ensures { result ≡ first_from found (flat_map private_fault names.now) }
 {
     for name in names {

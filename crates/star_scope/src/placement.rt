@@ -4,12 +4,12 @@ ghost use Rattle.std.specs.Prelude.{◌≡◌};
 ghost use Rattle.star_scope.specs.Faults.{first, first_from};
 ghost use Rattle.star_scope.specs.Placement.{in_arms, in_form, in_statements, misplaced, of_if, of_loop, only};
 
-use crate::error::{Refusal, ScopeFault, earlier};
+use crate::error::{LocatedFault, ScopeFault, earlier};
 use star_tree::tree::{Arm, Form, Position, Statement};
 
 /// The surroundings of a statement.
 #[derive(Clone, Copy, Debug, PartialEq, Eq)]
-pub struct Standing {
+pub struct StatementContext {
     /// Whether it is a statement of the file itself.
     pub in_file: bool,
     /// Whether it is in the body of a function.
@@ -19,40 +19,40 @@ pub struct Standing {
 }
 
 /// A statement of a file itself.
-pub(crate) const OF_FILE: Standing = Standing {
+pub(crate) const OF_FILE: StatementContext = StatementContext {
     in_file: true,
     in_function: false,
     in_loop: false,
 };
 
 /// A statement of the prelude's own file, which may load nothing.
-pub(crate) const OF_PRELUDE: Standing = Standing {
+pub(crate) const OF_PRELUDE: StatementContext = StatementContext {
     in_file: false,
     in_function: false,
     in_loop: false,
 };
 
-const OF_FUNCTION: Standing = Standing {
+const OF_FUNCTION: StatementContext = StatementContext {
     in_file: false,
     in_function: true,
     in_loop: false,
 };
 
-impl Standing {
-    fn of_if(self) -> Standing
+impl StatementContext {
+    fn of_if(self) -> StatementContext
         ensures { result ≡ of_if self }
     {
-        Standing {
+        StatementContext {
             in_file: false,
             in_function: self.in_function,
             in_loop: self.in_loop,
         }
     }
 
-    fn of_loop(self) -> Standing
+    fn of_loop(self) -> StatementContext
         ensures { result ≡ of_loop self }
     {
-        Standing {
+        StatementContext {
             in_file: false,
             in_function: self.in_function,
             in_loop: true,
@@ -62,7 +62,7 @@ impl Standing {
 
 /// The fault of a statement that is misplaced unless `allowed`.
 #[tactic(auto, unfolding(crate::specs::Faults::first_from))]
-fn only(found: Option<Refusal>, allowed: bool, position: Position) -> Option<Refusal>
+fn only(found: Option<LocatedFault>, allowed: bool, position: Position) -> Option<LocatedFault>
     ensures { result ≡ first_from found (only allowed position) }
 {
     if allowed {
@@ -70,7 +70,7 @@ fn only(found: Option<Refusal>, allowed: bool, position: Position) -> Option<Ref
     }
     earlier(
         found,
-        Refusal {
+        LocatedFault {
             token: position.token,
             fault: ScopeFault::BadPlace {
                 line: position.line,
@@ -82,11 +82,11 @@ fn only(found: Option<Refusal>, allowed: bool, position: Position) -> Option<Ref
 #[cycle(placement)]
 #[tactic(auto, using(crate::proofs::Faults::first_joined, crate::proofs::Faults::first_none, crate::proofs::Placements::form_opened))]
 fn in_form(
-    found: Option<Refusal>,
-    here: Standing,
+    found: Option<LocatedFault>,
+    here: StatementContext,
     position: Position,
     form: &Form,
-) -> Option<Refusal>
+) -> Option<LocatedFault>
     ensures { result ≡ first_from found (in_form form.now position here) }
 {
     match form {
@@ -107,10 +107,10 @@ fn in_form(
 #[cycle(placement)]
 #[tactic(auto, using(crate::proofs::Faults::first_joined, crate::proofs::Placements::statements_next, crate::proofs::Faults::first_none))]
 pub(crate) fn in_statements(
-    mut found: Option<Refusal>,
-    here: Standing,
+    mut found: Option<LocatedFault>,
+    here: StatementContext,
     statements: &[Statement],
-) -> Option<Refusal>
+) -> Option<LocatedFault>
     ensures { result ≡ first_from found (in_statements statements.now here) }
 {
     for statement in statements {
@@ -121,7 +121,11 @@ pub(crate) fn in_statements(
 
 #[cycle(placement)]
 #[tactic(auto, using(crate::proofs::Faults::first_joined, crate::proofs::Placements::arms_next, crate::proofs::Faults::first_none))]
-fn in_arms(mut found: Option<Refusal>, here: Standing, arms: &[Arm]) -> Option<Refusal>
+fn in_arms(
+    mut found: Option<LocatedFault>,
+    here: StatementContext,
+    arms: &[Arm],
+) -> Option<LocatedFault>
     ensures { result ≡ first_from found (in_arms arms.now here) }
 {
     for arm in arms {
@@ -133,7 +137,7 @@ fn in_arms(mut found: Option<Refusal>, here: Standing, arms: &[Arm]) -> Option<R
 /// The first misplaced statement of a file: `return` outside of a function, `break` or `continue` outside of a loop of
 /// the same function, `load` elsewhere than as a statement of the file itself (`docs/LANGUAGE.md`, "Scopes and static
 /// faults"). It takes no memory.
-pub fn misplaced(statements: &[Statement]) -> Option<Refusal>
+pub fn misplaced(statements: &[Statement]) -> Option<LocatedFault>
     ensures { result ≡ first (misplaced statements.now) }
 {
     in_statements(None, OF_FILE, statements)

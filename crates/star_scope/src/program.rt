@@ -16,14 +16,14 @@ ghost use Rattle.star_scope.specs.Syntax.{form_of};
 
 use crate::blocks::{BlockNames, Blocks};
 use crate::conflicts::{block_conflict, repeated_parameter};
-use crate::error::{Refusal, ScopeFault, earlier};
+use crate::error::{LocatedFault, ScopeFault, earlier};
 use crate::loads::{Load, find_loads};
 use crate::names::{add_loaded, add_statements, load_statements};
 use crate::outline::{Definition, Definitions, Found, find_in_statements};
-use crate::placement::{OF_FILE, OF_PRELUDE, Standing, in_statements};
+use crate::placement::{OF_FILE, OF_PRELUDE, StatementContext, in_statements};
 use crate::spot::Spot;
 use crate::spots::Spots;
-use crate::uses::place_names;
+use crate::uses::resolve_names;
 use star_label::files::Files;
 use star_tree::tree::{Form, Statement, Tree};
 use std::alloc::{AllocError, Global};
@@ -65,7 +65,7 @@ impl<'t> Prelude<'t> {
 }
 
 /// The earlier of two faults, from two walks.
-fn first_of(found: Option<Refusal>, more: Option<Refusal>) -> Option<Refusal>
+fn first_of(found: Option<LocatedFault>, more: Option<LocatedFault>) -> Option<LocatedFault>
     ensures { result ≡ first_of found more }
 {
     match more {
@@ -75,7 +75,10 @@ fn first_of(found: Option<Refusal>, more: Option<Refusal>) -> Option<Refusal>
 }
 
 /// The first parameter of these definitions that has the name of an earlier one.
-fn repeated(alloc: Global, definitions: &Definitions<'_>) -> Result<Option<Refusal>, ScopeFault>
+fn repeated(
+    alloc: Global,
+    definitions: &Definitions<'_>,
+) -> Result<Option<LocatedFault>, ScopeFault>
     ensures first { IfOk result (λ found. found ≡ first (repeated definitions.now)) }
     ensures differ { AllDiffer (map (λ d. d.number) definitions.now) }
     ensures memory { IfErr result (λ e. e ≡ Memory) }
@@ -137,7 +140,7 @@ fn seen_by<'p, 't>(n: usize, prelude: Option<&'p Prelude<'t>>) -> Option<&'p Pre
 }
 
 /// The surroundings of the statements of the file `n` itself.
-fn standing_in(n: usize, prelude: Option<&Prelude<'_>>) -> Standing
+fn standing_in(n: usize, prelude: Option<&Prelude<'_>>) -> StatementContext
     ensures { result ≡ standing_in n (option_copied prelude.entry) }
 {
     match prelude {
@@ -167,12 +170,12 @@ fn names_of<'p, 't>(prelude: Option<&'p Prelude<'t>>) -> Option<&'p BlockNames<'
 /// The first static fault of a file, given the first fault of its load statements and its first undefined name.
 fn first_fault(
     alloc: Global,
-    here: Standing,
+    here: StatementContext,
     statements: &[Statement],
-    load: Option<Refusal>,
+    load: Option<LocatedFault>,
     definitions: &Definitions<'_>,
-    undefined: Option<Refusal>,
-) -> Result<Option<Refusal>, ScopeFault>
+    undefined: Option<LocatedFault>,
+) -> Result<Option<LocatedFault>, ScopeFault>
     ensures first { IfOk result (λ found. found
         ≡ first_of (first_of (first_of (first_of (first (in_place statements.now here)) load)
         (first (block_conflicts statements.now))) (first (repeated definitions.now))) undefined) }
@@ -277,7 +280,7 @@ pub fn resolve<'t>(
     let outer = seen_by(n, prelude);
     let loads = find_loads(alloc, files, n, file_of(outer), statements)?;
     let found = outline_of(alloc, statements)?;
-    let placed = place_names(alloc, &found.blocks, names_of(outer), statements)?;
+    let placed = resolve_names(alloc, &found.blocks, names_of(outer), statements)?;
     let first = first_fault(
         alloc,
         standing_in(n, prelude),

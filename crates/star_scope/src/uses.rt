@@ -7,14 +7,14 @@ ghost use Rattle.star_scope.specs.declared.error.ScopeFault.TheVariants.{Memory}
 ghost use Rattle.star_scope.specs.Chains.{names_outside};
 ghost use Rattle.star_scope.specs.Faults.{at, first, first_from};
 ghost use Rattle.star_scope.specs.Places.{AllPlaced, undefined};
-ghost use Rattle.star_scope.specs.Placed.{Places};
+ghost use Rattle.star_scope.specs.ResolvedNames.{Places};
 ghost use Rattle.star_scope.specs.Spots.{spot_at};
 ghost use Rattle.star_scope.specs.Uses.{all_uses, default_uses, in_argument, in_arm, in_clause, in_clauses, in_entry, in_expression, in_form, in_returned, in_statement, in_target, loaded_use, maybe_use, one_use, parameter_name_uses, uses};
 
 use crate::binders::Bound;
 use crate::blocks::{BlockNames, Blocks};
 use crate::chain::{Chain, Scope};
-use crate::error::{Refusal, ScopeFault, earlier};
+use crate::error::{LocatedFault, ScopeFault, earlier};
 use crate::spots::Spots;
 use sqlite_items::Boxed;
 use star_tree::tree::{
@@ -25,19 +25,19 @@ use std::alloc::{AllocError, Global};
 
 /// The spots of the names of a file, and the first undefined name.
 #[derive(Debug, Drop)]
-pub struct Placed {
+pub struct ResolvedNames {
     pub spots: Spots,
-    pub first: Option<Refusal>,
+    pub first: Option<LocatedFault>,
 }
 
 /// The fault found so far, or an undefined name if it comes first.
 #[tactic(auto, unfolding(crate::specs::Faults::first_from))]
-fn undefined(found: Option<Refusal>, position: Position) -> Option<Refusal>
+fn undefined(found: Option<LocatedFault>, position: Position) -> Option<LocatedFault>
     ensures { result ≡ first_from found (at position (λ line. fault.Undefined line) ∷ []) }
 {
     earlier(
         found,
-        Refusal {
+        LocatedFault {
             token: position.token,
             fault: ScopeFault::Undefined {
                 line: position.line,
@@ -48,7 +48,7 @@ fn undefined(found: Option<Refusal>, position: Position) -> Option<Refusal>
 
 /// Puts the spot of a name into the table.
 fn place_name(
-    placed: &mut Placed,
+    placed: &mut ResolvedNames,
     scope: &Scope<'_, '_>,
     chain: &Chain<'_>,
     name: &Name,
@@ -64,7 +64,7 @@ fn place_name(
 
 /// Puts the spot of a parameter's name into the table.
 fn place_parameter_name(
-    placed: &mut Placed,
+    placed: &mut ResolvedNames,
     scope: &Scope<'_, '_>,
     chain: &Chain<'_>,
     parameter: &Parameter,
@@ -82,7 +82,7 @@ fn place_parameter_name(
 }
 
 fn place_parameter_names(
-    placed: &mut Placed,
+    placed: &mut ResolvedNames,
     scope: &Scope<'_, '_>,
     chain: &Chain<'_>,
     parameters: &[Parameter],
@@ -98,7 +98,7 @@ fn place_parameter_names(
 
 #[cycle(expressions)]
 fn place_expression(
-    placed: &mut Placed,
+    placed: &mut ResolvedNames,
     scope: &Scope<'_, '_>,
     chain: &Chain<'_>,
     expression: &Expression,
@@ -191,7 +191,7 @@ fn place_expression(
 
 #[cycle(expressions)]
 fn place_expressions(
-    placed: &mut Placed,
+    placed: &mut ResolvedNames,
     scope: &Scope<'_, '_>,
     chain: &Chain<'_>,
     expressions: &[Expression],
@@ -206,7 +206,7 @@ fn place_expressions(
 
 #[cycle(expressions)]
 fn place_maybe(
-    placed: &mut Placed,
+    placed: &mut ResolvedNames,
     scope: &Scope<'_, '_>,
     chain: &Chain<'_>,
     expression: &Option<Boxed<Expression>>,
@@ -223,7 +223,7 @@ fn place_maybe(
 
 #[cycle(expressions)]
 fn place_entry(
-    placed: &mut Placed,
+    placed: &mut ResolvedNames,
     scope: &Scope<'_, '_>,
     chain: &Chain<'_>,
     entry: &Entry,
@@ -238,7 +238,7 @@ fn place_entry(
 
 #[cycle(expressions)]
 fn place_entries(
-    placed: &mut Placed,
+    placed: &mut ResolvedNames,
     scope: &Scope<'_, '_>,
     chain: &Chain<'_>,
     entries: &[Entry],
@@ -253,7 +253,7 @@ fn place_entries(
 
 #[cycle(expressions)]
 fn place_argument(
-    placed: &mut Placed,
+    placed: &mut ResolvedNames,
     scope: &Scope<'_, '_>,
     chain: &Chain<'_>,
     argument: &Argument,
@@ -271,7 +271,7 @@ fn place_argument(
 
 #[cycle(expressions)]
 fn place_arguments(
-    placed: &mut Placed,
+    placed: &mut ResolvedNames,
     scope: &Scope<'_, '_>,
     chain: &Chain<'_>,
     arguments: &[Argument],
@@ -288,7 +288,7 @@ fn place_arguments(
 /// parts are inside.
 #[cycle(expressions)]
 fn place_clauses(
-    placed: &mut Placed,
+    placed: &mut ResolvedNames,
     scope: &Scope<'_, '_>,
     chain: &Chain<'_>,
     inner: &Chain<'_>,
@@ -305,7 +305,7 @@ fn place_clauses(
 
 #[cycle(expressions)]
 fn place_clause(
-    placed: &mut Placed,
+    placed: &mut ResolvedNames,
     scope: &Scope<'_, '_>,
     chain: &Chain<'_>,
     clause: &Clause,
@@ -324,7 +324,7 @@ fn place_clause(
 
 #[cycle(expressions)]
 fn place_more(
-    placed: &mut Placed,
+    placed: &mut ResolvedNames,
     scope: &Scope<'_, '_>,
     chain: &Chain<'_>,
     clauses: &[Clause],
@@ -339,7 +339,7 @@ fn place_more(
 
 #[cycle(expressions)]
 fn place_default(
-    placed: &mut Placed,
+    placed: &mut ResolvedNames,
     scope: &Scope<'_, '_>,
     chain: &Chain<'_>,
     parameter: &Parameter,
@@ -355,7 +355,7 @@ fn place_default(
 
 #[cycle(expressions)]
 fn place_defaults(
-    placed: &mut Placed,
+    placed: &mut ResolvedNames,
     scope: &Scope<'_, '_>,
     chain: &Chain<'_>,
     parameters: &[Parameter],
@@ -370,7 +370,7 @@ fn place_defaults(
 
 #[cycle(expressions)]
 fn place_target(
-    placed: &mut Placed,
+    placed: &mut ResolvedNames,
     scope: &Scope<'_, '_>,
     chain: &Chain<'_>,
     target: &Target,
@@ -396,7 +396,7 @@ fn place_target(
 
 #[cycle(expressions)]
 fn place_targets(
-    placed: &mut Placed,
+    placed: &mut ResolvedNames,
     scope: &Scope<'_, '_>,
     chain: &Chain<'_>,
     targets: &[Target],
@@ -410,7 +410,7 @@ fn place_targets(
 }
 
 fn place_loaded(
-    placed: &mut Placed,
+    placed: &mut ResolvedNames,
     scope: &Scope<'_, '_>,
     chain: &Chain<'_>,
     names: &[LoadedName],
@@ -424,7 +424,7 @@ fn place_loaded(
 }
 
 fn place_returned(
-    placed: &mut Placed,
+    placed: &mut ResolvedNames,
     scope: &Scope<'_, '_>,
     chain: &Chain<'_>,
     expression: &Option<Expression>,
@@ -440,7 +440,7 @@ fn place_returned(
 
 #[cycle(statements)]
 fn place_form(
-    placed: &mut Placed,
+    placed: &mut ResolvedNames,
     scope: &Scope<'_, '_>,
     chain: &Chain<'_>,
     token: usize,
@@ -491,7 +491,7 @@ fn place_form(
 
 #[cycle(statements)]
 fn place_statements(
-    placed: &mut Placed,
+    placed: &mut ResolvedNames,
     scope: &Scope<'_, '_>,
     chain: &Chain<'_>,
     statements: &[Statement],
@@ -512,7 +512,7 @@ fn place_statements(
 
 #[cycle(statements)]
 fn place_arm(
-    placed: &mut Placed,
+    placed: &mut ResolvedNames,
     scope: &Scope<'_, '_>,
     chain: &Chain<'_>,
     arm: &Arm,
@@ -526,7 +526,7 @@ fn place_arm(
 
 #[cycle(statements)]
 fn place_arms(
-    placed: &mut Placed,
+    placed: &mut ResolvedNames,
     scope: &Scope<'_, '_>,
     chain: &Chain<'_>,
     arms: &[Arm],
@@ -544,14 +544,14 @@ fn place_all(
     alloc: Global,
     scope: &Scope<'_, '_>,
     statements: &[Statement],
-) -> Result<Placed, AllocError>
+) -> Result<ResolvedNames, AllocError>
     ensures first { IfOk result (λ placed. placed.first
         ≡ first (undefined scope.now.blocks.now (names_outside scope.now.prelude) (uses statements.now))) }
     ensures spots { IfOk result (λ placed. placed.first ≡ None
         → AllPlaced (spot_at placed.spots) scope.now.blocks.now (names_outside scope.now.prelude)
         (uses statements.now)) }
 {
-    let mut placed = Placed {
+    let mut placed = ResolvedNames {
         spots: Spots::new(alloc),
         first: None,
     };
@@ -565,12 +565,12 @@ fn place_all(
 ///
 /// `Memory` if an allocation fails, and for a tree that no text has: if two names with different spots have one token,
 /// or more than 102 blocks are nested. No other error comes.
-pub fn place_names<'s, 't>(
+pub fn resolve_names<'s, 't>(
     alloc: Global,
     blocks: &'s Blocks<'t>,
     prelude: Option<&'s BlockNames<'t>>,
     statements: &[Statement],
-) -> Result<Placed, ScopeFault>
+) -> Result<ResolvedNames, ScopeFault>
     ensures first { IfOk result (λ placed. placed.first
         ≡ first (undefined blocks.now (names_outside prelude.entry) (uses statements.now))) }
     ensures spots { IfOk result (λ placed. placed.first ≡ None

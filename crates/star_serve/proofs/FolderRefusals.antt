@@ -8,7 +8,7 @@ use Rattle.star_folder.proofs.StopKinds.{IsOfWalk}
 use Rattle.star_serve.specs.Serve.{IsRefusedDir, IsRefusedRun}
 use Rattle.star_serve.proofs.Refusals.{IsOf, IsOfWords}
 use Rattle.star_bundle.specs.declared.error.ServeError.{ServeError}
-use Rattle.star_bundle.specs.declared.error.ServeError.TheVariants.{Read, TooBig, BadDir, BadFile, NotText, BadBundle, BadKey, TooMany, TooLong, BadRoot, NoRoot, BadPrelude, NoPrelude, Memory, Write, Unpublished}
+use Rattle.star_bundle.specs.declared.error.ServeError.TheVariants.{TooBig, BadDir, BadFile, NotText, TooMany, TooLong, BadRoot, NoRoot, BadPrelude, NoPrelude, Memory, Write, Unpublished}
 
 -- no listing, no read and no write failed
 abbrev pub NoneFailed : ServeError → Type 0
@@ -16,114 +16,45 @@ NoneFailed e = (failed_listing e ≡ 0) × (failed_read e ≡ 0) × (writes_fail
 
 -- the walk stopped
 pub stopped_refused : (stopped : ServeError → Type 0) (answers : Result Asked ServeError → Type 0) (unwritten : Type 0) (e : ServeError) → IsOfWalk e → stopped e → unwritten → IsRefusedDir stopped answers unwritten e
-stopped_refused stopped answers unwritten Read k s u = absurd k
 stopped_refused stopped answers unwritten TooBig k s u = (s, u)
 stopped_refused stopped answers unwritten BadDir k s u = (s, u)
 stopped_refused stopped answers unwritten BadFile k s u = (s, u)
 stopped_refused stopped answers unwritten NotText k s u = (s, u)
-stopped_refused stopped answers unwritten BadBundle k s u = absurd k
-stopped_refused stopped answers unwritten BadKey k s u = absurd k
 stopped_refused stopped answers unwritten TooMany k s u = (s, u)
 stopped_refused stopped answers unwritten TooLong k s u = (s, u)
-stopped_refused stopped answers unwritten BadRoot k s u = absurd k
-stopped_refused stopped answers unwritten NoRoot k s u = absurd k
-stopped_refused stopped answers unwritten BadPrelude k s u = absurd k
-stopped_refused stopped answers unwritten NoPrelude k s u = absurd k
 stopped_refused stopped answers unwritten Memory k s u = u
-stopped_refused stopped answers unwritten Write k s u = absurd k
-stopped_refused stopped answers unwritten Unpublished k s u = absurd k
+stopped_refused stopped answers unwritten e k s u = absurd k
 
 pub stopped_writes : (e : ServeError) → IsOfWalk e → writes_failed {T = Bool} (Err e) ≡ 0
-stopped_writes Read k = refl
-stopped_writes TooBig k = refl
-stopped_writes BadDir k = refl
-stopped_writes BadFile k = refl
-stopped_writes NotText k = refl
-stopped_writes BadBundle k = refl
-stopped_writes BadKey k = refl
-stopped_writes TooMany k = refl
-stopped_writes TooLong k = refl
-stopped_writes BadRoot k = refl
-stopped_writes NoRoot k = refl
-stopped_writes BadPrelude k = refl
-stopped_writes NoPrelude k = refl
-stopped_writes Memory k = refl
 stopped_writes Write k = absurd k
-stopped_writes Unpublished k = refl
+stopped_writes e k = refl
 
 -- the words are refused
 pub words_refused : (stopped : ServeError → Type 0) (answers : Result Asked ServeError → Type 0) (unwritten : Type 0) (e : ServeError) (given : Result Asked ServeError) → Fails e given → IsOf IsOfWords given → answers given → unwritten → IsRefusedDir stopped answers unwritten e
-words_refused stopped answers unwritten Read given h k a u = absurd (rw h at k)
-words_refused stopped answers unwritten TooBig given h k a u = absurd (rw h at k)
-words_refused stopped answers unwritten BadDir given h k a u = absurd (rw h at k)
-words_refused stopped answers unwritten BadFile given h k a u = absurd (rw h at k)
-words_refused stopped answers unwritten NotText given h k a u = absurd (rw h at k)
-words_refused stopped answers unwritten BadBundle given h k a u = absurd (rw h at k)
-words_refused stopped answers unwritten BadKey given h k a u = absurd (rw h at k)
-words_refused stopped answers unwritten TooMany given h k a u = absurd (rw h at k)
-words_refused stopped answers unwritten TooLong given h k a u = absurd (rw h at k)
 words_refused stopped answers unwritten BadRoot given h k a u = (rw h at a, u)
 words_refused stopped answers unwritten NoRoot given h k a u = (rw h at a, u)
 words_refused stopped answers unwritten BadPrelude given h k a u = (rw h at a, u)
 words_refused stopped answers unwritten NoPrelude given h k a u = (rw h at a, u)
 words_refused stopped answers unwritten Memory given h k a u = u
-words_refused stopped answers unwritten Write given h k a u = absurd (rw h at k)
-words_refused stopped answers unwritten Unpublished given h k a u = absurd (rw h at k)
+words_refused stopped answers unwritten e given h k a u = absurd (rw h at k)
 
 pub words_failed : (e : ServeError) (given : Result Asked ServeError) → Fails e given → IsOf IsOfWords given → NoneFailed e
-words_failed Read given h k = (refl, refl, refl)
-words_failed TooBig given h k = (refl, refl, refl)
 words_failed BadDir given h k = absurd (rw h at k)
 words_failed BadFile given h k = absurd (rw h at k)
-words_failed NotText given h k = (refl, refl, refl)
-words_failed BadBundle given h k = (refl, refl, refl)
-words_failed BadKey given h k = (refl, refl, refl)
-words_failed TooMany given h k = (refl, refl, refl)
-words_failed TooLong given h k = (refl, refl, refl)
-words_failed BadRoot given h k = (refl, refl, refl)
-words_failed NoRoot given h k = (refl, refl, refl)
-words_failed BadPrelude given h k = (refl, refl, refl)
-words_failed NoPrelude given h k = (refl, refl, refl)
-words_failed Memory given h k = (refl, refl, refl)
 words_failed Write given h k = absurd (rw h at k)
-words_failed Unpublished given h k = (refl, refl, refl)
+words_failed e given h k = (refl, refl, refl)
 
 -- a run or its report is refused
 pub run_refused : (stopped : ServeError → Type 0) (answers : Result Asked ServeError → Type 0) (unwritten : Type 0) (e : ServeError) (asked : Asked) → IsRefusedRun unwritten e → answers (Ok asked) → IsRefusedDir stopped answers unwritten e
-run_refused stopped answers unwritten Read asked h a = absurd h
-run_refused stopped answers unwritten TooBig asked h a = absurd h
-run_refused stopped answers unwritten BadDir asked h a = absurd h
-run_refused stopped answers unwritten BadFile asked h a = absurd h
-run_refused stopped answers unwritten NotText asked h a = absurd h
-run_refused stopped answers unwritten BadBundle asked h a = absurd h
-run_refused stopped answers unwritten BadKey asked h a = absurd h
-run_refused stopped answers unwritten TooMany asked h a = absurd h
-run_refused stopped answers unwritten TooLong asked h a = absurd h
-run_refused stopped answers unwritten BadRoot asked h a = absurd h
-run_refused stopped answers unwritten NoRoot asked h a = absurd h
-run_refused stopped answers unwritten BadPrelude asked h a = absurd h
-run_refused stopped answers unwritten NoPrelude asked h a = absurd h
 run_refused stopped answers unwritten Memory asked h a = h
 run_refused stopped answers unwritten Write asked h a = (asked, a)
 run_refused stopped answers unwritten Unpublished asked h a = ((asked, a), h)
+run_refused stopped answers unwritten e asked h a = absurd h
 
 pub run_failed : (unwritten : Type 0) (e : ServeError) → IsRefusedRun unwritten e → (failed_listing e ≡ 0) × (failed_read e ≡ 0)
-run_failed unwritten Read h = (refl, refl)
-run_failed unwritten TooBig h = (refl, refl)
 run_failed unwritten BadDir h = absurd h
 run_failed unwritten BadFile h = absurd h
-run_failed unwritten NotText h = (refl, refl)
-run_failed unwritten BadBundle h = (refl, refl)
-run_failed unwritten BadKey h = (refl, refl)
-run_failed unwritten TooMany h = (refl, refl)
-run_failed unwritten TooLong h = (refl, refl)
-run_failed unwritten BadRoot h = (refl, refl)
-run_failed unwritten NoRoot h = (refl, refl)
-run_failed unwritten BadPrelude h = (refl, refl)
-run_failed unwritten NoPrelude h = (refl, refl)
-run_failed unwritten Memory h = (refl, refl)
-run_failed unwritten Write h = (refl, refl)
-run_failed unwritten Unpublished h = (refl, refl)
+run_failed unwritten e h = (refl, refl)
 
 pub run_counts : (unwritten : Type 0) (r : Result Bool ServeError) → IfErr r (IsRefusedRun unwritten) → (listings_failed r ≡ 0) × (files_failed r ≡ 0)
 run_counts unwritten (Ok x) h = (refl, refl)

@@ -16,30 +16,14 @@ use Rattle.star_bundle.specs.declared.error.ServeError.TheVariants.{Read, TooBig
 
 -- a refusal of the words of the command line
 abbrev pub IsOfWords : ServeError → Type 0
-IsOfWords Read = ⊥
-IsOfWords TooBig = ⊥
-IsOfWords BadDir = ⊥
-IsOfWords BadFile = ⊥
-IsOfWords NotText = ⊥
-IsOfWords BadBundle = ⊥
-IsOfWords BadKey = ⊥
-IsOfWords TooMany = ⊥
-IsOfWords TooLong = ⊥
 IsOfWords BadRoot = ⊤
 IsOfWords NoRoot = ⊤
 IsOfWords BadPrelude = ⊤
 IsOfWords NoPrelude = ⊤
-IsOfWords Memory = ⊥
-IsOfWords Write = ⊥
-IsOfWords Unpublished = ⊥
+IsOfWords e = ⊥
 
 -- a refusal of the bytes of a bundle or of the words
 abbrev pub IsFault : ServeError → Type 0
-IsFault Read = ⊥
-IsFault TooBig = ⊥
-IsFault BadDir = ⊥
-IsFault BadFile = ⊥
-IsFault NotText = ⊥
 IsFault BadBundle = ⊤
 IsFault BadKey = ⊤
 IsFault TooMany = ⊤
@@ -48,9 +32,7 @@ IsFault BadRoot = ⊤
 IsFault NoRoot = ⊤
 IsFault BadPrelude = ⊤
 IsFault NoPrelude = ⊤
-IsFault Memory = ⊥
-IsFault Write = ⊥
-IsFault Unpublished = ⊥
+IsFault e = ⊥
 
 abbrev pub IsOf : {A : Type 0} → (ServeError → Type 0) → Result A ServeError → Type 0
 IsOf P (Ok x) = ⊤
@@ -118,90 +100,29 @@ refused_by answers within longer unwritten TooBig given h k a u = absurd (rw h a
 refused_by answers within longer unwritten BadDir given h k a u = absurd (rw h at k)
 refused_by answers within longer unwritten BadFile given h k a u = absurd (rw h at k)
 refused_by answers within longer unwritten NotText given h k a u = absurd (rw h at k)
-refused_by answers within longer unwritten BadBundle given h k a u = (rw h at a, u)
-refused_by answers within longer unwritten BadKey given h k a u = (rw h at a, u)
-refused_by answers within longer unwritten TooMany given h k a u = (rw h at a, u)
-refused_by answers within longer unwritten TooLong given h k a u = (rw h at a, u)
-refused_by answers within longer unwritten BadRoot given h k a u = (rw h at a, u)
-refused_by answers within longer unwritten NoRoot given h k a u = (rw h at a, u)
-refused_by answers within longer unwritten BadPrelude given h k a u = (rw h at a, u)
-refused_by answers within longer unwritten NoPrelude given h k a u = (rw h at a, u)
 refused_by answers within longer unwritten Memory given h k a u = u
 refused_by answers within longer unwritten Write given h k a u = absurd (rw h at k)
 refused_by answers within longer unwritten Unpublished given h k a u = absurd (rw h at k)
+refused_by answers within longer unwritten e given h k a u = (rw h at a, u)
 
 pub no_read_failed : (e : ServeError) (given : Result Asked ServeError) → Fails e given → IsOf IsFault given → reads_failed {T = Bool} (Err e) ≡ 0
 no_read_failed Read given h k = absurd (rw h at k)
-no_read_failed TooBig given h k = refl
-no_read_failed BadDir given h k = refl
-no_read_failed BadFile given h k = refl
-no_read_failed NotText given h k = refl
-no_read_failed BadBundle given h k = refl
-no_read_failed BadKey given h k = refl
-no_read_failed TooMany given h k = refl
-no_read_failed TooLong given h k = refl
-no_read_failed BadRoot given h k = refl
-no_read_failed NoRoot given h k = refl
-no_read_failed BadPrelude given h k = refl
-no_read_failed NoPrelude given h k = refl
-no_read_failed Memory given h k = refl
-no_read_failed Write given h k = refl
-no_read_failed Unpublished given h k = refl
+no_read_failed e given h k = refl
 
 pub no_write_failed : (e : ServeError) (given : Result Asked ServeError) → Fails e given → IsOf IsFault given → writes_failed {T = Bool} (Err e) ≡ 0
-no_write_failed Read given h k = refl
-no_write_failed TooBig given h k = refl
-no_write_failed BadDir given h k = refl
-no_write_failed BadFile given h k = refl
-no_write_failed NotText given h k = refl
-no_write_failed BadBundle given h k = refl
-no_write_failed BadKey given h k = refl
-no_write_failed TooMany given h k = refl
-no_write_failed TooLong given h k = refl
-no_write_failed BadRoot given h k = refl
-no_write_failed NoRoot given h k = refl
-no_write_failed BadPrelude given h k = refl
-no_write_failed NoPrelude given h k = refl
-no_write_failed Memory given h k = refl
 no_write_failed Write given h k = absurd (rw h at k)
-no_write_failed Unpublished given h k = refl
+no_write_failed e given h k = refl
 
 -- a run or its report is refused
 pub run_refused : (answers : Result Asked ServeError → Type 0) (within longer unwritten : Type 0) (e : ServeError) (asked : Asked) → IsRefusedRun unwritten e → answers (Ok asked) → IsRefused answers within longer unwritten e
-run_refused answers within longer unwritten Read asked h a = absurd h
-run_refused answers within longer unwritten TooBig asked h a = absurd h
-run_refused answers within longer unwritten BadDir asked h a = absurd h
-run_refused answers within longer unwritten BadFile asked h a = absurd h
-run_refused answers within longer unwritten NotText asked h a = absurd h
-run_refused answers within longer unwritten BadBundle asked h a = absurd h
-run_refused answers within longer unwritten BadKey asked h a = absurd h
-run_refused answers within longer unwritten TooMany asked h a = absurd h
-run_refused answers within longer unwritten TooLong asked h a = absurd h
-run_refused answers within longer unwritten BadRoot asked h a = absurd h
-run_refused answers within longer unwritten NoRoot asked h a = absurd h
-run_refused answers within longer unwritten BadPrelude asked h a = absurd h
-run_refused answers within longer unwritten NoPrelude asked h a = absurd h
 run_refused answers within longer unwritten Memory asked h a = h
 run_refused answers within longer unwritten Write asked h a = (asked, a)
 run_refused answers within longer unwritten Unpublished asked h a = ((asked, a), h)
+run_refused answers within longer unwritten e asked h a = absurd h
 
 pub no_read_by_run : (unwritten : Type 0) (e : ServeError) → IsRefusedRun unwritten e → reads_failed {T = Bool} (Err e) ≡ 0
 no_read_by_run unwritten Read h = absurd h
-no_read_by_run unwritten TooBig h = refl
-no_read_by_run unwritten BadDir h = refl
-no_read_by_run unwritten BadFile h = refl
-no_read_by_run unwritten NotText h = refl
-no_read_by_run unwritten BadBundle h = refl
-no_read_by_run unwritten BadKey h = refl
-no_read_by_run unwritten TooMany h = refl
-no_read_by_run unwritten TooLong h = refl
-no_read_by_run unwritten BadRoot h = refl
-no_read_by_run unwritten NoRoot h = refl
-no_read_by_run unwritten BadPrelude h = refl
-no_read_by_run unwritten NoPrelude h = refl
-no_read_by_run unwritten Memory h = refl
-no_read_by_run unwritten Write h = refl
-no_read_by_run unwritten Unpublished h = refl
+no_read_by_run unwritten e h = refl
 
 pub started_refused : (unwritten : Type 0) (e : ServeError) → (e ≡ Memory) ⊎ (e ≡ Unpublished) → unwritten → IsRefusedRun unwritten e
 started_refused unwritten e (inl h) u = rw h u

@@ -7,7 +7,7 @@ use Rattle.star_label.specs.Files.{File}
 use Rattle.star_bundle.specs.Bundle.{Asked, asked_among, is_label, number_of, prelude_of, roots_of, there_or, ◌>>=◌}
 use Rattle.star_bundle.specs.Refusal.{Fails, writes_failed}
 use Rattle.star_bundle.specs.declared.error.ServeError.{ServeError}
-use Rattle.star_bundle.specs.declared.error.ServeError.TheVariants.{Read, TooBig, BadDir, BadFile, NotText, BadBundle, BadKey, TooMany, TooLong, BadRoot, NoRoot, BadPrelude, NoPrelude, Memory, Write, Unpublished}
+use Rattle.star_bundle.specs.declared.error.ServeError.TheVariants.{BadRoot, NoRoot, BadPrelude, NoPrelude, Memory, Write, Unpublished}
 use Rattle.star_words.specs.Named.{AllLabels, AreLabels, IsMisnamed}
 use Rattle.star_repo.specs.Asked.{AreFilesFor, IsUnread, failed_find}
 use Rattle.star_repo.specs.Held.{Said}
@@ -19,22 +19,9 @@ use Rattle.star_serve.proofs.Refusals.{IsOf, IsOfWords, bind_kind, there_kind}
 
 -- a refusal of labels that no file has
 abbrev pub IsOfFiles : ServeError → Type 0
-IsOfFiles Read = ⊥
-IsOfFiles TooBig = ⊥
-IsOfFiles BadDir = ⊥
-IsOfFiles BadFile = ⊥
-IsOfFiles NotText = ⊥
-IsOfFiles BadBundle = ⊥
-IsOfFiles BadKey = ⊥
-IsOfFiles TooMany = ⊥
-IsOfFiles TooLong = ⊥
-IsOfFiles BadRoot = ⊥
 IsOfFiles NoRoot = ⊤
-IsOfFiles BadPrelude = ⊥
 IsOfFiles NoPrelude = ⊤
-IsOfFiles Memory = ⊥
-IsOfFiles Write = ⊥
-IsOfFiles Unpublished = ⊥
+IsOfFiles e = ⊥
 
 found_or : (b : Bool) (bad none : ServeError) (o : Option ℕ) → b ≡ true → IsOfFiles none → IsOf {A = ℕ} IsOfFiles (cond b (there_or none o) (Err bad))
 found_or true bad none o e h = there_kind IsOfFiles {A = ℕ} none o h
@@ -65,72 +52,27 @@ labels_kind roots p files are =
 
 -- what is asked for is refused
 pub asked_refused : (given : Result Asked ServeError) (unwritten : Type 0) (e : ServeError) → Fails e given → IsOf IsOfWords given → unwritten → IsRefusedOf given unwritten e
-asked_refused given unwritten Read h k u = absurd (rw h at k)
-asked_refused given unwritten TooBig h k u = absurd (rw h at k)
-asked_refused given unwritten BadDir h k u = absurd (rw h at k)
-asked_refused given unwritten BadFile h k u = absurd (rw h at k)
-asked_refused given unwritten NotText h k u = absurd (rw h at k)
-asked_refused given unwritten BadBundle h k u = absurd (rw h at k)
-asked_refused given unwritten BadKey h k u = absurd (rw h at k)
-asked_refused given unwritten TooMany h k u = absurd (rw h at k)
-asked_refused given unwritten TooLong h k u = absurd (rw h at k)
 asked_refused given unwritten BadRoot h k u = (h, u)
 asked_refused given unwritten NoRoot h k u = (h, u)
 asked_refused given unwritten BadPrelude h k u = (h, u)
 asked_refused given unwritten NoPrelude h k u = (h, u)
 asked_refused given unwritten Memory h k u = u
-asked_refused given unwritten Write h k u = absurd (rw h at k)
-asked_refused given unwritten Unpublished h k u = absurd (rw h at k)
+asked_refused given unwritten e h k u = absurd (rw h at k)
 
 pub asked_writes : (given : Result Asked ServeError) (e : ServeError) → Fails e given → IsOf IsOfWords given → writes_failed {T = Bool} (Err e) ≡ 0
-asked_writes given Read h k = refl
-asked_writes given TooBig h k = refl
-asked_writes given BadDir h k = refl
-asked_writes given BadFile h k = refl
-asked_writes given NotText h k = refl
-asked_writes given BadBundle h k = refl
-asked_writes given BadKey h k = refl
-asked_writes given TooMany h k = refl
-asked_writes given TooLong h k = refl
-asked_writes given BadRoot h k = refl
-asked_writes given NoRoot h k = refl
-asked_writes given BadPrelude h k = refl
-asked_writes given NoPrelude h k = refl
-asked_writes given Memory h k = refl
 asked_writes given Write h k = absurd (rw h at k)
-asked_writes given Unpublished h k = refl
+asked_writes given e h k = refl
 
 -- the run is refused
 pub run_refused : (given : Result Asked ServeError) (unwritten : Type 0) (e : ServeError) (asked : Asked) → IsRefusedRun unwritten e → given ≡ Ok asked → IsRefusedOf given unwritten e
-run_refused given unwritten Read asked h is = absurd h
-run_refused given unwritten TooBig asked h is = absurd h
-run_refused given unwritten BadDir asked h is = absurd h
-run_refused given unwritten BadFile asked h is = absurd h
-run_refused given unwritten NotText asked h is = absurd h
-run_refused given unwritten BadBundle asked h is = absurd h
-run_refused given unwritten BadKey asked h is = absurd h
-run_refused given unwritten TooMany asked h is = absurd h
-run_refused given unwritten TooLong asked h is = absurd h
-run_refused given unwritten BadRoot asked h is = absurd h
-run_refused given unwritten NoRoot asked h is = absurd h
-run_refused given unwritten BadPrelude asked h is = absurd h
-run_refused given unwritten NoPrelude asked h is = absurd h
 run_refused given unwritten Memory asked h is = h
 run_refused given unwritten Write asked h is = (asked, is)
 run_refused given unwritten Unpublished asked h is = ((asked, is), h)
+run_refused given unwritten e asked h is = absurd h
 
 -- a refusal of files that were read
 pub read_refused : (said : Said) (roots : List (List ℕ)) (p : Option (List ℕ)) (files : List File) (unwritten : Type 0) (e : ServeError) → AreFilesFor said roots p files → AreLabels roots p
     → IsRefusedOf (asked_among roots p files) unwritten e → IsRefusedAll said roots p unwritten e
-read_refused said roots p files unwritten Read are labels h = absurd h
-read_refused said roots p files unwritten TooBig are labels h = absurd h
-read_refused said roots p files unwritten BadDir are labels h = absurd h
-read_refused said roots p files unwritten BadFile are labels h = absurd h
-read_refused said roots p files unwritten NotText are labels h = absurd h
-read_refused said roots p files unwritten BadBundle are labels h = absurd h
-read_refused said roots p files unwritten BadKey are labels h = absurd h
-read_refused said roots p files unwritten TooMany are labels h = absurd h
-read_refused said roots p files unwritten TooLong are labels h = absurd h
 read_refused said roots p files unwritten BadRoot are labels h = absurd (subst (IsOf IsOfFiles) h.0 (labels_kind roots p files labels))
 read_refused said roots p files unwritten NoRoot are labels h = ((files, are, h.0), h.1)
 read_refused said roots p files unwritten BadPrelude are labels h = absurd (subst (IsOf IsOfFiles) h.0 (labels_kind roots p files labels))
@@ -138,47 +80,22 @@ read_refused said roots p files unwritten NoPrelude are labels h = ((files, are,
 read_refused said roots p files unwritten Memory are labels h = h
 read_refused said roots p files unwritten Write are labels h = (h.0, (files, are, h.1))
 read_refused said roots p files unwritten Unpublished are labels h = ((h.0.0, (files, are, h.0.1)), h.1)
+read_refused said roots p files unwritten e are labels h = absurd h
 
 -- files that were not read
 misnamed : (said : Said) (roots : List (List ℕ)) (p : Option (List ℕ)) (unwritten : Type 0) (e : ServeError) → IsMisnamed roots p e → unwritten → IsRefusedAll said roots p unwritten e
-misnamed said roots p unwritten Read h u = absurd h
-misnamed said roots p unwritten TooBig h u = absurd h
-misnamed said roots p unwritten BadDir h u = absurd h
-misnamed said roots p unwritten BadFile h u = absurd h
-misnamed said roots p unwritten NotText h u = absurd h
-misnamed said roots p unwritten BadBundle h u = absurd h
-misnamed said roots p unwritten BadKey h u = absurd h
-misnamed said roots p unwritten TooMany h u = absurd h
-misnamed said roots p unwritten TooLong h u = absurd h
 misnamed said roots p unwritten BadRoot h u = (h, u)
-misnamed said roots p unwritten NoRoot h u = absurd h
 misnamed said roots p unwritten BadPrelude h u = (h, u)
-misnamed said roots p unwritten NoPrelude h u = absurd h
 misnamed said roots p unwritten Memory h u = u
-misnamed said roots p unwritten Write h u = absurd h
-misnamed said roots p unwritten Unpublished h u = absurd h
+misnamed said roots p unwritten e h u = absurd h
 
 pub unread_refused : (said : Said) (roots : List (List ℕ)) (p : Option (List ℕ)) (unwritten : Type 0) (e : RepoError) → IsUnread said roots p e → unwritten → IsRefusedRepo said roots p unwritten e
 unread_refused said roots p unwritten (why.File label error) h u = (h, u)
 unread_refused said roots p unwritten (why.Run error) h u = misnamed said roots p unwritten error h u
 
 none_written : (roots : List (List ℕ)) (p : Option (List ℕ)) (e : ServeError) → IsMisnamed roots p e → failed_write (why.Run e) ≡ 0
-none_written roots p Read h = refl
-none_written roots p TooBig h = refl
-none_written roots p BadDir h = refl
-none_written roots p BadFile h = refl
-none_written roots p NotText h = refl
-none_written roots p BadBundle h = refl
-none_written roots p BadKey h = refl
-none_written roots p TooMany h = refl
-none_written roots p TooLong h = refl
-none_written roots p BadRoot h = refl
-none_written roots p NoRoot h = refl
-none_written roots p BadPrelude h = refl
-none_written roots p NoPrelude h = refl
-none_written roots p Memory h = refl
 none_written roots p Write h = absurd h
-none_written roots p Unpublished h = refl
+none_written roots p e h = refl
 
 pub unread_writes : (said : Said) (roots : List (List ℕ)) (p : Option (List ℕ)) (e : RepoError) → IsUnread said roots p e → failed_write e ≡ 0
 unread_writes said roots p (why.File label error) h = refl
@@ -186,22 +103,7 @@ unread_writes said roots p (why.Run error) h = none_written roots p error h
 
 -- a write failed in the run just where the answer says so
 pub same_writes : (e : ServeError) → failed_write (why.Run e) ≡ writes_failed {T = Bool} (Err e)
-same_writes Read = refl
-same_writes TooBig = refl
-same_writes BadDir = refl
-same_writes BadFile = refl
-same_writes NotText = refl
-same_writes BadBundle = refl
-same_writes BadKey = refl
-same_writes TooMany = refl
-same_writes TooLong = refl
-same_writes BadRoot = refl
-same_writes NoRoot = refl
-same_writes BadPrelude = refl
-same_writes NoPrelude = refl
-same_writes Memory = refl
-same_writes Write = refl
-same_writes Unpublished = refl
+same_writes e = refl
 
 -- what is asked for is asked of these files
 asked_so : (files : List File) (p : Result (Option ℕ) ServeError) (ns : List ℕ) (a : Asked) → (p >>= λ q. Ok (record { files = files; roots = ns; prelude = q })) ≡ Ok a → a.files ≡ files

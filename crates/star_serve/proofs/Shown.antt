@@ -4,18 +4,13 @@ use Rattle.std.specs.Prelude.{IfOk}
 use Rattle.std.proofs.lemmas.Bool.{true≢false}
 use Rattle.std.proofs.lemmas.List.{append-nil}
 use Rattle.std.proofs.lemmas.List.Elements.{All-nil, All-push}
-use Rattle.star_serve.specs.Progress.{IsLine, IsShown, joined, progress_line, rest_cleared}
+use Rattle.star_serve.specs.Progress.{IsLine, IsShown, ShowsLines, joined, progress_line, rest_cleared}
 use Rattle.star_serve.specs.Stream.{Adds}
 use Rattle.star_serve.proofs.Streams.{Adds-more}
 
 joined-more : (ls : List (List ℕ)) (l : List ℕ) → joined (ls ++ l ∷ []) ≡ joined ls ++ l
 joined-more [] l = append-nil l
 joined-more (x ∷ ls) l = ap (λ t. x ++ t) (joined-more ls l) ∙ sym (append_assoc x (joined ls) l)
-
--- such lines went through, and there was one if `shown` says so
-abbrev pub ShowsLines : Bool → Option (List ℕ) → Option (List ℕ) → Type 0
-ShowsLines shown old new =
-    (lines : List (List ℕ)) × All IsLine lines × (shown ≡ false → lines ≡ []) × Adds old new (joined lines)
 
 -- nothing went through yet
 pub no_lines : (o : Option (List ℕ)) → Adds o o [] → ShowsLines false o o

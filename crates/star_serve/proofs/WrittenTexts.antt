@@ -50,6 +50,12 @@ pub in_plan_of : (files : List File) (roots : List ℕ) (prelude : Option ℕ) (
 in_plan_of files roots prelude steps row run P begun (plan, planned, of_roots, of_prelude, of_steps, are) read each =
     (plan, planned, of_roots, of_prelude, of_steps, each plan (record { planned = planned; roots_are = of_roots; read = subst (λ p. IsReadOf files roots p row) (sym of_prelude) read; modules = are; begun = begun }))
 
+-- .. where the run was of roots that are the same
+pub in_plan_of_same : (files : List File) (roots given : List ℕ) (prelude : Option ℕ) (steps : ℕ) (row : Row) (run : RunView) (P : Plan → Type 0) → given ≡ roots → run.begun ≡ length run.kept → AreModulesOf files given prelude steps run.kept → IsReadOf files given prelude row
+    → ((plan : Plan) → IsRunOf files roots row run plan → P plan) → InPlanOf files roots prelude steps P
+in_plan_of_same files roots given prelude steps row run P same begun are read =
+    in_plan_of files roots prelude steps row run P begun (subst (λ rs. AreModulesOf files rs prelude steps run.kept) same are) (subst (λ rs. IsReadOf files rs prelude row) same read)
+
 none_said : (output : Output) (files : List File) (plan : Plan) (ok : Bool) (line : List ℕ) → IsSaid output files plan ok line → is_said output ok ≡ false → line ≡ []
 none_said (Report wanted) files plan ok line is none = is
 none_said (Global name) files plan true line is none = is

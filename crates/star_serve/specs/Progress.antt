@@ -1,5 +1,6 @@
 -- The line that shows a person how far a run is.
-use Rattle.std.specs.Prelude.{◌≡◌, ◌⊎◌, ℕ, All, List, [], ◌∷◌, ◌++◌, Option, Some, None, codes, decimal, take}
+use Rattle.std.specs.Prelude.{◌≡◌, ◌⊎◌, ℕ, Bool, false, All, List, [], ◌∷◌, ◌++◌, Option, Some, None, codes, decimal, take}
+use Rattle.star_serve.specs.Stream.{Adds}
 
 -- how many of the files that were read have run, and the running file that began first, if one runs
 abbrev pub progress_text : ℕ → ℕ → Option (List ℕ) → List ℕ
@@ -30,6 +31,11 @@ IsLine bytes =
 abbrev pub joined : List (List ℕ) → List ℕ
 joined [] = []
 joined (t ∷ ts) = t ++ joined ts
+
+-- between old and new such lines were written, and there was one if `shown` says so
+abbrev pub ShowsLines : Bool → Option (List ℕ) → Option (List ℕ) → Type 0
+ShowsLines shown old new =
+    (lines : List (List ℕ)) × All IsLine lines × (shown ≡ false → lines ≡ []) × Adds old new (joined lines)
 
 -- The bytes that show a run: none, or such lines one after another, and then those that clear the last one.
 abbrev pub IsShown : List ℕ → Type 0

@@ -5,6 +5,8 @@ use Rattle.star_bundle.specs.Bundle.{Asked, asked_among}
 use Rattle.star_bundle.specs.declared.error.ServeError.{ServeError}
 use Rattle.star_bundle.specs.declared.error.ServeError.TheVariants.{BadPrelude, BadRoot, Memory, NoPrelude, NoRoot, Unpublished, Write}
 use Rattle.star_words.specs.Named.{IsMisnamed}
+use Rattle.star_serve.specs.Serve.{prelude_word, root_words}
+use Rattle.star_serve.specs.declared.serve.Options.{Options}
 use Rattle.star_repo.specs.Asked.{AreFilesFor, IsUnread}
 use Rattle.star_repo.specs.Held.{Said}
 use Rattle.star_repo.specs.declared.error.RepoError.{RepoError}
@@ -14,6 +16,10 @@ use Rattle.star_repo.specs.declared.error.RepoError.TheVariants as why
 abbrev pub AsksOf : Said → List (List ℕ) → Option (List ℕ) → Result Asked ServeError → Type 0
 AsksOf said roots prelude given =
     (files : List File) × AreFilesFor said roots prelude files × (asked_among roots prelude files ≡ given)
+
+-- .. by the words of the options
+abbrev pub AsksForRepo : Said → Options → Result Asked ServeError → Type 0
+AsksForRepo said options given = AsksOf said (root_words options) (prelude_word options) given
 
 -- a refusal but of a file: first of the words, then of what is asked for, then of the run
 abbrev pub IsRefusedAll : Said → List (List ℕ) → Option (List ℕ) → Type 0 → ServeError → Type 0

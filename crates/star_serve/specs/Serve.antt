@@ -1,7 +1,14 @@
 -- The answer of the program for a bundle, or for the files of a folder by its walk.
-use Rattle.std.specs.Prelude.{◌≡◌, ⊤, ℕ, ◌≤◌, List, length, Bool, Option, Result, Ok, Err}
-use Rattle.star_serve.specs.Stream.{Adds, GivesAll, Said}
-use Rattle.star_bundle.specs.Bundle.{Asked}
+use Rattle.std.specs.Prelude.{◌≡◌, ⊤, ℕ, ◌<◌, ◌≤◌, List, length, map, Bool, Option, None, option_map, Result, Ok, Err, string_bytes}
+use Rattle.star_label.specs.Files.{File}
+use Rattle.star_folder.specs.Folder.{Contents}
+use Rattle.star_folder.specs.Walk.{AreFilesOf}
+use Rattle.star_serve.specs.Stream.{Adds, GaveFirst, Gives, GivesAll, Said}
+use Rattle.star_serve.specs.Trace.{Traces}
+use Rattle.star_serve.specs.declared.serve.Job.{Job}
+use Rattle.star_serve.specs.declared.serve.Options.{Options}
+use Rattle.star_bundle.specs.Bundle.{Asked, asked_among, asked_of}
+use Rattle.star_bundle.specs.View.{asked_view}
 use Rattle.star_report.specs.Output.{InPlanOf, IsOutput}
 use Rattle.star_report.specs.declared.wanted.Output.{Output}
 use Rattle.star_bundle.specs.declared.error.ServeError.{ServeError}
@@ -15,11 +22,64 @@ input_limit = 268435456
 abbrev pub ReadsAll : Said → Said → List ℕ → Type 0
 ReadsAll old new input = GivesAll old new input × (length input ≤ input_limit)
 
+-- a read failed, and no more than the limit was read
+abbrev pub BreaksOff : Said → Said → Type 0
+BreaksOff old new = (input : List ℕ) × GaveFirst old new input × (length input ≤ input_limit)
+
+-- more than the limit was read
+abbrev pub Overruns : Said → Said → Type 0
+Overruns old new = (input : List ℕ) × Gives old new input × (input_limit < length input)
+
+-- what a job is asked for
+abbrev pub asked_in : Job → Asked
+asked_in job = asked_view job.asked.now
+
+-- the words of the roots
+abbrev pub root_words : Options → List (List ℕ)
+root_words options = map string_bytes options.roots.items
+
+-- the word of the prelude
+abbrev pub prelude_word : Options → Option (List ℕ)
+prelude_word options = option_map string_bytes options.prelude
+
+-- by the words of the options this is asked for of an input that was read up to its end, or it is refused so
+abbrev pub Asks : Said → Said → Options → Result Asked ServeError → Type 0
+Asks old new options given =
+    (input : List ℕ) × ReadsAll old new input × (asked_of (root_words options) (prelude_word options) input ≡ given)
+
+-- .. of these files
+abbrev pub AsksAmong : List File → Options → Result Asked ServeError → Type 0
+AsksAmong files options given = asked_among (root_words options) (prelude_word options) files ≡ given
+
+-- .. of the files of a folder, by a walk that came to its end
+abbrev pub AsksForDir : Contents → Options → Result Asked ServeError → Type 0
+AsksForDir held options given = (files : List File) × AreFilesOf held files × AsksAmong files options given
+
+-- the text and the answer are those of what is wanted of what is asked for
+abbrev pub IsOutputFor : Output → Asked → ℕ → List ℕ → Bool → Type 0
+IsOutputFor output asked steps text all_ok =
+    InPlanOf asked.files asked.roots asked.prelude steps (λ plan. IsOutput output asked.files plan text all_ok)
+
 -- Between old and new what is wanted of what is asked for was written, and nothing else, and so answered (`IsOutput`).
 abbrev pub Reports : Output → Asked → ℕ → Option (List ℕ) → Option (List ℕ) → Bool → Type 0
 Reports output asked steps old new all_ok =
-    (text : List ℕ) × Adds old new text
-    × InPlanOf asked.files asked.roots asked.prelude steps (λ plan. IsOutput output asked.files plan text all_ok)
+    (text : List ℕ) × Adds old new text × IsOutputFor output asked steps text all_ok
+
+-- Where no person is told and no write failed, between the two states of a writer nothing but the trace was written
+-- (`Traces`). `taken` says what a writer has taken, `failed` how many of its writes have failed.
+abbrev pub IsTraced : {E : Type 0} → (E → Option (List ℕ)) → (E → ℕ) → Options → Asked → Bool → E → E → Type 0
+IsTraced taken failed options asked all_ok old new =
+    options.explain ≡ None → failed new ≡ failed old
+    → Traces options.output asked options.steps all_ok options.trace (taken old) (taken new)
+
+-- By the options something was asked for, its report was written, and nothing else, and so answered; and to the other
+-- writer nothing but the trace, where no person is told and no write failed.
+abbrev pub IsServed : {W E : Type 0} → (W → Option (List ℕ)) → (E → Option (List ℕ)) → (E → ℕ) → Options
+    → (Options → Result Asked ServeError → Type 0) → W → W → E → E → Bool → Type 0
+IsServed taken traced failed options asks old new errors errors' all_ok =
+    (asked : Asked) × asks options (Ok asked)
+    × Reports options.output asked options.steps (taken old) (taken new) all_ok
+    × IsTraced traced failed options asked all_ok errors errors'
 
 -- what a refusal of a run or of its report says: nothing was written, but where the write failed
 abbrev pub IsRefusedRun : Type 0 → ServeError → Type 0
@@ -37,6 +97,11 @@ IsRefused answers within longer unwritten Memory = unwritten
 IsRefused answers within longer unwritten Unpublished = ((asked : Asked) × answers (Ok asked)) × unwritten
 IsRefused answers within longer unwritten Write = (asked : Asked) × answers (Ok asked)
 IsRefused answers within longer unwritten e = answers (Err e) × unwritten
+
+-- .. if an input is read
+abbrev pub IsRefusedInput : Said → Said → Options → Type 0 → ServeError → Type 0
+IsRefusedInput old new options unwritten e =
+    IsRefused (Asks old new options) (BreaksOff old new) (Overruns old new) unwritten e
 
 -- The meaning of a refusal if the files are those of a folder. `stopped e` says that the walk through it stopped so;
 -- `answers r` that the walk came to its end, and r is what was asked for of its files or the refusal of it; `unwritten`

@@ -1,13 +1,10 @@
 //! `serve_dir`: from the files of a folder to the report's bytes.
 
-ghost use Rattle.std.specs.Prelude.{false, ◌≡◌, ◌+◌, ◌≤◌, List, None, map, option_map, string_bytes, IfOk, IfErr, Ok};
-ghost use Rattle.star_label.specs.Files.{File};
-ghost use Rattle.star_bundle.specs.Bundle as bundle;
+ghost use Rattle.std.specs.Prelude.{false, ◌≡◌, ◌+◌, ◌≤◌, None, IfOk, IfErr};
 ghost use Rattle.star_bundle.specs.Refusal.{writes_failed};
 ghost use Rattle.star_folder.specs.Refusal.{IsStopped, files_failed, listings_failed};
-ghost use Rattle.star_folder.specs.Walk.{AreFilesOf};
-ghost use Rattle.star_serve.specs.Serve.{IsRefusedDir, Reports};
-ghost use Rattle.star_serve.specs.Trace.{Traces, is_said};
+ghost use Rattle.star_serve.specs.Serve.{AsksForDir, IsRefusedDir, IsServed};
+ghost use Rattle.star_serve.specs.Trace.{is_said};
 
 use crate::serve::{Options, reported};
 use crate::stream::Sink;
@@ -37,14 +34,8 @@ pub fn serve_dir<H: Threads + Wait + Sync, F: Folder, W: Sink, E: Sink>(
 
     // The walk came to its end, its files have each root and the prelude, and their report was written, and nothing
     // else; and to `errors` nothing but lines of loads that lie on cycles, unless a write to it failed.
-    ensures ok { IfOk result (λ all_ok. (files : List File) × AreFilesOf (F.holds folder.old) files
-        × (asked : bundle.Asked)
-        × (bundle.asked_among (map string_bytes options.now.roots.items) (option_map string_bytes options.now.prelude) files
-        ≡ Ok asked)
-        × Reports options.now.output asked options.now.steps (W.taken writer.old) (W.taken writer.new) all_ok
-        × (options.now.explain ≡ None → E.failed errors.new ≡ E.failed errors.old
-        → Traces options.now.output asked options.now.steps all_ok options.now.trace (E.taken errors.old)
-        (E.taken errors.new))) }
+    ensures ok { IfOk result (IsServed W.taken E.taken E.failed options.now (AsksForDir (F.holds folder.old))
+        writer.old writer.new errors.old errors.new) }
 
     // Where neither the trace is wanted nor a person told, and where there is no answer, nothing was written to
     // `errors`.
@@ -54,10 +45,7 @@ pub fn serve_dir<H: Threads + Wait + Sync, F: Folder, W: Sink, E: Sink>(
 
     // The walk stopped so, or what is asked for of its files is refused so, and nothing was written.
     ensures refused { IfErr result (IsRefusedDir (IsStopped (F.holds folder.old))
-        (λ given. (files : List File) × AreFilesOf (F.holds folder.old) files
-        × (bundle.asked_among (map string_bytes options.now.roots.items) (option_map string_bytes options.now.prelude) files
-        ≡ given))
-        (writer.new ≡ writer.old)) }
+        (AsksForDir (F.holds folder.old) options.now) (writer.new ≡ writer.old)) }
 
     // A listing, a read or a write failed just where the answer says so.
     ensures listings { F.failed_listings folder.new ≡ F.failed_listings folder.old + listings_failed result }

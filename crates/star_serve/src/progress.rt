@@ -4,7 +4,7 @@
 //! looks at these notes (`Progress`) ten times a second and writes the line. When no file runs any more, it clears the
 //! line, and only then the run goes on (`Progress::end`).
 
-ghost use Rattle.std.specs.Prelude.{◌≡◌, ◌≤◌, ◌∷◌, [], ℕ, All, IfOk, IfSome, List, false, option_map, string_bytes, take};
+ghost use Rattle.std.specs.Prelude.{◌≡◌, ◌≤◌, ◌∷◌, ℕ, IfOk, IfSome, List, false, option_map, string_bytes, take};
 ghost use Rattle.star_serve.specs.Progress as spec;
 ghost use Rattle.star_serve.specs.Stream.{Adds};
 
@@ -215,8 +215,7 @@ fn show_lines<R: Wait + Clock, E: Sink>(
 ) -> bool
     ensures grows { E.failed errors.old ≤ E.failed errors.new }
     ensures lines { E.failed errors.new ≡ E.failed errors.old
-        → (lines : List (List ℕ)) × All spec.IsLine lines × (result ≡ false → lines ≡ [])
-        × Adds (E.taken errors.old) (E.taken errors.new) (spec.joined lines) }
+        → spec.ShowsLines result (E.taken errors.old) (E.taken errors.new) }
 {
     progress.wait_for_files(rt);
     let mut pause = BEFORE;

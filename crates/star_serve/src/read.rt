@@ -1,9 +1,9 @@
 //! Reads a `Source` up to its end.
 
-ghost use Rattle.std.specs.Prelude.{◌≡◌, ℕ, ◌+◌, ◌<◌, ◌≤◌, ◌⊎◌, List, length, IfOk, IfErr};
-ghost use Rattle.star_serve.specs.Serve.{input_limit};
+ghost use Rattle.std.specs.Prelude.{◌≡◌, ◌+◌, ◌≤◌, ◌⊎◌, length, IfOk, IfErr};
+ghost use Rattle.star_serve.specs.Serve.{BreaksOff, Overruns, input_limit};
 ghost use Rattle.star_bundle.specs.Refusal.{reads_failed};
-ghost use Rattle.star_serve.specs.Stream.{GaveFirst, Gives, GivesAll};
+ghost use Rattle.star_serve.specs.Stream.{GivesAll};
 
 use crate::stream::Source;
 use star_bundle::error::ServeError;
@@ -22,10 +22,8 @@ const CHUNK: usize = 65_536;
 pub fn read_all<R: Source>(alloc: Global, reader: &mut R) -> Result<Vec<u8>, ServeError>
     ensures ok { IfOk result (λ bytes. GivesAll (R.said reader.old) (R.said reader.new) bytes.items) }
     ensures within { IfOk result (λ bytes. length bytes.items ≤ input_limit) }
-    ensures read { result ≡ Err ServeError.Read → (input : List ℕ)
-        × GaveFirst (R.said reader.old) (R.said reader.new) input × (length input ≤ input_limit) }
-    ensures too_big { result ≡ Err ServeError.TooBig → (input : List ℕ)
-        × Gives (R.said reader.old) (R.said reader.new) input × (input_limit < length input) }
+    ensures read { result ≡ Err ServeError.Read → BreaksOff (R.said reader.old) (R.said reader.new) }
+    ensures too_big { result ≡ Err ServeError.TooBig → Overruns (R.said reader.old) (R.said reader.new) }
     ensures kinds { IfErr result (λ e. (e ≡ ServeError.Read) ⊎ (e ≡ ServeError.TooBig) ⊎ (e ≡ ServeError.Memory)) }
     ensures counts { R.failed reader.new ≡ R.failed reader.old + reads_failed result }
 {

@@ -1,22 +1,22 @@
 //! `serve_repo`: from the files that roots reach in a folder to the report's bytes.
 
-ghost use Rattle.std.specs.Prelude.{false, ◌≡◌, ◌+◌, ◌≤◌, List, None, map, option_map, string_bytes, IfOk, IfErr, Ok};
-ghost use Rattle.star_label.specs.Files.{File};
-ghost use Rattle.star_bundle.specs.Bundle as bundle;
+ghost use Rattle.std.specs.Prelude.{false, ◌≡◌, ◌+◌, ◌≤◌, None, IfOk, IfErr};
+ghost use Rattle.star_bundle.specs.Bundle.{asked_among};
 ghost use Rattle.star_bundle.specs.Refusal.{writes_failed};
 ghost use Rattle.star_reading.specs.Parsed.{AreParsesOf};
-ghost use Rattle.star_repo.specs.Asked.{AreFilesFor, finds_failed};
-ghost use Rattle.star_serve.specs.Repo.{IsRefusedOf, IsRefusedRepo, repo_writes_failed};
-ghost use Rattle.star_serve.specs.Serve.{Reports};
-ghost use Rattle.star_serve.specs.Trace.{Traces, is_said};
+ghost use Rattle.star_repo.specs.Asked.{finds_failed};
+ghost use Rattle.star_serve.specs.Repo.{AsksForRepo, IsRefusedOf, IsRefusedRepo, repo_writes_failed};
+ghost use Rattle.star_serve.specs.Serve.{AsksAmong, IsServed, prelude_word, root_words};
+ghost use Rattle.star_serve.specs.Trace.{is_said};
 
-use crate::serve::{Options, reported_over};
+use crate::serve::{Job, Options, reported_over};
 use crate::stream::Sink;
 use star_bundle::bundle::asked_in;
 use star_bundle::error::ServeError;
 use star_host::Trees;
 use star_repo::asked::read_asked;
 use star_repo::error::RepoError;
+use star_repo::parse::Parsing;
 use star_repo::reach::Reached;
 use star_repo::repo::Repo;
 use std::alloc::Global;
@@ -37,18 +37,13 @@ fn reported_of<'t, H: Threads + Wait + Sync, W: Sink, E: Sink>(
     requires parsed { AreParsesOf reached.files reached.parses.items }
     requires loaders { (1 ≤ options.now.loaders) × (options.now.loaders ≤ 64) }
     requires steps { (1 ≤ options.now.steps) × (options.now.steps ≤ 100000000) }
-    ensures ok { IfOk result (λ all_ok. (asked : bundle.Asked)
-        × (bundle.asked_among (map string_bytes options.now.roots.items) (option_map string_bytes options.now.prelude)
-        reached.entry.files ≡ Ok asked)
-        × Reports options.now.output asked options.now.steps (W.taken writer.old) (W.taken writer.new) all_ok
-        × (options.now.explain ≡ None → E.failed errors.new ≡ E.failed errors.old
-        → Traces options.now.output asked options.now.steps all_ok options.now.trace (E.taken errors.old)
-        (E.taken errors.new))) }
+    ensures ok { IfOk result (IsServed W.taken E.taken E.failed options.now (AsksAmong reached.entry.files)
+        writer.old writer.new errors.old errors.new) }
     ensures untraced { IfOk result (λ all_ok. options.now.explain ≡ None → options.now.trace ≡ false
         → is_said options.now.output all_ok ≡ false → errors.new ≡ errors.old) }
     ensures unsaid { IfErr result (λ _. errors.new ≡ errors.old) }
-    ensures refused { IfErr result (IsRefusedOf (bundle.asked_among (map string_bytes options.now.roots.items)
-        (option_map string_bytes options.now.prelude) reached.entry.files) (writer.new ≡ writer.old)) }
+    ensures refused { let o = options.now in IfErr result (IsRefusedOf
+        (asked_among (root_words o) (prelude_word o) reached.entry.files) (writer.new ≡ writer.old)) }
     ensures writes { W.failed writer.new ≡ W.failed writer.old + writes_failed result }
 {
     let Reached { files, parses } = reached;
@@ -61,16 +56,12 @@ fn reported_of<'t, H: Threads + Wait + Sync, W: Sink, E: Sink>(
         Ok(asked) => asked,
         Err(error) => return Err(error),
     };
-    let outcome = reported_over(
-        rt,
-        alloc,
-        &asked,
+    let job = Job {
+        asked: &asked,
         trees,
-        parses.as_slice(),
-        writer,
-        errors,
-        options,
-    );
+        parses: parses.as_slice(),
+    };
+    let outcome = reported_over(rt, alloc, &job, writer, errors, options);
     // The process ends next, and the system takes back all of its memory at once.
     mem::forget(asked);
     mem::forget(parses);
@@ -97,16 +88,8 @@ pub fn serve_repo<H: Threads + Wait + Sync, F: Repo, W: Sink, E: Sink>(
     // The files are those that the roots and the prelude reach in some folder that fits what this one says; they have
     // each root and the prelude, and their report was written, and nothing else; and to `errors` nothing but lines of
     // loads that lie on cycles, unless a write to it failed.
-    ensures ok { IfOk result (λ all_ok. (files : List File)
-        × AreFilesFor (F.says folder.old) (map string_bytes options.now.roots.items)
-        (option_map string_bytes options.now.prelude) files
-        × (asked : bundle.Asked)
-        × (bundle.asked_among (map string_bytes options.now.roots.items) (option_map string_bytes options.now.prelude) files
-        ≡ Ok asked)
-        × Reports options.now.output asked options.now.steps (W.taken writer.old) (W.taken writer.new) all_ok
-        × (options.now.explain ≡ None → E.failed errors.new ≡ E.failed errors.old
-        → Traces options.now.output asked options.now.steps all_ok options.now.trace (E.taken errors.old)
-        (E.taken errors.new))) }
+    ensures ok { IfOk result (IsServed W.taken E.taken E.failed options.now (AsksForRepo (F.says folder.old))
+        writer.old writer.new errors.old errors.new) }
 
     // Where neither the trace is wanted nor a person told, and where there is no answer, nothing was written to
     // `errors`.
@@ -116,8 +99,8 @@ pub fn serve_repo<H: Threads + Wait + Sync, F: Repo, W: Sink, E: Sink>(
 
     // A word is no label, or a file is refused, or what is asked for of the files is refused so, and nothing was
     // written.
-    ensures refused { IfErr result (IsRefusedRepo (F.says folder.old) (map string_bytes options.now.roots.items)
-        (option_map string_bytes options.now.prelude) (writer.new ≡ writer.old)) }
+    ensures refused { IfErr result (IsRefusedRepo (F.says folder.old) (root_words options.now)
+        (prelude_word options.now) (writer.new ≡ writer.old)) }
 
     // A read or a write failed just where the answer says so.
     ensures reads { F.failed folder.new ≡ F.failed folder.old + finds_failed result }
@@ -131,15 +114,18 @@ pub fn serve_repo<H: Threads + Wait + Sync, F: Repo, W: Sink, E: Sink>(
             });
         }
     };
+    let parsing = Parsing {
+        trees: &trees.all,
+        known: None,
+        threads: options.loaders,
+    };
     let reached = match read_asked(
         rt,
         alloc,
         folder,
-        &trees.all,
-        None,
+        parsing,
         options.roots.as_slice(),
         options.prelude.as_ref(),
-        options.loaders,
     ) {
         Ok(reached) => reached,
         Err(error) => return Err(error),

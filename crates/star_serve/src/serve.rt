@@ -1,18 +1,16 @@
 //! `serve`: from the bundle's bytes to the report's bytes. `Options` has what the command line asks for.
 
-ghost use Rattle.std.specs.Prelude.{true, false, ◌≡◌, ◌+◌, ◌<◌, ◌≤◌, ◌⊎◌, ℕ, List, All, None, map, length, option_map, string_bytes, IfOk, IfErr, IfSome, Ok};
-ghost use Rattle.star_bundle.specs.Bundle as bundle;
+ghost use Rattle.std.specs.Prelude.{false, ◌≡◌, ◌+◌, ◌<◌, ◌≤◌, ◌⊎◌, ℕ, All, None, length, string_bytes, IfOk, IfErr, IfSome};
 ghost use Rattle.star_bundle.specs.View.{asked_view};
 ghost use Rattle.star_bundle.specs.Refusal.{reads_failed, writes_failed};
 ghost use Rattle.star_outcome.specs.GoodEnds.{AreGoodEndsOf, AreReachedEnds};
 ghost use Rattle.star_outcome.specs.Kept.{AreModulesOf};
 ghost use Rattle.star_outcome.specs.Refusals.{AreRefusalsOf};
 ghost use Rattle.star_reading.specs.Parsed.{AreParsesOf};
-ghost use Rattle.star_report.specs.Output.{InPlanOf, IsOutput, IsSaid};
+ghost use Rattle.star_report.specs.Output.{InPlanOf};
 ghost use Rattle.star_report.specs.declared.wanted.Output.TheVariants as output;
-ghost use Rattle.star_serve.specs.Serve.{IsRefused, IsRefusedRun, ReadsAll, Reports, input_limit};
-ghost use Rattle.star_serve.specs.Stream.{GaveFirst, Gives};
-ghost use Rattle.star_serve.specs.Trace.{Traces, is_said};
+ghost use Rattle.star_serve.specs.Serve.{Asks, IsOutputFor, IsRefusedInput, IsRefusedRun, IsServed, IsTraced, Reports, asked_in};
+ghost use Rattle.star_serve.specs.Trace.{IsSaidFor, is_said};
 
 pub use crate::progress::Progress;
 use crate::progress::Watched;
@@ -64,6 +62,17 @@ pub struct Options {
     pub progress: Option<Arc<Progress>>,
 }
 
+/// What is asked for, with the trees of its files.
+#[derive(Clone, Copy)]
+pub struct Job<'a, 't> {
+    /// What is asked for.
+    pub asked: &'a AskedFor,
+    /// Where the trees of the files are put.
+    pub trees: &'t Trees,
+    /// The results of parsing the texts that were parsed before, by the numbers of their files.
+    pub parses: &'a [Option<Parsed<'t>>],
+}
+
 /// A run, and what there is to write of it.
 #[derive(Drop)]
 struct Answer {
@@ -71,32 +80,29 @@ struct Answer {
     written: Written,
 }
 
-/// Reads the files that what is asked for reaches, runs none, and says what is told of them. The texts of some files were
-/// parsed before.
+/// Reads the files that what is asked for reaches, runs none, and says what is told of them.
 fn checked<'t, H: Threads + Wait + Sync>(
     rt: &H,
     alloc: Global,
-    asked: &AskedFor,
-    trees: &'t Trees,
-    parses: &[Option<Parsed<'t>>],
+    job: &Job<'_, 't>,
     reads: &mut Reads<'t>,
     only_roots: bool,
     threads: usize,
 ) -> Result<Checked, AllocError>
-    requires parses { AreParsesOf asked.now.files parses.now }
-    requires roots { All (λ n. n < length asked.now.files) asked.now.roots.items }
-    requires prelude { IfSome asked.now.prelude (λ n. n < length asked.now.files) }
-    ensures { IfOk result (λ c. (steps : ℕ) → InPlanOf asked.now.files asked.now.roots.items asked.now.prelude steps
-        (λ plan. IsOutput (output.Check only_roots) asked.now.files plan c.text.items c.all_ok)) }
+    requires parses { AreParsesOf job.now.asked.now.files job.now.parses.now }
+    requires roots { All (λ n. n < length job.now.asked.now.files) job.now.asked.now.roots.items }
+    requires prelude { IfSome job.now.asked.now.prelude (λ n. n < length job.now.asked.now.files) }
+    ensures { IfOk result (λ c. (steps : ℕ)
+        → IsOutputFor (output.Check only_roots) (asked_in job.now) steps c.text.items c.all_ok) }
 {
-    let files = &asked.files;
-    let roots = asked.roots.as_slice();
+    let files = &job.asked.files;
+    let roots = job.asked.roots.as_slice();
     let texts = Texts {
         files,
-        trees,
-        parses,
+        trees: job.trees,
+        parses: job.parses,
     };
-    let read = read_parsed(rt, alloc, texts, roots, asked.prelude, threads)?;
+    let read = read_parsed(rt, alloc, texts, roots, job.asked.prelude, threads)?;
     let it = check(alloc, files, &read, roots, only_roots)?;
     *reads = read;
     Ok(it)
@@ -106,30 +112,30 @@ fn checked<'t, H: Threads + Wait + Sync>(
 fn answered<'t, H: Threads + Wait + Sync>(
     rt: &H,
     alloc: Global,
-    asked: &AskedFor,
-    trees: &'t Trees,
-    parses: &[Option<Parsed<'t>>],
+    job: &Job<'_, 't>,
     ends: &[Option<GoodEnd>],
     reads: &mut Reads<'t>,
     options: &Options,
 ) -> Result<Answer, ServeError>
-    requires parses { AreParsesOf asked.now.files parses.now }
-    requires ends { AreGoodEndsOf asked.now.files asked.now.roots.items asked.now.prelude options.now.steps ends.now }
-    requires roots { All (λ n. n < length asked.now.files) asked.now.roots.items }
-    requires prelude { IfSome asked.now.prelude (λ n. n < length asked.now.files) }
+    requires parses { AreParsesOf job.now.asked.now.files job.now.parses.now }
+    requires ends { let a = job.now.asked.now in
+        AreGoodEndsOf a.files a.roots.items a.prelude options.now.steps ends.now }
+    requires roots { All (λ n. n < length job.now.asked.now.files) job.now.asked.now.roots.items }
+    requires prelude { IfSome job.now.asked.now.prelude (λ n. n < length job.now.asked.now.files) }
     requires loaders { (1 ≤ options.now.loaders) × (options.now.loaders ≤ 64) }
     requires steps { (1 ≤ options.now.steps) × (options.now.steps ≤ 100000000) }
     ensures kinds { IfErr result (λ e. (e ≡ ServeError.Memory) ⊎ (e ≡ ServeError.Unpublished)) }
-    ensures text { IfOk result (λ a. InPlanOf asked.now.files asked.now.roots.items asked.now.prelude options.now.steps
-        (λ plan. IsOutput options.now.output asked.now.files plan a.written.text.items a.written.all_ok)) }
-    ensures said { IfOk result (λ a. InPlanOf asked.now.files asked.now.roots.items asked.now.prelude options.now.steps
-        (λ plan. IsSaid options.now.output asked.now.files plan a.written.all_ok (string_bytes a.written.said))) }
-    ensures refused { IfOk result (λ a. AreRefusalsOf asked.now.files asked.now.roots.items asked.now.prelude
-        options.now.steps a.run.refused) }
-    ensures cells { IfOk result (λ a. length a.run.cells ≡ length asked.now.files) }
-    ensures modules { IfOk result (λ a. AreModulesOf asked.now.files asked.now.roots.items asked.now.prelude
-        options.now.steps a.run.kept) }
+    ensures text { let o = options.now in IfOk result (λ a.
+        IsOutputFor o.output (asked_in job.now) o.steps a.written.text.items a.written.all_ok) }
+    ensures said { let o = options.now in IfOk result (λ a.
+        IsSaidFor o.output (asked_in job.now) o.steps a.written.all_ok (string_bytes a.written.said)) }
+    ensures refused { let a = job.now.asked.now in IfOk result (λ answer.
+        AreRefusalsOf a.files a.roots.items a.prelude options.now.steps answer.run.refused) }
+    ensures cells { IfOk result (λ a. length a.run.cells ≡ length job.now.asked.now.files) }
+    ensures modules { let a = job.now.asked.now in IfOk result (λ answer.
+        AreModulesOf a.files a.roots.items a.prelude options.now.steps answer.run.kept) }
 {
+    let asked = job.asked;
     let files = &asked.files;
     let roots = asked.roots.as_slice();
     let loaders = options.loaders;
@@ -140,8 +146,8 @@ fn answered<'t, H: Threads + Wait + Sync>(
         progress: options.progress.as_ref(),
     };
     let known = Known {
-        trees,
-        parses,
+        trees: job.trees,
+        parses: job.parses,
         ends,
     };
     let run_options = RunOptions {
@@ -158,16 +164,8 @@ fn answered<'t, H: Threads + Wait + Sync>(
         Err(RunError::Memory) => return Err(ServeError::Memory),
         Err(RunError::Unpublished) => return Err(ServeError::Unpublished),
     };
-    let written = written_of(
-        rt,
-        alloc,
-        files,
-        reads,
-        &mut run,
-        roots,
-        &options.output,
-        loaders,
-    )?;
+    let output = &options.output;
+    let written = written_of(rt, alloc, asked, reads, &mut run, output, loaders)?;
     Ok(Answer { run, written })
 }
 
@@ -175,24 +173,19 @@ fn answered<'t, H: Threads + Wait + Sync>(
 fn check_over<'t, H: Threads + Wait + Sync>(
     rt: &H,
     alloc: Global,
-    asked: &AskedFor,
-    trees: &'t Trees,
-    parses: &[Option<Parsed<'t>>],
+    job: &Job<'_, 't>,
     options: &Options,
     only_roots: bool,
 ) -> Result<Written, ServeError>
-    requires parses { AreParsesOf asked.now.files parses.now }
-    requires roots { All (λ n. n < length asked.now.files) asked.now.roots.items }
-    requires prelude { IfSome asked.now.prelude (λ n. n < length asked.now.files) }
+    requires parses { AreParsesOf job.now.asked.now.files job.now.parses.now }
+    requires roots { All (λ n. n < length job.now.asked.now.files) job.now.asked.now.roots.items }
+    requires prelude { IfSome job.now.asked.now.prelude (λ n. n < length job.now.asked.now.files) }
     ensures kinds { IfErr result (λ e. (e ≡ ServeError.Memory) ⊎ (e ≡ ServeError.Unpublished)) }
-    ensures text { IfOk result (λ w. InPlanOf asked.now.files asked.now.roots.items asked.now.prelude options.now.steps
-        (λ plan. IsOutput (output.Check only_roots) asked.now.files plan w.text.items w.all_ok)) }
+    ensures text { IfOk result (λ w.
+        IsOutputFor (output.Check only_roots) (asked_in job.now) options.now.steps w.text.items w.all_ok) }
 {
     let mut reads = Reads::new(alloc);
-    let loaders = options.loaders;
-    match checked(
-        rt, alloc, asked, trees, parses, &mut reads, only_roots, loaders,
-    ) {
+    match checked(rt, alloc, job, &mut reads, only_roots, options.loaders) {
         Ok(it) => {
             let Checked { text, all_ok, .. } = it;
             let said = String::new(alloc);
@@ -223,31 +216,30 @@ fn read_numbers(alloc: Global, reads: &Reads) -> Result<Vec<usize>, AllocError> 
 }
 
 /// Runs what is asked for, frees the run, and answers what there is to write of it, with its good ends; for a check
-/// nothing is run. The texts of some files were parsed before, and a file whose good end is among `ends` is not run.
-/// `Memory`, or `Unpublished` where a module was not published.
+/// nothing is run. A file whose good end is among `ends` is not run. `Memory`, or `Unpublished` where a module was not
+/// published.
 pub fn written_over<'t, H: Threads + Wait + Sync>(
     rt: &H,
     alloc: Global,
-    asked: &AskedFor,
-    trees: &'t Trees,
-    parses: &[Option<Parsed<'t>>],
+    job: &Job<'_, 't>,
     ends: &[Option<GoodEnd>],
     options: &Options,
 ) -> Result<Finished, ServeError>
-    requires parses { AreParsesOf asked.now.files parses.now }
-    requires ends { AreGoodEndsOf asked.now.files asked.now.roots.items asked.now.prelude options.now.steps ends.now }
-    requires roots { All (λ n. n < length asked.now.files) asked.now.roots.items }
-    requires prelude { IfSome asked.now.prelude (λ n. n < length asked.now.files) }
+    requires parses { AreParsesOf job.now.asked.now.files job.now.parses.now }
+    requires ends { let a = job.now.asked.now in
+        AreGoodEndsOf a.files a.roots.items a.prelude options.now.steps ends.now }
+    requires roots { All (λ n. n < length job.now.asked.now.files) job.now.asked.now.roots.items }
+    requires prelude { IfSome job.now.asked.now.prelude (λ n. n < length job.now.asked.now.files) }
     requires loaders { (1 ≤ options.now.loaders) × (options.now.loaders ≤ 64) }
     requires steps { (1 ≤ options.now.steps) × (options.now.steps ≤ 100000000) }
     ensures kinds { IfErr result (λ e. (e ≡ ServeError.Memory) ⊎ (e ≡ ServeError.Unpublished)) }
-    ensures text { IfOk result (λ f. InPlanOf asked.now.files asked.now.roots.items asked.now.prelude options.now.steps
-        (λ plan. IsOutput options.now.output asked.now.files plan f.written.text.items f.written.all_ok)) }
-    ensures ends { IfOk result (λ f. InPlanOf asked.now.files asked.now.roots.items asked.now.prelude options.now.steps
-        (λ plan. AreReachedEnds plan f.ends.items)) }
+    ensures text { let o = options.now in IfOk result (λ f.
+        IsOutputFor o.output (asked_in job.now) o.steps f.written.text.items f.written.all_ok) }
+    ensures ends { let a = job.now.asked.now in IfOk result (λ f.
+        InPlanOf a.files a.roots.items a.prelude options.now.steps (λ p. AreReachedEnds p f.ends.items)) }
 {
     if let Output::Check { only_roots } = options.output {
-        let written = check_over(rt, alloc, asked, trees, parses, options, only_roots)?;
+        let written = check_over(rt, alloc, job, options, only_roots)?;
         return Ok(Finished {
             written,
             ends: Vec::new(alloc),
@@ -255,14 +247,12 @@ pub fn written_over<'t, H: Threads + Wait + Sync>(
         });
     }
     let mut reads = Reads::new(alloc);
-    let Answer { run, written } = match answered(
-        rt, alloc, asked, trees, parses, ends, &mut reads, options,
-    ) {
+    let Answer { run, written } = match answered(rt, alloc, job, ends, &mut reads, options) {
         Ok(answer) => answer,
         Err(error) => return Err(error),
     };
     let mut run = run;
-    let ends = run.good_ends(alloc, asked.files.len())?;
+    let ends = run.good_ends(alloc, job.asked.files.len())?;
     let reached = read_numbers(alloc, &reads)?;
     Ok(Finished {
         written,
@@ -313,82 +303,64 @@ fn write_judged<E: Sink>(
 }
 
 /// Writes what is told of the files that are reached, and to `errors` what a person is told, where that is wanted. None is
-/// run. It answers whether there is nothing against any. The texts of some files were parsed before.
+/// run. It answers whether there is nothing against any.
 fn checked_over<'t, H: Threads + Wait + Sync, W: Sink, E: Sink>(
     rt: &H,
     alloc: Global,
-    asked: &AskedFor,
-    trees: &'t Trees,
-    parses: &[Option<Parsed<'t>>],
+    job: &Job<'_, 't>,
     writer: &mut W,
     errors: &mut E,
     options: &Options,
     only_roots: bool,
 ) -> Result<bool, ServeError>
-    requires parses { AreParsesOf asked.now.files parses.now }
-    requires roots { All (λ n. n < length asked.now.files) asked.now.roots.items }
-    requires prelude { IfSome asked.now.prelude (λ n. n < length asked.now.files) }
-    ensures ok { IfOk result (Reports (output.Check only_roots) (asked_view asked.now) options.now.steps
+    requires parses { AreParsesOf job.now.asked.now.files job.now.parses.now }
+    requires roots { All (λ n. n < length job.now.asked.now.files) job.now.asked.now.roots.items }
+    requires prelude { IfSome job.now.asked.now.prelude (λ n. n < length job.now.asked.now.files) }
+    ensures ok { IfOk result (Reports (output.Check only_roots) (asked_in job.now) options.now.steps
         (W.taken writer.old) (W.taken writer.new)) }
-    ensures traced { IfOk result (λ all_ok. options.now.explain ≡ None
-        → Traces (output.Check only_roots) (asked_view asked.now) options.now.steps all_ok options.now.trace
-        (E.taken errors.old) (E.taken errors.new)) }
     ensures untold { IfOk result (λ _. options.now.explain ≡ None → errors.new ≡ errors.old) }
     ensures refused { IfErr result (IsRefusedRun (writer.new ≡ writer.old)) }
     ensures unsaid { IfErr result (λ _. errors.new ≡ errors.old) }
     ensures writes { W.failed writer.new ≡ W.failed writer.old + writes_failed result }
 {
     let mut reads = Reads::new(alloc);
-    let loaders = options.loaders;
     let Checked {
         judged,
         text,
         all_ok,
-    } = match checked(
-        rt, alloc, asked, trees, parses, &mut reads, only_roots, loaders,
-    ) {
+    } = match checked(rt, alloc, job, &mut reads, only_roots, options.loaders) {
         Ok(it) => it,
         Err(_) => return Err(ServeError::Memory),
     };
     if write_some(writer, text.as_slice()).is_err() {
         return Err(ServeError::Write);
     }
-    write_judged(
-        alloc,
-        errors,
-        asked,
-        &reads,
-        judged.as_slice(),
-        options.explain,
-    );
+    let judged = judged.as_slice();
+    write_judged(alloc, errors, job.asked, &reads, judged, options.explain);
     // The process ends next, and the system takes back all of its memory at once.
     mem::forget(reads);
     Ok(all_ok)
 }
 
 /// Runs what is asked for and writes the report, and to `errors` the trace and what a person is told, where these are
-/// wanted. It answers whether every module of the report is ok. The texts of some files were parsed before. For a
-/// check nothing is run.
+/// wanted. It answers whether every module of the report is ok. For a check nothing is run.
 pub(crate) fn reported_over<'t, H: Threads + Wait + Sync, W: Sink, E: Sink>(
     rt: &H,
     alloc: Global,
-    asked: &AskedFor,
-    trees: &'t Trees,
-    parses: &[Option<Parsed<'t>>],
+    job: &Job<'_, 't>,
     writer: &mut W,
     errors: &mut E,
     options: &Options,
 ) -> Result<bool, ServeError>
-    requires parses { AreParsesOf asked.now.files parses.now }
-    requires roots { All (λ n. n < length asked.now.files) asked.now.roots.items }
-    requires prelude { IfSome asked.now.prelude (λ n. n < length asked.now.files) }
+    requires parses { AreParsesOf job.now.asked.now.files job.now.parses.now }
+    requires roots { All (λ n. n < length job.now.asked.now.files) job.now.asked.now.roots.items }
+    requires prelude { IfSome job.now.asked.now.prelude (λ n. n < length job.now.asked.now.files) }
     requires loaders { (1 ≤ options.now.loaders) × (options.now.loaders ≤ 64) }
     requires steps { (1 ≤ options.now.steps) × (options.now.steps ≤ 100000000) }
-    ensures ok { IfOk result (Reports options.now.output (asked_view asked.now) options.now.steps (W.taken writer.old)
+    ensures ok { IfOk result (Reports options.now.output (asked_in job.now) options.now.steps (W.taken writer.old)
         (W.taken writer.new)) }
-    ensures traced { IfOk result (λ all_ok. options.now.explain ≡ None → E.failed errors.new ≡ E.failed errors.old
-        → Traces options.now.output (asked_view asked.now) options.now.steps all_ok options.now.trace
-        (E.taken errors.old) (E.taken errors.new)) }
+    ensures traced { IfOk result (λ all_ok.
+        IsTraced E.taken E.failed options.now (asked_in job.now) all_ok errors.old errors.new) }
     ensures untraced { IfOk result (λ all_ok. options.now.explain ≡ None → options.now.trace ≡ false
         → is_said options.now.output all_ok ≡ false → errors.new ≡ errors.old) }
     ensures refused { IfErr result (IsRefusedRun (writer.new ≡ writer.old)) }
@@ -396,21 +368,11 @@ pub(crate) fn reported_over<'t, H: Threads + Wait + Sync, W: Sink, E: Sink>(
     ensures writes { W.failed writer.new ≡ W.failed writer.old + writes_failed result }
 {
     if let Output::Check { only_roots } = options.output {
-        return checked_over(
-            rt, alloc, asked, trees, parses, writer, errors, options, only_roots,
-        );
+        return checked_over(rt, alloc, job, writer, errors, options, only_roots);
     }
+    let asked = job.asked;
     let mut reads = Reads::new(alloc);
-    let Answer { run, written } = match answered(
-        rt,
-        alloc,
-        asked,
-        trees,
-        parses,
-        &[],
-        &mut reads,
-        options,
-    ) {
+    let Answer { run, written } = match answered(rt, alloc, job, &[], &mut reads, options) {
         Ok(answer) => answer,
         Err(error) => return Err(error),
     };
@@ -450,9 +412,8 @@ pub(crate) fn reported<H: Threads + Wait + Sync, W: Sink, E: Sink>(
     requires steps { (1 ≤ options.now.steps) × (options.now.steps ≤ 100000000) }
     ensures ok { IfOk result (Reports options.now.output (asked_view asked.now) options.now.steps (W.taken writer.old)
         (W.taken writer.new)) }
-    ensures traced { IfOk result (λ all_ok. options.now.explain ≡ None → E.failed errors.new ≡ E.failed errors.old
-        → Traces options.now.output (asked_view asked.now) options.now.steps all_ok options.now.trace
-        (E.taken errors.old) (E.taken errors.new)) }
+    ensures traced { IfOk result (λ all_ok.
+        IsTraced E.taken E.failed options.now (asked_view asked.now) all_ok errors.old errors.new) }
     ensures untraced { IfOk result (λ all_ok. options.now.explain ≡ None → options.now.trace ≡ false
         → is_said options.now.output all_ok ≡ false → errors.new ≡ errors.old) }
     ensures refused { IfErr result (IsRefusedRun (writer.new ≡ writer.old)) }
@@ -461,16 +422,12 @@ pub(crate) fn reported<H: Threads + Wait + Sync, W: Sink, E: Sink>(
 {
     let trees = Trees::new(alloc)?;
     let parses = Vec::new(alloc);
-    let outcome = reported_over(
-        rt,
-        alloc,
+    let job = Job {
         asked,
-        &trees,
-        parses.as_slice(),
-        writer,
-        errors,
-        options,
-    );
+        trees: &trees,
+        parses: parses.as_slice(),
+    };
+    let outcome = reported_over(rt, alloc, &job, writer, errors, options);
     // The process ends next, and the system takes back all of its memory at once.
     mem::forget(trees);
     outcome
@@ -493,15 +450,8 @@ pub fn serve<H: Threads + Wait + Sync, R: Source, W: Sink, E: Sink>(
 
     // All was read, it is a bundle that has each root and the prelude, and its report was written, and nothing else;
     // and to `errors` nothing but lines of loads that lie on cycles, unless a write to it failed.
-    ensures ok { IfOk result (λ all_ok. (input : List ℕ)
-        × ReadsAll (R.said reader.old) (R.said reader.new) input
-        × (asked : bundle.Asked)
-        × (bundle.asked_of (map string_bytes options.now.roots.items) (option_map string_bytes options.now.prelude) input
-        ≡ Ok asked)
-        × Reports options.now.output asked options.now.steps (W.taken writer.old) (W.taken writer.new) all_ok
-        × (options.now.explain ≡ None → E.failed errors.new ≡ E.failed errors.old
-        → Traces options.now.output asked options.now.steps all_ok options.now.trace (E.taken errors.old)
-        (E.taken errors.new))) }
+    ensures ok { IfOk result (IsServed W.taken E.taken E.failed options.now
+        (Asks (R.said reader.old) (R.said reader.new)) writer.old writer.new errors.old errors.new) }
 
     // Where neither the trace is wanted nor a person told, and where there is no answer, nothing was written to
     // `errors`.
@@ -510,16 +460,8 @@ pub fn serve<H: Threads + Wait + Sync, R: Source, W: Sink, E: Sink>(
     ensures unsaid { IfErr result (λ _. errors.new ≡ errors.old) }
 
     // The input is refused so, and nothing was written.
-    ensures refused { IfErr result (IsRefused
-        (λ given. (input : List ℕ)
-        × ReadsAll (R.said reader.old) (R.said reader.new) input
-        × (bundle.asked_of (map string_bytes options.now.roots.items) (option_map string_bytes options.now.prelude) input
-        ≡ given))
-        ((input : List ℕ) × GaveFirst (R.said reader.old) (R.said reader.new) input
-        × (length input ≤ input_limit))
-        ((input : List ℕ) × Gives (R.said reader.old) (R.said reader.new) input
-        × (input_limit < length input))
-        (writer.new ≡ writer.old)) }
+    ensures refused { IfErr result
+        (IsRefusedInput (R.said reader.old) (R.said reader.new) options.now (writer.new ≡ writer.old)) }
 
     // A read or a write failed just where the answer says so.
     ensures reads { R.failed reader.new ≡ R.failed reader.old + reads_failed result }

@@ -1,16 +1,16 @@
 //! The trace: a line for each refused load.
 
-ghost use Rattle.std.specs.Prelude.{◌≡◌, ◌+◌, ◌++◌, ◌<◌, [], ℕ, All, IfOk, OnOk, false, is_err, length, string_bytes, take, if◌then◌else◌};
+ghost use Rattle.std.specs.Prelude.{◌≡◌, ◌+◌, ◌<◌, [], All, IfOk, OnOk, false, is_err, length, string_bytes, if◌then◌else◌};
 ghost use Rattle.star_serve.specs.Stream.{Adds};
 ghost use Rattle.star_serve.specs.Trace as spec;
 
 use crate::stream::{Failed, Sink};
-use star_host::Refused;
+use star_host::CyclicLoad;
 use star_label::files::Files;
 use std::alloc::{AllocError, Global};
 
 /// The line of a refused load, with its line end.
-fn trace_line(alloc: Global, files: &Files, refused: &Refused) -> Result<String, AllocError>
+fn trace_line(alloc: Global, files: &Files, refused: &CyclicLoad) -> Result<String, AllocError>
     requires file { refused.now.file < length files.now }
     requires loaded { refused.now.loaded < length files.now }
     ensures { IfOk result (λ s. string_bytes s ≡ spec.trace_line files.now refused.now) }
@@ -21,11 +21,10 @@ fn trace_line(alloc: Global, files: &Files, refused: &Refused) -> Result<String,
 }
 
 /// Writes the line of each refused load, in order, up to the first that gets no memory or cannot be written.
-fn write_trace<W: Sink>(alloc: Global, writer: &mut W, files: &Files, refused: &[Refused])
+fn write_trace<W: Sink>(alloc: Global, writer: &mut W, files: &Files, refused: &[CyclicLoad])
     requires { All (λ r. (r.file < length files.now) × (r.loaded < length files.now)) refused.now }
     ensures { W.failed writer.new ≡ W.failed writer.old
-        → (count : ℕ) × Adds (W.taken writer.old) (W.taken writer.new)
-        (spec.trace_text files.now (take count refused.now)) }
+        → spec.TracesFirst files.now refused.now (W.taken writer.old) (W.taken writer.new) }
 {
     for i in 0..refused.len() {
         let Ok(line) = trace_line(alloc, files, &refused[i]) else {
@@ -56,13 +55,12 @@ pub(crate) fn say<W: Sink>(
     writer: &mut W,
     files: &Files,
     said: &str,
-    refused: &[Refused],
+    refused: &[CyclicLoad],
     trace: bool,
 )
     requires { All (λ r. (r.file < length files.now) × (r.loaded < length files.now)) refused.now }
     ensures says { W.failed writer.new ≡ W.failed writer.old
-        → (count : ℕ) × (trace ≡ false → count ≡ 0) × Adds (W.taken writer.old) (W.taken writer.new)
-        (said.now ++ spec.trace_text files.now (take count refused.now)) }
+        → spec.SaysFirst files.now said.now refused.now trace (W.taken writer.old) (W.taken writer.new) }
     ensures none { said.now ≡ [] → trace ≡ false → writer.new ≡ writer.old }
 {
     if write_some(writer, said.as_bytes()).is_err() {

@@ -7,16 +7,17 @@ ghost use Rattle.star_plan.specs.Plan.{Plan};
 ghost use Rattle.star_reading.specs.Readings.{Row};
 ghost use Rattle.star_report.specs.Drawn.{LeadWithin};
 ghost use Rattle.star_report.specs.Got as spec;
-ghost use Rattle.star_report.specs.Output.{IsOutput, IsSaid};
+ghost use Rattle.star_report.specs.Output.{IsSaid};
 ghost use Rattle.star_report.specs.declared.wanted.Output.TheVariants as output;
-ghost use Rattle.star_serve.specs.Written.{IsRunOf};
+ghost use Rattle.star_serve.specs.Written.{IsLineOf, IsTextOf};
 
+use star_bundle::bundle::AskedFor;
 use star_check::check::{Checked, check};
 use star_host::{Reads, Run};
 use star_label::files::Files;
 use star_report::got::{Got, Lack, globals_of};
 use star_report::graph::graph;
-use star_report::report::{all_good, report};
+use star_report::report::{ReportOptions, all_good, report};
 use star_report::wanted::{Output, Wanted};
 use std::alloc::{AllocError, Global};
 use std::thread::Threads;
@@ -49,23 +50,25 @@ fn with_answer(alloc: Global, run: &mut Run, text: Vec<u8>) -> Written
 fn report_written<R: Threads + Sync>(
     rt: &R,
     alloc: Global,
-    files: &Files,
+    asked: &AskedFor,
     reads: &Reads,
     run: &mut Run,
-    roots: &[usize],
     wanted: Wanted,
     threads: usize,
 ) -> Result<Written, AllocError>
-    requires files { length run.old.cells ≡ length files.now }
-    requires reads { length reads.now.all.items ≡ length files.now }
+    requires files { length run.old.cells ≡ length asked.now.files }
+    requires reads { length reads.now.all.items ≡ length asked.now.files }
     requires loads { LeadWithin reads.now.all.items }
     ensures same { run.new ≡ run.old }
-    ensures text { IfOk result (λ w. (plan : Plan) → IsRunOf files.now roots.now reads.now.all.items run.old plan
-        → IsOutput (output.Report wanted) files.now plan w.text.items w.all_ok) }
+    ensures text { let a = asked.now in IfOk result (λ w.
+        IsTextOf (output.Report wanted) a.files a.roots.items reads.now.all.items run.old w.text.items w.all_ok) }
     ensures said { IfOk result (λ w. (plan : Plan)
-        → IsSaid (output.Report wanted) files.now plan w.all_ok (string_bytes w.said)) }
+        → IsSaid (output.Report wanted) asked.now.files plan w.all_ok (string_bytes w.said)) }
 {
-    let text = report(rt, alloc, files, reads, run, roots, wanted, threads)?;
+    let files = &asked.files;
+    let roots = asked.roots.as_slice();
+    let options = ReportOptions { wanted, threads };
+    let text = report(rt, alloc, files, reads, run, roots, options)?;
     Ok(with_answer(alloc, run, text))
 }
 
@@ -80,9 +83,8 @@ fn graph_written(
     requires reads { length reads.now.all.items ≡ length files.now }
     requires loads { LeadWithin reads.now.all.items }
     ensures same { run.new ≡ run.old }
-    ensures text { IfOk result (λ w. (roots : List ℕ) (plan : Plan)
-        → IsRunOf files.now roots reads.now.all.items run.old plan
-        → IsOutput output.Graph files.now plan w.text.items w.all_ok) }
+    ensures text { IfOk result (λ w. (roots : List ℕ)
+        → IsTextOf output.Graph files.now roots reads.now.all.items run.old w.text.items w.all_ok) }
     ensures said { IfOk result (λ w. (plan : Plan)
         → IsSaid output.Graph files.now plan w.all_ok (string_bytes w.said)) }
 {
@@ -111,10 +113,10 @@ fn globals_written(
     requires files { length run.old.cells ≡ length files.now }
     requires roots { All (λ n. n < length files.now) roots.now }
     ensures same { run.new ≡ run.old }
-    ensures text { IfOk result (λ w. (row : Row) (plan : Plan) → IsRunOf files.now roots.now row run.old plan
-        → IsOutput (output.Global name.now) files.now plan w.text.items w.all_ok) }
-    ensures said { IfOk result (λ w. (row : Row) (plan : Plan) → IsRunOf files.now roots.now row run.old plan
-        → IsSaid (output.Global name.now) files.now plan w.all_ok (string_bytes w.said)) }
+    ensures text { IfOk result (λ w. (row : Row)
+        → IsTextOf (output.Global name.now) files.now roots.now row run.old w.text.items w.all_ok) }
+    ensures said { IfOk result (λ w. (row : Row)
+        → IsLineOf (output.Global name.now) files.now roots.now row run.old w.all_ok (string_bytes w.said)) }
 {
     match globals_of(alloc, files, run, roots, name.as_str())? {
         Got::Lines(text) => Ok(Written {
@@ -140,9 +142,8 @@ fn check_written(
 ) -> Result<Written, AllocError>
     requires reads { length reads.now.all.items ≡ length files.now }
     requires loads { LeadWithin reads.now.all.items }
-    ensures text { IfOk result (λ w. (run : RunView) (plan : Plan)
-        → IsRunOf files.now roots.now reads.now.all.items run plan
-        → IsOutput (output.Check only_roots) files.now plan w.text.items w.all_ok) }
+    ensures text { IfOk result (λ w. (run : RunView)
+        → IsTextOf (output.Check only_roots) files.now roots.now reads.now.all.items run w.text.items w.all_ok) }
     ensures said { IfOk result (λ w. (plan : Plan)
         → IsSaid (output.Check only_roots) files.now plan w.all_ok (string_bytes w.said)) }
 {
@@ -158,27 +159,26 @@ fn check_written(
 pub(crate) fn written_of<R: Threads + Sync>(
     rt: &R,
     alloc: Global,
-    files: &Files,
+    asked: &AskedFor,
     reads: &Reads,
     run: &mut Run,
-    roots: &[usize],
     output: &Output,
     threads: usize,
 ) -> Result<Written, AllocError>
-    requires files { length run.old.cells ≡ length files.now }
-    requires reads { length reads.now.all.items ≡ length files.now }
+    requires files { length run.old.cells ≡ length asked.now.files }
+    requires reads { length reads.now.all.items ≡ length asked.now.files }
     requires loads { LeadWithin reads.now.all.items }
-    requires roots { All (λ n. n < length files.now) roots.now }
+    requires roots { All (λ n. n < length asked.now.files) asked.now.roots.items }
     ensures same { run.new ≡ run.old }
-    ensures text { IfOk result (λ w. (plan : Plan) → IsRunOf files.now roots.now reads.now.all.items run.old plan
-        → IsOutput output.now files.now plan w.text.items w.all_ok) }
-    ensures said { IfOk result (λ w. (plan : Plan) → IsRunOf files.now roots.now reads.now.all.items run.old plan
-        → IsSaid output.now files.now plan w.all_ok (string_bytes w.said)) }
+    ensures text { let a = asked.now in IfOk result (λ w.
+        IsTextOf output.now a.files a.roots.items reads.now.all.items run.old w.text.items w.all_ok) }
+    ensures said { let a = asked.now in IfOk result (λ w.
+        IsLineOf output.now a.files a.roots.items reads.now.all.items run.old w.all_ok (string_bytes w.said)) }
 {
+    let files = &asked.files;
+    let roots = asked.roots.as_slice();
     match output {
-        Output::Report(wanted) => {
-            report_written(rt, alloc, files, reads, run, roots, *wanted, threads)
-        }
+        Output::Report(wanted) => report_written(rt, alloc, asked, reads, run, *wanted, threads),
         Output::Global(name) => globals_written(alloc, files, run, roots, name),
         Output::Graph => graph_written(alloc, files, reads, run),
         Output::Check { only_roots } => check_written(alloc, files, reads, roots, *only_roots),

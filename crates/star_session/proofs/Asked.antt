@@ -121,7 +121,7 @@ pub nothing_left : {A : Type 0} (es : List A) → (0 < length es → false ≡ t
 nothing_left [] h = refl
 nothing_left (e ∷ es) h = let wrong : false ≡ true = h (omega arith) in cc
 
--- what `label_in` answers of a text
+-- what `normal_label` answers of a text
 pub label_is : (t : List ℕ) (o : Option Label) (l : Label) → option_map text_of o ≡ if_label t → o ≡ Some l → (is_label t ≡ true) × (text_of l ≡ t)
 label_is t o l h e = from (is_label t) refl
   where

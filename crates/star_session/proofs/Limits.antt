@@ -7,7 +7,7 @@ use Rattle.star_label.specs.declared.error.LabelError.{LabelError}
 use Rattle.star_bundle.specs.Bundle.{Asked, asked_among, prelude_of, roots_of, within_limits, ◌>>=◌}
 use Rattle.star_bundle.specs.Refusal.{Fails}
 use Rattle.star_bundle.specs.declared.error.ServeError.{ServeError}
-use Rattle.star_bundle.specs.declared.error.ServeError.TheVariants.{BadBundle, BadDir, BadFile, BadKey, BadPrelude, BadRoot, Memory, NoPrelude, NoRoot, NotText, Read, TooBig, TooLong, TooMany, Unpublished, Write}
+use Rattle.star_bundle.specs.declared.error.ServeError.TheVariants.{Memory}
 use Rattle.star_report.specs.Output.{InPlanOf, IsOutput}
 use Rattle.star_report.specs.declared.wanted.Output.TheVariants.{Report}
 use Rattle.star_session.specs.Answers.{IsRefusalOf, IsReportOf, asked_after, asks_among}
@@ -26,22 +26,8 @@ pub words_of : (o : Option (Bor (String Global))) (p : Option (String Global)) �
 words_of o p e = sym (same_words o) ∙ ap (option_map string_bytes) e
 
 fails_or_memory : {Y : Type 0} (e : ServeError) (given : Result Y ServeError) → Fails e given → (given ≡ Err e) ⊎ (e ≡ Memory)
-fails_or_memory Read given h = inl h
-fails_or_memory TooBig given h = inl h
-fails_or_memory BadDir given h = inl h
-fails_or_memory BadFile given h = inl h
-fails_or_memory NotText given h = inl h
-fails_or_memory BadBundle given h = inl h
-fails_or_memory BadKey given h = inl h
-fails_or_memory TooMany given h = inl h
-fails_or_memory TooLong given h = inl h
-fails_or_memory BadRoot given h = inl h
-fails_or_memory NoRoot given h = inl h
-fails_or_memory BadPrelude given h = inl h
-fails_or_memory NoPrelude given h = inl h
 fails_or_memory Memory given h = inr refl
-fails_or_memory Write given h = inl h
-fails_or_memory Unpublished given h = inl h
+fails_or_memory e given h = inl h
 
 -- the limits of the files
 abbrev limited : List File → Asking → Result (List File) ServeError

@@ -9,8 +9,11 @@ use Rattle.star_bundle.specs.declared.error.ServeError.TheVariants.{Memory, Unpu
 use Rattle.star_label.specs.Files.{File, limit_passed}
 use Rattle.star_report.specs.Output.{InPlanOf, IsOutput}
 use Rattle.star_report.specs.declared.wanted.Output.TheVariants.{Report}
+use Rattle.star_report.specs.declared.wanted.Wanted.{Wanted}
 use Rattle.star_session.specs.Changes.{files_after}
-use Rattle.star_session.specs.Requests.{Asking, IsIdText, asking_of, id_of}
+use Rattle.star_session.specs.Lines.{IsPiece}
+use Rattle.star_session.specs.Requests.{Asking, IsIdText, asking_in, asking_of, id_in, id_of, value_of}
+use Rattle.star_session.specs.declared.lines.Line.{Line}
 use Rattle.star_session.specs.declared.request.Defaults.{Defaults}
 
 -- the line of an answer: the id of its request, and a member with this JSON
@@ -28,6 +31,11 @@ asks_among files a = within_limits files (limit_passed files) >>= λ fs. asked_a
 -- .. of the files after the changes
 abbrev pub asked_after : List File → Asking → Result Asked ServeError
 asked_after before a = asks_among (files_after before a.changes) a
+
+-- this is the text of the report of what is asked for, with what is wanted more, but for its line end
+abbrev pub IsReportText : Wanted → Asked → ℕ → List ℕ → Type 0
+IsReportText wanted asked steps report = (ok : Bool) × InPlanOf asked.files asked.roots asked.prelude steps
+    (λ plan. IsOutput (Report wanted) asked.files plan (report ++ 10 ∷ []) ok)
 
 -- This is exactly a report of these files for the roots, the prelude, the steps and what is wanted: its text but for its
 -- line end.
@@ -84,3 +92,19 @@ AreAnswered answering before [] after (x ∷ xs) = ⊥
 AreAnswered answering before (l ∷ ls) after [] = ⊥
 AreAnswered answering before (l ∷ ls) after (x ∷ xs) =
     (between : List File) × answering before l between x × AreAnswered answering between ls after xs
+
+-- each line with a request that asks for this, whose id has this text, is answered so
+abbrev pub AnswersRequest : Answering → Defaults → List ℕ → Asking → List File → List File → List ℕ → Type 0
+AnswersRequest answering defaults id a before after answer =
+    (line : List ℕ) (v : Data) → IsIdText (id_in v) id → asking_in defaults v ≡ Ok a → value_of line ≡ Ok v
+    → answering before line after answer
+
+-- each line with this value is answered so
+abbrev pub AnswersValue : Answering → Data → List File → List File → List ℕ → Type 0
+AnswersValue answering v before after answer =
+    (line : List ℕ) → value_of line ≡ Ok v → answering before line after answer
+
+-- each line of which these are the bytes is answered so
+abbrev pub AnswersPiece : Answering → Line → List ℕ → List File → List File → List ℕ → Type 0
+AnswersPiece answering kind bytes before after answer =
+    (line : List ℕ) → IsPiece kind bytes line → answering before line after answer

@@ -10,12 +10,14 @@ use Rattle.star_repo.specs.Asked.{AreFilesFor, IsUnread}
 use Rattle.star_repo.specs.Held.{Said}
 use Rattle.star_repo.specs.declared.error.RepoError.{RepoError}
 use Rattle.star_repo.specs.declared.error.RepoError.TheVariants as why
-use Rattle.star_session.specs.Answers.{Answering, IsAnswered, IsRefusal, IsRefusalOf, IsReported, no_memory_line}
+use Rattle.star_session.specs.Answers.{Answering, AnswersRequest, IsAnswered, IsRefusal, IsRefusalOf, IsReported, no_memory_line}
 use Rattle.star_session.specs.Changes.{Change}
-use Rattle.star_session.specs.Requests.{Asking, asking_of, id_of}
+use Rattle.star_session.specs.Requests.{Asking, IsIdText, asked_by, asking_in, asking_of, id_of, value_of}
 use Rattle.star_session.specs.declared.request.Defaults.{Defaults}
 use Rattle.star_session.specs.declared.request.Origin.{Origin}
 use Rattle.star_session.specs.declared.request.Origin.TheVariants.{Folder, Sent}
+use Rattle.star_session.specs.declared.request.Request.{Request}
+use Rattle.star_session.specs.declared.session.Settings.{Settings}
 
 -- the text of the file at a label
 abbrev pub text_named : List ℕ → List File → Option (List ℕ)
@@ -67,6 +69,12 @@ IsReportedOrRefused id a files answer =
     IsReported files id a files answer
     ⊎ ((e : ServeError) × IsRefusalOf files a e × IsRefusal id (text_of e) answer)
 
+-- whatever the id of a request is of which this is the text: its question about these files is answered so, and the
+-- files stay
+abbrev pub AnswersSeen : List ℕ → Asking → List File → List File → List ℕ → Type 0
+AnswersSeen id a before after answer =
+    (d : Data) → IsIdText d id → (after ≡ before) × IsReportedOrRefused d a before answer
+
 -- A request is answered: by the report of the files that it looked at, or by a refusal of what is asked for of these
 -- files; or they are not read, and then nothing is known any more.
 abbrev pub IsAnsweredBy : Said → List File → Data → Asking → List File → List ℕ → Type 0
@@ -90,3 +98,27 @@ IsAnsweredAs Folder said defaults = IsAnsweredFrom said defaults
 
 abbrev pub IsAnsweredIn : Said → Defaults → Answering
 IsAnsweredIn said defaults = IsAnsweredAs defaults.origin said defaults
+
+-- .. by these settings
+abbrev pub AnswersIn : Said → Settings → Answering
+AnswersIn said settings = IsAnsweredIn said settings.defaults
+
+-- each line with this request, whose id has this text and which sends its files, is answered so
+abbrev pub AnswersSent : Defaults → List ℕ → Request → List File → List File → List ℕ → Type 0
+AnswersSent defaults id request before after answer =
+    AnswersRequest (IsAnswered defaults) defaults id (asked_by request) before after answer
+
+-- .. wherever the files come from
+abbrev pub AnswersRequestIn : Said → Defaults → List ℕ → Request → List File → List File → List ℕ → Type 0
+AnswersRequestIn said defaults id request before after answer =
+    AnswersRequest (IsAnsweredIn said defaults) defaults id (asked_by request) before after answer
+
+-- .. or by the line for want of memory
+abbrev pub LosesRequestIn : Said → Defaults → Request → List File → List File → Type 0
+LosesRequestIn said defaults request before after =
+    (line : List ℕ) (v : Data) → asking_in defaults v ≡ Ok (asked_by request) → value_of line ≡ Ok v
+    → IsAnsweredIn said defaults before line after no_memory_line
+
+-- whatever the id of a request is of which this is the text, it is answered so
+abbrev pub AnswersBy : Said → List ℕ → Asking → List File → List File → List ℕ → Type 0
+AnswersBy said id a before after answer = (d : Data) → IsIdText d id → IsAnsweredBy said before d a after answer

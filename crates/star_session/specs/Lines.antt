@@ -1,5 +1,5 @@
 -- The lines of a stream, and what stands of it ahead of what was taken.
-use Rattle.std.specs.Prelude.{◌≡◌, ◌≢◌, ◌≤◌, ◌<◌, ◌==◌, ℕ, List, [], ◌∷◌, ◌++◌, Bool, true, false, Option, None, Some, length}
+use Rattle.std.specs.Prelude.{◌≡◌, ◌≢◌, ◌≤◌, ◌<◌, ◌==◌, ◌+◌, ◌-◌, ℕ, List, [], ◌∷◌, ◌++◌, Bool, true, false, Option, None, Some, drop, length, take}
 use Rattle.std.specs.List.{All, slice_range, slice_split}
 use Rattle.star_serve.specs.Stream.{Gives, GivesAll, Said}
 use Rattle.star_session.specs.declared.lines.Line.{Line}
@@ -33,6 +33,12 @@ IsOneLine line = All (λ b. is_end b ≡ false) line
 -- what was read and not taken
 abbrev pub ahead_of : Lines → List ℕ
 ahead_of lines = slice_range lines.buffer.items lines.start lines.end
+
+-- this is the place of the first line end of it
+abbrev pub IsLineEnd : Lines → ℕ → Type 0
+IsLineEnd lines at =
+    (at < lines.end - lines.start) × IsOneLine (take at (ahead_of lines))
+    × (drop at (ahead_of lines) ≡ 10 ∷ drop (at + 1) (ahead_of lines))
 
 -- it lies in the buffer, which has room
 abbrev pub IsCut : Lines → Type 0

@@ -1,5 +1,5 @@
 -- The request that a line is: a JSON object.
-use Rattle.std.specs.Prelude.{◌≡◌, ◌⊎◌, ℕ, ◌&&◌, ◌||◌, List, [], ◌∷◌, ◌++◌, true, false, length, nat_le, nat_lt, Option, Some, None, Result, Ok, Err, codes, if◌then◌else◌, map, option_map, string_bytes, unwrap_or}
+use Rattle.std.specs.Prelude.{◌≡◌, ◌≤◌, ◌⊎◌, ℕ, ◌&&◌, ◌||◌, List, [], ◌∷◌, ◌++◌, true, false, length, nat_le, nat_lt, Option, Some, None, Result, Ok, Err, codes, if◌then◌else◌, map, option_map, string_bytes, unwrap_or}
 use Rattle.std.specs.Str.{bytes_eq}
 use Rattle.serde_json.specs.Data.{Data, null, boolean, number, string, array, object, Items, no_items, item, Members, no_members, member}
 use Rattle.serde_json.specs.Written.{IsInOrder, compact_text, has_float}
@@ -59,6 +59,10 @@ bad_prelude = codes "`prelude` must be a label or null"
 
 abbrev pub bad_steps : List ℕ
 bad_steps = codes "`steps` must be a number from 1 to 100000000"
+
+-- how many steps a file may take
+abbrev pub AreSteps : ℕ → Type 0
+AreSteps n = (1 ≤ n) × (n ≤ 100000000)
 
 abbrev pub bad_with : List ℕ
 bad_with = codes "`with` must be an array of some of values, loads, steps, only-roots"

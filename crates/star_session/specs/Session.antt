@@ -5,7 +5,8 @@ use Rattle.std.specs.Prelude.{map}
 use Rattle.star_label.specs.Files.{File}
 use Rattle.star_serve.specs.Stream.{Adds, Gives, GivesAll, Said}
 use Rattle.star_session.specs.Answers.{Answering, AreAnswered}
-use Rattle.star_session.specs.Lines.{IsOneLine, lines_of}
+use Rattle.star_session.specs.Lines.{IsOneLine, ahead_of, lines_of}
+use Rattle.star_session.specs.declared.session.Session.{Session}
 
 -- a line with its line end
 abbrev pub ended : List ℕ → List ℕ
@@ -42,6 +43,13 @@ IsStep answering old new ahead left wrote written before after true =
     IsPart answering old new ahead left wrote written before after
 IsStep answering old new ahead left wrote written before after false =
     IsRest answering old new ahead wrote written before
+
+-- .. by a session, between these states
+abbrev pub IsStepOf : {R W : Type 0} → (R → Said) → (W → Option (List ℕ)) → Answering → R → R → W → W → Session
+    → Session → Bool → Type 0
+IsStepOf said taken answering reader reader' writer writer' old new more =
+    IsStep answering (said reader) (said reader') (ahead_of old.lines) (ahead_of new.lines) (taken writer)
+    (taken writer') old.standing.files new.standing.files more
 
 -- Between old and new all was read up to its end, and what was written is the row of answers to its lines, one a line,
 -- where there were no files at first.

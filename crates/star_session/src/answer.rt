@@ -1,6 +1,6 @@
 //! The answer to a request.
 
-ghost use Rattle.std.specs.Prelude.{◌≡◌, ◌<◌, ◌≤◌, ◌⊎◌, ◌++◌, ◌∷◌, [], All, Bool, IfErr, IfOk, IfSome, Ok, length, map, string_bytes};
+ghost use Rattle.std.specs.Prelude.{◌≡◌, ◌<◌, ◌≤◌, ◌⊎◌, All, IfErr, IfOk, IfSome, Ok, length, map};
 ghost use Rattle.serde_json.specs.Data.{Data};
 ghost use Rattle.star_bundle.specs.Bundle.{within_limits};
 ghost use Rattle.star_bundle.specs.Refusal.{Gives};
@@ -8,9 +8,7 @@ ghost use Rattle.star_bundle.specs.View.{asked_view};
 ghost use Rattle.star_label.specs.Files.{limit_passed};
 ghost use Rattle.star_memo.specs.Outcomes.{AreOutcomes};
 ghost use Rattle.star_memo.specs.Parses.{AreKept};
-ghost use Rattle.star_report.specs.Output.{InPlanOf, IsOutput};
-ghost use Rattle.star_report.specs.declared.wanted.Output.TheVariants as output;
-ghost use Rattle.star_session.specs.Answers.{IsRefusalOf, IsReportOf, IsReported};
+ghost use Rattle.star_session.specs.Answers.{IsRefusalOf, IsReportOf, IsReportText, IsReported};
 ghost use Rattle.star_session.specs.Changes as spec;
 ghost use Rattle.star_session.specs.Changes.{change_of};
 ghost use Rattle.star_session.specs.Kept.{IsStanding};
@@ -29,7 +27,7 @@ use star_memo::parses::Parses;
 use star_outcome::good_end::GoodEnd;
 use star_reading::reading::Trees;
 use star_report::wanted::{Output, Wanted};
-use star_serve::serve::{Finished, Options, written_over};
+use star_serve::serve::{Finished, Job, Options, written_over};
 use std::alloc::Global;
 use std::sync::Wait;
 use std::thread::Threads;
@@ -60,8 +58,7 @@ fn report_of<H: Threads + Wait + Sync>(
     requires loaders { (1 ≤ loaders) × (loaders ≤ 64) }
     requires steps { (1 ≤ steps) × (steps ≤ 100000000) }
     ensures kinds { IfErr result (λ e. (e ≡ ServeError.Memory) ⊎ (e ≡ ServeError.Unpublished)) }
-    ensures report { IfOk result (λ r. (ok : Bool) × InPlanOf asked.now.files asked.now.roots.items asked.now.prelude
-        steps (λ plan. IsOutput (output.Report wanted) asked.now.files plan (r.text.items ++ 10 ∷ []) ok)) }
+    ensures report { IfOk result (λ r. IsReportText wanted (asked_view asked.now) steps r.text.items) }
     ensures ends { IfOk result (λ r. AreOutcomes asked.now.files asked.now.prelude steps r.ends.items) }
     ensures parses { IfOk result (λ _. AreKept asked.now.files staying.new.parses.all.items) }
 {
@@ -86,7 +83,12 @@ fn report_of<H: Threads + Wait + Sync>(
     let trees = Trees::new(alloc)?;
     let parses = staying.parses.views(alloc, &asked.files)?;
     let ends = staying.outcomes.all.as_slice();
-    let finished = written_over(rt, alloc, asked, &trees, &parses, ends, &options)?;
+    let job = Job {
+        asked,
+        trees: &trees,
+        parses: &parses,
+    };
+    let finished = written_over(rt, alloc, &job, ends, &options)?;
     let Finished {
         written,
         ends,
@@ -108,9 +110,8 @@ fn files_after(
     changes: Vec<(Label, Option<String>)>,
 ) -> Result<Files, ServeError>
     ensures files { IfOk result (λ files. files ≡ spec.files_after before.now (map change_of changes.items)) }
-    ensures limits { Gives (λ files. files) result
-        (within_limits (spec.files_after before.now (map change_of changes.items))
-        (limit_passed (spec.files_after before.now (map change_of changes.items)))) }
+    ensures limits { let after = spec.files_after before.now (map change_of changes.items) in
+        Gives (λ files. files) result (within_limits after (limit_passed after)) }
 {
     match Files::new(alloc, changed(alloc, before, changes)?) {
         Ok(files) => Ok(files),
@@ -191,20 +192,27 @@ fn report_after<H: Threads + Wait + Sync>(
     })
 }
 
+/// What a request may use.
+#[derive(Clone, Copy)]
+pub(crate) struct Limits {
+    /// How many loaders run, from 1 to 64.
+    pub loaders: usize,
+    /// How many bytes the texts may have of which anything is kept for the next request.
+    pub keep: usize,
+}
+
 /// The answer to a request, whose id is this JSON, and the files after it. If it is refused, the files stay as they
-/// were before. If nothing has changed since the last report, and the same is asked, the answer is that report. `keep` is
-/// how many bytes the texts may have of which anything is kept.
+/// were before. If nothing has changed since the last report, and the same is asked, the answer is that report.
 pub(crate) fn answered<H: Threads + Wait + Sync>(
     rt: &H,
     alloc: Global,
     standing: &mut Standing,
     id: &str,
     request: Request,
-    loaders: usize,
-    keep: usize,
+    limits: Limits,
 ) -> Result<Vec<u8>, ServeError>
     requires standing { IsStanding standing.old }
-    requires loaders { (1 ≤ loaders) × (loaders ≤ 64) }
+    requires loaders { (1 ≤ limits.loaders) × (limits.loaders ≤ 64) }
     requires steps { (1 ≤ request.question.steps) × (request.question.steps ≤ 100000000) }
     ensures standing { IsStanding standing.new }
     ensures reports { IfOk result (λ line. (d : Data) → IsIdText d id.now
@@ -216,7 +224,7 @@ pub(crate) fn answered<H: Threads + Wait + Sync>(
         let known = line_of(alloc, id, "report", report)?;
         return Ok(known);
     }
-    let after = match report_after(rt, alloc, standing, request, loaders) {
+    let after = match report_after(rt, alloc, standing, request, limits.loaders) {
         Ok(after) => after,
         Err(error) => return Err(error),
     };
@@ -232,6 +240,6 @@ pub(crate) fn answered<H: Threads + Wait + Sync>(
     standing.parses = parses;
     standing.outcomes = outcomes;
     standing.last = Some(last);
-    standing.trim(alloc, &reached, keep);
+    standing.trim(alloc, &reached, limits.keep);
     Ok(line)
 }

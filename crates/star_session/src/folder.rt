@@ -11,11 +11,11 @@ ghost use Rattle.star_repo.specs.declared.error.RepoError.TheVariants as why;
 ghost use Rattle.star_session.specs.Changes.{change_of};
 ghost use Rattle.star_session.specs.Folders as spec;
 ghost use Rattle.star_session.specs.Answers.{IsRefusal};
-ghost use Rattle.star_session.specs.Folders.{AreLookedAt, IsAnsweredBy, IsKnown, IsReportedOrRefused, IsUnseen, told};
+ghost use Rattle.star_session.specs.Folders.{AnswersBy, AnswersSeen, AreLookedAt, IsKnown, IsUnseen, told};
 ghost use Rattle.star_session.specs.Kept.{IsStanding};
 ghost use Rattle.star_session.specs.Requests.{IsIdText, asked_by, question_of};
 
-use crate::answer::answered;
+use crate::answer::{Limits, answered};
 use crate::question::Question;
 use crate::refusal::refusal;
 use crate::request::Request;
@@ -30,6 +30,7 @@ use star_repo::asked::read_asked;
 use star_repo::error::RepoError;
 use star_repo::known::Known;
 use star_repo::mark::front_of;
+use star_repo::parse::Parsing;
 use star_repo::repo::Repo;
 use std::alloc::{AllocError, Global};
 use std::collections::BTreeMap;
@@ -139,15 +140,18 @@ fn files_looked_at<H: Threads + Wait + Sync, F: Repo + Copy>(
         files: &before.files,
         changes: request.changes.as_slice(),
     };
+    let parsing = Parsing {
+        trees: &trees.all,
+        known: known_parses(&before.files, parses.as_slice()),
+        threads: loaders,
+    };
     let reached = read_asked(
         rt,
         alloc,
         &mut looked,
-        &trees.all,
-        known_parses(&before.files, parses.as_slice()),
+        parsing,
         request.question.roots.as_slice(),
         request.question.prelude.as_ref(),
-        loaders,
     )?;
     Ok(reached.files)
 }
@@ -217,23 +221,21 @@ fn seen<H: Threads + Wait + Sync>(
     standing: &mut Standing,
     id: &str,
     question: Question,
-    loaders: usize,
-    keep: usize,
+    limits: Limits,
 ) -> Result<Vec<u8>, AllocError>
     requires standing { IsStanding standing.old }
-    requires loaders { (1 ≤ loaders) × (loaders ≤ 64) }
+    requires loaders { (1 ≤ limits.loaders) × (limits.loaders ≤ 64) }
     requires steps { (1 ≤ question.steps) × (question.steps ≤ 100000000) }
     ensures standing { IsStanding standing.new }
-    ensures answered { IfOk result (λ line. (d : Data) → IsIdText d id.now
-        → (standing.new.files ≡ standing.old.files)
-        × IsReportedOrRefused d (question_of question) standing.old.files line.items) }
+    ensures answered { IfOk result (λ line.
+        AnswersSeen id.now (question_of question) standing.old.files standing.new.files line.items) }
     ensures same { IfErr result (λ _. standing.new.files ≡ standing.old.files) }
 {
     let request = Request {
         changes: Vec::new(alloc),
         question,
     };
-    match answered(rt, alloc, standing, id, request, loaders, keep) {
+    match answered(rt, alloc, standing, id, request, limits) {
         Ok(line) => Ok(line),
         Err(error) => refusal(alloc, id, error.text()),
     }
@@ -248,23 +250,22 @@ pub(crate) fn answered_from<H: Threads + Wait + Sync, F: Repo + Copy>(
     standing: &mut Standing,
     id: &str,
     request: Request,
-    loaders: usize,
-    keep: usize,
+    limits: Limits,
 ) -> Result<Vec<u8>, AllocError>
     requires standing { IsStanding standing.old }
-    requires loaders { (1 ≤ loaders) × (loaders ≤ 64) }
+    requires loaders { (1 ≤ limits.loaders) × (limits.loaders ≤ 64) }
     requires steps { (1 ≤ request.question.steps) × (request.question.steps ≤ 100000000) }
     ensures standing { IsStanding standing.new }
-    ensures answered { IfOk result (λ line. (d : Data) → IsIdText d id.now
-        → IsAnsweredBy (F.says folder.now) standing.old.files d (asked_by request) standing.new.files line.items) }
+    ensures answered { IfOk result (λ line. AnswersBy (F.says folder.now) id.now (asked_by request)
+        standing.old.files standing.new.files line.items) }
     ensures known { IfErr result (λ _.
         IsKnown (F.says folder.now) standing.old.files (asked_by request) standing.new.files) }
 {
     let Ok(empty) = Files::new(alloc, BTreeMap::new(alloc)) else {
         return Err(AllocError);
     };
-    match look(rt, alloc, folder, standing, &request, loaders, empty) {
-        Ok(()) => seen(rt, alloc, standing, id, request.question, loaders, keep),
+    match look(rt, alloc, folder, standing, &request, limits.loaders, empty) {
+        Ok(()) => seen(rt, alloc, standing, id, request.question, limits),
         Err(error) => unseen(alloc, id, &error),
     }
 }

@@ -1,9 +1,9 @@
 //! The lines of a stream.
 
-ghost use Rattle.std.specs.Prelude.{◌≡◌, ◌≢◌, ◌+◌, ◌-◌, ◌<◌, ◌≤◌, ◌++◌, ◌∷◌, [], false, true, ℕ, List, IfOk, MatchOption, OnErr, OnOk, drop, is_err, length, take, if◌then◌else◌};
+ghost use Rattle.std.specs.Prelude.{◌≡◌, ◌≢◌, ◌+◌, ◌-◌, ◌<◌, ◌≤◌, ◌++◌, [], false, true, ℕ, List, IfOk, MatchOption, OnErr, OnOk, drop, is_err, length, take, if◌then◌else◌};
 ghost use Rattle.std.specs.Io.KnownBytes.{IsAtEnd};
 ghost use Rattle.star_serve.specs.Stream.{GaveFirst, Gives};
-ghost use Rattle.star_session.specs.Lines.{IsCut, IsNext, IsOneLine, IsPiece, ahead_of};
+ghost use Rattle.star_session.specs.Lines.{IsCut, IsLineEnd, IsNext, IsOneLine, IsPiece, ahead_of};
 
 use memchr::memchr;
 use star_serve::stream::{Failed, Source};
@@ -87,9 +87,7 @@ impl Lines {
     /// The place of the first line end among the bytes that were not taken.
     fn end_of_line(&self) -> Option<usize>
         requires { IsCut self.now }
-        ensures { MatchOption result (IsOneLine (ahead_of self.now))
-            (λ at. (at < self.now.end - self.now.start) × IsOneLine (take at (ahead_of self.now))
-            × (drop at (ahead_of self.now) ≡ 10 ∷ drop (at + 1) (ahead_of self.now))) }
+        ensures { MatchOption result (IsOneLine (ahead_of self.now)) (IsLineEnd self.now) }
     {
         memchr(b'\n', &self.buffer[self.start..self.end])
     }

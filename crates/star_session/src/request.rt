@@ -4,7 +4,6 @@ ghost use Rattle.std.specs.Prelude.{◌≡◌, ◌≢◌, ◌≤◌, ◌⊎◌, 
 ghost use Rattle.serde_json.specs.Find.{as_object};
 ghost use Rattle.serde_json.specs.View.{items_view, members_view, view};
 ghost use Rattle.star_bundle.specs.Bundle.{json_of};
-ghost use Rattle.star_bundle.specs.View.{if_label};
 ghost use Rattle.star_label.specs.View.{text_of};
 ghost use Rattle.star_session.specs.Changes.{change_of};
 ghost use Rattle.star_words.specs.Words.{label_of_path};
@@ -14,7 +13,7 @@ ghost use Rattle.star_session.specs.declared.request.RequestError.TheVariants.{M
 
 use crate::question::Question;
 use serde_json::{Map, Value};
-use star_label::error::LabelError;
+use star_bundle::bundle::normal_label;
 use star_label::label::Label;
 use star_report::wanted::Wanted;
 use star_words::words::label_of;
@@ -162,24 +161,6 @@ pub fn value_in(alloc: Global, line: &[u8]) -> Result<Value, RequestError>
     }
 }
 
-/// The label that a name in `files` is the normal form of.
-fn label_in(alloc: Global, name: &str) -> Result<Option<Label>, AllocError>
-    ensures { IfOk result (λ o. option_map text_of o ≡ if_label name.now) }
-{
-    match Label::read(alloc, name, "") {
-        Ok(label) => {
-            if label.text() == name {
-                Ok(Some(label))
-            } else {
-                Ok(None)
-            }
-        }
-        Err(LabelError::BadLabel) => Ok(None),
-        Err(LabelError::Memory) => Err(AllocError),
-        Err(_) => unreachable!(),
-    }
-}
-
 /// A text, or none for null.
 fn text_or_null(value: Value) -> Option<Option<String>>
     ensures { option_map (option_map string_bytes) result ≡ spec.text_or_null (view value) }
@@ -213,7 +194,7 @@ fn changes_of(
         let Some(text) = text_or_null(value) else {
             return Err(RequestError::BadFiles);
         };
-        let Some(label) = label_in(alloc, name.as_str())? else {
+        let Some(label) = normal_label(alloc, name.as_str())? else {
             return Err(RequestError::BadLabel { label: name });
         };
         changes.push((label, text))?;
@@ -404,8 +385,7 @@ fn take_member(
 ) -> Result<(), RequestError>
     ensures ok { OnOk result (spec.with_member origin (asked_by request.old) (string_bytes name) (view value)
         ≡ Ok (asked_by request.new)) }
-    ensures steps { (1 ≤ request.old.question.steps) × (request.old.question.steps ≤ 100000000)
-        → (1 ≤ request.new.question.steps) × (request.new.question.steps ≤ 100000000) }
+    ensures steps { spec.AreSteps request.old.question.steps → spec.AreSteps request.new.question.steps }
     ensures refused { IfErr result (λ e.
         IsWhy e (spec.with_member origin (asked_by request.old) (string_bytes name) (view value))) }
 {

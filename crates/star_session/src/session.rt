@@ -1,19 +1,19 @@
 //! Requests on a stream of lines, one answer a line.
 
-ghost use Rattle.std.specs.Prelude.{◌≡◌, ◌≢◌, ◌+◌, ◌≤◌, [], List, ℕ, IfErr, IfOk, IfSome, MatchResult, None, Ok, OnOk, codes, string_bytes};
-ghost use Rattle.serde_json.specs.Data.{Data, null, string};
+ghost use Rattle.std.specs.Prelude.{◌≡◌, ◌≢◌, ◌+◌, ◌≤◌, IfErr, IfOk, MatchResult, OnOk, codes, string_bytes};
+ghost use Rattle.serde_json.specs.Data.{null, string};
 ghost use Rattle.serde_json.specs.View.{view};
 ghost use Rattle.serde_json.specs.Written.{compact_text};
 ghost use Rattle.star_bundle.specs.Refusal.{reads_failed, writes_failed};
-ghost use Rattle.star_session.specs.Answers.{IsAnswered, IsRefusal, answer_line, no_memory_line};
-ghost use Rattle.star_session.specs.Folders.{IsAnsweredIn};
+ghost use Rattle.star_session.specs.Answers.{AnswersPiece, AnswersValue, IsRefusal, answer_line, no_memory_line};
+ghost use Rattle.star_session.specs.Folders.{AnswersIn, AnswersRequestIn, AnswersSent, LosesRequestIn};
 ghost use Rattle.star_session.specs.Kept.{IsStanding};
-ghost use Rattle.star_session.specs.Lines.{IsCut, IsOneLine, IsPiece, ahead_of};
-ghost use Rattle.star_session.specs.Requests.{IsIdText, asked_by, asking_in, id_in, line_too_long, text_of, value_of};
-ghost use Rattle.star_session.specs.Session.{IsSession, IsStep};
+ghost use Rattle.star_session.specs.Lines.{IsCut};
+ghost use Rattle.star_session.specs.Requests.{IsIdText, line_too_long, text_of};
+ghost use Rattle.star_session.specs.Session.{IsSession, IsStepOf};
 ghost use Rattle.star_session.specs.declared.request.RequestError.TheVariants as why;
 
-use crate::answer::answered;
+use crate::answer::{Limits, answered};
 use crate::folder::answered_from;
 use crate::lines::{Line, Lines};
 use crate::refusal::{NO_MEMORY, refusal};
@@ -69,13 +69,15 @@ fn answer_sent<H: Threads + Wait + Sync>(
     requires loaders { (1 ≤ settings.now.loaders) × (settings.now.loaders ≤ 64) }
     requires steps { (1 ≤ request.question.steps) × (request.question.steps ≤ 100000000) }
     ensures standing { IsStanding standing.new }
-    ensures answered { IfOk result (λ answer. (line : List ℕ) (v : Data) → IsIdText (id_in v) id.now
-        → asking_in settings.now.defaults v ≡ Ok (asked_by request) → value_of line ≡ Ok v
-        → IsAnswered settings.now.defaults standing.old.files line standing.new.files answer.items) }
+    ensures answered { IfOk result (λ line. AnswersSent settings.now.defaults id.now request
+        standing.old.files standing.new.files line.items) }
     ensures same { IfErr result (λ _. standing.new.files ≡ standing.old.files) }
 {
-    let (loaders, keep) = (settings.loaders, settings.keep);
-    match answered(rt, alloc, standing, id, request, loaders, keep) {
+    let limits = Limits {
+        loaders: settings.loaders,
+        keep: settings.keep,
+    };
+    match answered(rt, alloc, standing, id, request, limits) {
         Ok(line) => Ok(line),
         Err(error) => refusal(alloc, id, error.text()),
     }
@@ -95,20 +97,19 @@ fn answer_request<H: Threads + Wait + Sync, F: Repo + Copy>(
     requires loaders { (1 ≤ settings.now.loaders) × (settings.now.loaders ≤ 64) }
     requires steps { (1 ≤ request.question.steps) × (request.question.steps ≤ 100000000) }
     ensures standing { IsStanding standing.new }
-    ensures answered { IfOk result (λ answer. (line : List ℕ) (v : Data) → IsIdText (id_in v) id.now
-        → asking_in settings.now.defaults v ≡ Ok (asked_by request) → value_of line ≡ Ok v
-        → IsAnsweredIn (F.says folder.now) settings.now.defaults standing.old.files line standing.new.files
-        answer.items) }
-    ensures lost { IfErr result (λ _. (line : List ℕ) (v : Data)
-        → asking_in settings.now.defaults v ≡ Ok (asked_by request) → value_of line ≡ Ok v
-        → IsAnsweredIn (F.says folder.now) settings.now.defaults standing.old.files line standing.new.files
-        no_memory_line) }
+    ensures answered { IfOk result (λ line. AnswersRequestIn (F.says folder.now) settings.now.defaults id.now request
+        standing.old.files standing.new.files line.items) }
+    ensures lost { IfErr result (λ _. LosesRequestIn (F.says folder.now) settings.now.defaults request
+        standing.old.files standing.new.files) }
 {
     match settings.defaults.origin {
         Origin::Sent => answer_sent(rt, alloc, standing, id, request, settings),
         Origin::Folder => {
-            let (loaders, keep) = (settings.loaders, settings.keep);
-            answered_from(rt, alloc, folder, standing, id, request, loaders, keep)
+            let limits = Limits {
+                loaders: settings.loaders,
+                keep: settings.keep,
+            };
+            answered_from(rt, alloc, folder, standing, id, request, limits)
         }
     }
 }
@@ -126,12 +127,10 @@ fn answer_value<H: Threads + Wait + Sync, F: Repo + Copy>(
     requires loaders { (1 ≤ settings.now.loaders) × (settings.now.loaders ≤ 64) }
     requires steps { (1 ≤ settings.now.defaults.steps) × (settings.now.defaults.steps ≤ 100000000) }
     ensures standing { IsStanding standing.new }
-    ensures answered { IfOk result (λ answer. (line : List ℕ) → value_of line ≡ Ok (view value)
-        → IsAnsweredIn (F.says folder.now) settings.now.defaults standing.old.files line standing.new.files
-        answer.items) }
-    ensures lost { IfErr result (λ _. (line : List ℕ) → value_of line ≡ Ok (view value)
-        → IsAnsweredIn (F.says folder.now) settings.now.defaults standing.old.files line standing.new.files
-        no_memory_line) }
+    ensures answered { IfOk result (λ line. AnswersValue (AnswersIn (F.says folder.now) settings.now) (view value)
+        standing.old.files standing.new.files line.items) }
+    ensures lost { IfErr result (λ _. AnswersValue (AnswersIn (F.says folder.now) settings.now) (view value)
+        standing.old.files standing.new.files no_memory_line) }
 {
     let id = id_text(alloc, &value)?;
     let request = match request_in(alloc, value, &settings.defaults) {
@@ -179,12 +178,10 @@ fn answer<H: Threads + Wait + Sync, F: Repo + Copy>(
     requires loaders { (1 ≤ settings.now.loaders) × (settings.now.loaders ≤ 64) }
     requires steps { (1 ≤ settings.now.defaults.steps) × (settings.now.defaults.steps ≤ 100000000) }
     ensures standing { IsStanding standing.new }
-    ensures answered { IfOk result (λ answer. (whole : List ℕ) → IsPiece line bytes.now whole
-        → IsAnsweredIn (F.says folder.now) settings.now.defaults standing.old.files whole standing.new.files
-        answer.items) }
-    ensures lost { IfErr result (λ _. (whole : List ℕ) → IsPiece line bytes.now whole
-        → IsAnsweredIn (F.says folder.now) settings.now.defaults standing.old.files whole standing.new.files
-        no_memory_line) }
+    ensures answered { IfOk result (λ answer. AnswersPiece (AnswersIn (F.says folder.now) settings.now) line bytes.now
+        standing.old.files standing.new.files answer.items) }
+    ensures lost { IfErr result (λ _. AnswersPiece (AnswersIn (F.says folder.now) settings.now) line bytes.now
+        standing.old.files standing.new.files no_memory_line) }
 {
     match line {
         Line::Ready => match value_in(alloc, bytes) {
@@ -206,30 +203,35 @@ fn said(answer: &Result<Vec<u8>, AllocError>) -> &[u8]
     }
 }
 
+/// The state of a session: what is kept, and the lines that were read.
+#[derive(Drop)]
+struct Session {
+    standing: Standing,
+    lines: Lines,
+}
+
 /// Writes the answer to the next line. Whether more lines may come.
 fn next_answer<H: Threads + Wait + Sync, F: Repo + Copy, R: Source, W: Sink>(
     rt: &H,
     alloc: Global,
     folder: &F,
-    standing: &mut Standing,
+    session: &mut Session,
     settings: &Settings,
-    lines: &mut Lines,
     reader: &mut R,
     writer: &mut W,
 ) -> Result<bool, ServeError>
-    requires standing { IsStanding standing.old }
-    requires cut { IsCut lines.old }
+    requires standing { IsStanding session.old.standing }
+    requires cut { IsCut session.old.lines }
     requires loaders { (1 ≤ settings.now.loaders) × (settings.now.loaders ≤ 64) }
     requires steps { (1 ≤ settings.now.defaults.steps) × (settings.now.defaults.steps ≤ 100000000) }
-    ensures standing { IsStanding standing.new }
-    ensures cut { OnOk result (IsCut lines.new) }
-    ensures step { IfOk result (IsStep (IsAnsweredIn (F.says folder.now) settings.now.defaults) (R.said reader.old)
-        (R.said reader.new) (ahead_of lines.old) (ahead_of lines.new) (W.taken writer.old) (W.taken writer.new)
-        standing.old.files standing.new.files) }
+    ensures standing { IsStanding session.new.standing }
+    ensures cut { OnOk result (IsCut session.new.lines) }
+    ensures step { IfOk result (IsStepOf R.said W.taken (AnswersIn (F.says folder.now) settings.now)
+        reader.old reader.new writer.old writer.new session.old session.new) }
     ensures reads { R.failed reader.new ≡ R.failed reader.old + reads_failed result }
     ensures writes { W.failed writer.new ≡ W.failed writer.old + writes_failed result }
 {
-    let taken = match lines.next(rt, alloc, reader) {
+    let taken = match session.lines.next(rt, alloc, reader) {
         Ok(Some(taken)) => taken,
         Ok(None) => return Ok(false),
         Err(_) => return Err(ServeError::Read),
@@ -238,10 +240,10 @@ fn next_answer<H: Threads + Wait + Sync, F: Repo + Copy, R: Source, W: Sink>(
         rt,
         alloc,
         folder,
-        standing,
+        &mut session.standing,
         settings,
         taken.line,
-        lines.line(),
+        session.lines.line(),
     );
     match writer.write(said(&answer)) {
         Ok(()) => Ok(!taken.is_last),
@@ -267,8 +269,8 @@ pub fn serve_requests<H: Threads + Wait + Sync, F: Repo + Copy, R: Source, W: Si
     requires steps { (1 ≤ settings.now.defaults.steps) × (settings.now.defaults.steps ≤ 100000000) }
 
     // All was read, and the row of answers to its lines was written, and nothing else.
-    ensures session { OnOk result (IsSession (IsAnsweredIn (F.says folder.now) settings.now.defaults)
-        (R.said reader.old) (R.said reader.new) (W.taken writer.old) (W.taken writer.new)) }
+    ensures session { OnOk result (IsSession (AnswersIn (F.says folder.now) settings.now) (R.said reader.old)
+        (R.said reader.new) (W.taken writer.old) (W.taken writer.new)) }
 
     // A read or a write failed exactly if the answer says so.
     ensures reads { R.failed reader.new ≡ R.failed reader.old + reads_failed result }
@@ -279,19 +281,11 @@ pub fn serve_requests<H: Threads + Wait + Sync, F: Repo + Copy, R: Source, W: Si
         Err(LabelError::Memory) => return Err(ServeError::Memory),
         Err(_) => unreachable!(),
     };
-    let mut standing = Standing::new(alloc, files, settings.seed);
-    let mut lines = Lines::new(alloc)?;
+    let standing = Standing::new(alloc, files, settings.seed);
+    let lines = Lines::new(alloc)?;
+    let mut session = Session { standing, lines };
     for _ in rt.forever() {
-        if !next_answer(
-            rt,
-            alloc,
-            folder,
-            &mut standing,
-            settings,
-            &mut lines,
-            reader,
-            writer,
-        )? {
+        if !next_answer(rt, alloc, folder, &mut session, settings, reader, writer)? {
             return Ok(());
         }
     }

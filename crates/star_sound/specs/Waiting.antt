@@ -1,5 +1,5 @@
 -- What is known while it is sought which files are sound.
-use Rattle.std.specs.Prelude.{◌≡◌, ◌<◌, ◌+◌, ◌⊎◌, ℕ, List, [], Bool, true, false, All, Contains, Some, count_by, length, map, not, slice_get, slice_index_or}
+use Rattle.std.specs.Prelude.{◌≡◌, ◌<◌, ◌+◌, ◌⊎◌, ℕ, List, [], ◌∷◌, ◌++◌, Bool, true, false, All, Contains, Some, count_by, length, map, not, slice_get, slice_index_or}
 use Rattle.star_sound.specs.Sound.{IsSound, Needs, NeedsAll}
 use Rattle.star_sound.specs.declared.sound.Waits.{Waits}
 
@@ -58,6 +58,12 @@ pub record AreWaitingBy (needs : Needs) (marks : List Bool) (passed : List ℕ) 
 
 abbrev pub AreWaiting : Needs → Waits → List ℕ → Type 0
 AreWaiting needs w aside = AreWaitingBy needs w.sound.items w.passed.items (lists w) w.todo.items aside
+
+-- a file that needs these stands aside no more
+abbrev pub GoesOn : ℕ → List ℕ → Waits → Waits → Type 0
+GoesOn n its old new =
+    (needs : Needs) (aside : List ℕ) → NeedsAll needs n its → AreWaiting needs old (aside ++ n ∷ [])
+    → AreWaiting needs new aside
 
 -- all is known
 pub record AreSettled (needs : Needs) (w : Waits) : Type 0 where

@@ -1,9 +1,9 @@
 //! Each file waits for the first of its needs that is not known to be sound, and goes on when that is.
 
 ghost use Rattle.std.specs.Prelude.{◌≡◌, ◌<◌, ◌≤◌, ◌∷◌, ◌++◌, ℕ, [], All, Contains, IfOk, List, MatchOption, OnOk, Some, length, slice_get, slice_set, vec_len};
-ghost use Rattle.star_sound.specs.Sound.{AreWithin, IsProspect, Needs, NeedsAll, rows_of};
+ghost use Rattle.star_sound.specs.Sound.{AreWithin, IsProspect, NeedsAll, rows_of};
 ghost use Rattle.star_sound.specs.declared.sound.Prospect.{Prospect as ProspectView};
-ghost use Rattle.star_sound.specs.Waiting.{AreFresh, AreSettled, AreSized, AreWaiting, IsMarked, IsMarkedMore, left_in, list_of, lists};
+ghost use Rattle.star_sound.specs.Waiting.{AreFresh, AreSettled, AreSized, AreWaiting, GoesOn, IsMarked, IsMarkedMore, left_in, list_of, lists};
 
 use std::alloc::{AllocError, Global};
 use std::mem;
@@ -122,8 +122,7 @@ impl Waits {
         ensures sized { OnOk result (AreSized (length self.old.sound.items) self.new) }
         ensures left { OnOk result (left_in self.new.sound.items self.new.todo.items
             ≡ left_in self.old.sound.items self.old.todo.items) }
-        ensures waiting { OnOk result ((needs : Needs) (aside : List ℕ) → NeedsAll needs n its.now
-            → AreWaiting needs self.old (aside ++ n ∷ []) → AreWaiting needs self.new aside) }
+        ensures waiting { OnOk result (GoesOn n its.now self.old self.new) }
     {
         let place = first_from(self.sound.as_slice(), its, self.passed[n]);
         self.passed[n] = place;

@@ -11,7 +11,7 @@ use Rattle.star_store.specs.declared.values.Value.{Value}
 use Rattle.star_store.specs.declared.values.Value.TheVariants as value
 use Rattle.star_store.specs.declared.values.Cell.{Cell}
 use Rattle.star_store.specs.declared.values.Cell.TheVariants as cell
-use Rattle.star_store.specs.declared.values.Counted.{Counted}
+use Rattle.star_store.specs.declared.values.HeapCell.{HeapCell}
 use Rattle.star_store.specs.declared.content.Atom.{Atom}
 use Rattle.star_store.specs.declared.content.Atom.TheVariants as atom
 use Rattle.star_store.specs.declared.arena.write.Change.{Change}
@@ -77,12 +77,12 @@ none_found look key c h es k = sym (none_at key_levels h)
 -- an index beside other stores
 
 look_own : (s : Store) (shelf : Shelf) (home at : ℕ) → nat_eq home s.home ≡ true → look s shelf (value.Ref home at) ≡ cell_at s.cells at
-look_own s shelf home at own = ap (λ (b : Bool). option_map (λ (e : Counted). e.cell) (slice_get (if b then s.cells else published_cells (slice_get shelf home)) at)) own
+look_own s shelf home at own = ap (λ (b : Bool). option_map (λ (e : HeapCell). e.cell) (slice_get (if b then s.cells else published_cells (slice_get shelf home)) at)) own
 
 look_far : (s : Store) (shelf : Shelf) (home at : ℕ) (p : Published) → nat_eq home s.home ≡ false → slice_get shelf home ≡ Some (Some p) → look s shelf (value.Ref home at) ≡ cell_at p.cells at
 look_far s shelf home at p far h =
-    ap (λ (b : Bool). option_map (λ (e : Counted). e.cell) (slice_get (if b then s.cells else published_cells (slice_get shelf home)) at)) far
-    ∙ ap (λ (o : Option (Option Published)). option_map (λ (e : Counted). e.cell) (slice_get (published_cells o) at)) h
+    ap (λ (b : Bool). option_map (λ (e : HeapCell). e.cell) (slice_get (if b then s.cells else published_cells (slice_get shelf home)) at)) far
+    ∙ ap (λ (o : Option (Option Published)). option_map (λ (e : HeapCell). e.cell) (slice_get (published_cells o) at)) h
 
 -- an index of a store's own dictionary is one beside published stores
 own_indexed : (s : Store) (shelf : Shelf) (rows : Indexes) (v : Value) (home at : ℕ) (index : List (List Atom)) → v ≡ value.Ref home at → AreIndexed s rows → nat_eq home s.home ≡ true → index_at rows at ≡ Some index → IsKnown (look s shelf) (look s shelf v) index
@@ -92,7 +92,7 @@ own_indexed s shelf rows v home at index e h own k = record {
   indexed = subst (λ (c : Option Cell). IsIndexed s c index) (sym (ap (look s shelf) e ∙ look_own s shelf home at own)) (h.each at index k);
 }
 
-store : ℕ → List Counted → Store
+store : ℕ → List HeapCell → Store
 store home cells = record { home = home; cells = cells }
 
 -- the cells of a published store are shown under its number
@@ -109,7 +109,7 @@ far_indexed s shelf v home at p index e far h k = record {
 }
 
 -- facts of an index of a dictionary of the store's own
-pub told_own : (own : ℕ) (cells : List Counted) (s : Store) (shelf : Shelf) (rows : Indexes) (v : Value) (home at : ℕ) (r : Option (Bor (List (List Atom)))) → record { home = own; cells = cells } ≡ s → AreIndexed (record { home = own; cells = cells }) rows → v ≡ value.Ref home at → home ≡ own → option_copied r ≡ index_at rows at → IfSome r (λ b. IsKnown (look s shelf) (look s shelf v) b.now)
+pub told_own : (own : ℕ) (cells : List HeapCell) (s : Store) (shelf : Shelf) (rows : Indexes) (v : Value) (home at : ℕ) (r : Option (Bor (List (List Atom)))) → record { home = own; cells = cells } ≡ s → AreIndexed (record { home = own; cells = cells }) rows → v ≡ value.Ref home at → home ≡ own → option_copied r ≡ index_at rows at → IfSome r (λ b. IsKnown (look s shelf) (look s shelf v) b.now)
 told_own own cells s shelf rows v home at None es h e q k = tt
 told_own own cells s shelf rows v home at (Some b) es h e q k =
     subst (λ (t : Store). IsKnown (look t shelf) (look t shelf v) b.now) es (own_indexed (record { home = own; cells = cells }) shelf rows v home at b.now e h (eq-eqb home own q) (sym k))
@@ -119,16 +119,16 @@ there p (Some o) q = ap Some (sym q)
 there p None q = cc
 
 -- a store that is found under another number is shown under it
-pub told_shown : (own : ℕ) (cells : List Counted) (s : Store) (shelf : Shelf) (home : ℕ) (p : Published) → record { home = own; cells = cells } ≡ s → (home ≡ own → ⊥) → Some p ≡ option_flatten (slice_get shelf home) → Shows (look s shelf) home p.cells
+pub told_shown : (own : ℕ) (cells : List HeapCell) (s : Store) (shelf : Shelf) (home : ℕ) (p : Published) → record { home = own; cells = cells } ≡ s → (home ≡ own → ⊥) → Some p ≡ option_flatten (slice_get shelf home) → Shows (look s shelf) home p.cells
 told_shown own cells s shelf home p es n h = far_shown s shelf home p (subst (λ (t : Store). nat_eq home t.home ≡ false) es (ne_eqb home own n)) (there p (slice_get shelf home) h)
 
 -- and of a published one
-pub told_far : (own : ℕ) (cells : List Counted) (s : Store) (shelf : Shelf) (v : Value) (home at : ℕ) (p : Published) (r : Option (Bor (List (List Atom)))) → record { home = own; cells = cells } ≡ s → v ≡ value.Ref home at → (home ≡ own → ⊥) → Some p ≡ option_flatten (slice_get shelf home) → IfSome r (λ b. IsIndexed (record { home = home; cells = p.cells }) (cell_at p.cells at) b.now) → IfSome r (λ b. IsKnown (look s shelf) (look s shelf v) b.now)
+pub told_far : (own : ℕ) (cells : List HeapCell) (s : Store) (shelf : Shelf) (v : Value) (home at : ℕ) (p : Published) (r : Option (Bor (List (List Atom)))) → record { home = own; cells = cells } ≡ s → v ≡ value.Ref home at → (home ≡ own → ⊥) → Some p ≡ option_flatten (slice_get shelf home) → IfSome r (λ b. IsIndexed (record { home = home; cells = p.cells }) (cell_at p.cells at) b.now) → IfSome r (λ b. IsKnown (look s shelf) (look s shelf v) b.now)
 told_far own cells s shelf v home at p None es e n h k = tt
 told_far own cells s shelf v home at p (Some b) es e n h k = far_indexed s shelf v home at p b.now e (subst (λ (t : Store). nat_eq home t.home ≡ false) es (ne_eqb home own n)) (there p (slice_get shelf home) h) k
 
 -- without a store nothing is found under a number
-pub none_shown : (own : ℕ) (cells : List Counted) (s : Store) (shelf : Shelf) (home : ℕ) → record { home = own; cells = cells } ≡ s → (home ≡ own → ⊥) → option_flatten (slice_get shelf home) ≡ None → Shows (look s shelf) home []
+pub none_shown : (own : ℕ) (cells : List HeapCell) (s : Store) (shelf : Shelf) (home : ℕ) → record { home = own; cells = cells } ≡ s → (home ≡ own → ⊥) → option_flatten (slice_get shelf home) ≡ None → Shows (look s shelf) home []
 none_shown own cells s shelf home es n h = λ at. by (slice_get shelf home) h at (nat_eq home s.home) (subst (λ (t : Store). nat_eq home t.home ≡ false) es (ne_eqb home own n))
   where
     by : (o : Option (Option Published)) → option_flatten o ≡ None → (at : ℕ) (b : Bool) → b ≡ false → option_map (λ e. e.cell) (slice_get (if b then s.cells else published_cells o) at) ≡ cell_at [] at
@@ -148,10 +148,10 @@ pub record Stays (s t : Store) : Type 0 where
 
 alone_at : (s t : Store) (home at : ℕ) (c : Cell) → t.home ≡ s.home → (cell_at s.cells at ≡ Some c → cell_at t.cells at ≡ Some c) → alone s (value.Ref home at) ≡ Some c → alone t (value.Ref home at) ≡ Some c
 alone_at s t home at c q f h =
-    ap (λ (n : ℕ). option_map (λ (e : Counted). e.cell) (slice_get (if nat_eq home n then t.cells else []) at)) q
+    ap (λ (n : ℕ). option_map (λ (e : HeapCell). e.cell) (slice_get (if nat_eq home n then t.cells else []) at)) q
     ∙ by (nat_eq home s.home) h
   where
-    by : (b : Bool) → option_map (λ (e : Counted). e.cell) (slice_get (if b then s.cells else []) at) ≡ Some c → option_map (λ (e : Counted). e.cell) (slice_get (if b then t.cells else []) at) ≡ Some c
+    by : (b : Bool) → option_map (λ (e : HeapCell). e.cell) (slice_get (if b then s.cells else []) at) ≡ Some c → option_map (λ (e : HeapCell). e.cell) (slice_get (if b then t.cells else []) at) ≡ Some c
     by true g = f g
     by false g = g
 
@@ -237,13 +237,13 @@ front [] ys i h = absurd (omega arith)
 front (x ∷ xs) ys zero h = refl
 front (x ∷ xs) ys (suc i) h = front xs ys i (omega arith)
 
-cell_within : (cells : List Counted) (at : ℕ) (c : Cell) → cell_at cells at ≡ Some c → at < length cells
+cell_within : (cells : List HeapCell) (at : ℕ) (c : Cell) → cell_at cells at ≡ Some c → at < length cells
 cell_within [] at c h = cc
 cell_within (e ∷ cells) zero c h = omega arith
 cell_within (e ∷ cells) (suc at) c h = let k : at < length cells = cell_within cells at c h in omega arith
 
 -- a new cell has an address without an index
-pub made_indexed : (home : ℕ) (cells : List Counted) (e : Counted) (rows : Indexes) → AreIndexed (record { home = home; cells = cells }) rows → AreIndexed (record { home = home; cells = cells ++ e ∷ [] }) rows
+pub made_indexed : (home : ℕ) (cells : List HeapCell) (e : HeapCell) (rows : Indexes) → AreIndexed (record { home = home; cells = cells }) rows → AreIndexed (record { home = home; cells = cells ++ e ∷ [] }) rows
 unfolding store
 made_indexed home cells e rows h =
     still_indexed (store home cells) (store home (cells ++ e ∷ [])) rows h
@@ -252,21 +252,21 @@ made_indexed home cells e rows h =
     (omega (arith, length-append cells (e ∷ [])))
   where
     same : (at : ℕ) → at < length cells → cell_at (cells ++ e ∷ []) at ≡ cell_at cells at
-    same at l = ap (option_map (λ (d : Counted). d.cell)) (front cells (e ∷ []) at l)
+    same at l = ap (option_map (λ (d : HeapCell). d.cell)) (front cells (e ∷ []) at l)
 
     kept : (at : ℕ) (c : Cell) → cell_at cells at ≡ Some c → cell_at (cells ++ e ∷ []) at ≡ Some c
     kept at c q = same at (cell_within cells at c q) ∙ q
 
 -- a cell that is changed
 
-changed_by : (R : Option Cell → Option Cell → Type 0) (f : Counted → Counted) → ((c : Option Cell) → R c c) → ((e : Counted) → R (Some e.cell) (Some (f e).cell)) → (cells : List Counted) (at i : ℕ) → R (cell_at cells i) (cell_at (changed_at f cells at) i)
+changed_by : (R : Option Cell → Option Cell → Type 0) (f : HeapCell → HeapCell) → ((c : Option Cell) → R c c) → ((e : HeapCell) → R (Some e.cell) (Some (f e).cell)) → (cells : List HeapCell) (at i : ℕ) → R (cell_at cells i) (cell_at (changed_at f cells at) i)
 changed_by R f same one [] at i = same None
 changed_by R f same one (e ∷ cells) zero zero = one e
 changed_by R f same one (e ∷ cells) zero (suc i) = same (cell_at cells i)
 changed_by R f same one (e ∷ cells) (suc at) zero = same (Some e.cell)
 changed_by R f same one (e ∷ cells) (suc at) (suc i) = changed_by R f same one cells at i
 
-length_changed : (f : Counted → Counted) (cells : List Counted) (at : ℕ) → length (changed_at f cells at) ≡ length cells
+length_changed : (f : HeapCell → HeapCell) (cells : List HeapCell) (at : ℕ) → length (changed_at f cells at) ≡ length cells
 length_changed f [] at = refl
 length_changed f (e ∷ cells) zero = refl
 length_changed f (e ∷ cells) (suc at) = ap suc (length_changed f cells at)
@@ -280,7 +280,7 @@ pub record CellStays (c d : Option Cell) : Type 0 where
 itself : (c : Option Cell) → CellStays c c
 itself c = record { texts = λ x h. h; tuples = λ xs h. h; dicts = λ es h. h }
 
-pub changed_indexed : (home : ℕ) (cells : List Counted) (f : Counted → Counted) (at : ℕ) (rows : Indexes) → ((e : Counted) → CellStays (Some e.cell) (Some (f e).cell)) → AreIndexed (record { home = home; cells = cells }) rows → AreIndexed (record { home = home; cells = changed_at f cells at }) rows
+pub changed_indexed : (home : ℕ) (cells : List HeapCell) (f : HeapCell → HeapCell) (at : ℕ) (rows : Indexes) → ((e : HeapCell) → CellStays (Some e.cell) (Some (f e).cell)) → AreIndexed (record { home = home; cells = cells }) rows → AreIndexed (record { home = home; cells = changed_at f cells at }) rows
 unfolding store
 changed_indexed home cells f at rows one h =
     still_indexed (store home cells) (store home (changed_at f cells at)) rows h
@@ -294,14 +294,14 @@ changed_indexed home cells f at rows one h =
 pub cell_same : (c d : Cell) → d ≡ c → CellStays (Some c) (Some d)
 cell_same c d q = record { texts = λ x h. ap Some q ∙ h; tuples = λ xs h. ap Some q ∙ h; dicts = λ es h. ap Some (sym q) ∙ h }
 
-pub opened_stays : (e : Counted) → CellStays (Some e.cell) (Some (opened_in e).cell)
+pub opened_stays : (e : HeapCell) → CellStays (Some e.cell) (Some (opened_in e).cell)
 opened_stays e = cell_same e.cell (opened_in e).cell (by (is_container e.cell))
   where
     by : (b : Bool) → (if b then record e { iterations = e.iterations + 1 } else e).cell ≡ e.cell
     by true = refl
     by false = refl
 
-pub closed_stays : (e : Counted) → CellStays (Some e.cell) (Some (closed_in e).cell)
+pub closed_stays : (e : HeapCell) → CellStays (Some e.cell) (Some (closed_in e).cell)
 closed_stays e = cell_same e.cell (closed_in e).cell (by (is_container e.cell))
   where
     by : (b : Bool) → (if b then record e { iterations = e.iterations - 1 } else e).cell ≡ e.cell
@@ -318,7 +318,7 @@ bound_cell_stays slot v (cell.Dict es) = itself (Some (cell.Dict es))
 bound_cell_stays slot v (cell.Func f) = itself (Some (cell.Func f))
 bound_cell_stays slot v (cell.Bound m w) = itself (Some (cell.Bound m w))
 
-pub bound_stays : (slot : ℕ) (v : Value) (e : Counted) → CellStays (Some e.cell) (Some (bound_cell slot v e.cell))
+pub bound_stays : (slot : ℕ) (v : Value) (e : HeapCell) → CellStays (Some e.cell) (Some (bound_cell slot v e.cell))
 bound_stays slot v e = bound_cell_stays slot v e.cell
 
 -- a change of a dictionary's entries and of its index
@@ -394,17 +394,17 @@ cell_follows s c at atoms (Some (cell.Frame t)) before index x d h w q r = cc
 cell_follows s c at atoms (Some (cell.Bound m v)) before index x d h w q r = cc
 cell_follows s c at atoms None before index x d h w q r = cc
 
-changed_other : (f : Counted → Counted) (cells : List Counted) (at i : ℕ) → (i ≡ at → ⊥) → cell_at (changed_at f cells at) i ≡ cell_at cells i
+changed_other : (f : HeapCell → HeapCell) (cells : List HeapCell) (at i : ℕ) → (i ≡ at → ⊥) → cell_at (changed_at f cells at) i ≡ cell_at cells i
 changed_other f [] at i n = refl
 changed_other f (e ∷ cells) zero zero n = absurd (n refl)
 changed_other f (e ∷ cells) zero (suc i) n = refl
 changed_other f (e ∷ cells) (suc at) zero n = refl
 changed_other f (e ∷ cells) (suc at) (suc i) n = changed_other f cells at i (λ q. n (ap suc q))
 
-put_in : Cell → Counted → Counted
+put_in : Cell → HeapCell → HeapCell
 put_in d e = record e { cell = d }
 
-changed_here : (d : Cell) (cells : List Counted) (at : ℕ) (c : Cell) → cell_at cells at ≡ Some c → cell_at (changed_at (put_in d) cells at) at ≡ Some d
+changed_here : (d : Cell) (cells : List HeapCell) (at : ℕ) (c : Cell) → cell_at cells at ≡ Some c → cell_at (changed_at (put_in d) cells at) at ≡ Some d
 unfolding put_in
 changed_here d [] at c h = cc
 changed_here d (e ∷ cells) zero c h = refl
@@ -421,7 +421,7 @@ module _ (c : Change) (place : Option ℕ) (x : Option Value) (d : Cell) where
   some_cell (Some b) w = (b, refl)
   some_cell None w = cc
 
-put_indexed : (home : ℕ) (cells : List Counted) (rows new : Indexes) (at : ℕ) (c : Change) (place : Option ℕ) (atoms : Option (List Atom)) (x : Option Value) (d : Cell) → AreIndexed (record { home = home; cells = cells }) rows → AreChanged at c place atoms rows new → IfSome atoms (λ a. option_and_then (key_entry (record { home = home; cells = cells })) (key_of c) ≡ Some a) → change_cell c place (cell_at cells at) ≡ Ok (x, d) → AreIndexed (record { home = home; cells = changed_at (λ e. record e { cell = d }) cells at }) new
+put_indexed : (home : ℕ) (cells : List HeapCell) (rows new : Indexes) (at : ℕ) (c : Change) (place : Option ℕ) (atoms : Option (List Atom)) (x : Option Value) (d : Cell) → AreIndexed (record { home = home; cells = cells }) rows → AreChanged at c place atoms rows new → IfSome atoms (λ a. option_and_then (key_entry (record { home = home; cells = cells })) (key_of c) ≡ Some a) → change_cell c place (cell_at cells at) ≡ Ok (x, d) → AreIndexed (record { home = home; cells = changed_at (λ e. record e { cell = d }) cells at }) new
 unfolding store put_in
 put_indexed home cells rows new at c place atoms x d h k r w = record {
   each = λ i index q. by i index q (nat_eq i at) refl;
@@ -460,27 +460,27 @@ put_indexed home cells rows new at c place atoms x d h k r w = record {
         (h.each i index (sym (k.others i off) ∙ q)))
 
 -- a change of a cell among the others, and of its index among theirs
-pub written_indexed : (home : ℕ) (cells : List Counted) (rows new : Indexes) (at : ℕ) (c : Change) (place : Option ℕ) (atoms : Option (List Atom)) (x : Option Value) (later : List Counted) → AreIndexed (record { home = home; cells = cells }) rows → AreChanged at c place atoms rows new → IfSome atoms (λ a. option_and_then (key_entry (record { home = home; cells = cells })) (key_of c) ≡ Some a) → in_cells cells at (change_cell c place (cell_at cells at)) ≡ Ok (x, later) → AreIndexed (record { home = home; cells = later }) new
+pub written_indexed : (home : ℕ) (cells : List HeapCell) (rows new : Indexes) (at : ℕ) (c : Change) (place : Option ℕ) (atoms : Option (List Atom)) (x : Option Value) (later : List HeapCell) → AreIndexed (record { home = home; cells = cells }) rows → AreChanged at c place atoms rows new → IfSome atoms (λ a. option_and_then (key_entry (record { home = home; cells = cells })) (key_of c) ≡ Some a) → in_cells cells at (change_cell c place (cell_at cells at)) ≡ Ok (x, later) → AreIndexed (record { home = home; cells = later }) new
 written_indexed home cells rows new at c place atoms x later h k r w = by (change_cell c place (cell_at cells at)) refl w
   where
     by : (o : Result (Option Value × Cell) StoreFault) → change_cell c place (cell_at cells at) ≡ o → in_cells cells at o ≡ Ok (x, later) → AreIndexed (record { home = home; cells = later }) new
     by (Err f) e p = cc
     by (Ok y) e p =
         let shape : changed_at (λ d. record d { cell = y.1 }) cells at ≡ later = second y.0 x (changed_at (λ d. record d { cell = y.1 }) cells at) later (cc) in
-        subst (λ (cs : List Counted). AreIndexed (record { home = home; cells = cs }) new) shape (put_indexed home cells rows new at c place atoms y.0 y.1 h k r e)
+        subst (λ (cs : List HeapCell). AreIndexed (record { home = home; cells = cs }) new) shape (put_indexed home cells rows new at c place atoms y.0 y.1 h k r e)
 
 content_told : (s t : Store) (key : Option Value) (r : Option (List Atom)) → s ≡ t → IfSome r (λ a. option_and_then (key_entry t) key ≡ Some a) → IfSome r (λ a. option_and_then (key_entry s) key ≡ Some a)
 content_told s t key None e h = tt
 content_told s t key (Some a) e h = ap (λ (u : Store). option_and_then (key_entry u) key) e ∙ h
 
 -- the same, if the store and its indexes are given by their parts
-pub write_indexed : (own : ℕ) (cells mid later : List Counted) (rows middle new : Indexes) (s : Store) (at : ℕ) (c : Change) (place : Option ℕ) (r : Option (List Atom)) (x : Option Value) → record { home = own; cells = cells } ≡ s → AreIndexed (record { home = own; cells = cells }) rows → mid ≡ cells → middle ≡ rows → AreChanged at c place r middle new → IfSome r (λ a. option_and_then (key_entry s) (key_of c) ≡ Some a) → in_cells mid at (change_cell c place (cell_at mid at)) ≡ Ok (x, later) → AreIndexed (record { home = own; cells = later }) new
+pub write_indexed : (own : ℕ) (cells mid later : List HeapCell) (rows middle new : Indexes) (s : Store) (at : ℕ) (c : Change) (place : Option ℕ) (r : Option (List Atom)) (x : Option Value) → record { home = own; cells = cells } ≡ s → AreIndexed (record { home = own; cells = cells }) rows → mid ≡ cells → middle ≡ rows → AreChanged at c place r middle new → IfSome r (λ a. option_and_then (key_entry s) (key_of c) ≡ Some a) → in_cells mid at (change_cell c place (cell_at mid at)) ≡ Ok (x, later) → AreIndexed (record { home = own; cells = later }) new
 unfolding store
 write_indexed own cells mid later rows middle new s at c place r x es h em er k t w =
     written_indexed own cells rows new at c place r x later h
     (subst (λ (q : Indexes). AreChanged at c place r q new) er k)
     (content_told (store own cells) s (key_of c) r es t)
-    (subst (λ (q : List Counted). in_cells q at (change_cell c place (cell_at q at)) ≡ Ok (x, later)) em w)
+    (subst (λ (q : List HeapCell). in_cells q at (change_cell c place (cell_at q at)) ≡ Ok (x, later)) em w)
 
 -- look-ups
 

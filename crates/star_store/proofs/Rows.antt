@@ -8,7 +8,7 @@ use Rattle.std.specs.Global.{Box, Global}
 use Rattle.std.proofs.lemmas.Option.{slice_get_past}
 use Rattle.std.proofs.lemmas.List.{set_past, length-append, length-replicate}
 use Rattle.star_store.specs.declared.values.Value.{Value}
-use Rattle.star_store.specs.declared.slots.Under.{Under}
+use Rattle.star_store.specs.declared.slots.DefaultLayer.{DefaultLayer}
 use Rattle.star_store.specs.Slots.{default_at, far_at, row, slot_at, under_at}
 
 -- ---- rows
@@ -47,7 +47,7 @@ pub row_beyond : {A : Type 0} (f : ℕ → A) (n at : ℕ) (x : A) → n ≤ at 
 row_beyond f n at x h = sym (set_past (row f n) at x (omega (arith, row_length f n)))
 
 -- a slot has the value that the row has for it
-pub row_near : (near : List (Option Value)) (far : Option (Box (BTreeMap ℕ Value))) (under : Option (Box Under)) (n at : ℕ) (v : Value)
+pub row_near : (near : List (Option Value)) (far : Option (Box (BTreeMap ℕ Value))) (under : Option (Box DefaultLayer)) (n at : ℕ) (v : Value)
     → at < n → option_flatten (slice_get near at) ≡ Some v
     → option_flatten (slice_get (row (slot_at near far under) n) at) ≡ Some v
 row_near near far under n at v h e =
@@ -85,9 +85,9 @@ pub row_unbound : (m n : ℕ) → row (slot_at (replicate m None) None None) n �
 row_unbound m n = row_all _ None n (λ i. ap (λ o. option_or o None) (room_unbound m i))
 
 -- if no slot was bound, and the slots are over defaults
-pub row_over : (near : List (Option Value)) (under : Box Under) (ranks : ArcSlice (Option ℕ) Global) (ds : List Value) (n : ℕ)
+pub row_over : (near : List (Option Value)) (under : Box DefaultLayer) (ranks : ArcSlice (Option ℕ) Global) (ds : List Value) (n : ℕ)
     → near ≡ [] → under.value ≡ record { ranks = ranks; defaults = ds } → row (slot_at near None (Some under)) n ≡ row (default_at (arc_slice_items ranks) ds) n
-row_over near under ranks ds n e h = row_same _ _ n (λ i. ap (λ xs. slot_at xs None (Some under) i) e ∙ ap (λ (u : Under). default_at (arc_slice_items u.ranks) u.defaults i) h)
+row_over near under ranks ds n e h = row_same _ _ n (λ i. ap (λ xs. slot_at xs None (Some under) i) e ∙ ap (λ (u : DefaultLayer). default_at (arc_slice_items u.ranks) u.defaults i) h)
 
 abbrev unbound : Option Value
 unbound = None
@@ -96,11 +96,11 @@ width : (near : List (Option Value)) (at : ℕ) → length near ≤ at → at < 
 width near at h = omega (arith, length-append near (replicate (at + 1 - length near) unbound), length-replicate (at + 1 - length near) unbound)
 
 -- the value of a slot that has none in the row
-abbrev rest : Option (Box (BTreeMap ℕ Value)) → Option (Box Under) → ℕ → Option Value
+abbrev rest : Option (Box (BTreeMap ℕ Value)) → Option (Box DefaultLayer) → ℕ → Option Value
 rest far under at = option_or (far_at far at) (under_at under at)
 
 -- a slot of the row gets a value, after room for it was made
-pub row_put_near : (near new : List (Option Value)) (far : Option (Box (BTreeMap ℕ Value))) (under : Option (Box Under)) (n at : ℕ) (v : Value)
+pub row_put_near : (near new : List (Option Value)) (far : Option (Box (BTreeMap ℕ Value))) (under : Option (Box DefaultLayer)) (n at : ℕ) (v : Value)
     → length near ≤ at → new ≡ set (near ++ replicate (at + 1 - length near) None) at (Some v)
     → set (row (slot_at near far under) n) at (Some v) ≡ row (slot_at new far under) n
 row_put_near near new far under n at v h put =
@@ -109,7 +109,7 @@ row_put_near near new far under n at v h put =
     (ap (λ xs. slot_at xs far under at) put ∙ ap (λ o. option_or (option_flatten o) (rest far under at)) (set_at wide at (Some v) (width near at h)))
     (λ i d. ap (λ xs. slot_at xs far under i) put ∙ ap (λ o. option_or (option_flatten o) (rest far under i)) (set_other wide at i (Some v) d) ∙ ap (λ o. option_or o (rest far under i)) (room near (at + 1 - length near) i))
 
-pub row_put_here : (near : List (Option Value)) (far : Option (Box (BTreeMap ℕ Value))) (under : Option (Box Under)) (n at : ℕ) (v : Value)
+pub row_put_here : (near : List (Option Value)) (far : Option (Box (BTreeMap ℕ Value))) (under : Option (Box DefaultLayer)) (n at : ℕ) (v : Value)
     → at < length near → set (row (slot_at near far under) n) at (Some v) ≡ row (slot_at (set near at (Some v)) far under) n
 row_put_here near far under n at v h =
     row_set _ _ n at (Some v)
@@ -123,7 +123,7 @@ apart : (i at : ℕ) (v : Value) (o : Option Value) → i ≢ at → (if nat_eq 
 apart i at v o d = grind (arith, d)
 
 -- a slot gets a value in the map
-pub row_put_far : (near : List (Option Value)) (old new : Option (Box (BTreeMap ℕ Value))) (under : Option (Box Under)) (n at : ℕ) (v : Value)
+pub row_put_far : (near : List (Option Value)) (old new : Option (Box (BTreeMap ℕ Value))) (under : Option (Box DefaultLayer)) (n at : ℕ) (v : Value)
     → length near ≤ at → ((i : ℕ) → far_at new i ≡ (if nat_eq i at then Some v else far_at old i))
     → set (row (slot_at near old under) n) at (Some v) ≡ row (slot_at near new under) n
 row_put_far near old new under n at v h put =
@@ -131,6 +131,6 @@ row_put_far near old new under n at v h put =
     (ap (λ o. option_or (option_flatten o) (rest new under at)) (slice_get_past near at h) ∙ ap (λ o. option_or o (under_at under at)) (put at ∙ here at v (far_at old at)))
     (λ i d. ap (λ o. option_or (option_flatten (slice_get near i)) (option_or o (under_at under i))) (put i ∙ apart i at v (far_at old i) d))
 
-pub row_kept : (near : List (Option Value)) (old new : Option (Box (BTreeMap ℕ Value))) (under : Option (Box Under)) (n : ℕ)
+pub row_kept : (near : List (Option Value)) (old new : Option (Box (BTreeMap ℕ Value))) (under : Option (Box DefaultLayer)) (n : ℕ)
     → ((i : ℕ) → far_at new i ≡ far_at old i) → row (slot_at near new under) n ≡ row (slot_at near old under) n
 row_kept near old new under n kept = row_same _ _ n (λ i. ap (λ o. option_or (option_flatten (slice_get near i)) (option_or o (under_at under i))) (kept i))

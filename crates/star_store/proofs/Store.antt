@@ -3,22 +3,22 @@ use Rattle.std.proofs.Common.{◌≡◌, ℕ, zero, suc, ◌-◌, ◌<◌, ◌�
 use Rattle.std.specs.Option.{option_map, option_copied}
 use Rattle.std.proofs.lemmas.Option.{slice_get-map}
 use Rattle.std.proofs.lemmas.List.{map-append, map-set, length-map}
-use Rattle.star_store.specs.declared.values.Counted.{Counted}
+use Rattle.star_store.specs.declared.values.HeapCell.{HeapCell}
 use Rattle.star_store.specs.declared.arena.Frozen.{Frozen}
 use Rattle.star_store.specs.Store.{changed_at}
 
-pub changed_in : (f : Counted → Counted) (cells : List Counted) (at : ℕ) (e : Counted) → at < length cells → e ≡ get_or cells at e → changed_at f cells at ≡ set cells at (f e)
+pub changed_in : (f : HeapCell → HeapCell) (cells : List HeapCell) (at : ℕ) (e : HeapCell) → at < length cells → e ≡ get_or cells at e → changed_at f cells at ≡ set cells at (f e)
 changed_in f [] at e h k = absurd (omega arith)
 changed_in f (x ∷ xs) zero e h k = ap (λ y. f y ∷ xs) (sym k)
 changed_in f (x ∷ xs) (suc at) e h k = ap (λ ys. x ∷ ys) (changed_in f xs at e (omega arith) k)
 
-pub changed_out : (f : Counted → Counted) (cells : List Counted) (at : ℕ) → length cells ≤ at → changed_at f cells at ≡ cells
+pub changed_out : (f : HeapCell → HeapCell) (cells : List HeapCell) (at : ℕ) → length cells ≤ at → changed_at f cells at ≡ cells
 changed_out f [] at h = refl
 changed_out f (x ∷ xs) zero h = absurd (omega arith)
 changed_out f (x ∷ xs) (suc at) h = ap (λ ys. x ∷ ys) (changed_out f xs at (omega arith))
 
 -- a write of one cell's new entry is the change of that cell
-pub written : (f : Counted → Counted) (cells : List Counted) (at : ℕ) (e e' : Counted) → at < length cells → e ≡ get_or cells at e → e' ≡ f e → set cells at e' ≡ changed_at f cells at
+pub written : (f : HeapCell → HeapCell) (cells : List HeapCell) (at : ℕ) (e e' : HeapCell) → at < length cells → e ≡ get_or cells at e → e' ≡ f e → set cells at e' ≡ changed_at f cells at
 written f cells at e e' h k q = ap (set cells at) q ∙ sym (changed_in f cells at e h k)
 
 map_replicate : {A B : Type 0} (f : A → B) (n : ℕ) (x : A) → map f (replicate n x) ≡ replicate n (f x)

@@ -12,7 +12,7 @@ use Rattle.star_store.specs.declared.values.Value.{Value}
 use Rattle.star_store.specs.declared.values.Value.TheVariants as value
 use Rattle.star_store.specs.declared.values.Cell.{Cell}
 use Rattle.star_store.specs.declared.values.Cell.TheVariants as cell
-use Rattle.star_store.specs.declared.values.Counted.{Counted}
+use Rattle.star_store.specs.declared.values.HeapCell.{HeapCell}
 use Rattle.star_store.specs.declared.content.Atom.{Atom}
 use Rattle.star_store.specs.declared.content.Atom.TheVariants as atom
 use Rattle.star_store.specs.Content.{content, content_cell, content_each, join, same_atom, same_content}
@@ -100,14 +100,14 @@ unfolding content
 missing look zero home at h = refl
 missing look (suc n) home at h = ap (content_cell (content look n)) h
 
-closed_at : (home : ℕ) (cells : List Counted) (at : ℕ) (c : Cell) → is_closed home cells ≡ true → cell_at cells at ≡ Some c → is_closed_cell home c ≡ true
+closed_at : (home : ℕ) (cells : List HeapCell) (at : ℕ) (c : Cell) → is_closed home cells ≡ true → cell_at cells at ≡ Some c → is_closed_cell home c ≡ true
 closed_at home [] at c h e = cc
 closed_at home (d ∷ cells) zero c h e =
     let q : d.cell ≡ c = cc in
     ap (is_closed_cell home) (sym q) ∙ and_left (is_closed_cell home d.cell) (is_closed home cells) h
 closed_at home (d ∷ cells) (suc at) c h e = closed_at home cells at c (and_right (is_closed_cell home d.cell) (is_closed home cells) h) e
 
-module _ (home : ℕ) (cells : List Counted) (look later : Value → Option Cell) (h : Shows look home cells) (k : Shows later home cells) (c : is_closed home cells ≡ true) where
+module _ (home : ℕ) (cells : List HeapCell) (look later : Value → Option Cell) (h : Shows look home cells) (k : Shows later home cells) (c : is_closed home cells ≡ true) where
   Alike : ℕ → Type 0
   Alike n = (at : ℕ) → content look n (value.Ref home at) ≡ content later n (value.Ref home at)
 
@@ -145,11 +145,11 @@ module _ (home : ℕ) (cells : List Counted) (look later : Value → Option Cell
       ∙ cell_alike n (contents_alike_at n) (cell_at cells at) (λ d e. closed_at home cells at d c e)
       ∙ ap (content_cell (content later n)) (sym (k at))
 
-past : (cells : List Counted) (at : ℕ) → length cells ≤ at → cell_at cells at ≡ None
-past cells at h = ap (option_map (λ (e : Counted). e.cell)) (slice_get_past cells at h)
+past : (cells : List HeapCell) (at : ℕ) → length cells ≤ at → cell_at cells at ≡ None
+past cells at h = ap (option_map (λ (e : HeapCell). e.cell)) (slice_get_past cells at h)
 
 -- rows that have all keys of a store are right beside all other stores
-pub rows_right : (look : Value → Option Cell) (home : ℕ) (cells : List Counted) (count : ℕ) (contents : List (List Atom)) (rows : List (List ℕ)) → Shows look home cells → is_closed home cells ≡ true → count ≡ length cells → AreRowsUpTo look home count contents rows → AreRows home cells contents rows
+pub rows_right : (look : Value → Option Cell) (home : ℕ) (cells : List HeapCell) (count : ℕ) (contents : List (List Atom)) (rows : List (List ℕ)) → Shows look home cells → is_closed home cells ≡ true → count ≡ length cells → AreRowsUpTo look home count contents rows → AreRows home cells contents rows
 unfolding Alike
 rows_right look home cells count contents rows h c e r later k atoms at =
     r atoms at ∙ ap (λ (n : ℕ). nat_lt at n && same_content (Some atoms) (content look key_levels (value.Ref home at))) e ∙ by (nat_lt at (length cells)) refl
@@ -388,7 +388,7 @@ from_next look atoms homes i d index place more next l f g =
     ∙ sym (from_step look atoms homes i (get_or homes i d) index place l (same_default homes i d l))
 
 -- a store's row
-pub found_row : (look : Value → Option Cell) (atoms : List Atom) (home thome : ℕ) (cells tcells : List Counted) (row : List ℕ) → thome ≡ home → tcells ≡ cells → Shows look home cells → ((later : Value → Option Cell) → Shows later thome tcells → IsRow later atoms thome row) → IsRow look atoms home row
+pub found_row : (look : Value → Option Cell) (atoms : List Atom) (home thome : ℕ) (cells tcells : List HeapCell) (row : List ℕ) → thome ≡ home → tcells ≡ cells → Shows look home cells → ((later : Value → Option Cell) → Shows later thome tcells → IsRow later atoms thome row) → IsRow look atoms home row
 found_row look atoms home thome cells tcells row e f h r =
     subst (λ (n : ℕ). IsRow look atoms n row) e (r look (subst (λ (n : ℕ). Shows look n tcells) (sym e) (subst (Shows look home) (sym f) h)))
 

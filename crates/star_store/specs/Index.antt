@@ -8,7 +8,7 @@ use Rattle.star_store.specs.declared.values.Value.{Value}
 use Rattle.star_store.specs.declared.values.Value.TheVariants as value
 use Rattle.star_store.specs.declared.values.Cell.{Cell}
 use Rattle.star_store.specs.declared.values.Cell.TheVariants as cell
-use Rattle.star_store.specs.declared.values.Counted.{Counted}
+use Rattle.star_store.specs.declared.values.HeapCell.{HeapCell}
 use Rattle.star_store.specs.declared.content.Atom.{Atom}
 use Rattle.star_store.specs.declared.content.Atom.TheVariants as atom
 use Rattle.star_store.specs.declared.arena.write.Change.{Change}
@@ -55,7 +55,7 @@ abbrev pub place_told : (Value → Option Cell) → List Atom → List (List Ato
 place_told look atoms index = position (λ k. pointwise same_atom atoms k || is_far look atoms k) index
 
 -- a file's values lead to these cells
-abbrev pub Shows : (Value → Option Cell) → ℕ → List Counted → Type 0
+abbrev pub Shows : (Value → Option Cell) → ℕ → List HeapCell → Type 0
 Shows look home cells = (at : ℕ) → look (value.Ref home at) ≡ cell_at cells at
 
 -- an index is one of a dictionary, beside other stores

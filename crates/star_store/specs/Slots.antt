@@ -6,7 +6,7 @@ use Rattle.std.specs.BTreeMap.{BTreeMap, get_by}
 use Rattle.std.specs.Ordering.{nat_cmp}
 use Rattle.std.specs.Global.{Box}
 use Rattle.star_store.specs.declared.values.Value.{Value}
-use Rattle.star_store.specs.declared.slots.Under.{Under}
+use Rattle.star_store.specs.declared.slots.DefaultLayer.{DefaultLayer}
 
 -- the value that a map has for a slot, if there is a map
 abbrev pub far_at : Option (Box (BTreeMap ℕ Value)) → ℕ → Option Value
@@ -18,12 +18,12 @@ abbrev pub default_at : List (Option ℕ) → List Value → ℕ → Option Valu
 default_at ranks defaults at = option_and_then (λ rank. slice_get defaults rank) (option_flatten (slice_get ranks at))
 
 -- the default that is under a slot, if the slots are over defaults
-abbrev pub under_at : Option (Box Under) → ℕ → Option Value
+abbrev pub under_at : Option (Box DefaultLayer) → ℕ → Option Value
 under_at None at = None
 under_at (Some under) at = default_at (arc_slice_items under.value.ranks) under.value.defaults at
 
 -- the value of a slot: that of the row, or else that of the map, or else the default under it
-abbrev pub slot_at : List (Option Value) → Option (Box (BTreeMap ℕ Value)) → Option (Box Under) → ℕ → Option Value
+abbrev pub slot_at : List (Option Value) → Option (Box (BTreeMap ℕ Value)) → Option (Box DefaultLayer) → ℕ → Option Value
 slot_at near far under at =
     option_or (option_flatten (slice_get near at)) (option_or (far_at far at) (under_at under at))
 

@@ -8,16 +8,16 @@ use Rattle.star_store.specs.declared.values.Value.{Value}
 use Rattle.star_store.specs.declared.values.Value.TheVariants as value
 use Rattle.star_store.specs.declared.values.Cell.{Cell}
 use Rattle.star_store.specs.declared.values.Cell.TheVariants as cell
-use Rattle.star_store.specs.declared.values.Counted.{Counted}
+use Rattle.star_store.specs.declared.values.HeapCell.{HeapCell}
 
 -- a module's file, and the cells that it has made, in order
 pub record Store : Type 0 where
   pub home : ℕ
-  pub cells : List Counted
+  pub cells : List HeapCell
 
 -- a published module: its cells, and its globals with their names, which nothing changes any more
 pub record Published : Type 0 where
-  pub cells : List Counted
+  pub cells : List HeapCell
   pub globals : List (List ℕ × Value)
 
 -- the published modules that a running one reaches, each at the place of its file's number
@@ -25,17 +25,17 @@ abbrev pub Shelf : Type 0
 Shelf = List (Option Published)
 
 -- the cells of a place of the shelf
-abbrev pub published_cells : Option (Option Published) → List Counted
+abbrev pub published_cells : Option (Option Published) → List HeapCell
 published_cells None = []
 published_cells (Some None) = []
 published_cells (Some (Some p)) = p.cells
 
 -- the cells of a file: the running module's own, or those of a published one
-abbrev pub cells_of : Store → Shelf → ℕ → List Counted
+abbrev pub cells_of : Store → Shelf → ℕ → List HeapCell
 cells_of s shelf home = if nat_eq home s.home then s.cells else published_cells (slice_get shelf home)
 
 -- the cell that a value leads to, with its open iterations
-abbrev pub counted_at : Store → Shelf → Value → Option Counted
+abbrev pub counted_at : Store → Shelf → Value → Option HeapCell
 counted_at s shelf (value.Ref home at) = slice_get (cells_of s shelf home) at
 counted_at s shelf _ = None
 
@@ -52,13 +52,13 @@ abbrev pub made : Cell → Store → Store
 made c s = record s { cells = s.cells ++ record { iterations = 0; cell = c } ∷ [] }
 
 -- the cells with one of them changed
-abbrev pub changed_at : (Counted → Counted) → List Counted → ℕ → List Counted
+abbrev pub changed_at : (HeapCell → HeapCell) → List HeapCell → ℕ → List HeapCell
 changed_at f [] at = []
 changed_at f (e ∷ es) zero = f e ∷ es
 changed_at f (e ∷ es) (suc at) = e ∷ changed_at f es at
 
 -- the store with a cell of its own changed; another value's cell is left as it is
-abbrev pub changed : (Counted → Counted) → Value → Store → Store
+abbrev pub changed : (HeapCell → HeapCell) → Value → Store → Store
 changed f (value.Ref home at) s = if nat_eq home s.home then record s { cells = changed_at f s.cells at } else s
 changed f _ s = s
 
@@ -83,11 +83,11 @@ is_container (cell.Dict es) = true
 is_container _ = false
 
 -- one iteration more is open, if the cell is a list or a dictionary
-abbrev pub opened_in : Counted → Counted
+abbrev pub opened_in : HeapCell → HeapCell
 opened_in e = if is_container e.cell then record e { iterations = e.iterations + 1 } else e
 
 -- one less
-abbrev pub closed_in : Counted → Counted
+abbrev pub closed_in : HeapCell → HeapCell
 closed_in e = if is_container e.cell then record e { iterations = e.iterations - 1 } else e
 
 -- opens an iteration of a list or dictionary of the module's own
@@ -99,7 +99,7 @@ abbrev pub closed : Value → Store → Store
 closed v s = changed closed_in v s
 
 -- the iterations that are open on a list or a dictionary
-abbrev pub iterations_in : Option Counted → ℕ
+abbrev pub iterations_in : Option HeapCell → ℕ
 iterations_in None = 0
 iterations_in (Some e) = if is_container e.cell then e.iterations else 0
 

@@ -6,7 +6,7 @@ use Rattle.star_store.specs.declared.values.Value.{Value}
 use Rattle.star_store.specs.declared.values.Value.TheVariants as value
 use Rattle.star_store.specs.declared.values.Cell.{Cell}
 use Rattle.star_store.specs.declared.values.Cell.TheVariants as cell
-use Rattle.star_store.specs.declared.values.Counted.{Counted}
+use Rattle.star_store.specs.declared.values.HeapCell.{HeapCell}
 use Rattle.star_store.specs.declared.content.Atom.{Atom}
 use Rattle.star_store.specs.declared.content.Atom.TheVariants as atom
 use Rattle.star_store.specs.Content.{content, same_atom, same_content}
@@ -24,7 +24,7 @@ is_closed_cell home (cell.Tuple xs) = list_all (is_home home) xs
 is_closed_cell home _ = true
 
 -- no tuple of a store has a value that another file made
-abbrev pub is_closed : ℕ → List Counted → Bool
+abbrev pub is_closed : ℕ → List HeapCell → Bool
 is_closed home cells = list_all (λ e. is_closed_cell home e.cell) cells
 
 -- whether an address is in a row
@@ -56,7 +56,7 @@ AreRowsUpTo look home count contents rows = (atoms : List Atom) (at : ℕ) → h
     ≡ (nat_lt at count && same_content (Some atoms) (content look key_levels (value.Ref home at)))
 
 -- the rows of a table are right wherever a file's values lead to these cells
-abbrev pub AreRows : ℕ → List Counted → List (List Atom) → List (List ℕ) → Type 0
+abbrev pub AreRows : ℕ → List HeapCell → List (List Atom) → List (List ℕ) → Type 0
 AreRows home cells contents rows = (look : Value → Option Cell) → Shows look home cells → (atoms : List Atom)
     → IsRow look atoms home (row_by contents rows atoms)
 

@@ -6,7 +6,7 @@ use Rattle.star_store.specs.declared.values.Value.{Value}
 use Rattle.star_store.specs.declared.values.Value.TheVariants as value
 use Rattle.star_store.specs.declared.values.Cell.{Cell}
 use Rattle.star_store.specs.declared.values.Cell.TheVariants as cell
-use Rattle.star_store.specs.declared.values.Counted.{Counted}
+use Rattle.star_store.specs.declared.values.HeapCell.{HeapCell}
 use Rattle.star_store.specs.declared.arena.write.Change.{Change}
 use Rattle.star_store.specs.declared.arena.write.Change.TheVariants as change
 use Rattle.star_store.specs.declared.fault.StoreFault.{StoreFault}
@@ -116,12 +116,12 @@ change_cell c place (Some (cell.Dict es)) = in_cell cell.Dict (change_entries c 
 change_cell c place _ = Err BadType
 
 -- the cell at an address
-abbrev pub cell_at : List Counted → ℕ → Option Cell
+abbrev pub cell_at : List HeapCell → ℕ → Option Cell
 cell_at cells at = option_map (λ e. e.cell) (slice_get cells at)
 
 -- an answer with the cell back among its cells
-abbrev pub in_cells : List Counted → ℕ → Result (Option Value × Cell) StoreFault
-    → Result (Option Value × List Counted) StoreFault
+abbrev pub in_cells : List HeapCell → ℕ → Result (Option Value × Cell) StoreFault
+    → Result (Option Value × List HeapCell) StoreFault
 in_cells cells at (Ok r) = Ok (r.0, changed_at (λ e. record e { cell = r.1 }) cells at)
 in_cells cells at (Err f) = Err f
 

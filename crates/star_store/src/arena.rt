@@ -18,7 +18,7 @@ use crate::globals::{ascend, global_among, global_in};
 use crate::key_index::KeyIndex;
 use crate::seed::SeededState;
 use crate::table::TableSlot;
-use crate::values::{Cell, Counted, Value};
+use crate::values::{Cell, HeapCell, Value};
 use std::alloc::{AllocError, Global};
 use std::marker::Model;
 
@@ -28,7 +28,7 @@ use std::marker::Model;
 pub struct Arena {
     alloc: Global,
     home: u32,
-    cells: Vec<Counted>,
+    cells: Vec<HeapCell>,
     rows: Vec<Option<Box<KeyIndex>>>,
     state: SeededState,
     /// How many entries may still be gone through to make indexes.
@@ -51,7 +51,7 @@ impl Model for Arena {
 #[derive(Drop)]
 pub struct Frozen {
     home: u32,
-    cells: Vec<Counted>,
+    cells: Vec<HeapCell>,
     rows: Vec<Option<Box<KeyIndex>>>,
     table: Option<TableSlot>,
     globals: Vec<(String, Value)>,
@@ -120,7 +120,7 @@ impl<'a> Homes<'a> {
     }
 
     /// The cells of a published module, or none.
-    fn cells(&self, home: u32) -> &[Counted]
+    fn cells(&self, home: u32) -> &[HeapCell]
         ensures { result.now ≡ published_cells (slice_get self.now home) }
     {
         match self.stores.get(home as usize) {
@@ -172,7 +172,7 @@ impl Arena {
             Cell::Dict(entries) => entries.len(),
             _ => 0,
         };
-        self.cells.push(Counted {
+        self.cells.push(HeapCell {
             iterations: 0,
             cell,
         })?;
@@ -181,7 +181,7 @@ impl Arena {
     }
 
     /// The cell that a value leads to, with its open iterations.
-    fn counted<'a>(&'a self, homes: &'a Homes, value: Value) -> Option<&'a Counted>
+    fn counted<'a>(&'a self, homes: &'a Homes, value: Value) -> Option<&'a HeapCell>
         ensures { option_copied result ≡ counted_at self.now homes.now value }
     {
         match value {
@@ -352,7 +352,7 @@ fn near_in(cell: &Cell, slot: usize) -> Option<Value>
 }
 
 #[tactic(auto, using(crate::proofs::Store::changed_in, crate::proofs::Store::changed_out))]
-fn bind_at(cells: &mut [Counted], at: u32, slot: usize, value: Value) -> Result<(), AllocError>
+fn bind_at(cells: &mut [HeapCell], at: u32, slot: usize, value: Value) -> Result<(), AllocError>
     ensures bound { OnOk result (cells.new
         ≡ changed_at (λ e. record e { cell = bound_cell slot value e.cell }) cells.old at) }
     ensures refused { OnErr result (cells.new ≡ cells.old) }
@@ -364,7 +364,7 @@ fn bind_at(cells: &mut [Counted], at: u32, slot: usize, value: Value) -> Result<
     Ok(())
 }
 
-fn bind_in(counted: &mut Counted, slot: usize, value: Value) -> Result<(), AllocError>
+fn bind_in(counted: &mut HeapCell, slot: usize, value: Value) -> Result<(), AllocError>
     ensures bound { OnOk result (counted.new ≡ record counted.old { cell = bound_cell slot value counted.old.cell }) }
     ensures refused { OnErr result (counted.new ≡ counted.old) }
 {
@@ -375,7 +375,7 @@ fn bind_in(counted: &mut Counted, slot: usize, value: Value) -> Result<(), Alloc
 }
 
 #[tactic(auto, using(crate::proofs::Store::changed_in, crate::proofs::Store::changed_out))]
-fn open_at(cells: &mut [Counted], at: u32)
+fn open_at(cells: &mut [HeapCell], at: u32)
     requires { iterations_in (slice_get cells.old at) + 1 < 2 ^ 32 }
     ensures { cells.new ≡ changed_at opened_in cells.old at }
 {
@@ -384,7 +384,7 @@ fn open_at(cells: &mut [Counted], at: u32)
     }
 }
 
-fn open_in(counted: &mut Counted)
+fn open_in(counted: &mut HeapCell)
     requires { iterations_in (Some counted.old) + 1 < 2 ^ 32 }
     ensures { counted.new ≡ opened_in counted.old }
 {
@@ -394,7 +394,7 @@ fn open_in(counted: &mut Counted)
 }
 
 #[tactic(auto, using(crate::proofs::Store::changed_in, crate::proofs::Store::changed_out))]
-fn close_at(cells: &mut [Counted], at: u32)
+fn close_at(cells: &mut [HeapCell], at: u32)
     ensures { cells.new ≡ changed_at closed_in cells.old at }
 {
     if (at as usize) < cells.len() {
@@ -402,7 +402,7 @@ fn close_at(cells: &mut [Counted], at: u32)
     }
 }
 
-fn close_in(counted: &mut Counted)
+fn close_in(counted: &mut HeapCell)
     ensures { counted.new ≡ closed_in counted.old }
 {
     if is_container(&counted.cell) && counted.iterations > 0 {

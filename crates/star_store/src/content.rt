@@ -269,7 +269,7 @@ fn put_content<'a>(
     }
     match value {
         Value::Ref { .. } => match arena.read(homes, value) {
-            Some(Cell::Tuple(items)) => put_row(arena, homes, levels - 1, items, atoms),
+            Some(Cell::Tuple(items)) => put_index(arena, homes, levels - 1, items, atoms),
             _ => put_atom(arena, homes, value, atoms),
         },
         _ => put_atom(arena, homes, value, atoms),
@@ -297,7 +297,7 @@ fn put_atom(
 /// Adds how many items there are and then their contents, and says whether all have one.
 #[cycle(put_content)]
 #[tactic(auto, using(crate::proofs::Contents::row_added))]
-fn put_row<'a>(
+fn put_index<'a>(
     arena: &'a Arena,
     homes: &'a Homes<'a>,
     levels: u32,

@@ -1,4 +1,4 @@
-//! `Roomy`: a vector that can have free places at its front, so that the first item is taken out, and another put
+//! `FrontGapVec`: a vector that can have free places at its front, so that the first item is taken out, and another put
 //! before it, without a move of the others.
 //!
 //! So `pop(0)`, `insert(0, x)`, `popitem()` and `pop` of the first key move nothing. A ring (`VecDeque`) would not do,
@@ -15,12 +15,12 @@ const FEW: usize = 16;
 
 /// Items in a vector, of which the first few are gone: their places are free.
 #[derive(Drop)]
-pub struct Roomy<T> {
+pub struct FrontGapVec<T> {
     items: Vec<T>,
     gone: usize,
 }
 
-impl<T> Model for Roomy<T> {
+impl<T> Model for FrontGapVec<T> {
     ghost Value = { List T };
 
     ghost view = { λ r. drop r.gone r.items.items };
@@ -28,12 +28,12 @@ impl<T> Model for Roomy<T> {
     ghost invariant = { λ r. r.gone ≤ length r.items.items };
 }
 
-impl<T: Copy> Roomy<T> {
+impl<T: Copy> FrontGapVec<T> {
     /// These items, with no free place.
-    pub fn new(items: Vec<T>) -> Roomy<T>
+    pub fn new(items: Vec<T>) -> FrontGapVec<T>
         ensures { result ≡ items.items }
     {
-        Roomy { items, gone: 0 }
+        FrontGapVec { items, gone: 0 }
     }
 
     /// The items.

@@ -32,12 +32,12 @@ pub struct Slots {
     count: usize,
     near: Vec<Option<Value>>,
     far: Option<Box<BTreeMap<usize, Value>>>,
-    under: Option<Box<Under>>,
+    under: Option<Box<DefaultLayer>>,
 }
 
 /// The layer of defaults below the slots, and for each slot the number of its default, if it has one.
 #[derive(Drop)]
-struct Under {
+struct DefaultLayer {
     ranks: ArcSlice<Option<usize>>,
     defaults: Defaults,
 }
@@ -81,7 +81,7 @@ impl Slots {
     ) -> Result<Slots, AllocError>
         ensures { IfOk result (λ slots. slots ≡ row (default_at (arc_slice_items ranks) defaults) count) }
     {
-        let under = Box::new(alloc, Under { ranks, defaults })?;
+        let under = Box::new(alloc, DefaultLayer { ranks, defaults })?;
         Ok(Slots {
             alloc,
             count,
@@ -150,7 +150,7 @@ fn near_at(near: &[Option<Value>], at: usize) -> Option<Value>
 fn slot_at(
     near: &[Option<Value>],
     far: &Option<Box<BTreeMap<usize, Value>>>,
-    under: &Option<Box<Under>>,
+    under: &Option<Box<DefaultLayer>>,
     at: usize,
 ) -> Option<Value>
     ensures { result ≡ slot_at near.now far.now under.now at }
@@ -175,7 +175,7 @@ fn far_at(far: &Option<Box<BTreeMap<usize, Value>>>, at: usize) -> Option<Value>
 }
 
 /// The default under a slot.
-fn under_at(under: &Option<Box<Under>>, at: usize) -> Option<Value>
+fn under_at(under: &Option<Box<DefaultLayer>>, at: usize) -> Option<Value>
     ensures { result ≡ under_at under.now at }
 {
     let Some(under) = under else {

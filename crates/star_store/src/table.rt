@@ -14,7 +14,7 @@ ghost use Rattle.star_store.specs.declared.values.Cell.{Cell as AnyCell};
 use crate::content::KeyContent;
 use crate::index::Index;
 use crate::seed::SeededState;
-use crate::values::Counted;
+use crate::values::HeapCell;
 use boxcar::slot::{OnceSlot, SlotRule, Written};
 use boxcar::tag::{Names, Tag};
 use std::alloc::{AllocError, Global};
@@ -23,7 +23,7 @@ use std::snapshot::Snapshot;
 use std::sync::atomic::{AtomicUsize, Ordering};
 
 /// What shows which cells are meant.
-pub(crate) type Cells = Written<Snapshot<Vec<Counted>>>;
+pub(crate) type Cells = Written<Snapshot<Vec<HeapCell>>>;
 
 /// The addresses of the keys that have one content: mostly one, which takes no memory of its own.
 #[derive(Drop)]
@@ -158,7 +158,7 @@ type Found = Option<Table>;
 /// A snapshot may be of any cells.
 struct OfAny;
 
-impl SlotRule<Snapshot<Vec<Counted>>> for OfAny {
+impl SlotRule<Snapshot<Vec<HeapCell>>> for OfAny {
     ghost holds = { λ _ _. Unit {0} };
 }
 
@@ -188,7 +188,7 @@ pub(crate) struct TableSlot {
 
 impl Model for TableSlot {
     ghost use Rattle.std.specs.Prelude.{◌≡◌, ◌∷◌, [], List};
-    ghost use Rattle.star_store.specs.declared.values.Counted.{Counted as AnyCounted};
+    ghost use Rattle.star_store.specs.declared.values.HeapCell.{HeapCell as AnyCounted};
 
     ghost Value = { List AnyCounted };
 
@@ -199,10 +199,10 @@ impl Model for TableSlot {
 
 impl TableSlot {
     /// A place for the table of these cells.
-    pub(crate) fn new(cells: &Vec<Counted>) -> Option<TableSlot>
+    pub(crate) fn new(cells: &Vec<HeapCell>) -> Option<TableSlot>
         ensures { IfSome result (λ slot. slot ≡ cells.now.items) }
     {
-        let snapshots: OnceSlot<Snapshot<Vec<Counted>>, OfAny> = OnceSlot::new(&Tag::empty());
+        let snapshots: OnceSlot<Snapshot<Vec<HeapCell>>, OfAny> = OnceSlot::new(&Tag::empty());
         let Ok(cells) = snapshots.set_written(Snapshot::of(cells)) else {
             return None;
         };

@@ -17,7 +17,7 @@ ghost use Rattle.std.specs.List.{insert, remove};
 use crate::defaults::Defaults;
 use crate::names::{BuiltIn, Method};
 use crate::range::Range;
-use crate::roomy::Roomy;
+use crate::roomy::FrontGapVec;
 use crate::slots::Slots;
 use sqlite_items::Boxed;
 use star_text::Text;
@@ -38,7 +38,7 @@ pub enum Value {
 /// A row of values: the items of a list or a tuple.
 #[derive(Drop)]
 pub struct Values {
-    items: Roomy<Value>,
+    items: FrontGapVec<Value>,
 }
 
 impl Model for Values {
@@ -53,7 +53,7 @@ impl Model for Values {
 /// The entries of a dictionary, in the order in which their keys were put in.
 #[derive(Drop)]
 pub struct Entries {
-    pairs: Roomy<(Value, Value)>,
+    pairs: FrontGapVec<(Value, Value)>,
 }
 
 impl Model for Entries {
@@ -140,7 +140,7 @@ pub enum Cell {
 
 /// A cell, and the number of iterations that are open on it.
 #[derive(Drop)]
-pub struct Counted {
+pub struct HeapCell {
     pub iterations: u32,
     pub cell: Cell,
 }
@@ -151,7 +151,7 @@ impl Values {
         ensures { result ≡ items.items }
     {
         Values {
-            items: Roomy::new(items),
+            items: FrontGapVec::new(items),
         }
     }
 
@@ -223,7 +223,7 @@ impl Entries {
         ensures { result ≡ [] }
     {
         Entries {
-            pairs: Roomy::new(Vec::new(alloc)),
+            pairs: FrontGapVec::new(Vec::new(alloc)),
         }
     }
 
@@ -232,7 +232,7 @@ impl Entries {
         ensures { IfOk result (λ entries. entries ≡ []) }
     {
         Ok(Entries {
-            pairs: Roomy::new(Vec::with_capacity(alloc, capacity)?),
+            pairs: FrontGapVec::new(Vec::with_capacity(alloc, capacity)?),
         })
     }
 

@@ -3,11 +3,11 @@ use Rattle.std.proofs.Common.{◌≡◌, ℕ, zero, suc, ◌<◌, ◌≤◌, Lis
 use Rattle.std.proofs.Math.ListN.{get_or}
 use Rattle.std.specs.Borrow.{Bor}
 use Rattle.std.specs.declared.alloc.AllocError.{AllocError}
-use Rattle.star_lex.specs.declared.token.Sign.TheVariants as s
+use Rattle.star_lex.specs.declared.token.Punctuator.TheVariants as s
 use Rattle.star_lex.specs.declared.token.Keyword.TheVariants as k
-use Rattle.star_syntax.specs.declared.leaf.Word.{Word}
-use Rattle.star_syntax.specs.declared.leaf.Word.TheVariants as word
-use Rattle.star_syntax.specs.declared.leaf.Leaf.{Leaf}
+use Rattle.star_syntax.specs.declared.leaf.TokenValue.{TokenValue}
+use Rattle.star_syntax.specs.declared.leaf.TokenValue.TheVariants as word
+use Rattle.star_syntax.specs.declared.leaf.ValuedToken.{ValuedToken}
 use Rattle.star_syntax.specs.declared.level.Level.{Level}
 use Rattle.star_syntax.specs.declared.level.Level.TheVariants as levels
 use Rattle.star_syntax.specs.declared.level.Suffix.TheVariants as suffixes
@@ -15,7 +15,7 @@ use Rattle.star_tree.specs.declared.tree.Position.{Position}
 use Rattle.star_tree.specs.declared.tree.Expression.{Expression}
 use Rattle.star_syntax.specs.Sorts.{Sort, Val, maybe}
 use Rattle.star_syntax.specs.Sorts as sorts
-use Rattle.star_syntax.specs.Grammar.{G, one, seq, alt, fold, act, the, Answer, Knot, level, run, rounds, step, and_then, or_else, before_rest, first}
+use Rattle.star_syntax.specs.Grammar.{G, one, seq, alt, fold, act, the, Answer, Readers, level, run, rounds, step, and_then, or_else, before_rest, first}
 use Rattle.star_syntax.specs.Alone.{ReadAlone}
 use Rattle.star_syntax.specs.Expressions.{right_of, after, before, opt, sign_, keyword_, keyword_at, is_keyword, unary_word, comparator_word, atom_of, atom, with_suffix, name, given, in_brackets, parentheses, list_display, dict_display, operand, lambda_of, lambda_parameters, lambda, a_test, attribute, call, subscript, suffix, primary, unary_of, unary_operator, signed, unary, binary_of, binary_operator, climb, round_at, bit_or, not_in_of, comparator, compared, comparison_of, comparison, denied_of, denied, negation, and_of, next_negation, conjunction, or_of, next_conjunction, disjunction, choice, conditional_of, conditional, any_test}
 use Rattle.star_syntax.specs.Language.{Gives, rule, rule_of_level}
@@ -25,51 +25,51 @@ use Rattle.star_syntax.proofs.Rounds.{rest}
 
 -- ---- how the parts of a part read
 
-abbrev or-nothing : (a : Sort) → List Leaf → Answer (Val (maybe a)) → Answer (Val (maybe a))
+abbrev or-nothing : (a : Sort) → List ValuedToken → Answer (Val (maybe a)) → Answer (Val (maybe a))
 or-nothing a ts q = or_else q (Some (None, ts))
 
-module _ (knot : Knot) where
-  act-none' : {a : Sort} (b : Sort) (f : Val a → Val b) (g : G a) (ts : List Leaf) → step knot g ts ≡ None → step knot (act f g) ts ≡ None
+module _ (knot : Readers) where
+  act-none' : {a : Sort} (b : Sort) (f : Val a → Val b) (g : G a) (ts : List ValuedToken) → step knot g ts ≡ None → step knot (act f g) ts ≡ None
   act-none' b f g ts n = ap (λ r. and_then r (λ x us. Some (f x, us))) n
 
-  act-some' : {a : Sort} (b : Sort) (f : Val a → Val b) (g : G a) (ts us : List Leaf) (x : Val a) → step knot g ts ≡ Some (x, us) → step knot (act f g) ts ≡ Some (f x, us)
+  act-some' : {a : Sort} (b : Sort) (f : Val a → Val b) (g : G a) (ts us : List ValuedToken) (x : Val a) → step knot g ts ≡ Some (x, us) → step knot (act f g) ts ≡ Some (f x, us)
   act-some' b f g ts us x d = ap (λ r. and_then r (λ x us. Some (f x, us))) d
 
-  seq-none : {a b : Sort} (g : G a) (h : G b) (ts : List Leaf) → step knot g ts ≡ None → step knot (seq g h) ts ≡ None
+  seq-none : {a b : Sort} (g : G a) (h : G b) (ts : List ValuedToken) → step knot g ts ≡ None → step knot (seq g h) ts ≡ None
   seq-none g h ts n = ap (λ r. and_then r (λ x us. and_then (step knot h us) (λ y vs. Some ((x, y), vs)))) n
 
-  seq-some' : {a b : Sort} (g : G a) (h : G b) (ts us vs : List Leaf) (x : Val a) (y : Val b) → step knot g ts ≡ Some (x, us) → step knot h us ≡ Some (y, vs) → step knot (seq g h) ts ≡ Some ((x, y), vs)
+  seq-some' : {a b : Sort} (g : G a) (h : G b) (ts us vs : List ValuedToken) (x : Val a) (y : Val b) → step knot g ts ≡ Some (x, us) → step knot h us ≡ Some (y, vs) → step knot (seq g h) ts ≡ Some ((x, y), vs)
   seq-some' g h ts us vs x y d e =
       ap (λ r. and_then r (λ x us. and_then (step knot h us) (λ y vs. Some ((x, y), vs)))) d
       ∙ ap (λ r. and_then r (λ y vs. Some ((x, y), vs))) e
 
-  after-none : {a b : Sort} (g : G a) (h : G b) (ts : List Leaf) → step knot g ts ≡ None → step knot (after g h) ts ≡ None
+  after-none : {a b : Sort} (g : G a) (h : G b) (ts : List ValuedToken) → step knot g ts ≡ None → step knot (after g h) ts ≡ None
   after-none {b = b} g h ts n = act-none' b right_of (seq g h) ts (seq-none g h ts n)
 
-  alt-one : {a : Sort} (g h : G a) (ts : List Leaf) (p : Val a × List Leaf) → step knot g ts ≡ Some p → step knot (alt g h) ts ≡ Some p
+  alt-one : {a : Sort} (g h : G a) (ts : List ValuedToken) (p : Val a × List ValuedToken) → step knot g ts ≡ Some p → step knot (alt g h) ts ≡ Some p
   alt-one g h ts p d = ap (λ r. or_else r (step knot h ts)) d
 
-  alt-other : (a : Sort) (g h : G a) (ts : List Leaf) (r : Answer (Val a)) → step knot g ts ≡ None → step knot h ts ≡ r → step knot (alt g h) ts ≡ r
+  alt-other : (a : Sort) (g h : G a) (ts : List ValuedToken) (r : Answer (Val a)) → step knot g ts ≡ None → step knot h ts ≡ r → step knot (alt g h) ts ≡ r
   alt-other a g h ts r n d = ap (λ q. or_else q (step knot h ts)) n ∙ d
 
-  opt-none : {a : Sort} (g : G a) (ts : List Leaf) → step knot g ts ≡ None → step knot (opt g) ts ≡ Some (None, ts)
+  opt-none : {a : Sort} (g : G a) (ts : List ValuedToken) → step knot g ts ≡ None → step knot (opt g) ts ≡ Some (None, ts)
   opt-none {a = a} g ts n = ap (or-nothing a ts) (act-none' (maybe a) Some g ts n)
 
-  fold-rest : {a b : Sort} (f : Val a → Val b → Val a) (g : G a) (h : G b) (ts us : List Leaf) (x : Val a) → step knot g ts ≡ Some (x, us) → step knot h us ≡ None → step knot (fold f g h) ts ≡ Some (x, us)
+  fold-rest : {a b : Sort} (f : Val a → Val b → Val a) (g : G a) (h : G b) (ts us : List ValuedToken) (x : Val a) → step knot g ts ≡ Some (x, us) → step knot h us ≡ None → step knot (fold f g h) ts ≡ Some (x, us)
   fold-rest f g h ts us x d n =
       ap (λ r. and_then r (λ x us. rounds f (step knot h) (length us) x us)) d ∙ rest f (step knot h) (length us) x us n
 
 -- ---- an atom, and the word that ends it
 
 -- a word that is an operand by itself
-pub record IsAtom (p : Position) (w : Word) (x : Expression) : Type 0 where
+pub record IsAtom (p : Position) (w : TokenValue) (x : Expression) : Type 0 where
   pub atom' : atom_of p w ≡ Some x
   pub sign : unary_word w ≡ None
   pub denial : is_keyword k.Not w ≡ None
   pub lambda' : is_keyword k.Lambda w ≡ None
 
-module _ (knot : Knot) (t u : Leaf) (us : List Leaf) (x : Expression) (a : IsAtom t.position t.word x) (e : QuietWord u.word) where
-  abbrev All : List Leaf
+module _ (knot : Readers) (t u : ValuedToken) (us : List ValuedToken) (x : Expression) (a : IsAtom t.position t.word x) (e : QuietWord u.word) where
+  abbrev All : List ValuedToken
   All = t ∷ u ∷ us
 
   abbrev IsRead : Answer Expression → Type 0
@@ -172,12 +172,12 @@ no-atom : (x : Expression) → None ≡ Some x → ⊥
 no-atom x e = cc
 
 -- an atom is one of three words
-is-atom : (p : Position) (w : Word) (x : Expression) → atom_of p w ≡ Some x → IsAtom p w x
+is-atom : (p : Position) (w : TokenValue) (x : Expression) → atom_of p w ≡ Some x → IsAtom p w x
 is-atom p (word.Name text) x e = record { atom' = e; sign = refl; denial = refl; lambda' = refl }
 is-atom p (word.Int value) x e = record { atom' = e; sign = refl; denial = refl; lambda' = refl }
 is-atom p (word.Text text) x e = record { atom' = e; sign = refl; denial = refl; lambda' = refl }
 is-atom p (word.Keyword keyword) x e = absurd (no-atom x e)
-is-atom p (word.Sign sign) x e = absurd (no-atom x e)
+is-atom p (word.Punctuator sign) x e = absurd (no-atom x e)
 is-atom p word.Newline x e = absurd (no-atom x e)
 is-atom p word.Indent x e = absurd (no-atom x e)
 is-atom p word.Outdent x e = absurd (no-atom x e)
@@ -187,29 +187,29 @@ abbrev value-or : Expression → Answer Expression → Expression
 value-or y None = y
 value-or y (Some p) = p.0
 
-abbrev rest-or : List Leaf → Answer Expression → List Leaf
+abbrev rest-or : List ValuedToken → Answer Expression → List ValuedToken
 rest-or vs None = vs
 rest-or vs (Some p) = p.1
 
-nothing-found : (us : List Leaf) (x : Expression) → before_rest None us ≡ Some (x, us) → ⊥
+nothing-found : (us : List ValuedToken) (x : Expression) → before_rest None us ≡ Some (x, us) → ⊥
 nothing-found us x e = cc
 
-found : (o : Option Expression) (vs us : List Leaf) (x : Expression) → before_rest o vs ≡ Some (x, us) → (o ≡ Some x) × (vs ≡ us)
+found : (o : Option Expression) (vs us : List ValuedToken) (x : Expression) → before_rest o vs ≡ Some (x, us) → (o ≡ Some x) × (vs ≡ us)
 found None vs us x e = absurd (nothing-found us x e)
 found (Some y) vs us x e = (ap (λ r. Some (value-or y r)) e, ap (rest-or vs) e)
 
-read-below : (t u : Leaf) (us vs : List Leaf) (x : Expression) → EndsBefore u.word → (atom_of t.position t.word ≡ Some x) × (u ∷ us ≡ vs)
+read-below : (t u : ValuedToken) (us vs : List ValuedToken) (x : Expression) → EndsBefore u.word → (atom_of t.position t.word ≡ Some x) × (u ∷ us ≡ vs)
     → (depth : ℕ) (l : Level) → run rule (suc depth) (level l) (t ∷ u ∷ us) ≡ Some (x, vs)
 unfolding run
 read-below t u us vs x ends f depth l =
     level-read (run rule depth) t u us x (is-atom t.position t.word x f.0) (quiet-word u.word ends) l ∙ ap (λ r. Some (x, r)) f.1
 
-read-at : (t u : Leaf) (us vs : List Leaf) (x : Expression) → EndsBefore u.word → (atom_of t.position t.word ≡ Some x) × (u ∷ us ≡ vs)
+read-at : (t u : ValuedToken) (us vs : List ValuedToken) (x : Expression) → EndsBefore u.word → (atom_of t.position t.word ≡ Some x) × (u ∷ us ≡ vs)
     → (depth : ℕ) (l : Level) → 0 < depth → run rule depth (level l) (t ∷ u ∷ us) ≡ Some (x, vs)
 read-at t u us vs x ends f zero l some = absurd (omega (arith, some))
 read-at t u us vs x ends f (suc depth) l some = read-below t u us vs x ends f depth l
 
-pub read_alone : (ts : List Leaf) (u : Leaf) (r : Result (Option (Expression × Bor (List Leaf))) AllocError)
+pub read_alone : (ts : List ValuedToken) (u : ValuedToken) (r : Result (Option (Expression × Bor (List ValuedToken))) AllocError)
     → 2 ≤ length ts → u ≡ get_or ts 1 u → EndsBefore u.word → Gives (first (λ t. atom_of t.position t.word) ts) r → ReadAlone ts r
 read_alone [] u r long is ends given = absurd (omega (arith, long))
 read_alone (t ∷ []) u r long is ends given = absurd (omega (arith, long))

@@ -1,8 +1,8 @@
 -- Each part of the grammar of expressions reads values in order, if the parts that hold themselves do.
 use Rattle.std.proofs.Common.{◌≡◌, ℕ, zero, suc, Bool, true, false, List, [], ◌∷◌, Option, Some, None, refl, subst}
 use Rattle.std.specs.Prelude.{if◌then◌else◌}
-use Rattle.star_syntax.specs.declared.leaf.Word.{Word}
-use Rattle.star_syntax.specs.declared.leaf.Word.TheVariants as word
+use Rattle.star_syntax.specs.declared.leaf.TokenValue.{TokenValue}
+use Rattle.star_syntax.specs.declared.leaf.TokenValue.TheVariants as word
 use Rattle.star_syntax.specs.declared.level.Level.{Level}
 use Rattle.star_syntax.specs.declared.level.Level.TheVariants as levels
 use Rattle.star_syntax.specs.declared.level.Suffix.{Suffix}
@@ -16,7 +16,7 @@ use Rattle.star_tree.specs.declared.tree.Entry.{Entry}
 use Rattle.star_tree.specs.declared.tree.Expression.{Expression}
 use Rattle.star_syntax.specs.Sorts.{Val, both, maybe, list}
 use Rattle.star_syntax.specs.Sorts as sorts
-use Rattle.star_syntax.specs.Grammar.{level, the, Knot}
+use Rattle.star_syntax.specs.Grammar.{level, the, Readers}
 use Rattle.star_syntax.specs.Keeps.{keep, arguments_in_order, parameters_in_order}
 use Rattle.star_syntax.specs.Expressions.{StopAndStride, atom_of, tuple_unless_one, parentheses_of, list_of, dict_of, comparison_of, conditional_of, subscript_of, with_suffix, parameter_of, star_of, next_test, list_of_tests, tests, next_primary, list_of_primaries, primaries, targets, for_clause, if_clause, next_clause, further_clauses, all_clauses, inside, parentheses, further_tests, after_element, elements, list_display, entry, next_entry, further_entries, after_entry, entries, dict_display, atom, operand, named, argument, next_argument, list_of_arguments, ordered_arguments, given, default, named_parameter, star, star_star, parameter, next_parameter, list_of_parameters, ordered_parameters, taken, parameters_in_parentheses, lambda_parameters, lambda, attribute, call, stride, stop_and_stride, after_start, from_test, in_brackets, subscript, suffix, primary, signed, unary, climb, bit_or, compared, comparison, denied, negation, next_negation, conjunction, next_conjunction, disjunction, choice, conditional, any_test}
 use Rattle.star_syntax.proofs.Kept.{OfExpression, OfArgument, OfParameter, OfTarget, OfClause, OfClauses, OfEntry, Given, Taken, of-Name, of-Int, of-Text, of-Tuple, of-List, of-Dict, of-ListComprehension, of-DictComprehension, of-Unary, of-Binary, of-Compare, of-And, of-Or, of-Conditional, of-Lambda, of-Call, of-Attribute, of-Index, of-Slice, of-Positional, of-Named, of-StarArgument, of-StarStarArgument, of-Plain, of-Default, of-StarParameter, of-BareStar, of-StarStarParameter, of-For, of-If, of-clauses, of-entry}
@@ -64,12 +64,12 @@ a-dict (at, None) k = of-Dict [] tt
 a-dict (at, Some (x, (None, more))) k = of-Dict (x ∷ more) (k.1.0, k.1.1.1)
 a-dict (at, Some (x, (Some c, more))) k = of-DictComprehension at x c k.1.0 k.1.1.0
 
-an-atom : (at : Position) (w : Word) (x : Expression) → atom_of at w ≡ Some x → OfExpression x
+an-atom : (at : Position) (w : TokenValue) (x : Expression) → atom_of at w ≡ Some x → OfExpression x
 an-atom at (word.Name text) x e = subst OfExpression (same_some _ x e) (of-Name _)
 an-atom at (word.Int value) x e = subst OfExpression (same_some _ x e) (of-Int value)
 an-atom at (word.Text text) x e = subst OfExpression (same_some _ x e) (of-Text text)
 an-atom at (word.Keyword keyword) x e = absurd (nothing-found x e)
-an-atom at (word.Sign sign) x e = absurd (nothing-found x e)
+an-atom at (word.Punctuator sign) x e = absurd (nothing-found x e)
 an-atom at word.Newline x e = absurd (nothing-found x e)
 an-atom at word.Indent x e = absurd (nothing-found x e)
 an-atom at word.Outdent x e = absurd (nothing-found x e)
@@ -114,7 +114,7 @@ ordered test P xs ys k e = let p = passed test xs ys e in subst (λ zs. (test zs
 
 -- ---- productions
 
-module _ (k : Knot) (m : (l : Level) → Makes k sorts.expression (the (level l)) OfExpression) where
+module _ (k : Readers) (m : (l : Level) → Makes k sorts.expression (the (level l)) OfExpression) where
   next-test : Makes k _ next_test OfExpression
   unfolding next_test
   next-test = makes-after k (m levels.Test)

@@ -1,12 +1,12 @@
 -- The reading of each form of expression, from the readings of its parts.
 use Rattle.std.proofs.Common.{◌≡◌, ℕ, List, [], ◌∷◌, Some, None, refl}
-use Rattle.star_lex.specs.declared.token.Sign.{Sign}
-use Rattle.star_lex.specs.declared.token.Sign.TheVariants as s
+use Rattle.star_lex.specs.declared.token.Punctuator.{Punctuator}
+use Rattle.star_lex.specs.declared.token.Punctuator.TheVariants as s
 use Rattle.star_lex.specs.declared.token.Keyword.{Keyword}
 use Rattle.star_lex.specs.declared.token.Keyword.TheVariants as k
-use Rattle.star_syntax.specs.declared.leaf.Word.{Word}
-use Rattle.star_syntax.specs.declared.leaf.Word.TheVariants as word
-use Rattle.star_syntax.specs.declared.leaf.Leaf.{Leaf}
+use Rattle.star_syntax.specs.declared.leaf.TokenValue.{TokenValue}
+use Rattle.star_syntax.specs.declared.leaf.TokenValue.TheVariants as word
+use Rattle.star_syntax.specs.declared.leaf.ValuedToken.{ValuedToken}
 use Rattle.star_syntax.specs.declared.level.Level.TheVariants as levels
 use Rattle.star_syntax.specs.declared.level.Suffix.TheVariants as suffixes
 use Rattle.star_tree.specs.declared.tree.Position.{Position}
@@ -27,7 +27,7 @@ use Rattle.star_syntax.proofs.Quiet.{BeginsNone, suffix-none, test-none}
 
 -- ---- words between parts
 
-pub after_binary : (p : Position) (sign : Sign) {operator : BinaryOperator} (ts : List Leaf) → IsBinary sign operator → Reads rule _ suffix (mark p sign ∷ ts) None
+pub after_binary : (p : Position) (sign : Punctuator) {operator : BinaryOperator} (ts : List ValuedToken) → IsBinary sign operator → Reads rule _ suffix (mark p sign ∷ ts) None
 unfolding same_sign
 after_binary p sign ts times = suffix-none (record { dot = refl; paren = refl; bracket = refl })
 after_binary p sign ts divided = suffix-none (record { dot = refl; paren = refl; bracket = refl })
@@ -40,7 +40,7 @@ after_binary p sign ts bits-and = suffix-none (record { dot = refl; paren = refl
 after_binary p sign ts bits-xor = suffix-none (record { dot = refl; paren = refl; bracket = refl })
 after_binary p sign ts bits-or = suffix-none (record { dot = refl; paren = refl; bracket = refl })
 
-pub after_comparator : (p : Position) (w : Word) {c : Comparator} (ts : List Leaf) → IsComparator w c → Reads rule _ suffix (record { word = w; position = p } ∷ ts) None
+pub after_comparator : (p : Position) (w : TokenValue) {c : Comparator} (ts : List ValuedToken) → IsComparator w c → Reads rule _ suffix (record { word = w; position = p } ∷ ts) None
 unfolding same_sign
 after_comparator p w ts equal = suffix-none (record { dot = refl; paren = refl; bracket = refl })
 after_comparator p w ts unequal = suffix-none (record { dot = refl; paren = refl; bracket = refl })
@@ -50,7 +50,7 @@ after_comparator p w ts at-most = suffix-none (record { dot = refl; paren = refl
 after_comparator p w ts at-least = suffix-none (record { dot = refl; paren = refl; bracket = refl })
 after_comparator p w ts contained = suffix-none (record { dot = refl; paren = refl; bracket = refl })
 
-pub no_sign_of_comparator : (p : Position) (w : Word) {c : Comparator} (ts : List Leaf) → IsComparator w c → (i : ℕ) → Reads rule _ (binary_operator i) (record { word = w; position = p } ∷ ts) None
+pub no_sign_of_comparator : (p : Position) (w : TokenValue) {c : Comparator} (ts : List ValuedToken) → IsComparator w c → (i : ℕ) → Reads rule _ (binary_operator i) (record { word = w; position = p } ∷ ts) None
 no_sign_of_comparator p w ts equal i = miss refl
 no_sign_of_comparator p w ts unequal i = miss refl
 no_sign_of_comparator p w ts less i = miss refl
@@ -59,7 +59,7 @@ no_sign_of_comparator p w ts at-most i = miss refl
 no_sign_of_comparator p w ts at-least i = miss refl
 no_sign_of_comparator p w ts contained i = miss refl
 
-pub compares : (p : Position) (w : Word) (c : Comparator) (ts : List Leaf) → IsComparator w c → Reads rule _ comparator (record { word = w; position = p } ∷ ts) (Some (c, ts))
+pub compares : (p : Position) (w : TokenValue) (c : Comparator) (ts : List ValuedToken) → IsComparator w c → Reads rule _ comparator (record { word = w; position = p } ∷ ts) (Some (c, ts))
 unfolding comparator
 compares p w c ts equal = alt-first (hit refl)
 compares p w c ts unequal = alt-first (hit refl)
@@ -69,20 +69,20 @@ compares p w c ts at-most = alt-first (hit refl)
 compares p w c ts at-least = alt-first (hit refl)
 compares p w c ts contained = alt-first (hit refl)
 
-pub not_in : (p q : Position) (ts : List Leaf) → Reads rule _ comparator (spelt p k.Not ∷ spelt q k.In ∷ ts) (Some (comparators.NotIn, ts))
+pub not_in : (p q : Position) (ts : List ValuedToken) → Reads rule _ comparator (spelt p k.Not ∷ spelt q k.In ∷ ts) (Some (comparators.NotIn, ts))
 unfolding comparator same_keyword
 not_in p q ts = alt-second (miss refl) (act-some {x = (tt, tt)} (seq-some (hit refl) (hit refl)))
 
-pub after_keyword : (p : Position) (keyword : Keyword) (ts : List Leaf) → Reads rule _ suffix (spelt p keyword ∷ ts) None
+pub after_keyword : (p : Position) (keyword : Keyword) (ts : List ValuedToken) → Reads rule _ suffix (spelt p keyword ∷ ts) None
 after_keyword p keyword ts = suffix-none (record { dot = refl; paren = refl; bracket = refl })
 
-pub no_sign : (p : Position) (keyword : Keyword) (ts : List Leaf) (i : ℕ) → Reads rule _ (binary_operator i) (spelt p keyword ∷ ts) None
+pub no_sign : (p : Position) (keyword : Keyword) (ts : List ValuedToken) (i : ℕ) → Reads rule _ (binary_operator i) (spelt p keyword ∷ ts) None
 no_sign p keyword ts i = miss refl
 
 -- ---- forms
 
-module _ {ts vs us : List Leaf} {x y : Expression} where
-  pub compared-of : (c : Comparator) {ws : List Leaf} → Reads rule _ bit_or ts (Some (x, vs)) → Reads rule _ comparator vs (Some (c, ws)) → Reads rule _ bit_or ws (Some (y, us)) → Reads rule _ comparison ts (Some (e.Compare c x y, us))
+module _ {ts vs us : List ValuedToken} {x y : Expression} where
+  pub compared-of : (c : Comparator) {ws : List ValuedToken} → Reads rule _ bit_or ts (Some (x, vs)) → Reads rule _ comparator vs (Some (c, ws)) → Reads rule _ bit_or ws (Some (y, us)) → Reads rule _ comparison ts (Some (e.Compare c x y, us))
   unfolding comparison compared
   compared-of c d f g = act-some {x = (x, Some (c, y))} (seq-some d (alt-first (act-some (seq-some f g))))
 
@@ -94,7 +94,7 @@ module _ {ts vs us : List Leaf} {x y : Expression} where
   unfolding disjunction next_conjunction same_keyword
   or-of p d f n = fold-some d (more {y = y} (act-some {x = (tt, y)} (seq-some (hit refl) f)) (stop n))
 
-  pub choice-of : (p q : Position) {ws : List Leaf} {z : Expression} → Reads rule _ disjunction ts (Some (x, spelt p k.If ∷ vs)) → Reads rule _ disjunction vs (Some (y, spelt q k.Else ∷ ws)) → Reads rule _ (the (level levels.Test)) ws (Some (z, us))
+  pub choice-of : (p q : Position) {ws : List ValuedToken} {z : Expression} → Reads rule _ disjunction ts (Some (x, spelt p k.If ∷ vs)) → Reads rule _ disjunction vs (Some (y, spelt q k.Else ∷ ws)) → Reads rule _ (the (level levels.Test)) ws (Some (z, us))
       → Reads rule _ conditional ts (Some (e.Conditional y x z, us))
   unfolding conditional choice same_keyword
   choice-of p q {ws = ws} {z = z} d f g = act-some {x = (x, Some (y, z))} (seq-some d (alt-first (act-some (act-some {x = (tt, (y, z))} (seq-some (hit refl) (seq-some f (act-some {x = (tt, z)} (seq-some (hit refl) g))))))))
@@ -108,8 +108,8 @@ module _ {ts vs us : List Leaf} {x y : Expression} where
       (alt-first (act-some {x = (y, (None, []))} (seq-some f (alt-second (act-none (act-none (seq-first (miss refl)))) (act-some {x = []} (fold-some (act-some {x = tt} free) (stop (act-none (seq-first (miss refl)))))))))) (hit refl)))))))
       (stop n))
 
-module _ {ts us : List Leaf} {x : Expression} where
-  pub sign-of : (p : Position) (sign : Sign) (operator : UnaryOperator) → IsUnary sign operator → Reads rule _ unary ts (Some (x, us)) → Reads rule _ unary (mark p sign ∷ ts) (Some (e.Unary operator x, us))
+module _ {ts us : List ValuedToken} {x : Expression} where
+  pub sign-of : (p : Position) (sign : Punctuator) (operator : UnaryOperator) → IsUnary sign operator → Reads rule _ unary ts (Some (x, us)) → Reads rule _ unary (mark p sign ∷ ts) (Some (e.Unary operator x, us))
   unfolding unary signed
   sign-of p sign operator positive d = alt-first (act-some {x = (unaries.Plus, x)} (seq-some (hit refl) (itself {r = level levels.Unary} d)))
   sign-of p sign operator negative d = alt-first (act-some {x = (unaries.Minus, x)} (seq-some (hit refl) (itself {r = level levels.Unary} d)))
@@ -132,50 +132,50 @@ module _ {ts us : List Leaf} {x : Expression} where
 -- ---- displays
 
 -- nothing begins with a closing sign
-pub no-paren : BeginsNone (word.Sign s.RightParen)
+pub no-paren : BeginsNone (word.Punctuator s.RightParen)
 unfolding same_sign same_keyword
 no-paren = record { lambda' = refl; denial = refl; sign = refl; atom' = λ p. refl; paren = refl; bracket = refl; brace = refl }
 
-pub no-bracket : BeginsNone (word.Sign s.RightBracket)
+pub no-bracket : BeginsNone (word.Punctuator s.RightBracket)
 unfolding same_sign same_keyword
 no-bracket = record { lambda' = refl; denial = refl; sign = refl; atom' = λ p. refl; paren = refl; bracket = refl; brace = refl }
 
-pub no-test-after : (p : Position) (w : Word) (ts : List Leaf) → is_sign s.Comma w ≡ None → Reads rule _ next_test (record { word = w; position = p } ∷ ts) None
+pub no-test-after : (p : Position) (w : TokenValue) (ts : List ValuedToken) → is_sign s.Comma w ≡ None → Reads rule _ next_test (record { word = w; position = p } ∷ ts) None
 unfolding next_test
 no-test-after p w ts n = act-none (seq-first (miss n))
 
-pub last-comma : (p q : Position) (ts : List Leaf) → Reads rule _ next_test (mark p s.Comma ∷ mark q s.RightParen ∷ ts) None
+pub last-comma : (p q : Position) (ts : List ValuedToken) → Reads rule _ next_test (mark p s.Comma ∷ mark q s.RightParen ∷ ts) None
 unfolding next_test same_sign
-last-comma p q ts = act-none (seq-second {x = tt} (hit refl) (test-none q (word.Sign s.RightParen) ts no-paren))
+last-comma p q ts = act-none (seq-second {x = tt} (hit refl) (test-none q (word.Punctuator s.RightParen) ts no-paren))
 
-pub next-test-of : {ts us : List Leaf} {x : Expression} (p : Position) → Reads rule _ (the (level levels.Test)) ts (Some (x, us)) → Reads rule _ next_test (mark p s.Comma ∷ ts) (Some (x, us))
+pub next-test-of : {ts us : List ValuedToken} {x : Expression} (p : Position) → Reads rule _ (the (level levels.Test)) ts (Some (x, us)) → Reads rule _ next_test (mark p s.Comma ∷ ts) (Some (x, us))
 unfolding next_test same_sign
 next-test-of {x = x} p d = act-some {x = (tt, x)} (seq-some (hit refl) d)
 
-pub no-clauses : (p : Position) (w : Word) (ts : List Leaf) → is_keyword k.For w ≡ None → Reads rule _ all_clauses (record { word = w; position = p } ∷ ts) None
+pub no-clauses : (p : Position) (w : TokenValue) (ts : List ValuedToken) → is_keyword k.For w ≡ None → Reads rule _ all_clauses (record { word = w; position = p } ∷ ts) None
 unfolding all_clauses for_clause
 no-clauses p w ts n = act-none (seq-first (act-none (seq-first (miss n))))
 
-abbrev pub Tests : List Expression → List Leaf → List Expression → List Leaf → Type 0
+abbrev pub Tests : List Expression → List ValuedToken → List Expression → List ValuedToken → Type 0
 Tests found ts all us = Rounds rule (sorts.list sorts.expression) sorts.expression snoc next_test found ts (all, us)
 
-pub empty-tuple-of : (p q : Position) (us : List Leaf) → Reads rule _ operand (mark p s.LeftParen ∷ mark q s.RightParen ∷ us) (Some (e.Tuple [], us))
+pub empty-tuple-of : (p q : Position) (us : List ValuedToken) → Reads rule _ operand (mark p s.LeftParen ∷ mark q s.RightParen ∷ us) (Some (e.Tuple [], us))
 unfolding operand atom parentheses inside list_of_tests same_sign
 empty-tuple-of p q us = alt-second (miss refl) (alt-first (act-some {x = (tt, e.Tuple [])} (seq-some (hit refl) (act-some {x = None} (act-some {x = (None, tt)} (seq-some
-    (alt-second (act-none (seq-first (fold-none (act-none (test-none q (word.Sign s.RightParen) us no-paren))))) (act-some {x = tt} free)) (hit refl)))))))
+    (alt-second (act-none (seq-first (fold-none (act-none (test-none q (word.Punctuator s.RightParen) us no-paren))))) (act-some {x = tt} free)) (hit refl)))))))
 
-pub tuple-of : {ts vs us : List Leaf} {x : Expression} {xs : List Expression} (p q r : Position) → Reads rule _ (the (level levels.Test)) ts (Some (x, vs)) → Tests (x ∷ []) vs xs (mark q s.Comma ∷ mark r s.RightParen ∷ us)
+pub tuple-of : {ts vs us : List ValuedToken} {x : Expression} {xs : List Expression} (p q r : Position) → Reads rule _ (the (level levels.Test)) ts (Some (x, vs)) → Tests (x ∷ []) vs xs (mark q s.Comma ∷ mark r s.RightParen ∷ us)
     → Reads rule _ operand (mark p s.LeftParen ∷ ts) (Some (e.Tuple xs, us))
 unfolding operand atom parentheses inside list_of_tests same_sign
 tuple-of {x = x} {xs = xs} p q r d f = alt-second (miss refl) (alt-first (act-some {x = (tt, e.Tuple xs)} (seq-some (hit refl) (act-some {x = Some (xs, Some tt)} (act-some {x = (Some (xs, Some tt), tt)} (seq-some
     (alt-first (act-some {x = (xs, Some tt)} (seq-some (fold-some (act-some {x = x} d) f) (alt-first (act-some {x = tt} (hit refl)))))) (hit refl)))))))
 
-pub empty-list-of : (p q : Position) (us : List Leaf) → Reads rule _ operand (mark p s.LeftBracket ∷ mark q s.RightBracket ∷ us) (Some (e.List [], us))
+pub empty-list-of : (p q : Position) (us : List ValuedToken) → Reads rule _ operand (mark p s.LeftBracket ∷ mark q s.RightBracket ∷ us) (Some (e.List [], us))
 unfolding operand atom parentheses list_display elements same_sign
 empty-list-of p q us = alt-second (miss refl) (alt-second (act-none (seq-first (miss refl))) (alt-first (act-some {x = (p, None)} (seq-some (hit refl) (act-some {x = (None, tt)} (seq-some
-    (alt-second (act-none (seq-first (test-none q (word.Sign s.RightBracket) us no-bracket))) (act-some {x = tt} free)) (hit refl)))))))
+    (alt-second (act-none (seq-first (test-none q (word.Punctuator s.RightBracket) us no-bracket))) (act-some {x = tt} free)) (hit refl)))))))
 
-pub list-of : {ts vs us : List Leaf} {x : Expression} {xs : List Expression} (p q : Position) → Reads rule _ (the (level levels.Test)) ts (Some (x, vs)) → Reads rule _ all_clauses vs None → Tests [] vs xs (mark q s.RightBracket ∷ us)
+pub list-of : {ts vs us : List ValuedToken} {x : Expression} {xs : List Expression} (p q : Position) → Reads rule _ (the (level levels.Test)) ts (Some (x, vs)) → Reads rule _ all_clauses vs None → Tests [] vs xs (mark q s.RightBracket ∷ us)
     → Reads rule _ operand (mark p s.LeftBracket ∷ ts) (Some (e.List (x ∷ xs), us))
 unfolding operand atom parentheses list_display elements after_element further_tests same_sign
 list-of {x = x} {xs = xs} p q d n f = alt-second (miss refl) (alt-second (act-none (seq-first (miss refl))) (alt-first (act-some {x = (p, Some (x, (None, xs)))} (seq-some (hit refl) (act-some {x = (Some (x, (None, xs)), tt)} (seq-some

@@ -4,7 +4,7 @@ use Rattle.star_syntax.specs.declared.level.Level.{Level}
 use Rattle.star_syntax.specs.declared.level.Level.TheVariants as levels
 use Rattle.star_syntax.specs.Sorts.{Sort, Val, list}
 use Rattle.star_syntax.specs.Sorts as sorts
-use Rattle.star_syntax.specs.Grammar.{Rule, level, statement, sort, the, Knot, run}
+use Rattle.star_syntax.specs.Grammar.{Rule, level, statement, sort, the, Readers, run}
 use Rattle.star_syntax.specs.Language.{rule, rule_of_level}
 use Rattle.star_syntax.specs.InOrder.{statement_in_order, ReadInOrder, TreeInOrder, ReadIsWritten}
 use Rattle.star_syntax.proofs.Ranks.{rank}
@@ -21,17 +21,17 @@ abbrev OfRule : (r : Rule) → Val (sort r) → Type 0
 OfRule (level l) = OfExpression
 OfRule statement = Each OfStatement
 
-abbrev Keeps : Knot → Type 0
+abbrev Keeps : Readers → Type 0
 Keeps k = (r : Rule) → Makes k (sort r) (the r) (OfRule r)
 
-of-level : (k : Knot) → Keeps k → (l : Level) → Makes k sorts.expression (rule_of_level l) OfExpression
+of-level : (k : Readers) → Keeps k → (l : Level) → Makes k sorts.expression (rule_of_level l) OfExpression
 of-level k keeps levels.Test = test' k (λ l. keeps (level l))
 of-level k keeps levels.Or = disjunction' k (λ l. keeps (level l))
 of-level k keeps levels.Negation = negation' k (λ l. keeps (level l))
 of-level k keeps levels.Unary = unary' k (λ l. keeps (level l))
 of-level k keeps levels.Primary = primary' k (λ l. keeps (level l))
 
-of-rule : (k : Knot) → Keeps k → (r : Rule) → Makes k (sort r) (rule r) (OfRule r)
+of-rule : (k : Readers) → Keeps k → (r : Rule) → Makes k (sort r) (rule r) (OfRule r)
 of-rule k keeps (level l) = of-level k keeps l
 of-rule k keeps statement = one-statement k (λ l. keeps (level l)) (keeps statement)
 

@@ -1,11 +1,11 @@
 -- From each level of the grammar of expressions up to the loosest, if nothing more is read after.
 use Rattle.std.proofs.Common.{◌≡◌, ℕ, suc, List, ◌∷◌, Some, None, refl}
-use Rattle.star_lex.specs.declared.token.Sign.{Sign}
-use Rattle.star_lex.specs.declared.token.Sign.TheVariants as s
+use Rattle.star_lex.specs.declared.token.Punctuator.{Punctuator}
+use Rattle.star_lex.specs.declared.token.Punctuator.TheVariants as s
 use Rattle.star_lex.specs.declared.token.Keyword.TheVariants as k
-use Rattle.star_syntax.specs.declared.leaf.Word.{Word}
-use Rattle.star_syntax.specs.declared.leaf.Word.TheVariants as word
-use Rattle.star_syntax.specs.declared.leaf.Leaf.{Leaf}
+use Rattle.star_syntax.specs.declared.leaf.TokenValue.{TokenValue}
+use Rattle.star_syntax.specs.declared.leaf.TokenValue.TheVariants as word
+use Rattle.star_syntax.specs.declared.leaf.ValuedToken.{ValuedToken}
 use Rattle.star_syntax.specs.declared.level.Level.TheVariants as levels
 use Rattle.star_tree.specs.declared.tree.Position.{Position}
 use Rattle.star_tree.specs.declared.tree.BinaryOperator.{BinaryOperator}
@@ -19,20 +19,20 @@ use Rattle.star_syntax.specs.Written.{IsBinary, times, divided, modulo, plus, mi
 use Rattle.star_syntax.proofs.Quiet.{Quiet, unplaced}
 
 -- no sign, `not` or `lambda` is in front
-pub record Front (ts : List Leaf) : Type 0 where
+pub record Front (ts : List ValuedToken) : Type 0 where
   pub unsigned : Reads rule _ signed ts None
   pub undenied : Reads rule _ denied ts None
   pub unbound : Reads rule _ lambda ts None
 
-pub front : (p : Position) (w : Word) (ts : List Leaf) → unary_word w ≡ None → is_keyword k.Not w ≡ None → is_keyword k.Lambda w ≡ None → Front (record { word = w; position = p } ∷ ts)
+pub front : (p : Position) (w : TokenValue) (ts : List ValuedToken) → unary_word w ≡ None → is_keyword k.Not w ≡ None → is_keyword k.Lambda w ≡ None → Front (record { word = w; position = p } ∷ ts)
 unfolding signed denied lambda
 front p w ts a b c = record { unsigned = act-none (seq-first (miss a)); undenied = act-none (act-none (seq-first (miss b))); unbound = act-none (seq-first (miss (unplaced p (is_keyword k.Lambda w) c))) }
 
-pub in_front : (p : Position) (ts : List Leaf) → Front (record { word = word.Sign s.LeftParen; position = p } ∷ ts)
+pub in_front : (p : Position) (ts : List ValuedToken) → Front (record { word = word.Punctuator s.LeftParen; position = p } ∷ ts)
 unfolding same_sign same_keyword
-in_front p ts = front p (word.Sign s.LeftParen) ts refl refl refl
+in_front p ts = front p (word.Punctuator s.LeftParen) ts refl refl refl
 
-module _ {ts us : List Leaf} {x : Expression} where
+module _ {ts us : List ValuedToken} {x : Expression} where
   pub primary-of : Reads rule _ operand ts (Some (x, us)) → Reads rule _ suffix us None → Reads rule _ primary ts (Some (x, us))
   unfolding primary
   primary-of d n = fold-some d (stop n)
@@ -126,14 +126,14 @@ module _ {ts us : List Leaf} {x : Expression} where
 
 -- ---- one sign between two operands
 
-one-round : {ts vs us : List Leaf} {x y : Expression} (n : ℕ) (p : Position) (sign : Sign) (operator : BinaryOperator) → binary_word n (word.Sign sign) ≡ Some operator
-    → Reads rule _ (climb n) ts (Some (x, record { word = word.Sign sign; position = p } ∷ vs)) → Reads rule _ (climb n) vs (Some (y, us)) → Reads rule _ (binary_operator n) us None
+one-round : {ts vs us : List ValuedToken} {x y : Expression} (n : ℕ) (p : Position) (sign : Punctuator) (operator : BinaryOperator) → binary_word n (word.Punctuator sign) ≡ Some operator
+    → Reads rule _ (climb n) ts (Some (x, record { word = word.Punctuator sign; position = p } ∷ vs)) → Reads rule _ (climb n) vs (Some (y, us)) → Reads rule _ (binary_operator n) us None
     → Reads rule _ (climb (suc n)) ts (Some (e.Binary operator x y, us))
 unfolding climb
 one-round n p sign operator same d f o = fold-some d (more {y = (operator, _)} (seq-some (hit same) f) (stop (seq-first o)))
 
-pub binary-of : {ts vs us : List Leaf} {x y : Expression} (p : Position) (sign : Sign) (operator : BinaryOperator) → IsBinary sign operator
-    → Reads rule _ unary ts (Some (x, record { word = word.Sign sign; position = p } ∷ vs)) → Reads rule _ unary vs (Some (y, us)) → ((i : ℕ) → Reads rule _ (binary_operator i) us None)
+pub binary-of : {ts vs us : List ValuedToken} {x y : Expression} (p : Position) (sign : Punctuator) (operator : BinaryOperator) → IsBinary sign operator
+    → Reads rule _ unary ts (Some (x, record { word = word.Punctuator sign; position = p } ∷ vs)) → Reads rule _ unary vs (Some (y, us)) → ((i : ℕ) → Reads rule _ (binary_operator i) us None)
     → Reads rule _ bit_or ts (Some (e.Binary operator x y, us))
 unfolding climb
 binary-of p sign operator times d f o = above-1 o (one-round 0 p s.Star binaries.Multiply refl d f (o 0))

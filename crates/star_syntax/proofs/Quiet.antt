@@ -1,9 +1,9 @@
 -- The words at which parts of the grammar read nothing.
 use Rattle.std.proofs.Common.{◌≡◌, ℕ, zero, suc, List, [], ◌∷◌, Option, None, refl}
-use Rattle.star_lex.specs.declared.token.Sign.TheVariants as s
+use Rattle.star_lex.specs.declared.token.Punctuator.TheVariants as s
 use Rattle.star_lex.specs.declared.token.Keyword.TheVariants as k
-use Rattle.star_syntax.specs.declared.leaf.Word.{Word}
-use Rattle.star_syntax.specs.declared.leaf.Leaf.{Leaf}
+use Rattle.star_syntax.specs.declared.leaf.TokenValue.{TokenValue}
+use Rattle.star_syntax.specs.declared.leaf.ValuedToken.{ValuedToken}
 use Rattle.star_syntax.specs.declared.level.Level.TheVariants as levels
 use Rattle.star_tree.specs.declared.tree.Position.{Position}
 use Rattle.star_syntax.specs.Grammar.{level, the, Reads, miss, over, seq-first, alt-second, fold-none, act-none, itself}
@@ -14,12 +14,12 @@ use Rattle.star_syntax.specs.Written.{EndsBefore, right-paren, right-bracket, ri
 -- ---- words after an operand, or between operands
 
 -- no suffix begins with the word
-pub record NoSuffix (w : Word) : Type 0 where
+pub record NoSuffix (w : TokenValue) : Type 0 where
   pub dot : is_sign s.Dot w ≡ None
   pub paren : is_sign s.LeftParen w ≡ None
   pub bracket : is_sign s.LeftBracket w ≡ None
 
-pub suffix-none : {p : Position} {w : Word} {ts : List Leaf} → NoSuffix w → Reads rule _ suffix (record { word = w; position = p } ∷ ts) None
+pub suffix-none : {p : Position} {w : TokenValue} {ts : List ValuedToken} → NoSuffix w → Reads rule _ suffix (record { word = w; position = p } ∷ ts) None
 unfolding suffix attribute call subscript
 suffix-none n = alt-second (act-none (act-none (seq-first (miss n.dot)))) (alt-second (act-none (act-none (seq-first (miss n.paren)))) (act-none (seq-first (miss n.bracket))))
 
@@ -28,11 +28,11 @@ unfolding suffix attribute call subscript
 suffix-over = alt-second (act-none (act-none (seq-first over))) (alt-second (act-none (act-none (seq-first over))) (act-none (seq-first over)))
 
 -- no comparison goes on with the word
-pub record NoComparator (w : Word) : Type 0 where
+pub record NoComparator (w : TokenValue) : Type 0 where
   pub sign : comparator_word w ≡ None
   pub denial : is_keyword k.Not w ≡ None
 
-pub comparator-none : {p : Position} {w : Word} {ts : List Leaf} → NoComparator w → Reads rule _ comparator (record { word = w; position = p } ∷ ts) None
+pub comparator-none : {p : Position} {w : TokenValue} {ts : List ValuedToken} → NoComparator w → Reads rule _ comparator (record { word = w; position = p } ∷ ts) None
 unfolding comparator
 comparator-none n = alt-second (miss n.sign) (act-none (seq-first (miss n.denial)))
 
@@ -40,7 +40,7 @@ comparator-over : Reads rule _ comparator [] None
 unfolding comparator
 comparator-over = alt-second over (act-none (seq-first over))
 
-pub and-none : {p : Position} {w : Word} {ts : List Leaf} → is_keyword k.And w ≡ None → Reads rule _ next_negation (record { word = w; position = p } ∷ ts) None
+pub and-none : {p : Position} {w : TokenValue} {ts : List ValuedToken} → is_keyword k.And w ≡ None → Reads rule _ next_negation (record { word = w; position = p } ∷ ts) None
 unfolding next_negation
 and-none n = act-none (seq-first (miss n))
 
@@ -48,7 +48,7 @@ and-over : Reads rule _ next_negation [] None
 unfolding next_negation
 and-over = act-none (seq-first over)
 
-pub or-none : {p : Position} {w : Word} {ts : List Leaf} → is_keyword k.Or w ≡ None → Reads rule _ next_conjunction (record { word = w; position = p } ∷ ts) None
+pub or-none : {p : Position} {w : TokenValue} {ts : List ValuedToken} → is_keyword k.Or w ≡ None → Reads rule _ next_conjunction (record { word = w; position = p } ∷ ts) None
 unfolding next_conjunction
 or-none n = act-none (seq-first (miss n))
 
@@ -56,7 +56,7 @@ or-over : Reads rule _ next_conjunction [] None
 unfolding next_conjunction
 or-over = act-none (seq-first over)
 
-pub if-none : {p : Position} {w : Word} {ts : List Leaf} → is_keyword k.If w ≡ None → Reads rule _ choice (record { word = w; position = p } ∷ ts) None
+pub if-none : {p : Position} {w : TokenValue} {ts : List ValuedToken} → is_keyword k.If w ≡ None → Reads rule _ choice (record { word = w; position = p } ∷ ts) None
 unfolding choice
 if-none n = act-none (seq-first (miss n))
 
@@ -65,7 +65,7 @@ unfolding choice
 if-over = act-none (seq-first over)
 
 -- words with which no part of an expression goes on
-pub record Quiet (ts : List Leaf) : Type 0 where
+pub record Quiet (ts : List ValuedToken) : Type 0 where
   pub suffix' : Reads rule _ suffix ts None
   pub binary' : (n : ℕ) → Reads rule _ (binary_operator n) ts None
   pub comparator' : Reads rule _ comparator ts None
@@ -74,7 +74,7 @@ pub record Quiet (ts : List Leaf) : Type 0 where
   pub if' : Reads rule _ choice ts None
 
 -- the same of a word
-pub record QuietWord (w : Word) : Type 0 where
+pub record QuietWord (w : TokenValue) : Type 0 where
   pub suffix' : NoSuffix w
   pub binary' : (n : ℕ) → binary_word n w ≡ None
   pub comparator' : NoComparator w
@@ -82,7 +82,7 @@ pub record QuietWord (w : Word) : Type 0 where
   pub or' : is_keyword k.Or w ≡ None
   pub if' : is_keyword k.If w ≡ None
 
-pub quiet-word : (w : Word) → EndsBefore w → QuietWord w
+pub quiet-word : (w : TokenValue) → EndsBefore w → QuietWord w
 unfolding same_sign same_keyword
 quiet-word w right-paren = record { suffix' = record { dot = refl; paren = refl; bracket = refl }; binary' = λ n. refl; comparator' = record { sign = refl; denial = refl }; and' = refl; or' = refl; if' = refl }
 quiet-word w right-bracket = record { suffix' = record { dot = refl; paren = refl; bracket = refl }; binary' = λ n. refl; comparator' = record { sign = refl; denial = refl }; and' = refl; or' = refl; if' = refl }
@@ -105,7 +105,7 @@ quiet-word w new-line = record { suffix' = record { dot = refl; paren = refl; br
 quiet-word w for' = record { suffix' = record { dot = refl; paren = refl; bracket = refl }; binary' = λ n. refl; comparator' = record { sign = refl; denial = refl }; and' = refl; or' = refl; if' = refl }
 quiet-word w else' = record { suffix' = record { dot = refl; paren = refl; bracket = refl }; binary' = λ n. refl; comparator' = record { sign = refl; denial = refl }; and' = refl; or' = refl; if' = refl }
 
-pub quiet : (ts : List Leaf) → Stops ts → Quiet ts
+pub quiet : (ts : List ValuedToken) → Stops ts → Quiet ts
 quiet ts nothing-more = record { suffix' = suffix-over; binary' = λ n. over; comparator' = comparator-over; and' = and-over; or' = or-over; if' = if-over }
 quiet ts (before {w = w} ends) =
     let q = quiet-word w ends in
@@ -114,7 +114,7 @@ quiet ts (before {w = w} ends) =
 -- ---- words in the place of an expression
 
 -- no expression begins with the word
-pub record BeginsNone (w : Word) : Type 0 where
+pub record BeginsNone (w : TokenValue) : Type 0 where
   pub lambda' : is_keyword k.Lambda w ≡ None
   pub denial : is_keyword k.Not w ≡ None
   pub sign : unary_word w ≡ None
@@ -126,7 +126,7 @@ pub record BeginsNone (w : Word) : Type 0 where
 pub unplaced : (p : Position) (o : Option (Unit {0})) → o ≡ None → placed_at p o ≡ None
 unplaced p o e = rw e refl
 
-module _ (p : Position) (w : Word) (ts : List Leaf) (n : BeginsNone w) where
+module _ (p : Position) (w : TokenValue) (ts : List ValuedToken) (n : BeginsNone w) where
   operand-none : Reads rule _ operand (record { word = w; position = p } ∷ ts) None
   unfolding operand atom parentheses list_display dict_display
   operand-none = alt-second (miss (n.atom' p)) (alt-second (act-none (seq-first (miss n.paren))) (alt-second (act-none (seq-first (miss (unplaced p (is_sign s.LeftBracket w) n.bracket)))) (act-none (seq-first (miss (unplaced p (is_sign s.LeftBrace w) n.brace))))))

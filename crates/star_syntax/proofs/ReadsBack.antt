@@ -1,10 +1,10 @@
 -- An expression written with a parenthesis round each part reads back as itself.
 use Rattle.std.proofs.Common.{◌≡◌, ℕ, true, List, [], ◌∷◌, ◌++◌, Option, Some, None, refl, subst, sym, append-nil, append_assoc}
-use Rattle.star_lex.specs.declared.token.Sign.{Sign}
-use Rattle.star_lex.specs.declared.token.Sign.TheVariants as s
+use Rattle.star_lex.specs.declared.token.Punctuator.{Punctuator}
+use Rattle.star_lex.specs.declared.token.Punctuator.TheVariants as s
 use Rattle.star_lex.specs.declared.token.Keyword.TheVariants as k
-use Rattle.star_syntax.specs.declared.leaf.Word.TheVariants as word
-use Rattle.star_syntax.specs.declared.leaf.Leaf.{Leaf}
+use Rattle.star_syntax.specs.declared.leaf.TokenValue.TheVariants as word
+use Rattle.star_syntax.specs.declared.leaf.ValuedToken.{ValuedToken}
 use Rattle.star_syntax.specs.declared.level.Level.TheVariants as levels
 use Rattle.star_tree.specs.declared.tree.Position.{Position}
 use Rattle.star_tree.specs.declared.tree.Expression.{Expression}
@@ -26,28 +26,28 @@ use Rattle.star_syntax.proofs.Levels.{Front, front, in_front, primary-of, unary-
 use Rattle.star_syntax.proofs.Forms.{after_binary, after_comparator, no_sign_of_comparator, compares, not_in, after_keyword, no_sign, compared-of, and-of, or-of, choice-of, index-of, sign-of, denial-of, attribute-of, enclosed-of, no-test-after, last-comma, next-test-of, no-clauses, Tests, empty-tuple-of, tuple-of, empty-list-of, list-of, no-bracket}
 use Rattle.star_syntax.proofs.Lists.{Listed, last-listed, one-listed, no-colon, entry-of, next-entry-of, no-next-entry, empty-dict-of, dict-of, list-comprehension-of, dict-comprehension-of, for-of, each-of, only-if-of, no-next-clause, clauses-of, Unnamed, unnamed, positional-of, by-name-of, with-star-of, with-two-stars-of, next-argument-of, no-next-argument, none-given-of, given-of, call-of, put-of, left-out-of, stop-and-stride-of, from-start, from-nothing, slice-of, Closed, closed-comma, closed-colon, plain-of, default-of, starred-of, bare-star-of, twice-starred-of, next-parameter-of, no-next-parameter, none-taken-of, taken-of, lambda-of}
 
-before-comma : (p : Position) (ts : List Leaf) → Quiet (mark p s.Comma ∷ ts)
+before-comma : (p : Position) (ts : List ValuedToken) → Quiet (mark p s.Comma ∷ ts)
 before-comma p ts = quiet (mark p s.Comma ∷ ts) (before comma)
 
-before-paren : (p : Position) (ts : List Leaf) → Quiet (mark p s.RightParen ∷ ts)
+before-paren : (p : Position) (ts : List ValuedToken) → Quiet (mark p s.RightParen ∷ ts)
 before-paren p ts = quiet (mark p s.RightParen ∷ ts) (before right-paren)
 
-before-bracket : (p : Position) (ts : List Leaf) → Quiet (mark p s.RightBracket ∷ ts)
+before-bracket : (p : Position) (ts : List ValuedToken) → Quiet (mark p s.RightBracket ∷ ts)
 before-bracket p ts = quiet (mark p s.RightBracket ∷ ts) (before right-bracket)
 
-front-of : {x : Expression} {ts us : List Leaf} → Enclosed x ts us → Front ts
+front-of : {x : Expression} {ts us : List ValuedToken} → Enclosed x ts us → Front ts
 front-of (enclosed {p = p} {ts = ts} w) = in_front p ts
 
 -- the word after an element is quiet, if the word after all of them is
-quiet-further : {xs : List Expression} {ts us : List Leaf} → Further xs ts us → Quiet us → Quiet ts
+quiet-further : {xs : List Expression} {ts us : List ValuedToken} → Further xs ts us → Quiet us → Quiet ts
 quiet-further no-further q = q
 quiet-further (one-further {p = p} {ts = ts} e f) q = before-comma p ts
 
-no-clauses-further : {xs : List Expression} {ts us : List Leaf} → Further xs ts us → Reads rule _ all_clauses us None → Reads rule _ all_clauses ts None
+no-clauses-further : {xs : List Expression} {ts us : List ValuedToken} → Further xs ts us → Reads rule _ all_clauses us None → Reads rule _ all_clauses ts None
 no-clauses-further no-further n = n
-no-clauses-further (one-further {p = p} {ts = ts} e f) n = no-clauses p (word.Sign s.Comma) ts refl
+no-clauses-further (one-further {p = p} {ts = ts} e f) n = no-clauses p (word.Punctuator s.Comma) ts refl
 
-module _ {x : Expression} {ts us : List Leaf} (f : Front ts) (d : Reads rule _ operand ts (Some (x, us))) (n : Reads rule _ suffix us None) where
+module _ {x : Expression} {ts us : List ValuedToken} (f : Front ts) (d : Reads rule _ operand ts (Some (x, us))) (n : Reads rule _ suffix us None) where
   unary-at : Reads rule _ unary ts (Some (x, us))
   unary-at = unary-of f (primary-of d n)
 
@@ -67,82 +67,82 @@ module _ {x : Expression} {ts us : List Leaf} (f : Front ts) (d : Reads rule _ o
         disjunction-at b = disjunction-of conjunction-at b
 
 -- words with which the part before a clause or a bracket does not go on
-record QuietPart (ts : List Leaf) : Type 0 where
+record QuietPart (ts : List ValuedToken) : Type 0 where
   suffix' : Reads rule _ suffix ts None
   binary' : (n : ℕ) → Reads rule _ (binary_operator n) ts None
   comparator' : Reads rule _ comparator ts None
   and' : Reads rule _ next_negation ts None
   or' : Reads rule _ next_conjunction ts None
 
-quiet-part : {ts : List Leaf} → Quiet ts → QuietPart ts
+quiet-part : {ts : List ValuedToken} → Quiet ts → QuietPart ts
 quiet-part q = record { suffix' = q.suffix'; binary' = q.binary'; comparator' = q.comparator'; and' = q.and'; or' = q.or' }
 
-before-for : (p : Position) (ts : List Leaf) → Quiet (spelt p k.For ∷ ts)
+before-for : (p : Position) (ts : List ValuedToken) → Quiet (spelt p k.For ∷ ts)
 before-for p ts = quiet (spelt p k.For ∷ ts) (before for')
 
-before-colon : (p : Position) (ts : List Leaf) → Quiet (mark p s.Colon ∷ ts)
+before-colon : (p : Position) (ts : List ValuedToken) → Quiet (mark p s.Colon ∷ ts)
 before-colon p ts = quiet (mark p s.Colon ∷ ts) (before colon)
 
-before-brace : (p : Position) (ts : List Leaf) → Quiet (mark p s.RightBrace ∷ ts)
+before-brace : (p : Position) (ts : List ValuedToken) → Quiet (mark p s.RightBrace ∷ ts)
 before-brace p ts = quiet (mark p s.RightBrace ∷ ts) (before right-brace)
 
-before-if : (p : Position) (ts : List Leaf) → QuietPart (spelt p k.If ∷ ts)
+before-if : (p : Position) (ts : List ValuedToken) → QuietPart (spelt p k.If ∷ ts)
 unfolding same_keyword
 before-if p ts = record { suffix' = after_keyword p k.If ts; binary' = no_sign p k.If ts; comparator' = comparator-none (record { sign = refl; denial = refl }); and' = and-none refl; or' = or-none refl }
 
-for-front : {target : Target} {y : Expression} {ts us : List Leaf} → ForPart target y ts us → Quiet ts
+for-front : {target : Target} {y : Expression} {ts us : List ValuedToken} → ForPart target y ts us → Quiet ts
 for-front (for-each {p = p} {ts = ts} is i j) = before-for p ts
 
-all-front : {c : Clauses} {ts us : List Leaf} → AllClauses c ts us → Quiet ts
+all-front : {c : Clauses} {ts us : List ValuedToken} → AllClauses c ts us → Quiet ts
 all-front (clauses-from f more') = for-front f
 
-clause-front : {c : Clause} {ts us : List Leaf} → OneClause c ts us → QuietPart ts
+clause-front : {c : Clause} {ts us : List ValuedToken} → OneClause c ts us → QuietPart ts
 clause-front (each f) = quiet-part (for-front f)
 clause-front (only-if {p = p} {ts = ts} i) = before-if p ts
 
-clauses-front : {cs : List Clause} {ts us : List Leaf} → FurtherClauses cs ts us → QuietPart us → QuietPart ts
+clauses-front : {cs : List Clause} {ts us : List ValuedToken} → FurtherClauses cs ts us → QuietPart us → QuietPart ts
 clauses-front no-clause q = q
 clauses-front (next-clause c cs) q = clause-front c
 
-entries-front : {ys : List Entry} {ts us : List Leaf} → FurtherEntries ys ts us → Quiet us → Quiet ts
+entries-front : {ys : List Entry} {ts us : List ValuedToken} → FurtherEntries ys ts us → Quiet us → Quiet ts
 entries-front no-entry q = q
 entries-front (next-entry {p = p} {ts = ts} y ys) q = before-comma p ts
 
-no-clauses-entries : {ys : List Entry} {ts us : List Leaf} → FurtherEntries ys ts us → Reads rule _ all_clauses us None → Reads rule _ all_clauses ts None
+no-clauses-entries : {ys : List Entry} {ts us : List ValuedToken} → FurtherEntries ys ts us → Reads rule _ all_clauses us None → Reads rule _ all_clauses ts None
 no-clauses-entries no-entry n = n
-no-clauses-entries (next-entry {p = p} {ts = ts} y ys) n = no-clauses p (word.Sign s.Comma) ts refl
+no-clauses-entries (next-entry {p = p} {ts = ts} y ys) n = no-clauses p (word.Punctuator s.Comma) ts refl
 
-arguments-front : {ys : List Argument} {ts us : List Leaf} → FurtherArguments ys ts us → Quiet us → Quiet ts
+arguments-front : {ys : List Argument} {ts us : List ValuedToken} → FurtherArguments ys ts us → Quiet us → Quiet ts
 arguments-front no-argument q = q
 arguments-front (next-argument {p = p} {ts = ts} y ys) q = before-comma p ts
 
-parameters-front : {ys : List Parameter} {ts us : List Leaf} → FurtherParameters ys ts us → Quiet us × Closed us → Quiet ts × Closed ts
+parameters-front : {ys : List Parameter} {ts us : List ValuedToken} → FurtherParameters ys ts us → Quiet us × Closed us → Quiet ts × Closed ts
 parameters-front no-parameter q = q
 parameters-front (next-parameter {p = p} {ts = ts} y ys) q = (before-comma p ts, closed-comma p ts)
 
-unnamed-of : {x : Expression} {ts us : List Leaf} → Enclosed x ts us → Unnamed ts
+unnamed-of : {x : Expression} {ts us : List ValuedToken} → Enclosed x ts us → Unnamed ts
 unnamed-of (enclosed {p = p} {ts = ts} w) = unnamed p ts
 
-front-brace : (p : Position) (ts : List Leaf) → Front (mark p s.LeftBrace ∷ ts)
-front-brace p ts = front p (word.Sign s.LeftBrace) ts refl refl refl
+front-brace : (p : Position) (ts : List ValuedToken) → Front (mark p s.LeftBrace ∷ ts)
+front-brace p ts = front p (word.Punctuator s.LeftBrace) ts refl refl refl
 
-front-not : (p : Position) (sign : Sign) (ts : List Leaf) → Reads rule _ denied (mark p sign ∷ ts) None × Reads rule _ lambda (mark p sign ∷ ts) None
+front-not : (p : Position) (sign : Punctuator) (ts : List ValuedToken) → Reads rule _ denied (mark p sign ∷ ts) None × Reads rule _ lambda (mark p sign ∷ ts) None
 unfolding denied lambda
 front-not p sign ts = (act-none (act-none (seq-first (miss refl))), act-none (seq-first (miss refl)))
 
-unbound-not : (p : Position) (ts : List Leaf) → Reads rule _ lambda (spelt p k.Not ∷ ts) None
+unbound-not : (p : Position) (ts : List ValuedToken) → Reads rule _ lambda (spelt p k.Not ∷ ts) None
 unfolding lambda same_keyword
 unbound-not p ts = act-none (seq-first (miss refl))
 
-front-bracket : (p : Position) (ts : List Leaf) → Front (mark p s.LeftBracket ∷ ts)
-front-bracket p ts = front p (word.Sign s.LeftBracket) ts refl refl refl
+front-bracket : (p : Position) (ts : List ValuedToken) → Front (mark p s.LeftBracket ∷ ts)
+front-bracket p ts = front p (word.Punctuator s.LeftBracket) ts refl refl refl
 
-no-more-tests : (found : List Expression) (us : List Leaf) → Reads rule _ next_test us None → Tests found us (found ++ []) us
+no-more-tests : (found : List Expression) (us : List ValuedToken) → Reads rule _ next_test us None → Tests found us (found ++ []) us
 no-more-tests found us n =
     let P : List Expression → Type 0 = λ z. Tests found us z us in
     subst P (sym (append-nil found)) (stop n)
 
-one-more-test : {ts vs us : List Leaf} (found : List Expression) (x : Expression) (xs : List Expression) (p : Position) → Reads rule _ (the (level levels.Test)) ts (Some (x, vs)) → Tests (found ++ x ∷ []) vs ((found ++ x ∷ []) ++ xs) us
+one-more-test : {ts vs us : List ValuedToken} (found : List Expression) (x : Expression) (xs : List Expression) (p : Position) → Reads rule _ (the (level levels.Test)) ts (Some (x, vs)) → Tests (found ++ x ∷ []) vs ((found ++ x ∷ []) ++ xs) us
     → Tests found (mark p s.Comma ∷ ts) (found ++ x ∷ xs) us
 one-more-test {ts = ts} {us = us} found x xs p d f =
     let P : List Expression → Type 0 = λ z. Tests found (mark p s.Comma ∷ ts) z us in
@@ -151,7 +151,7 @@ one-more-test {ts = ts} {us = us} found x xs p d f =
 mutual
   unfolding operand atom same_sign same_keyword
 
-  law : {x : Expression} {ts us : List Leaf} → Written x ts us → Quiet us → Reads rule _ (the (level levels.Test)) ts (Some (x, us))
+  law : {x : Expression} {ts us : List ValuedToken} → Written x ts us → Quiet us → Reads rule _ (the (level levels.Test)) ts (Some (x, us))
   law (a-name {x = x} {us = us}) q = from-operand (front x.position (word.Name x.text) us refl refl refl) q (alt-first (hit refl))
   law (an-int {p = p} {value = value} {us = us}) q = from-operand (front p (word.Int value) us refl refl refl) q (alt-first (hit refl))
   law (a-text {p = p} {text = text} {us = us}) q = from-operand (front p (word.Text text) us refl refl refl) q (alt-first (hit refl))
@@ -167,7 +167,7 @@ mutual
       from-comparison f.undenied f.unbound q (compared-of c (bit-or-at f (part i) (after_comparator p w vs is) (no_sign_of_comparator p w vs is)) (compares p w c vs is) (bit-or-at (front-of j) (part j) q.suffix' q.binary'))
   law (an-absence {p = p} {q = p'} {vs = vs} i j) q =
       let f = front-of i in
-      let ws : List Leaf = spelt p' k.In ∷ vs in
+      let ws : List ValuedToken = spelt p' k.In ∷ vs in
       from-comparison f.undenied f.unbound q (compared-of _ (bit-or-at f (part i) (after_keyword p k.Not ws) (no_sign p k.Not ws)) (not_in p p' vs) (bit-or-at (front-of j) (part j) q.suffix' q.binary'))
   law (an-and {p = p} {vs = vs} i j) q =
       let f = front-of i in
@@ -191,11 +191,11 @@ mutual
   law (an-empty-list {p = p} {q = p'} {us = us}) q = from-operand (front-bracket p (mark p' s.RightBracket ∷ us)) q (empty-list-of p p' us)
   law (a-list {p = p} {q = p'} {ts = ts} {us = us} i js) q =
       let b = before-bracket p' us in
-      from-operand (front-bracket p ts) q (list-of p p' (from-operand (front-of i) (quiet-further js b) (part i)) (no-clauses-further js (no-clauses p' (word.Sign s.RightBracket) us refl)) (parts js [] b (no-test-after p' (word.Sign s.RightBracket) us refl)))
+      from-operand (front-bracket p ts) q (list-of p p' (from-operand (front-of i) (quiet-further js b) (part i)) (no-clauses-further js (no-clauses p' (word.Punctuator s.RightBracket) us refl)) (parts js [] b (no-test-after p' (word.Punctuator s.RightBracket) us refl)))
   law (an-empty-dict {p = p} {q = p'} {us = us}) q = from-operand (front-brace p (mark p' s.RightBrace ∷ us)) q (empty-dict-of p p' us)
   law (a-dict {p = p} {q = p'} {ts = ts} {us = us} y ys) q =
       let b = before-brace p' us in
-      from-operand (front-brace p ts) q (dict-of p p' (entry-law y (entries-front ys b)) (no-clauses-entries ys (no-clauses p' (word.Sign s.RightBrace) us refl)) (entries-law ys [] b (no-next-entry p' us)))
+      from-operand (front-brace p ts) q (dict-of p p' (entry-law y (entries-front ys b)) (no-clauses-entries ys (no-clauses p' (word.Punctuator s.RightBrace) us refl)) (entries-law ys [] b (no-next-entry p' us)))
   law (a-list-comprehension {p = p} {q = p'} {ts = ts} {us = us} i c) q =
       from-operand (front-bracket p ts) q (list-comprehension-of p p' (from-operand (front-of i) (all-front c) (part i)) (all-law c (quiet-part (before-bracket p' us)) (no-next-clause p' s.RightBracket us)))
   law (a-dict-comprehension {p = p} {q = p'} {ts = ts} {us = us} y c) q =
@@ -203,78 +203,78 @@ mutual
   law (a-call {p = p} {q = p'} {us = us} i js is) q = from-primary (front-of i) q (call-of p p' (part i) (given-law p' us js is) q.suffix')
   law (a-slice {p = p} {q = q'} {r = r} {t = t} {ws = ws} {zs = zs} {us = us} i a b c) q =
       from-primary (front-of i) q (slice-of p t (part i)
-      (start-law q' ws a (stop-and-stride-of q' r (optional-law b (before-colon r zs) (test-none r (word.Sign s.Colon) zs no-colon)) (optional-law c (before-bracket t us) (test-none t (word.Sign s.RightBracket) us no-bracket)))) q.suffix')
+      (start-law q' ws a (stop-and-stride-of q' r (optional-law b (before-colon r zs) (test-none r (word.Punctuator s.Colon) zs no-colon)) (optional-law c (before-bracket t us) (test-none t (word.Punctuator s.RightBracket) us no-bracket)))) q.suffix')
   law (a-lambda {p = p} {q = p'} {vs = vs} js is i) q = lambda-of p p' (taken-law p' vs js is) (from-operand (front-of i) q (part i))
 
   -- a part in parentheses is an operand
-  part : {x : Expression} {ts us : List Leaf} → Enclosed x ts us → Reads rule _ operand ts (Some (x, us))
+  part : {x : Expression} {ts us : List ValuedToken} → Enclosed x ts us → Reads rule _ operand ts (Some (x, us))
   part (enclosed {p = p} {q = q} {us = us} w) = enclosed-of p q (law w (before-paren q us))
 
-  parts : {xs : List Expression} {ts us : List Leaf} → Further xs ts us → (found : List Expression) → Quiet us → Reads rule _ next_test us None → Tests found ts (found ++ xs) us
+  parts : {xs : List Expression} {ts us : List ValuedToken} → Further xs ts us → (found : List Expression) → Quiet us → Reads rule _ next_test us None → Tests found ts (found ++ xs) us
   parts (no-further {us = us}) found q n = no-more-tests found us n
   parts (one-further {p = p} {x = x} {xs = xs} i js) found q n = one-more-test found x xs p (from-operand (front-of i) (quiet-further js q) (part i)) (parts js (found ++ x ∷ []) q n)
 
-  optional-law : {a : Option Expression} {ts us : List Leaf} → Optional a ts us → Quiet us → Reads rule _ (the (level levels.Test)) us None → Reads rule _ (opt a_test) ts (Some (a, us))
+  optional-law : {a : Option Expression} {ts us : List ValuedToken} → Optional a ts us → Quiet us → Reads rule _ (the (level levels.Test)) us None → Reads rule _ (opt a_test) ts (Some (a, us))
   optional-law left-out q n = left-out-of n
   optional-law (put i) q n = put-of (from-operand (front-of i) q (part i))
 
-  start-law : {a b c : Option Expression} {ts us : List Leaf} (p : Position) (ws : List Leaf) → Optional a ts (mark p s.Colon ∷ ws) → Reads rule _ stop_and_stride (mark p s.Colon ∷ ws) (Some ((b, c), us)) → Reads rule _ in_brackets ts (Some (suffixes.Slice a b c, us))
-  start-law p ws left-out d = from-nothing (test-none p (word.Sign s.Colon) ws no-colon) d
+  start-law : {a b c : Option Expression} {ts us : List ValuedToken} (p : Position) (ws : List ValuedToken) → Optional a ts (mark p s.Colon ∷ ws) → Reads rule _ stop_and_stride (mark p s.Colon ∷ ws) (Some ((b, c), us)) → Reads rule _ in_brackets ts (Some (suffixes.Slice a b c, us))
+  start-law p ws left-out d = from-nothing (test-none p (word.Punctuator s.Colon) ws no-colon) d
   start-law p ws (put i) d = from-start (from-operand (front-of i) (before-colon p ws) (part i)) d
 
-  entry-law : {y : Entry} {ts us : List Leaf} → OneEntry y ts us → Quiet us → Reads rule _ entry ts (Some (y, us))
+  entry-law : {y : Entry} {ts us : List ValuedToken} → OneEntry y ts us → Quiet us → Reads rule _ entry ts (Some (y, us))
   entry-law (an-entry {p = p} {vs = vs} i j) q = entry-of p (from-operand (front-of i) (before-colon p vs) (part i)) (from-operand (front-of j) q (part j))
 
-  entries-law : {ys : List Entry} {ts us : List Leaf} → FurtherEntries ys ts us → (found : List Entry) → Quiet us → Reads rule _ following_entry us None → Listed sorts.entry following_entry found ts (found ++ ys) us
+  entries-law : {ys : List Entry} {ts us : List ValuedToken} → FurtherEntries ys ts us → (found : List Entry) → Quiet us → Reads rule _ following_entry us None → Listed sorts.entry following_entry found ts (found ++ ys) us
   entries-law (no-entry {us = us}) found q n = last-listed sorts.entry following_entry found us n
   entries-law (next-entry {p = p} {y = y} {ys = ys} i js) found q n = one-listed sorts.entry following_entry found y ys (next-entry-of p (entry-law i (entries-front js q))) (entries-law js (found ++ y ∷ []) q n)
 
-  argument-law : {y : Argument} {ts us : List Leaf} → OneArgument y ts us → Quiet us → Reads rule _ argument ts (Some (y, us))
+  argument-law : {y : Argument} {ts us : List ValuedToken} → OneArgument y ts us → Quiet us → Reads rule _ argument ts (Some (y, us))
   argument-law (positional i) q = positional-of (unnamed-of i) (from-operand (front-of i) q (part i))
   argument-law (by-name {p = p} {name = name} i) q = by-name-of p name (from-operand (front-of i) q (part i))
   argument-law (with-star {p = p} i) q = with-star-of p (from-operand (front-of i) q (part i))
   argument-law (with-two-stars {p = p} i) q = with-two-stars-of p (from-operand (front-of i) q (part i))
 
-  arguments-law : {ys : List Argument} {ts us : List Leaf} → FurtherArguments ys ts us → (found : List Argument) → Quiet us → Reads rule _ following_argument us None → Listed sorts.argument following_argument found ts (found ++ ys) us
+  arguments-law : {ys : List Argument} {ts us : List ValuedToken} → FurtherArguments ys ts us → (found : List Argument) → Quiet us → Reads rule _ following_argument us None → Listed sorts.argument following_argument found ts (found ++ ys) us
   arguments-law (no-argument {us = us}) found q n = last-listed sorts.argument following_argument found us n
   arguments-law (next-argument {p = p} {y = y} {ys = ys} i js) found q n = one-listed sorts.argument following_argument found y ys (next-argument-of p (argument-law i (arguments-front js q))) (arguments-law js (found ++ y ∷ []) q n)
 
-  given-law : {ys : List Argument} {ts : List Leaf} (p : Position) (vs : List Leaf) → Arguments ys ts (mark p s.RightParen ∷ vs) → arguments_in_order ys ≡ true → Reads rule _ arguments_given ts (Some (ys, mark p s.RightParen ∷ vs))
+  given-law : {ys : List Argument} {ts : List ValuedToken} (p : Position) (vs : List ValuedToken) → Arguments ys ts (mark p s.RightParen ∷ vs) → arguments_in_order ys ≡ true → Reads rule _ arguments_given ts (Some (ys, mark p s.RightParen ∷ vs))
   given-law p vs none-given is = none-given-of p vs
   given-law p vs (some-given {y = y} i js) is = given-of p is (argument-law i (arguments-front js (before-paren p vs))) (arguments-law js (y ∷ []) (before-paren p vs) (no-next-argument p vs))
 
-  parameter-law : {y : Parameter} {ts us : List Leaf} → OneParameter y ts us → Quiet us → Closed us → Reads rule _ parameter ts (Some (y, us))
+  parameter-law : {y : Parameter} {ts us : List ValuedToken} → OneParameter y ts us → Quiet us → Closed us → Reads rule _ parameter ts (Some (y, us))
   parameter-law (plain {name = name}) q c = plain-of name c
   parameter-law (default {p = p} {name = name} i) q c = default-of p name (from-operand (front-of i) q (part i))
   parameter-law (starred {p = p} {name = name} {us = us}) q c = starred-of p name us
   parameter-law (bare-star {p = p}) q c = bare-star-of p c
   parameter-law (twice-starred {p = p} {name = name} {us = us}) q c = twice-starred-of p name us
 
-  parameters-law : {ys : List Parameter} {ts us : List Leaf} → FurtherParameters ys ts us → (found : List Parameter) → Quiet us × Closed us → Reads rule _ following_parameter us None → Listed sorts.parameter following_parameter found ts (found ++ ys) us
+  parameters-law : {ys : List Parameter} {ts us : List ValuedToken} → FurtherParameters ys ts us → (found : List Parameter) → Quiet us × Closed us → Reads rule _ following_parameter us None → Listed sorts.parameter following_parameter found ts (found ++ ys) us
   parameters-law (no-parameter {us = us}) found q n = last-listed sorts.parameter following_parameter found us n
   parameters-law (next-parameter {p = p} {y = y} {ys = ys} i js) found q n =
       let f = parameters-front js q in
       one-listed sorts.parameter following_parameter found y ys (next-parameter-of p (parameter-law i f.0 f.1)) (parameters-law js (found ++ y ∷ []) q n)
 
-  taken-law : {ys : List Parameter} {ts : List Leaf} (p : Position) (vs : List Leaf) → Parameters ys ts (mark p s.Colon ∷ vs) → parameters_in_order ys ≡ true → Reads rule _ lambda_parameters ts (Some (ys, mark p s.Colon ∷ vs))
+  taken-law : {ys : List Parameter} {ts : List ValuedToken} (p : Position) (vs : List ValuedToken) → Parameters ys ts (mark p s.Colon ∷ vs) → parameters_in_order ys ≡ true → Reads rule _ lambda_parameters ts (Some (ys, mark p s.Colon ∷ vs))
   taken-law p vs none-taken is = none-taken-of p vs
   taken-law p vs (some-taken {y = y} i js) is =
       let q : Quiet (mark p s.Colon ∷ vs) × Closed (mark p s.Colon ∷ vs) = (before-colon p vs, closed-colon p vs) in
       let f = parameters-front js q in
       taken-of is (parameter-law i f.0 f.1) (parameters-law js (y ∷ []) q (no-next-parameter p vs))
 
-  for-law : {target : Target} {y : Expression} {ts us : List Leaf} → ForPart target y ts us → QuietPart us → Reads rule _ for_clause ts (Some ((target, y), us))
+  for-law : {target : Target} {y : Expression} {ts us : List ValuedToken} → ForPart target y ts us → QuietPart us → Reads rule _ for_clause ts (Some ((target, y), us))
   for-law (for-each {p = p} {q = p'} {vs = vs} is i j) q = for-of p p' is (primary-of (part i) (after_keyword p' k.In vs)) (disjunction-at (front-of j) (part j) q.suffix' q.binary' q.comparator' q.and' q.or')
 
-  clause-law : {c : Clause} {ts us : List Leaf} → OneClause c ts us → QuietPart us → Reads rule _ following_clause ts (Some (c, us))
+  clause-law : {c : Clause} {ts us : List ValuedToken} → OneClause c ts us → QuietPart us → Reads rule _ following_clause ts (Some (c, us))
   clause-law (each f) q = each-of (for-law f q)
   clause-law (only-if {p = p} j) q = only-if-of p (disjunction-at (front-of j) (part j) q.suffix' q.binary' q.comparator' q.and' q.or')
 
-  further-law : {cs : List Clause} {ts us : List Leaf} → FurtherClauses cs ts us → (found : List Clause) → QuietPart us → Reads rule _ following_clause us None → Listed sorts.clause following_clause found ts (found ++ cs) us
+  further-law : {cs : List Clause} {ts us : List ValuedToken} → FurtherClauses cs ts us → (found : List Clause) → QuietPart us → Reads rule _ following_clause us None → Listed sorts.clause following_clause found ts (found ++ cs) us
   further-law (no-clause {us = us}) found q n = last-listed sorts.clause following_clause found us n
   further-law (next-clause {y = y} {ys = ys} i js) found q n = one-listed sorts.clause following_clause found y ys (clause-law i (clauses-front js q)) (further-law js (found ++ y ∷ []) q n)
 
-  all-law : {c : Clauses} {ts us : List Leaf} → AllClauses c ts us → QuietPart us → Reads rule _ following_clause us None → Reads rule _ all_clauses ts (Some (c, us))
+  all-law : {c : Clauses} {ts us : List ValuedToken} → AllClauses c ts us → QuietPart us → Reads rule _ following_clause us None → Reads rule _ all_clauses ts (Some (c, us))
   all-law (clauses-from f js) q n = clauses-of (for-law f (clauses-front js q)) (further-law js [] q n)
 
 pub reads_back : ReadsBack

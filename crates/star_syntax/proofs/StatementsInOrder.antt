@@ -18,7 +18,7 @@ use Rattle.star_tree.specs.declared.tree.Arm.{Arm, roll-Arm}
 use Rattle.star_tree.specs.declared.tree.Statement.{Statement, roll-Statement}
 use Rattle.star_syntax.specs.Sorts.{Val, both, maybe, list}
 use Rattle.star_syntax.specs.Sorts as sorts
-use Rattle.star_syntax.specs.Grammar.{level, statement, the, Knot}
+use Rattle.star_syntax.specs.Grammar.{level, statement, the, Readers}
 use Rattle.star_syntax.specs.Keeps.{parameters_in_order, target_of, augmented_of}
 use Rattle.star_syntax.specs.InOrder.{in_order, parameter_in_order, target_in_order, every, value_in_order, form_step, arm_step, statement_step, statement_in_order}
 use Rattle.star_syntax.specs.Statements.{assign_of, augment_of, told_with, told_of, if_of, returned, load, right_side, told, keyword_form, small_form, small, next_small, smalls, simple, body, block, suite, colon_suite, arm, next_arm, first_arm, arms, otherwise, condition, iteration, definition, compound_form, compound, one_statement, statements, file}
@@ -124,7 +124,7 @@ an-if (all, Some others) k = a-choice all others k.0 k.1
 
 -- ---- productions
 
-module _ (k : Knot) (m : (l : Level) → Makes k sorts.expression (the (level l)) OfExpression) (n : Makes k (list sorts.statement) (the statement) (Each OfStatement)) where
+module _ (k : Readers) (m : (l : Level) → Makes k sorts.expression (the (level l)) OfExpression) (n : Makes k (list sorts.statement) (the statement) (Each OfStatement)) where
   small-form : Makes k _ small_form OfForm
   unfolding small_form returned keyword_form load told right_side
   small-form = makes-alt k (makes-act k a-return (makes-after k (makes-opt k (tests' k m))))

@@ -2,7 +2,7 @@
 use Rattle.std.proofs.Common.{◌≡◌, ℕ, ◌==◌, Bool, true, false, not, ◌&&◌, ◌||◌, ◌-◌, [], ◌∷◌, ◌++◌, Option, Some, None, refl, ap, sym, ◌∙◌, if◌then◌else◌}
 use Rattle.std.proofs.lemmas.Bool.{true≢false}
 use Rattle.star_lex.specs.declared.value.Quoting.{Quoting}
-use Rattle.star_lex.specs.declared.value.Meaning.TheVariants.{Byte}
+use Rattle.star_lex.specs.declared.value.EscapeValue.TheVariants.{Byte}
 use Rattle.star_lex.specs.Values.{Text, Part, after, as_byte, as_kept, decoded, decoded_from, escape, is_line_end, line_end_size, meant, part, plain}
 use Rattle.star_syntax.specs.Leaves.{means_itself}
 

@@ -1,8 +1,8 @@
 -- Each expression whose arguments and parameters are in order can be written with a parenthesis round each part.
 use Rattle.std.proofs.Common.{◌≡◌, Bool, true, ◌&&◌, List, [], ◌∷◌, map, Option, Some, None, refl, ap, sym, ◌∙◌, subst}
-use Rattle.star_lex.specs.declared.token.Sign.TheVariants as s
+use Rattle.star_lex.specs.declared.token.Punctuator.TheVariants as s
 use Rattle.star_lex.specs.declared.token.Keyword.TheVariants as keyword
-use Rattle.star_syntax.specs.declared.leaf.Leaf.{Leaf}
+use Rattle.star_syntax.specs.declared.leaf.ValuedToken.{ValuedToken}
 use Rattle.star_tree.specs.declared.tree.Position.{Position}
 use Rattle.star_tree.specs.declared.tree.UnaryOperator.{UnaryOperator}
 use Rattle.star_tree.specs.declared.tree.UnaryOperator.TheVariants as unaries
@@ -35,7 +35,7 @@ at : Position
 at = record { line = 0; token = 0 }
 
 abbrev Inside : Expression → Type 0
-Inside x = (us : List Leaf) → (ts : List Leaf) × Enclosed x ts us
+Inside x = (us : List ValuedToken) → (ts : List ValuedToken) × Enclosed x ts us
 
 inside : {x : Expression} → Writable x → Inside x
 inside w us = let i = w (mark at s.RightParen ∷ us) in (mark at s.LeftParen ∷ i.0, enclosed {p = at} i.1)
@@ -44,22 +44,22 @@ abbrev PE : Expression → Type 0
 PE x = in_order x ≡ true → Writable x
 
 abbrev PA : Argument → Type 0
-PA x = argument_in_order x ≡ true → (us : List Leaf) → (ts : List Leaf) × OneArgument x ts us
+PA x = argument_in_order x ≡ true → (us : List ValuedToken) → (ts : List ValuedToken) × OneArgument x ts us
 
 abbrev PC : Clause → Type 0
-PC x = clause_in_order x ≡ true → (us : List Leaf) → (ts : List Leaf) × OneClause x ts us
+PC x = clause_in_order x ≡ true → (us : List ValuedToken) → (ts : List ValuedToken) × OneClause x ts us
 
 abbrev PP : Parameter → Type 0
-PP x = parameter_in_order x ≡ true → (us : List Leaf) → (ts : List Leaf) × OneParameter x ts us
+PP x = parameter_in_order x ≡ true → (us : List ValuedToken) → (ts : List ValuedToken) × OneParameter x ts us
 
 abbrev PT : Target → Type 0
 PT x = target_in_order x ≡ true → (z : Expression) × (target_of z ≡ Some x) × Writable z
 
 abbrev PS : Clauses → Type 0
-PS x = clauses_in_order x ≡ true → (us : List Leaf) → (ts : List Leaf) × AllClauses x ts us
+PS x = clauses_in_order x ≡ true → (us : List ValuedToken) → (ts : List ValuedToken) × AllClauses x ts us
 
 abbrev PN : Entry → Type 0
-PN x = entry_in_order x ≡ true → (us : List Leaf) → (ts : List Leaf) × OneEntry x ts us
+PN x = entry_in_order x ≡ true → (us : List ValuedToken) → (ts : List ValuedToken) × OneEntry x ts us
 
 abbrev SuchArgument : Type 0
 SuchArgument = tree.Argument-F ((x : Argument) × PA x) ((x : Clause) × PC x) ((x : Expression) × PE x) ((x : Parameter) × PP x) ((x : Target) × PT x) ((x : Clauses) × PS x) ((x : Entry) × PN x)
@@ -116,7 +116,7 @@ each-writable : (ys : List ((x : Expression) × PE x)) → each_in_order (map (�
 each-writable [] k = tt
 each-writable (y ∷ ys) k = let q = both-true _ _ k in (y.1 q.0, each-writable ys q.1)
 
-further-made : (xs : List Expression) → EachWritable xs → (us : List Leaf) → (ts : List Leaf) × Further xs ts us
+further-made : (xs : List Expression) → EachWritable xs → (us : List ValuedToken) → (ts : List ValuedToken) × Further xs ts us
 further-made [] w us = (us, no-further)
 further-made (x ∷ xs) w us =
     let j = further-made xs w.1 us in
@@ -137,7 +137,7 @@ list-made (x ∷ xs) w us =
     let i = inside w.0 j.0 in
     (mark at s.LeftBracket ∷ i.0, a-list {p = at} {q = at} i.1 j.1)
 
-further-entries : (ys : List ((x : Entry) × PN x)) → each_in_order (map (λ z. (z, entry_in_order z)) (map (λ y. y.0) ys)) ≡ true → (us : List Leaf) → (ts : List Leaf) × FurtherEntries (map (λ y. y.0) ys) ts us
+further-entries : (ys : List ((x : Entry) × PN x)) → each_in_order (map (λ z. (z, entry_in_order z)) (map (λ y. y.0) ys)) ≡ true → (us : List ValuedToken) → (ts : List ValuedToken) × FurtherEntries (map (λ y. y.0) ys) ts us
 further-entries [] k us = (us, no-entry)
 further-entries (y ∷ ys) k us =
     let q = both-true _ _ k in
@@ -145,7 +145,7 @@ further-entries (y ∷ ys) k us =
     let i = y.1 q.0 j.0 in
     (mark at s.Comma ∷ i.0, next-entry {p = at} i.1 j.1)
 
-further-arguments : (ys : List ((x : Argument) × PA x)) → each_in_order (map (λ z. (z, argument_in_order z)) (map (λ y. y.0) ys)) ≡ true → (us : List Leaf) → (ts : List Leaf) × FurtherArguments (map (λ y. y.0) ys) ts us
+further-arguments : (ys : List ((x : Argument) × PA x)) → each_in_order (map (λ z. (z, argument_in_order z)) (map (λ y. y.0) ys)) ≡ true → (us : List ValuedToken) → (ts : List ValuedToken) × FurtherArguments (map (λ y. y.0) ys) ts us
 further-arguments [] k us = (us, no-argument)
 further-arguments (y ∷ ys) k us =
     let q = both-true _ _ k in
@@ -153,7 +153,7 @@ further-arguments (y ∷ ys) k us =
     let i = y.1 q.0 j.0 in
     (mark at s.Comma ∷ i.0, next-argument {p = at} i.1 j.1)
 
-further-parameters : (ys : List ((x : Parameter) × PP x)) → each_in_order (map (λ z. (z, parameter_in_order z)) (map (λ y. y.0) ys)) ≡ true → (us : List Leaf) → (ts : List Leaf) × FurtherParameters (map (λ y. y.0) ys) ts us
+further-parameters : (ys : List ((x : Parameter) × PP x)) → each_in_order (map (λ z. (z, parameter_in_order z)) (map (λ y. y.0) ys)) ≡ true → (us : List ValuedToken) → (ts : List ValuedToken) × FurtherParameters (map (λ y. y.0) ys) ts us
 further-parameters [] k us = (us, no-parameter)
 further-parameters (y ∷ ys) k us =
     let q = both-true _ _ k in
@@ -161,7 +161,7 @@ further-parameters (y ∷ ys) k us =
     let i = y.1 q.0 j.0 in
     (mark at s.Comma ∷ i.0, next-parameter {p = at} i.1 j.1)
 
-further-clauses : (ys : List ((x : Clause) × PC x)) → each_in_order (map (λ z. (z, clause_in_order z)) (map (λ y. y.0) ys)) ≡ true → (us : List Leaf) → (ts : List Leaf) × FurtherClauses (map (λ y. y.0) ys) ts us
+further-clauses : (ys : List ((x : Clause) × PC x)) → each_in_order (map (λ z. (z, clause_in_order z)) (map (λ y. y.0) ys)) ≡ true → (us : List ValuedToken) → (ts : List ValuedToken) × FurtherClauses (map (λ y. y.0) ys) ts us
 further-clauses [] k us = (us, no-clause)
 further-clauses (y ∷ ys) k us =
     let q = both-true _ _ k in
@@ -177,7 +177,7 @@ dict-made (y ∷ ys) k us =
     let i = y.1 q.0 j.0 in
     (mark at s.LeftBrace ∷ i.0, a-dict {p = at} {q = at} i.1 j.1)
 
-given-made : (ys : List ((x : Argument) × PA x)) → each_in_order (map (λ z. (z, argument_in_order z)) (map (λ y. y.0) ys)) ≡ true → (us : List Leaf) → (ts : List Leaf) × Arguments (map (λ y. y.0) ys) ts us
+given-made : (ys : List ((x : Argument) × PA x)) → each_in_order (map (λ z. (z, argument_in_order z)) (map (λ y. y.0) ys)) ≡ true → (us : List ValuedToken) → (ts : List ValuedToken) × Arguments (map (λ y. y.0) ys) ts us
 given-made [] k us = (us, none-given)
 given-made (y ∷ ys) k us =
     let q = both-true _ _ k in
@@ -185,7 +185,7 @@ given-made (y ∷ ys) k us =
     let i = y.1 q.0 j.0 in
     (i.0, some-given i.1 j.1)
 
-taken-made : (ys : List ((x : Parameter) × PP x)) → each_in_order (map (λ z. (z, parameter_in_order z)) (map (λ y. y.0) ys)) ≡ true → (us : List Leaf) → (ts : List Leaf) × Parameters (map (λ y. y.0) ys) ts us
+taken-made : (ys : List ((x : Parameter) × PP x)) → each_in_order (map (λ z. (z, parameter_in_order z)) (map (λ y. y.0) ys)) ≡ true → (us : List ValuedToken) → (ts : List ValuedToken) × Parameters (map (λ y. y.0) ys) ts us
 taken-made [] k us = (us, none-taken)
 taken-made (y ∷ ys) k us =
     let q = both-true _ _ k in
@@ -224,7 +224,7 @@ compare-made comparators.In x y v w us = let j = inside w us in let i = inside v
 compare-made comparators.NotIn x y v w us = let j = inside w us in let i = inside v (spelt at keyword.Not ∷ spelt at keyword.In ∷ j.0) in (i.0, an-absence {p = at} {q = at} i.1 j.1)
 
 abbrev Optionally : Option Expression → Type 0
-Optionally a = (us : List Leaf) → (ts : List Leaf) × Optional a ts us
+Optionally a = (us : List ValuedToken) → (ts : List ValuedToken) × Optional a ts us
 
 nothing-put : Optionally None
 nothing-put us = (us, left-out)
@@ -249,8 +249,8 @@ entry-made y k us =
     let i = inside (y.key.1 b.0) (mark at s.Colon ∷ j.0) in
     (i.0, an-entry i.1 j.1)
 
-abbrev WA : Argument → List Leaf → Type 0
-WA x us = (ts : List Leaf) × OneArgument x ts us
+abbrev WA : Argument → List ValuedToken → Type 0
+WA x us = (ts : List ValuedToken) × OneArgument x ts us
 
 argument-made : (y : SuchArgument) → PA (roll-Argument (bareArgument y))
 argument-made (tree.Positional x) k us = let i = inside (x.1 (sym (openedArgument (bareArgument (tree.Positional x))) ∙ k)) us in subst (λ z. WA z us) (sym (arguments.rolls-Positional x.0)) (i.0, positional i.1)
@@ -258,8 +258,8 @@ argument-made (tree.Named n x) k us = let i = inside (x.1 (sym (openedArgument (
 argument-made (tree.Argument-F.Argument::Star x) k us = let i = inside (x.1 (sym (openedArgument (bareArgument (tree.Argument-F.Argument::Star x))) ∙ k)) us in subst (λ z. WA z us) (sym (arguments.rolls-Star x.0)) (mark at s.Star ∷ i.0, with-star {p = at} i.1)
 argument-made (tree.Argument-F.Argument::StarStar x) k us = let i = inside (x.1 (sym (openedArgument (bareArgument (tree.Argument-F.Argument::StarStar x))) ∙ k)) us in subst (λ z. WA z us) (sym (arguments.rolls-StarStar x.0)) (mark at s.StarStar ∷ i.0, with-two-stars {p = at} i.1)
 
-abbrev WP : Parameter → List Leaf → Type 0
-WP x us = (ts : List Leaf) × OneParameter x ts us
+abbrev WP : Parameter → List ValuedToken → Type 0
+WP x us = (ts : List ValuedToken) × OneParameter x ts us
 
 parameter-made : (y : SuchParameter) → PP (roll-Parameter (bareParameter y))
 parameter-made (tree.Plain n) k us = subst (λ z. WP z us) (sym (parameters.rolls-Plain n)) (_, plain)
@@ -289,11 +289,11 @@ target-made (tree.Target-F.Target::Index a b) k = let q = both-true _ _ (sym (op
 target-made (tree.Target-F.Target::Tuple ys) k = let j = several ys (sym (openedTarget (bareTarget (tree.Target-F.Target::Tuple ys))) ∙ k) in subst WT (sym (targets.rolls-Tuple _)) (e.Tuple j.0, target-Tuple j.0 ∙ ap tuple_target j.1, tuple-made j.0 j.2)
 target-made (tree.Target-F.Target::List ys) k = let j = several ys (sym (openedTarget (bareTarget (tree.Target-F.Target::List ys))) ∙ k) in subst WT (sym (targets.rolls-List _)) (e.List j.0, target-List j.0 ∙ ap list_target j.1, list-made j.0 j.2)
 
-for-made : (x : Target) (y : Expression) → WT x → Writable y → (us : List Leaf) → (ts : List Leaf) × ForPart x y ts us
+for-made : (x : Target) (y : Expression) → WT x → Writable y → (us : List ValuedToken) → (ts : List ValuedToken) × ForPart x y ts us
 for-made x y t w us = let j = inside w us in let i = inside t.2 (spelt at keyword.In ∷ j.0) in (spelt at keyword.For ∷ i.0, for-each {p = at} {q = at} t.1 i.1 j.1)
 
-abbrev WC : Clause → List Leaf → Type 0
-WC x us = (ts : List Leaf) × OneClause x ts us
+abbrev WC : Clause → List ValuedToken → Type 0
+WC x us = (ts : List ValuedToken) × OneClause x ts us
 
 clause-made : (y : SuchClause) → PC (roll-Clause (bareClause y))
 clause-made (tree.For t x) k us = let q = both-true _ _ (sym (openedClause (bareClause (tree.For t x))) ∙ k) in let f = for-made t.0 x.0 (t.1 q.0) (x.1 q.1) us in subst (λ z. WC z us) (sym (clauses.rolls-For t.0 x.0)) (f.0, each f.1)

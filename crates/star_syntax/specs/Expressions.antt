@@ -1,14 +1,14 @@
 -- The grammar of expressions: one line for each production, with the production above it.
 use Rattle.std.specs.Prelude.{ℕ, zero, suc, ◌==◌, Bool, if◌then◌else◌, List, [], ◌∷◌, ◌++◌, Option, Some, None}
 use denote.Enum.Bare.{sameb}
-use Rattle.star_lex.specs.contracts.token.Sign.{the_type as sign_type}
+use Rattle.star_lex.specs.contracts.token.Punctuator.{the_type as sign_type}
 use Rattle.star_lex.specs.contracts.token.Keyword.{the_type as keyword_type}
-use Rattle.star_lex.specs.declared.token.Sign.{Sign}
-use Rattle.star_lex.specs.declared.token.Sign.TheVariants as s
+use Rattle.star_lex.specs.declared.token.Punctuator.{Punctuator}
+use Rattle.star_lex.specs.declared.token.Punctuator.TheVariants as s
 use Rattle.star_lex.specs.declared.token.Keyword.{Keyword}
 use Rattle.star_lex.specs.declared.token.Keyword.TheVariants as k
-use Rattle.star_syntax.specs.declared.leaf.Word.{Word}
-use Rattle.star_syntax.specs.declared.leaf.Word.TheVariants as word
+use Rattle.star_syntax.specs.declared.leaf.TokenValue.{TokenValue}
+use Rattle.star_syntax.specs.declared.leaf.TokenValue.TheVariants as word
 use Rattle.star_syntax.specs.declared.level.Level.TheVariants as levels
 use Rattle.star_syntax.specs.declared.level.Suffix.{Suffix}
 use Rattle.star_syntax.specs.declared.level.Suffix.TheVariants as suffixes
@@ -75,7 +75,7 @@ before g h = act left_of (seq g h)
 -- ---- leaves
 
 -- `==` on signs and on keywords
-unfoldable pub same_sign : Sign → Sign → Bool
+unfoldable pub same_sign : Punctuator → Punctuator → Bool
 same_sign = sameb sign_type
 
 unfoldable pub same_keyword : Keyword → Keyword → Bool
@@ -84,11 +84,11 @@ same_keyword = sameb keyword_type
 abbrev pub said : Bool → Option (Unit {0})
 said b = if b then Some tt else None
 
-abbrev pub is_sign : Sign → Word → Option (Unit {0})
-is_sign sign (word.Sign found) = said (same_sign sign found)
+abbrev pub is_sign : Punctuator → TokenValue → Option (Unit {0})
+is_sign sign (word.Punctuator found) = said (same_sign sign found)
 is_sign sign _ = None
 
-abbrev pub is_keyword : Keyword → Word → Option (Unit {0})
+abbrev pub is_keyword : Keyword → TokenValue → Option (Unit {0})
 is_keyword keyword (word.Keyword found) = said (same_keyword keyword found)
 is_keyword keyword _ = None
 
@@ -96,29 +96,29 @@ abbrev pub placed_at : Position → Option (Unit {0}) → Option Position
 placed_at position None = None
 placed_at position (Some u) = Some position
 
-abbrev pub name_of : Position → Word → Option Name
+abbrev pub name_of : Position → TokenValue → Option Name
 name_of position (word.Name text) = Some (record { text = text; position = position })
 name_of position _ = None
 
 -- a name, an int or a string as an operand
-abbrev pub atom_of : Position → Word → Option Expression
+abbrev pub atom_of : Position → TokenValue → Option Expression
 atom_of position (word.Name text) = Some (e.Name (record { text = text; position = position }))
 atom_of position (word.Int value) = Some (e.Int value)
 atom_of position (word.Text text) = Some (e.Text text)
 atom_of position _ = None
 
-abbrev pub unary_sign : Sign → Option UnaryOperator
+abbrev pub unary_sign : Punctuator → Option UnaryOperator
 unary_sign s.Plus = Some unaries.Plus
 unary_sign s.Minus = Some unaries.Minus
 unary_sign s.Tilde = Some unaries.Invert
 unary_sign _ = None
 
-abbrev pub unary_word : Word → Option UnaryOperator
-unary_word (word.Sign sign) = unary_sign sign
+abbrev pub unary_word : TokenValue → Option UnaryOperator
+unary_word (word.Punctuator sign) = unary_sign sign
 unary_word _ = None
 
 -- the signs between two operands
-abbrev pub binary_sign : Sign → Option BinaryOperator
+abbrev pub binary_sign : Punctuator → Option BinaryOperator
 binary_sign s.Star = Some binaries.Multiply
 binary_sign s.SlashSlash = Some binaries.FloorDivide
 binary_sign s.Percent = Some binaries.Modulo
@@ -132,27 +132,27 @@ binary_sign s.Bar = Some binaries.BitOr
 binary_sign _ = None
 
 -- how loosely they bind: 0 is the tightest
-abbrev pub looseness : BinaryOperator → ℕ
-looseness binaries.Multiply = 0
-looseness binaries.FloorDivide = 0
-looseness binaries.Modulo = 0
-looseness binaries.Add = 1
-looseness binaries.Subtract = 1
-looseness binaries.ShiftLeft = 2
-looseness binaries.ShiftRight = 2
-looseness binaries.BitAnd = 3
-looseness binaries.BitXor = 4
-looseness binaries.BitOr = 5
+abbrev pub precedence : BinaryOperator → ℕ
+precedence binaries.Multiply = 0
+precedence binaries.FloorDivide = 0
+precedence binaries.Modulo = 0
+precedence binaries.Add = 1
+precedence binaries.Subtract = 1
+precedence binaries.ShiftLeft = 2
+precedence binaries.ShiftRight = 2
+precedence binaries.BitAnd = 3
+precedence binaries.BitXor = 4
+precedence binaries.BitOr = 5
 
 abbrev pub only_at : ℕ → Option BinaryOperator → Option BinaryOperator
 only_at n None = None
-only_at n (Some operator) = if looseness operator == n then Some operator else None
+only_at n (Some operator) = if precedence operator == n then Some operator else None
 
-abbrev pub binary_word : ℕ → Word → Option BinaryOperator
-binary_word n (word.Sign sign) = only_at n (binary_sign sign)
+abbrev pub binary_word : ℕ → TokenValue → Option BinaryOperator
+binary_word n (word.Punctuator sign) = only_at n (binary_sign sign)
 binary_word n _ = None
 
-abbrev pub comparator_sign : Sign → Option Comparator
+abbrev pub comparator_sign : Punctuator → Option Comparator
 comparator_sign s.EqualEqual = Some comparators.Equal
 comparator_sign s.NotEqual = Some comparators.NotEqual
 comparator_sign s.Less = Some comparators.Less
@@ -161,19 +161,19 @@ comparator_sign s.LessEqual = Some comparators.LessEqual
 comparator_sign s.GreaterEqual = Some comparators.GreaterEqual
 comparator_sign _ = None
 
-abbrev pub comparator_word : Word → Option Comparator
-comparator_word (word.Sign sign) = comparator_sign sign
+abbrev pub comparator_word : TokenValue → Option Comparator
+comparator_word (word.Punctuator sign) = comparator_sign sign
 comparator_word (word.Keyword k.In) = Some comparators.In
 comparator_word _ = None
 
-abbrev pub sign_ : Sign → G sorts.nothing
+abbrev pub sign_ : Punctuator → G sorts.nothing
 sign_ sign = one (λ t. is_sign sign t.word)
 
 abbrev pub keyword_ : Keyword → G sorts.nothing
 keyword_ keyword = one (λ t. is_keyword keyword t.word)
 
 -- a sign or a keyword, with its position
-abbrev pub sign_at : Sign → G sorts.position
+abbrev pub sign_at : Punctuator → G sorts.position
 sign_at sign = one (λ t. placed_at t.position (is_sign sign t.word))
 
 abbrev pub keyword_at : Keyword → G sorts.position

@@ -1,7 +1,7 @@
 -- Expressions and statements whose arguments and parameters are in order, at any depth; all that is read is so, and all
 -- that is so can be written.
 use Rattle.std.specs.Prelude.{◌≡◌, Bool, true, ◌&&◌, List, [], ◌∷◌, map, Option, Some, None}
-use Rattle.star_syntax.specs.declared.leaf.Leaf.{Leaf}
+use Rattle.star_syntax.specs.declared.leaf.ValuedToken.{ValuedToken}
 use Rattle.star_tree.specs.declared.tree.Argument.{Argument}
 use Rattle.star_tree.specs.declared.tree.Clause.{Clause}
 use Rattle.star_tree.specs.declared.tree.Clauses.{Clauses}
@@ -139,7 +139,7 @@ statement_in_order = form_folds.fold-Statement Bool Bool Bool form_step arm_step
 
 -- an expression can be written with a parenthesis round each part, before any leaves
 abbrev pub Writable : Expression → Type 0
-Writable x = (us : List Leaf) → (ts : List Leaf) × Written x ts us
+Writable x = (us : List ValuedToken) → (ts : List ValuedToken) × Written x ts us
 
 -- The law: so can each expression that is in order.
 abbrev pub AllWritable : Type 0
@@ -148,18 +148,18 @@ AllWritable = (x : Expression) → in_order x ≡ true → Writable x
 -- The law: an expression that is read, at any level of the grammar, is in order.
 abbrev pub ReadInOrder : Type 0
 ReadInOrder =
-    (l : Level) (x : Expression) (ts us : List Leaf) → Reads rule sorts.expression (the (level l)) ts (Some (x, us))
+    (l : Level) (x : Expression) (ts us : List ValuedToken) → Reads rule sorts.expression (the (level l)) ts (Some (x, us))
     → in_order x ≡ true
 
 -- The law: so is each statement of a file's reading.
 abbrev pub TreeInOrder : Type 0
 TreeInOrder =
-    (tree : List Statement) (leaves : List Leaf) → Reading tree leaves → every (map statement_in_order tree) ≡ true
+    (tree : List Statement) (leaves : List ValuedToken) → Reading tree leaves → every (map statement_in_order tree) ≡ true
 
 -- The law: an expression that is read has a writing with a parenthesis round each part, which reads back as that
 -- expression.
 abbrev pub ReadIsWritten : Type 0
 ReadIsWritten =
-    (x : Expression) (ts us vs : List Leaf) → Reads rule sorts.expression (the (level levels.Test)) ts (Some (x, us))
+    (x : Expression) (ts us vs : List ValuedToken) → Reads rule sorts.expression (the (level levels.Test)) ts (Some (x, us))
     → Stops vs
-    → (ws : List Leaf) × Written x ws vs × Reads rule sorts.expression (the (level levels.Test)) ws (Some (x, vs))
+    → (ws : List ValuedToken) × Written x ws vs × Reads rule sorts.expression (the (level levels.Test)) ws (Some (x, vs))

@@ -3,7 +3,7 @@ use Rattle.std.specs.Prelude.{◌≡◌, ℕ, List, [], Option, Some, None, Resu
 use Rattle.std.specs.Borrow.{Bor}
 use Rattle.std.specs.declared.alloc.Global.{Global}
 use Rattle.std.specs.declared.alloc.AllocError.{AllocError}
-use Rattle.star_syntax.specs.declared.leaf.Leaf.{Leaf}
+use Rattle.star_syntax.specs.declared.leaf.ValuedToken.{ValuedToken}
 use Rattle.star_syntax.specs.declared.level.Level.{Level}
 use Rattle.star_syntax.specs.declared.level.Level.TheVariants as levels
 use Rattle.star_tree.specs.declared.tree.Expression.{Expression}
@@ -27,44 +27,44 @@ rule (level l) = rule_of_level l
 rule statement = one_statement
 
 -- the tree that spells all the leaves, each repetition or option taking a further round wherever one reads there
-pub record Reading (tree : List Statement) (leaves : List Leaf) : Type 0 where
+pub record Reading (tree : List Statement) (leaves : List ValuedToken) : Type 0 where
   pub spells : Spells rule (list sorts.statement) file tree leaves
   pub greedy : Reads rule (list sorts.statement) file leaves (Some (tree, []))
 
 -- the reading of a part, with parts that hold themselves nested no deeper than the number
-abbrev pub reads : ℕ → {s : Sort} → G s → List Leaf → Answer (Val s)
+abbrev pub reads : ℕ → {s : Sort} → G s → List ValuedToken → Answer (Val s)
 reads depth g ts = step (run rule depth) g ts
 
 -- ---- the answers of the code
 
-abbrev pub Finds : {A : Type 0} → Answer A → Option (A × Bor (List Leaf)) → Type 0
+abbrev pub Finds : {A : Type 0} → Answer A → Option (A × Bor (List ValuedToken)) → Type 0
 Finds r None = r ≡ None
 Finds r (Some p) = r ≡ Some (p.0, p.1.now)
 
-abbrev pub Gives : {A : Type 0} → Answer A → Result (Option (A × Bor (List Leaf))) AllocError → Type 0
+abbrev pub Gives : {A : Type 0} → Answer A → Result (Option (A × Bor (List ValuedToken))) AllocError → Type 0
 Gives r (Ok found) = Finds r found
 Gives r (Err e) = Unit {0}
 
 -- a function that reads expressions to a depth
-pub record Nests (depth : ℕ) (pre : Global → ℕ → Level → Bor (List Leaf) → Type 0)
-    (post : Global → ℕ → Level → Bor (List Leaf) → Result (Option (Expression × Bor (List Leaf))) AllocError
+pub record Nests (depth : ℕ) (pre : Global → ℕ → Level → Bor (List ValuedToken) → Type 0)
+    (post : Global → ℕ → Level → Bor (List ValuedToken) → Result (Option (Expression × Bor (List ValuedToken))) AllocError
     → Type 0) : Type 0 where
-  pub callable : (alloc : Global) (l : Level) (ts : Bor (List Leaf)) → pre alloc depth l ts
-  pub reads : (alloc : Global) (l : Level) (ts : Bor (List Leaf))
-      (r : Result (Option (Expression × Bor (List Leaf))) AllocError) → post alloc depth l ts r
+  pub callable : (alloc : Global) (l : Level) (ts : Bor (List ValuedToken)) → pre alloc depth l ts
+  pub reads : (alloc : Global) (l : Level) (ts : Bor (List ValuedToken))
+      (r : Result (Option (Expression × Bor (List ValuedToken))) AllocError) → post alloc depth l ts r
       → Gives (run rule depth (level l) ts.now) r
 
 -- a function that reads statements to a depth
-pub record Blocks (depth : ℕ) (pre : Global → ℕ → Bor (List Leaf) → Type 0)
-    (post : Global → ℕ → Bor (List Leaf) → Result (Option (List Statement × Bor (List Leaf))) AllocError
+pub record Blocks (depth : ℕ) (pre : Global → ℕ → Bor (List ValuedToken) → Type 0)
+    (post : Global → ℕ → Bor (List ValuedToken) → Result (Option (List Statement × Bor (List ValuedToken))) AllocError
     → Type 0) : Type 0 where
-  pub callable : (alloc : Global) (ts : Bor (List Leaf)) → pre alloc depth ts
-  pub reads : (alloc : Global) (ts : Bor (List Leaf))
-      (r : Result (Option (List Statement × Bor (List Leaf))) AllocError) → post alloc depth ts r
+  pub callable : (alloc : Global) (ts : Bor (List ValuedToken)) → pre alloc depth ts
+  pub reads : (alloc : Global) (ts : Bor (List ValuedToken))
+      (r : Result (Option (List Statement × Bor (List ValuedToken))) AllocError) → post alloc depth ts r
       → Gives (run rule depth statement ts.now) r
 
 -- the reading of a whole file, or nothing if there is none
-abbrev pub Parsed : List Leaf → Result (Option (List Statement)) AllocError → Type 0
+abbrev pub Parsed : List ValuedToken → Result (Option (List Statement)) AllocError → Type 0
 Parsed leaves (Err e) = Unit {0}
 Parsed leaves (Ok (Some tree)) = Reading tree leaves
 Parsed leaves (Ok None) = (tree : List Statement) → Reading tree leaves → ⊥

@@ -1,10 +1,10 @@
 -- The grammar of statements: one line for each production, with the production above it.
 use Rattle.std.specs.Prelude.{if◌then◌else◌, List, [], ◌++◌, Option, Some, None}
-use Rattle.star_lex.specs.declared.token.Sign.{Sign}
-use Rattle.star_lex.specs.declared.token.Sign.TheVariants as s
+use Rattle.star_lex.specs.declared.token.Punctuator.{Punctuator}
+use Rattle.star_lex.specs.declared.token.Punctuator.TheVariants as s
 use Rattle.star_lex.specs.declared.token.Keyword.TheVariants as k
-use Rattle.star_syntax.specs.declared.leaf.Word.{Word}
-use Rattle.star_syntax.specs.declared.leaf.Word.TheVariants as word
+use Rattle.star_syntax.specs.declared.leaf.TokenValue.{TokenValue}
+use Rattle.star_syntax.specs.declared.leaf.TokenValue.TheVariants as word
 use Rattle.star_tree.specs.declared.tree.Position.{Position}
 use Rattle.star_tree.specs.declared.tree.Name.{Name}
 use Rattle.star_tree.specs.declared.tree.Literal.{Literal}
@@ -27,19 +27,19 @@ use Rattle.star_syntax.specs.Expressions.{none_of, nil_of, single, snoc, opt, re
 
 -- ---- leaves
 
-abbrev pub is_newline : Word → Option (Unit {0})
+abbrev pub is_newline : TokenValue → Option (Unit {0})
 is_newline word.Newline = Some tt
 is_newline _ = None
 
-abbrev pub is_indent : Word → Option (Unit {0})
+abbrev pub is_indent : TokenValue → Option (Unit {0})
 is_indent word.Indent = Some tt
 is_indent _ = None
 
-abbrev pub is_outdent : Word → Option (Unit {0})
+abbrev pub is_outdent : TokenValue → Option (Unit {0})
 is_outdent word.Outdent = Some tt
 is_outdent _ = None
 
-abbrev pub is_end : Word → Option (Unit {0})
+abbrev pub is_end : TokenValue → Option (Unit {0})
 is_end word.End = Some tt
 is_end _ = None
 
@@ -55,7 +55,7 @@ outdent = one (λ t. is_outdent t.word)
 abbrev pub end : G sorts.nothing
 end = one (λ t. is_end t.word)
 
-abbrev pub literal_of : Position → Word → Option Literal
+abbrev pub literal_of : Position → TokenValue → Option Literal
 literal_of position (word.Text text) = Some (record { text = text; position = position })
 literal_of position _ = None
 
@@ -63,7 +63,7 @@ abbrev pub literal : G sorts.literal
 literal = one (λ t. literal_of t.position t.word)
 
 -- AugOp: the sign before its `=`
-abbrev pub augmenting_sign : Sign → Option BinaryOperator
+abbrev pub augmenting_sign : Punctuator → Option BinaryOperator
 augmenting_sign s.PlusAssign = Some binaries.Add
 augmenting_sign s.MinusAssign = Some binaries.Subtract
 augmenting_sign s.StarAssign = Some binaries.Multiply
@@ -76,8 +76,8 @@ augmenting_sign s.ShiftLeftAssign = Some binaries.ShiftLeft
 augmenting_sign s.ShiftRightAssign = Some binaries.ShiftRight
 augmenting_sign _ = None
 
-abbrev pub augmenting_word : Word → Option BinaryOperator
-augmenting_word (word.Sign sign) = augmenting_sign sign
+abbrev pub augmenting_word : TokenValue → Option BinaryOperator
+augmenting_word (word.Punctuator sign) = augmenting_sign sign
 augmenting_word _ = None
 
 abbrev pub augmenting : G sorts.binary

@@ -5,11 +5,11 @@ ghost use Rattle.star_syntax.specs.Expressions as spec;
 ghost use Rattle.star_syntax.specs.Keeps as keeps;
 ghost use Rattle.star_syntax.specs.Language.{Gives, Nests, reads};
 
-use crate::leaf::Leaf;
+use crate::leaf::ValuedToken;
 use crate::level::{Level, Suffix};
 use crate::reader::{Grammar, Read, exact, keyword_at, name, sign};
 use sqlite_items::{Boxed, Items};
-use star_lex::token::{Keyword, Sign};
+use star_lex::token::{Keyword, Punctuator};
 use star_tree::tree::{Argument, Expression, Parameter};
 use std::alloc::Global;
 
@@ -109,21 +109,21 @@ fn parameters_in_order(parameters: &[Parameter]) -> bool
     true
 }
 
-impl<F: Fn(Global, u128, Level, &[Leaf]) -> Read<'_, Boxed<Expression>>> Grammar<F> {
+impl<F: Fn(Global, u128, Level, &[ValuedToken]) -> Read<'_, Boxed<Expression>>> Grammar<F> {
     /// `name '=' Test`
     #[tactic(auto, unfolding(crate::specs::Expressions::named))]
-    fn named<'a>(&self, leaves: &'a [Leaf]) -> Read<'a, Argument>
+    fn named<'a>(&self, leaves: &'a [ValuedToken]) -> Read<'a, Argument>
         requires { Nests self.now.depth (F.pre self.now.expression) (F.post self.now.expression) }
         ensures { Gives (reads self.now.depth spec.named leaves.now) result }
     {
         match leaves {
-            [_, rest @ ..] if sign(Sign::Assign, rest).is_some() => {}
+            [_, rest @ ..] if sign(Punctuator::Assign, rest).is_some() => {}
             _ => return Ok(None),
         }
         let Some((name, rest)) = name(leaves)? else {
             return Ok(None);
         };
-        let Some((_, rest)) = sign(Sign::Assign, rest) else {
+        let Some((_, rest)) = sign(Punctuator::Assign, rest) else {
             return Ok(None);
         };
         let Some((value, rest)) = self.nested(Level::Test, rest)? else {
@@ -134,7 +134,11 @@ impl<F: Fn(Global, u128, Level, &[Leaf]) -> Read<'_, Boxed<Expression>>> Grammar
     }
 
     /// An expression after a sign.
-    fn after_sign<'a>(&self, before: Sign, leaves: &'a [Leaf]) -> Read<'a, Boxed<Expression>>
+    fn after_sign<'a>(
+        &self,
+        before: Punctuator,
+        leaves: &'a [ValuedToken],
+    ) -> Read<'a, Boxed<Expression>>
         requires { Nests self.now.depth (F.pre self.now.expression) (F.post self.now.expression) }
         ensures { Gives (reads self.now.depth (spec.after (spec.sign_ before) spec.a_test) leaves.now) result }
     {
@@ -146,17 +150,17 @@ impl<F: Fn(Global, u128, Level, &[Leaf]) -> Read<'_, Boxed<Expression>>> Grammar
 
     /// `Arg = name '=' Test | '*' Test | '**' Test | Test`. A name directly before `=` begins a keyword argument.
     #[tactic(auto, unfolding(crate::specs::Expressions::argument))]
-    fn argument<'a>(&self, leaves: &'a [Leaf]) -> Read<'a, Argument>
+    fn argument<'a>(&self, leaves: &'a [ValuedToken]) -> Read<'a, Argument>
         requires { Nests self.now.depth (F.pre self.now.expression) (F.post self.now.expression) }
         ensures { Gives (reads self.now.depth spec.argument leaves.now) result }
     {
         if let Some(found) = self.named(leaves)? {
             return Ok(Some(found));
         }
-        if let Some((value, rest)) = self.after_sign(Sign::Star, leaves)? {
+        if let Some((value, rest)) = self.after_sign(Punctuator::Star, leaves)? {
             return Ok(Some((Argument::Star(value.into_inner()), rest)));
         }
-        if let Some((value, rest)) = self.after_sign(Sign::StarStar, leaves)? {
+        if let Some((value, rest)) = self.after_sign(Punctuator::StarStar, leaves)? {
             return Ok(Some((Argument::StarStar(value.into_inner()), rest)));
         }
         match self.nested(Level::Test, leaves)? {
@@ -167,11 +171,11 @@ impl<F: Fn(Global, u128, Level, &[Leaf]) -> Read<'_, Boxed<Expression>>> Grammar
 
     /// `',' Arg`
     #[tactic(auto, unfolding(crate::specs::Expressions::next_argument))]
-    fn next_argument<'a>(&self, leaves: &'a [Leaf]) -> Read<'a, Argument>
+    fn next_argument<'a>(&self, leaves: &'a [ValuedToken]) -> Read<'a, Argument>
         requires { Nests self.now.depth (F.pre self.now.expression) (F.post self.now.expression) }
         ensures { Gives (reads self.now.depth spec.next_argument leaves.now) result }
     {
-        let Some((_, rest)) = sign(Sign::Comma, leaves) else {
+        let Some((_, rest)) = sign(Punctuator::Comma, leaves) else {
             return Ok(None);
         };
         self.argument(rest)
@@ -179,7 +183,7 @@ impl<F: Fn(Global, u128, Level, &[Leaf]) -> Read<'_, Boxed<Expression>>> Grammar
 
     /// `Arg {',' Arg}`
     #[tactic(auto, unfolding(crate::specs::Expressions::list_of_arguments))]
-    fn list_of_arguments<'a>(&self, leaves: &'a [Leaf]) -> Read<'a, Items<Argument>>
+    fn list_of_arguments<'a>(&self, leaves: &'a [ValuedToken]) -> Read<'a, Items<Argument>>
         requires { Nests self.now.depth (F.pre self.now.expression) (F.post self.now.expression) }
         ensures { Gives (reads self.now.depth spec.list_of_arguments leaves.now) result }
     {
@@ -200,7 +204,7 @@ impl<F: Fn(Global, u128, Level, &[Leaf]) -> Read<'_, Boxed<Expression>>> Grammar
 
     /// `Args = Arg {',' Arg}`, if they are in the order of the rules (`arguments_in_order`).
     #[tactic(auto, unfolding(crate::specs::Expressions::ordered_arguments))]
-    fn ordered_arguments<'a>(&self, leaves: &'a [Leaf]) -> Read<'a, Items<Argument>>
+    fn ordered_arguments<'a>(&self, leaves: &'a [ValuedToken]) -> Read<'a, Items<Argument>>
         requires { Nests self.now.depth (F.pre self.now.expression) (F.post self.now.expression) }
         ensures { Gives (reads self.now.depth spec.ordered_arguments leaves.now) result }
     {
@@ -216,14 +220,14 @@ impl<F: Fn(Global, u128, Level, &[Leaf]) -> Read<'_, Boxed<Expression>>> Grammar
 
     /// `[Args [',']]`
     #[tactic(auto, unfolding(crate::specs::Expressions::given))]
-    fn given<'a>(&self, leaves: &'a [Leaf]) -> Read<'a, Items<Argument>>
+    fn given<'a>(&self, leaves: &'a [ValuedToken]) -> Read<'a, Items<Argument>>
         requires { Nests self.now.depth (F.pre self.now.expression) (F.post self.now.expression) }
         ensures { Gives (reads self.now.depth spec.given leaves.now) result }
     {
         let Some((found, rest)) = self.ordered_arguments(leaves)? else {
             return Ok(Some((Items::new(self.alloc), leaves)));
         };
-        match sign(Sign::Comma, rest) {
+        match sign(Punctuator::Comma, rest) {
             Some((_, rest)) => Ok(Some((found, rest))),
             None => Ok(Some((found, rest))),
         }
@@ -231,17 +235,17 @@ impl<F: Fn(Global, u128, Level, &[Leaf]) -> Read<'_, Boxed<Expression>>> Grammar
 
     /// `'(' [Args [',']] ')'`
     #[tactic(auto, unfolding(crate::specs::Expressions::call))]
-    pub fn call<'a>(&self, leaves: &'a [Leaf]) -> Read<'a, Suffix>
+    pub fn call<'a>(&self, leaves: &'a [ValuedToken]) -> Read<'a, Suffix>
         requires { Nests self.now.depth (F.pre self.now.expression) (F.post self.now.expression) }
         ensures { Gives (reads self.now.depth spec.call leaves.now) result }
     {
-        let Some((_, rest)) = sign(Sign::LeftParen, leaves) else {
+        let Some((_, rest)) = sign(Punctuator::LeftParen, leaves) else {
             return Ok(None);
         };
         let Some((found, rest)) = self.given(rest)? else {
             return Ok(None);
         };
-        let Some((_, rest)) = sign(Sign::RightParen, rest) else {
+        let Some((_, rest)) = sign(Punctuator::RightParen, rest) else {
             return Ok(None);
         };
         Ok(Some((Suffix::Call(found), rest)))
@@ -249,16 +253,16 @@ impl<F: Fn(Global, u128, Level, &[Leaf]) -> Read<'_, Boxed<Expression>>> Grammar
 
     /// `'=' Test`
     #[tactic(auto, unfolding(crate::specs::Expressions::default))]
-    fn default<'a>(&self, leaves: &'a [Leaf]) -> Read<'a, Boxed<Expression>>
+    fn default<'a>(&self, leaves: &'a [ValuedToken]) -> Read<'a, Boxed<Expression>>
         requires { Nests self.now.depth (F.pre self.now.expression) (F.post self.now.expression) }
         ensures { Gives (reads self.now.depth spec.default leaves.now) result }
     {
-        self.after_sign(Sign::Assign, leaves)
+        self.after_sign(Punctuator::Assign, leaves)
     }
 
     /// `name ['=' Test]`
     #[tactic(auto, unfolding(crate::specs::Expressions::named_parameter))]
-    fn named_parameter<'a>(&self, leaves: &'a [Leaf]) -> Read<'a, Parameter>
+    fn named_parameter<'a>(&self, leaves: &'a [ValuedToken]) -> Read<'a, Parameter>
         requires { Nests self.now.depth (F.pre self.now.expression) (F.post self.now.expression) }
         ensures { Gives (reads self.now.depth spec.named_parameter leaves.now) result }
     {
@@ -276,10 +280,10 @@ impl<F: Fn(Global, u128, Level, &[Leaf]) -> Read<'_, Boxed<Expression>>> Grammar
 
     /// `'*' [name]`
     #[tactic(auto, unfolding(crate::specs::Expressions::star))]
-    fn star<'a>(&self, leaves: &'a [Leaf]) -> Read<'a, Parameter>
+    fn star<'a>(&self, leaves: &'a [ValuedToken]) -> Read<'a, Parameter>
         ensures { Gives (reads self.now.depth spec.star leaves.now) result }
     {
-        let Some((_, rest)) = sign(Sign::Star, leaves) else {
+        let Some((_, rest)) = sign(Punctuator::Star, leaves) else {
             return Ok(None);
         };
         match name(rest)? {
@@ -290,10 +294,10 @@ impl<F: Fn(Global, u128, Level, &[Leaf]) -> Read<'_, Boxed<Expression>>> Grammar
 
     /// `'**' name`
     #[tactic(auto, unfolding(crate::specs::Expressions::star_star))]
-    fn star_star<'a>(&self, leaves: &'a [Leaf]) -> Read<'a, Parameter>
+    fn star_star<'a>(&self, leaves: &'a [ValuedToken]) -> Read<'a, Parameter>
         ensures { Gives (reads self.now.depth spec.star_star leaves.now) result }
     {
-        let Some((_, rest)) = sign(Sign::StarStar, leaves) else {
+        let Some((_, rest)) = sign(Punctuator::StarStar, leaves) else {
             return Ok(None);
         };
         match name(rest)? {
@@ -304,7 +308,7 @@ impl<F: Fn(Global, u128, Level, &[Leaf]) -> Read<'_, Boxed<Expression>>> Grammar
 
     /// `Param = name ['=' Test] | '*' [name] | '**' name`
     #[tactic(auto, unfolding(crate::specs::Expressions::parameter))]
-    fn parameter<'a>(&self, leaves: &'a [Leaf]) -> Read<'a, Parameter>
+    fn parameter<'a>(&self, leaves: &'a [ValuedToken]) -> Read<'a, Parameter>
         requires { Nests self.now.depth (F.pre self.now.expression) (F.post self.now.expression) }
         ensures { Gives (reads self.now.depth spec.parameter leaves.now) result }
     {
@@ -319,11 +323,11 @@ impl<F: Fn(Global, u128, Level, &[Leaf]) -> Read<'_, Boxed<Expression>>> Grammar
 
     /// `',' Param`
     #[tactic(auto, unfolding(crate::specs::Expressions::next_parameter))]
-    fn next_parameter<'a>(&self, leaves: &'a [Leaf]) -> Read<'a, Parameter>
+    fn next_parameter<'a>(&self, leaves: &'a [ValuedToken]) -> Read<'a, Parameter>
         requires { Nests self.now.depth (F.pre self.now.expression) (F.post self.now.expression) }
         ensures { Gives (reads self.now.depth spec.next_parameter leaves.now) result }
     {
-        let Some((_, rest)) = sign(Sign::Comma, leaves) else {
+        let Some((_, rest)) = sign(Punctuator::Comma, leaves) else {
             return Ok(None);
         };
         self.parameter(rest)
@@ -331,7 +335,7 @@ impl<F: Fn(Global, u128, Level, &[Leaf]) -> Read<'_, Boxed<Expression>>> Grammar
 
     /// `Param {',' Param}`
     #[tactic(auto, unfolding(crate::specs::Expressions::list_of_parameters))]
-    fn list_of_parameters<'a>(&self, leaves: &'a [Leaf]) -> Read<'a, Items<Parameter>>
+    fn list_of_parameters<'a>(&self, leaves: &'a [ValuedToken]) -> Read<'a, Items<Parameter>>
         requires { Nests self.now.depth (F.pre self.now.expression) (F.post self.now.expression) }
         ensures { Gives (reads self.now.depth spec.list_of_parameters leaves.now) result }
     {
@@ -352,7 +356,7 @@ impl<F: Fn(Global, u128, Level, &[Leaf]) -> Read<'_, Boxed<Expression>>> Grammar
 
     /// `Params = Param {',' Param}`, if they are in the order of the rules (`parameters_in_order`).
     #[tactic(auto, unfolding(crate::specs::Expressions::ordered_parameters))]
-    fn ordered_parameters<'a>(&self, leaves: &'a [Leaf]) -> Read<'a, Items<Parameter>>
+    fn ordered_parameters<'a>(&self, leaves: &'a [ValuedToken]) -> Read<'a, Items<Parameter>>
         requires { Nests self.now.depth (F.pre self.now.expression) (F.post self.now.expression) }
         ensures { Gives (reads self.now.depth spec.ordered_parameters leaves.now) result }
     {
@@ -368,14 +372,14 @@ impl<F: Fn(Global, u128, Level, &[Leaf]) -> Read<'_, Boxed<Expression>>> Grammar
 
     /// `[Params [',']]`
     #[tactic(auto, unfolding(crate::specs::Expressions::taken))]
-    fn taken<'a>(&self, leaves: &'a [Leaf]) -> Read<'a, Items<Parameter>>
+    fn taken<'a>(&self, leaves: &'a [ValuedToken]) -> Read<'a, Items<Parameter>>
         requires { Nests self.now.depth (F.pre self.now.expression) (F.post self.now.expression) }
         ensures { Gives (reads self.now.depth spec.taken leaves.now) result }
     {
         let Some((found, rest)) = self.ordered_parameters(leaves)? else {
             return Ok(Some((Items::new(self.alloc), leaves)));
         };
-        match sign(Sign::Comma, rest) {
+        match sign(Punctuator::Comma, rest) {
             Some((_, rest)) => Ok(Some((found, rest))),
             None => Ok(Some((found, rest))),
         }
@@ -383,17 +387,20 @@ impl<F: Fn(Global, u128, Level, &[Leaf]) -> Read<'_, Boxed<Expression>>> Grammar
 
     /// `'(' [Params [',']] ')'`
     #[tactic(auto, unfolding(crate::specs::Expressions::parameters_in_parentheses))]
-    pub fn parameters_in_parentheses<'a>(&self, leaves: &'a [Leaf]) -> Read<'a, Items<Parameter>>
+    pub fn parameters_in_parentheses<'a>(
+        &self,
+        leaves: &'a [ValuedToken],
+    ) -> Read<'a, Items<Parameter>>
         requires { Nests self.now.depth (F.pre self.now.expression) (F.post self.now.expression) }
         ensures { Gives (reads self.now.depth spec.parameters_in_parentheses leaves.now) result }
     {
-        let Some((_, rest)) = sign(Sign::LeftParen, leaves) else {
+        let Some((_, rest)) = sign(Punctuator::LeftParen, leaves) else {
             return Ok(None);
         };
         let Some((found, rest)) = self.taken(rest)? else {
             return Ok(None);
         };
-        let Some((_, rest)) = sign(Sign::RightParen, rest) else {
+        let Some((_, rest)) = sign(Punctuator::RightParen, rest) else {
             return Ok(None);
         };
         Ok(Some((found, rest)))
@@ -401,7 +408,7 @@ impl<F: Fn(Global, u128, Level, &[Leaf]) -> Read<'_, Boxed<Expression>>> Grammar
 
     /// `[Params]`
     #[tactic(auto, unfolding(crate::specs::Expressions::lambda_parameters))]
-    fn lambda_parameters<'a>(&self, leaves: &'a [Leaf]) -> Read<'a, Items<Parameter>>
+    fn lambda_parameters<'a>(&self, leaves: &'a [ValuedToken]) -> Read<'a, Items<Parameter>>
         requires { Nests self.now.depth (F.pre self.now.expression) (F.post self.now.expression) }
         ensures { Gives (reads self.now.depth spec.lambda_parameters leaves.now) result }
     {
@@ -413,7 +420,7 @@ impl<F: Fn(Global, u128, Level, &[Leaf]) -> Read<'_, Boxed<Expression>>> Grammar
 
     /// `'lambda' [Params] ':' Test`
     #[tactic(auto, unfolding(crate::specs::Expressions::lambda))]
-    pub fn lambda<'a>(&self, leaves: &'a [Leaf]) -> Read<'a, Boxed<Expression>>
+    pub fn lambda<'a>(&self, leaves: &'a [ValuedToken]) -> Read<'a, Boxed<Expression>>
         requires { Nests self.now.depth (F.pre self.now.expression) (F.post self.now.expression) }
         ensures { Gives (reads self.now.depth spec.lambda leaves.now) result }
     {
@@ -423,7 +430,7 @@ impl<F: Fn(Global, u128, Level, &[Leaf]) -> Read<'_, Boxed<Expression>>> Grammar
         let Some((parameters, rest)) = self.lambda_parameters(rest)? else {
             return Ok(None);
         };
-        let Some((_, rest)) = sign(Sign::Colon, rest) else {
+        let Some((_, rest)) = sign(Punctuator::Colon, rest) else {
             return Ok(None);
         };
         let Some((body, rest)) = self.nested(Level::Test, rest)? else {

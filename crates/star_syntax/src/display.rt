@@ -4,12 +4,12 @@ ghost use Rattle.std.specs.Prelude.{◌≡◌, IfOk};
 ghost use Rattle.star_syntax.specs.Expressions as spec;
 ghost use Rattle.star_syntax.specs.Language.{Gives, Nests, reads};
 
-use crate::leaf::Leaf;
+use crate::leaf::ValuedToken;
 use crate::level::Level;
 use crate::make::target_of;
 use crate::reader::{Grammar, Read, exact, keyword, onto, sign, sign_at, tuple_unless_one};
 use sqlite_items::{Boxed, Items};
-use star_lex::token::{Keyword, Sign};
+use star_lex::token::{Keyword, Punctuator};
 use star_tree::tree::{Clause, Clauses, Entry, Expression, Position, Target};
 use std::alloc::{AllocError, Global};
 
@@ -109,14 +109,14 @@ fn clauses_of(target: Boxed<Target>, iterable: Boxed<Expression>, more: Items<Cl
     }
 }
 
-impl<F: Fn(Global, u128, Level, &[Leaf]) -> Read<'_, Boxed<Expression>>> Grammar<F> {
+impl<F: Fn(Global, u128, Level, &[ValuedToken]) -> Read<'_, Boxed<Expression>>> Grammar<F> {
     /// `',' Primary`
     #[tactic(auto, unfolding(crate::specs::Expressions::next_primary))]
-    fn next_primary<'a>(&self, leaves: &'a [Leaf]) -> Read<'a, Boxed<Expression>>
+    fn next_primary<'a>(&self, leaves: &'a [ValuedToken]) -> Read<'a, Boxed<Expression>>
         requires { Nests self.now.depth (F.pre self.now.expression) (F.post self.now.expression) }
         ensures { Gives (reads self.now.depth spec.next_primary leaves.now) result }
     {
-        let Some((_, rest)) = sign(Sign::Comma, leaves) else {
+        let Some((_, rest)) = sign(Punctuator::Comma, leaves) else {
             return Ok(None);
         };
         self.nested(Level::Primary, rest)
@@ -124,7 +124,7 @@ impl<F: Fn(Global, u128, Level, &[Leaf]) -> Read<'_, Boxed<Expression>>> Grammar
 
     /// `Primary {',' Primary}`
     #[tactic(auto, unfolding(crate::specs::Expressions::list_of_primaries), using(crate::proofs::Rounds::turns))]
-    fn list_of_primaries<'a>(&self, leaves: &'a [Leaf]) -> Read<'a, Items<Expression>>
+    fn list_of_primaries<'a>(&self, leaves: &'a [ValuedToken]) -> Read<'a, Items<Expression>>
         requires { Nests self.now.depth (F.pre self.now.expression) (F.post self.now.expression) }
         ensures { Gives (reads self.now.depth spec.list_of_primaries leaves.now) result }
     {
@@ -145,7 +145,7 @@ impl<F: Fn(Global, u128, Level, &[Leaf]) -> Read<'_, Boxed<Expression>>> Grammar
 
     /// `Primary {',' Primary}`; several are a tuple.
     #[tactic(auto, unfolding(crate::specs::Expressions::primaries))]
-    fn primaries<'a>(&self, leaves: &'a [Leaf]) -> Read<'a, Boxed<Expression>>
+    fn primaries<'a>(&self, leaves: &'a [ValuedToken]) -> Read<'a, Boxed<Expression>>
         requires { Nests self.now.depth (F.pre self.now.expression) (F.post self.now.expression) }
         ensures { Gives (reads self.now.depth spec.primaries leaves.now) result }
     {
@@ -157,7 +157,7 @@ impl<F: Fn(Global, u128, Level, &[Leaf]) -> Read<'_, Boxed<Expression>>> Grammar
 
     /// `Targets = Primary {',' Primary}`, if these are a target (`target_of`).
     #[tactic(auto, unfolding(crate::specs::Expressions::targets))]
-    pub fn targets<'a>(&self, leaves: &'a [Leaf]) -> Read<'a, Boxed<Target>>
+    pub fn targets<'a>(&self, leaves: &'a [ValuedToken]) -> Read<'a, Boxed<Target>>
         requires { Nests self.now.depth (F.pre self.now.expression) (F.post self.now.expression) }
         ensures { Gives (reads self.now.depth spec.targets leaves.now) result }
     {
@@ -172,7 +172,10 @@ impl<F: Fn(Global, u128, Level, &[Leaf]) -> Read<'_, Boxed<Expression>>> Grammar
 
     /// `ForClause = 'for' Targets 'in' Or`
     #[tactic(auto, unfolding(crate::specs::Expressions::for_clause))]
-    fn for_clause<'a>(&self, leaves: &'a [Leaf]) -> Read<'a, (Boxed<Target>, Boxed<Expression>)>
+    fn for_clause<'a>(
+        &self,
+        leaves: &'a [ValuedToken],
+    ) -> Read<'a, (Boxed<Target>, Boxed<Expression>)>
         requires { Nests self.now.depth (F.pre self.now.expression) (F.post self.now.expression) }
         ensures { Gives (reads self.now.depth spec.for_clause leaves.now) result }
     {
@@ -193,7 +196,7 @@ impl<F: Fn(Global, u128, Level, &[Leaf]) -> Read<'_, Boxed<Expression>>> Grammar
 
     /// `'if' Or`
     #[tactic(auto, unfolding(crate::specs::Expressions::if_clause))]
-    fn if_clause<'a>(&self, leaves: &'a [Leaf]) -> Read<'a, Clause>
+    fn if_clause<'a>(&self, leaves: &'a [ValuedToken]) -> Read<'a, Clause>
         requires { Nests self.now.depth (F.pre self.now.expression) (F.post self.now.expression) }
         ensures { Gives (reads self.now.depth spec.if_clause leaves.now) result }
     {
@@ -208,7 +211,7 @@ impl<F: Fn(Global, u128, Level, &[Leaf]) -> Read<'_, Boxed<Expression>>> Grammar
 
     /// `ForClause | 'if' Or`
     #[tactic(auto, unfolding(crate::specs::Expressions::next_clause))]
-    fn next_clause<'a>(&self, leaves: &'a [Leaf]) -> Read<'a, Clause>
+    fn next_clause<'a>(&self, leaves: &'a [ValuedToken]) -> Read<'a, Clause>
         requires { Nests self.now.depth (F.pre self.now.expression) (F.post self.now.expression) }
         ensures { Gives (reads self.now.depth spec.next_clause leaves.now) result }
     {
@@ -222,7 +225,7 @@ impl<F: Fn(Global, u128, Level, &[Leaf]) -> Read<'_, Boxed<Expression>>> Grammar
 
     /// `{ForClause | 'if' Or}`
     #[tactic(auto, unfolding(crate::specs::Expressions::further_clauses), using(crate::proofs::Rounds::turns))]
-    fn further_clauses<'a>(&self, leaves: &'a [Leaf]) -> Read<'a, Items<Clause>>
+    fn further_clauses<'a>(&self, leaves: &'a [ValuedToken]) -> Read<'a, Items<Clause>>
         requires { Nests self.now.depth (F.pre self.now.expression) (F.post self.now.expression) }
         ensures { Gives (reads self.now.depth spec.further_clauses leaves.now) result }
     {
@@ -240,7 +243,7 @@ impl<F: Fn(Global, u128, Level, &[Leaf]) -> Read<'_, Boxed<Expression>>> Grammar
 
     /// `Clauses = ForClause {ForClause | 'if' Or}`
     #[tactic(auto, unfolding(crate::specs::Expressions::all_clauses))]
-    fn all_clauses<'a>(&self, leaves: &'a [Leaf]) -> Read<'a, Boxed<Clauses>>
+    fn all_clauses<'a>(&self, leaves: &'a [ValuedToken]) -> Read<'a, Boxed<Clauses>>
         requires { Nests self.now.depth (F.pre self.now.expression) (F.post self.now.expression) }
         ensures { Gives (reads self.now.depth spec.all_clauses leaves.now) result }
     {
@@ -256,14 +259,14 @@ impl<F: Fn(Global, u128, Level, &[Leaf]) -> Read<'_, Boxed<Expression>>> Grammar
 
     /// `[Tests [',']]`
     #[tactic(auto, unfolding(crate::specs::Expressions::inside))]
-    fn inside<'a>(&self, leaves: &'a [Leaf]) -> Read<'a, Inside>
+    fn inside<'a>(&self, leaves: &'a [ValuedToken]) -> Read<'a, Inside>
         requires { Nests self.now.depth (F.pre self.now.expression) (F.post self.now.expression) }
         ensures { Gives (reads self.now.depth spec.inside leaves.now) result }
     {
         let Some((found, rest)) = self.list_of_tests(leaves)? else {
             return Ok(Some((None, leaves)));
         };
-        match sign(Sign::Comma, rest) {
+        match sign(Punctuator::Comma, rest) {
             Some((_, rest)) => Ok(Some((Some((exact(self.alloc, found)?, Some(()))), rest))),
             None => Ok(Some((Some((exact(self.alloc, found)?, None)), rest))),
         }
@@ -271,17 +274,17 @@ impl<F: Fn(Global, u128, Level, &[Leaf]) -> Read<'_, Boxed<Expression>>> Grammar
 
     /// `'(' [Tests [',']] ')'`
     #[tactic(auto, unfolding(crate::specs::Expressions::parentheses))]
-    pub fn parentheses<'a>(&self, leaves: &'a [Leaf]) -> Read<'a, Boxed<Expression>>
+    pub fn parentheses<'a>(&self, leaves: &'a [ValuedToken]) -> Read<'a, Boxed<Expression>>
         requires { Nests self.now.depth (F.pre self.now.expression) (F.post self.now.expression) }
         ensures { Gives (reads self.now.depth spec.parentheses leaves.now) result }
     {
-        let Some((_, rest)) = sign(Sign::LeftParen, leaves) else {
+        let Some((_, rest)) = sign(Punctuator::LeftParen, leaves) else {
             return Ok(None);
         };
         let Some((found, rest)) = self.inside(rest)? else {
             return Ok(None);
         };
-        let Some((_, rest)) = sign(Sign::RightParen, rest) else {
+        let Some((_, rest)) = sign(Punctuator::RightParen, rest) else {
             return Ok(None);
         };
         Ok(Some((
@@ -292,7 +295,7 @@ impl<F: Fn(Global, u128, Level, &[Leaf]) -> Read<'_, Boxed<Expression>>> Grammar
 
     /// `Clauses | {',' Test} [',']`
     #[tactic(auto, unfolding(crate::specs::Expressions::after_element))]
-    fn after_element<'a>(&self, leaves: &'a [Leaf]) -> Read<'a, After<Expression>>
+    fn after_element<'a>(&self, leaves: &'a [ValuedToken]) -> Read<'a, After<Expression>>
         requires { Nests self.now.depth (F.pre self.now.expression) (F.post self.now.expression) }
         ensures { Gives (reads self.now.depth spec.after_element leaves.now) result }
     {
@@ -302,7 +305,7 @@ impl<F: Fn(Global, u128, Level, &[Leaf]) -> Read<'_, Boxed<Expression>>> Grammar
         let Some((more, rest)) = self.further_tests(leaves)? else {
             return Ok(None);
         };
-        match sign(Sign::Comma, rest) {
+        match sign(Punctuator::Comma, rest) {
             Some((_, rest)) => Ok(Some(((None, more), rest))),
             None => Ok(Some(((None, more), rest))),
         }
@@ -312,7 +315,7 @@ impl<F: Fn(Global, u128, Level, &[Leaf]) -> Read<'_, Boxed<Expression>>> Grammar
     #[tactic(auto, unfolding(crate::specs::Expressions::elements))]
     fn elements<'a>(
         &self,
-        leaves: &'a [Leaf],
+        leaves: &'a [ValuedToken],
     ) -> Read<'a, Option<(Boxed<Expression>, After<Expression>)>>
         requires { Nests self.now.depth (F.pre self.now.expression) (F.post self.now.expression) }
         ensures { Gives (reads self.now.depth spec.elements leaves.now) result }
@@ -328,18 +331,18 @@ impl<F: Fn(Global, u128, Level, &[Leaf]) -> Read<'_, Boxed<Expression>>> Grammar
 
     /// `'[' [Tests [',']] ']' | '[' Test Clauses ']'`
     #[tactic(auto, unfolding(crate::specs::Expressions::list_display))]
-    pub fn list_display<'a>(&self, leaves: &'a [Leaf]) -> Read<'a, Boxed<Expression>>
+    pub fn list_display<'a>(&self, leaves: &'a [ValuedToken]) -> Read<'a, Boxed<Expression>>
         requires { Nests self.now.depth (F.pre self.now.expression) (F.post self.now.expression) }
         ensures { Gives (reads self.now.depth spec.list_display leaves.now) result }
     {
-        let Some((position, rest)) = sign_at(Sign::LeftBracket, leaves) else {
+        let Some((position, rest)) = sign_at(Punctuator::LeftBracket, leaves) else {
             return Ok(None);
         };
         let Some((found, rest)) = self.elements(rest)? else {
             return Ok(None);
         };
         let made = list_of(self.alloc, position, found)?;
-        let Some((_, rest)) = sign(Sign::RightBracket, rest) else {
+        let Some((_, rest)) = sign(Punctuator::RightBracket, rest) else {
             return Ok(None);
         };
         Ok(Some((made, rest)))
@@ -347,14 +350,14 @@ impl<F: Fn(Global, u128, Level, &[Leaf]) -> Read<'_, Boxed<Expression>>> Grammar
 
     /// `Entry = Test ':' Test`
     #[tactic(auto, unfolding(crate::specs::Expressions::entry))]
-    fn entry<'a>(&self, leaves: &'a [Leaf]) -> Read<'a, Entry>
+    fn entry<'a>(&self, leaves: &'a [ValuedToken]) -> Read<'a, Entry>
         requires { Nests self.now.depth (F.pre self.now.expression) (F.post self.now.expression) }
         ensures { Gives (reads self.now.depth spec.entry leaves.now) result }
     {
         let Some((key, rest)) = self.nested(Level::Test, leaves)? else {
             return Ok(None);
         };
-        let Some((_, rest)) = sign(Sign::Colon, rest) else {
+        let Some((_, rest)) = sign(Punctuator::Colon, rest) else {
             return Ok(None);
         };
         let Some((value, rest)) = self.nested(Level::Test, rest)? else {
@@ -365,11 +368,11 @@ impl<F: Fn(Global, u128, Level, &[Leaf]) -> Read<'_, Boxed<Expression>>> Grammar
 
     /// `',' Entry`
     #[tactic(auto, unfolding(crate::specs::Expressions::next_entry))]
-    fn next_entry<'a>(&self, leaves: &'a [Leaf]) -> Read<'a, Entry>
+    fn next_entry<'a>(&self, leaves: &'a [ValuedToken]) -> Read<'a, Entry>
         requires { Nests self.now.depth (F.pre self.now.expression) (F.post self.now.expression) }
         ensures { Gives (reads self.now.depth spec.next_entry leaves.now) result }
     {
-        let Some((_, rest)) = sign(Sign::Comma, leaves) else {
+        let Some((_, rest)) = sign(Punctuator::Comma, leaves) else {
             return Ok(None);
         };
         self.entry(rest)
@@ -377,7 +380,7 @@ impl<F: Fn(Global, u128, Level, &[Leaf]) -> Read<'_, Boxed<Expression>>> Grammar
 
     /// `{',' Entry}`
     #[tactic(auto, unfolding(crate::specs::Expressions::further_entries), using(crate::proofs::Rounds::turns))]
-    fn further_entries<'a>(&self, leaves: &'a [Leaf]) -> Read<'a, Items<Entry>>
+    fn further_entries<'a>(&self, leaves: &'a [ValuedToken]) -> Read<'a, Items<Entry>>
         requires { Nests self.now.depth (F.pre self.now.expression) (F.post self.now.expression) }
         ensures { Gives (reads self.now.depth spec.further_entries leaves.now) result }
     {
@@ -395,7 +398,7 @@ impl<F: Fn(Global, u128, Level, &[Leaf]) -> Read<'_, Boxed<Expression>>> Grammar
 
     /// `Clauses | {',' Entry} [',']`
     #[tactic(auto, unfolding(crate::specs::Expressions::after_entry))]
-    fn after_entry<'a>(&self, leaves: &'a [Leaf]) -> Read<'a, After<Entry>>
+    fn after_entry<'a>(&self, leaves: &'a [ValuedToken]) -> Read<'a, After<Entry>>
         requires { Nests self.now.depth (F.pre self.now.expression) (F.post self.now.expression) }
         ensures { Gives (reads self.now.depth spec.after_entry leaves.now) result }
     {
@@ -405,7 +408,7 @@ impl<F: Fn(Global, u128, Level, &[Leaf]) -> Read<'_, Boxed<Expression>>> Grammar
         let Some((more, rest)) = self.further_entries(leaves)? else {
             return Ok(None);
         };
-        match sign(Sign::Comma, rest) {
+        match sign(Punctuator::Comma, rest) {
             Some((_, rest)) => Ok(Some(((None, more), rest))),
             None => Ok(Some(((None, more), rest))),
         }
@@ -413,7 +416,7 @@ impl<F: Fn(Global, u128, Level, &[Leaf]) -> Read<'_, Boxed<Expression>>> Grammar
 
     /// `[Entry (Clauses | {',' Entry} [','])]`
     #[tactic(auto, unfolding(crate::specs::Expressions::entries))]
-    fn entries<'a>(&self, leaves: &'a [Leaf]) -> Read<'a, Option<(Entry, After<Entry>)>>
+    fn entries<'a>(&self, leaves: &'a [ValuedToken]) -> Read<'a, Option<(Entry, After<Entry>)>>
         requires { Nests self.now.depth (F.pre self.now.expression) (F.post self.now.expression) }
         ensures { Gives (reads self.now.depth spec.entries leaves.now) result }
     {
@@ -428,18 +431,18 @@ impl<F: Fn(Global, u128, Level, &[Leaf]) -> Read<'_, Boxed<Expression>>> Grammar
 
     /// `'{' [Entry {',' Entry} [',']] '}' | '{' Entry Clauses '}'`
     #[tactic(auto, unfolding(crate::specs::Expressions::dict_display))]
-    pub fn dict_display<'a>(&self, leaves: &'a [Leaf]) -> Read<'a, Boxed<Expression>>
+    pub fn dict_display<'a>(&self, leaves: &'a [ValuedToken]) -> Read<'a, Boxed<Expression>>
         requires { Nests self.now.depth (F.pre self.now.expression) (F.post self.now.expression) }
         ensures { Gives (reads self.now.depth spec.dict_display leaves.now) result }
     {
-        let Some((position, rest)) = sign_at(Sign::LeftBrace, leaves) else {
+        let Some((position, rest)) = sign_at(Punctuator::LeftBrace, leaves) else {
             return Ok(None);
         };
         let Some((found, rest)) = self.entries(rest)? else {
             return Ok(None);
         };
         let made = dict_of(self.alloc, position, found)?;
-        let Some((_, rest)) = sign(Sign::RightBrace, rest) else {
+        let Some((_, rest)) = sign(Punctuator::RightBrace, rest) else {
             return Ok(None);
         };
         Ok(Some((made, rest)))

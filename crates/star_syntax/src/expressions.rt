@@ -4,7 +4,7 @@ ghost use Rattle.star_syntax.specs.Grammar.{level as at_level, run};
 ghost use Rattle.star_syntax.specs.Expressions as spec;
 ghost use Rattle.star_syntax.specs.Language.{Gives, reads, rule};
 
-use crate::leaf::Leaf;
+use crate::leaf::ValuedToken;
 use crate::level::Level;
 use crate::reader::{Grammar, Read};
 use sqlite_items::{Boxed, Items};
@@ -16,7 +16,7 @@ pub fn expression(
     alloc: Global,
     depth: u128,
     level: Level,
-    leaves: &[Leaf],
+    leaves: &[ValuedToken],
 ) -> Read<'_, Boxed<Expression>>
     ensures { Gives (run rule depth (at_level level) leaves.now) result }
 {
@@ -38,7 +38,7 @@ pub fn expression(
 }
 
 /// Tests: one, or several as a tuple.
-pub fn tests_at(alloc: Global, depth: u128, leaves: &[Leaf]) -> Read<'_, Boxed<Expression>>
+pub fn tests_at(alloc: Global, depth: u128, leaves: &[ValuedToken]) -> Read<'_, Boxed<Expression>>
     ensures { Gives (reads depth spec.tests leaves.now) result }
 {
     let grammar = Grammar {
@@ -50,7 +50,11 @@ pub fn tests_at(alloc: Global, depth: u128, leaves: &[Leaf]) -> Read<'_, Boxed<E
 }
 
 /// The parameters of a definition, with their parentheses.
-pub fn parameters_at(alloc: Global, depth: u128, leaves: &[Leaf]) -> Read<'_, Items<Parameter>>
+pub fn parameters_at(
+    alloc: Global,
+    depth: u128,
+    leaves: &[ValuedToken],
+) -> Read<'_, Items<Parameter>>
     ensures { Gives (reads depth spec.parameters_in_parentheses leaves.now) result }
 {
     let grammar = Grammar {
@@ -62,7 +66,7 @@ pub fn parameters_at(alloc: Global, depth: u128, leaves: &[Leaf]) -> Read<'_, It
 }
 
 /// Targets, as those of a loop.
-pub fn targets_at(alloc: Global, depth: u128, leaves: &[Leaf]) -> Read<'_, Boxed<Target>>
+pub fn targets_at(alloc: Global, depth: u128, leaves: &[ValuedToken]) -> Read<'_, Boxed<Target>>
     ensures { Gives (reads depth spec.targets leaves.now) result }
 {
     let grammar = Grammar {

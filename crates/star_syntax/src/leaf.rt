@@ -8,7 +8,7 @@ ghost use Rattle.star_lex.specs.Values as values;
 ghost use Rattle.star_syntax.specs.Leaves as spec;
 
 use sqlite_items::Items;
-use star_lex::token::{Keyword, Kind, Sign, Token};
+use star_lex::token::{Keyword, Kind, Punctuator, Token};
 use star_lex::value::{Quoting, int_value, opening, quoting_of, string_value, text_at};
 use star_text::Text;
 use star_tree::tree::Position;
@@ -16,14 +16,14 @@ use std::alloc::{AllocError, Global};
 
 /// A token with its value: a name's text, the value of an int or a string, a sign, a keyword, or a mark of the layout.
 #[derive(Drop)]
-pub enum Word {
+pub enum TokenValue {
     Name(Text),
     /// The value of an int, from 0.
     Int(i64),
     /// The value of a string.
     Text(Text),
     Keyword(Keyword),
-    Sign(Sign),
+    Punctuator(Punctuator),
     Newline,
     Indent,
     Outdent,
@@ -32,8 +32,8 @@ pub enum Word {
 
 /// A token with its value and its place.
 #[derive(Drop)]
-pub struct Leaf {
-    pub word: Word,
+pub struct ValuedToken {
+    pub word: TokenValue,
     pub position: Position,
 }
 
@@ -161,25 +161,34 @@ fn string_of(alloc: Global, recent: &mut Recent, text: &[u8]) -> Result<Text, Al
     }
 }
 
-fn word_of(alloc: Global, recent: &mut Recent, kind: Kind, text: &[u8]) -> Result<Word, AllocError>
+fn word_of(
+    alloc: Global,
+    recent: &mut Recent,
+    kind: Kind,
+    text: &[u8],
+) -> Result<TokenValue, AllocError>
     ensures { IfOk result (λ word. word ≡ spec.word_of kind text.now) }
 {
     Ok(match kind {
-        Kind::Name => Word::Name(recent.text(alloc, text)?),
-        Kind::Int => Word::Int(int_value(text)),
-        Kind::Text => Word::Text(string_of(alloc, recent, text)?),
-        Kind::Keyword(keyword) => Word::Keyword(keyword),
-        Kind::Sign(sign) => Word::Sign(sign),
-        Kind::Newline => Word::Newline,
-        Kind::Indent => Word::Indent,
-        Kind::Outdent => Word::Outdent,
-        Kind::End => Word::End,
+        Kind::Name => TokenValue::Name(recent.text(alloc, text)?),
+        Kind::Int => TokenValue::Int(int_value(text)),
+        Kind::Text => TokenValue::Text(string_of(alloc, recent, text)?),
+        Kind::Keyword(keyword) => TokenValue::Keyword(keyword),
+        Kind::Punctuator(sign) => TokenValue::Punctuator(sign),
+        Kind::Newline => TokenValue::Newline,
+        Kind::Indent => TokenValue::Indent,
+        Kind::Outdent => TokenValue::Outdent,
+        Kind::End => TokenValue::End,
     })
 }
 
 /// The leaves of a source, whose tokens are given: a name has the token's text, an int or a string its value, and each
 /// its token's line and number.
-pub fn leaves(alloc: Global, source: &str, tokens: &[Token]) -> Result<Items<Leaf>, AllocError>
+pub fn leaves(
+    alloc: Global,
+    source: &str,
+    tokens: &[Token],
+) -> Result<Items<ValuedToken>, AllocError>
     ensures { IfOk result (λ all. all ≡ spec.leaves_of source.now tokens.now) }
 {
     let source = source.as_bytes();
@@ -193,7 +202,7 @@ pub fn leaves(alloc: Global, source: &str, tokens: &[Token]) -> Result<Items<Lea
             token: number,
         };
         let word = word_of(alloc, &mut recent, token.kind, text_at(source, token.span))?;
-        all.push(Leaf { word, position })?;
+        all.push(ValuedToken { word, position })?;
         number += 1;
         rest = more;
     }

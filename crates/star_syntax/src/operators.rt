@@ -5,35 +5,35 @@ ghost use Rattle.star_syntax.specs.Grammar.{first};
 ghost use Rattle.star_syntax.specs.Expressions as spec;
 ghost use Rattle.star_syntax.specs.Language.{Finds, Gives, Nests, reads};
 
-use crate::leaf::{Leaf, Word};
+use crate::leaf::{TokenValue, ValuedToken};
 use crate::level::Level;
 use crate::reader::{Grammar, Read, keyword};
 use sqlite_items::Boxed;
-use star_lex::token::{Keyword, Sign};
+use star_lex::token::{Keyword, Punctuator};
 use star_tree::tree::{BinaryOperator, Comparator, Expression, UnaryOperator};
 use std::alloc::{AllocError, Global};
 
-fn unary_sign(sign: Sign) -> Option<UnaryOperator>
+fn unary_sign(sign: Punctuator) -> Option<UnaryOperator>
     ensures { result ≡ spec.unary_sign sign }
 {
     match sign {
-        Sign::Plus => Some(UnaryOperator::Plus),
-        Sign::Minus => Some(UnaryOperator::Minus),
-        Sign::Tilde => Some(UnaryOperator::Invert),
+        Punctuator::Plus => Some(UnaryOperator::Plus),
+        Punctuator::Minus => Some(UnaryOperator::Minus),
+        Punctuator::Tilde => Some(UnaryOperator::Invert),
         _ => None,
     }
 }
 
-fn unary_word(word: &Word) -> Option<UnaryOperator>
+fn unary_word(word: &TokenValue) -> Option<UnaryOperator>
     ensures { result ≡ spec.unary_word word.now }
 {
     match word {
-        Word::Sign(sign) => unary_sign(*sign),
+        TokenValue::Punctuator(sign) => unary_sign(*sign),
         _ => None,
     }
 }
 
-fn unary_operator(leaves: &[Leaf]) -> Option<(UnaryOperator, &[Leaf])>
+fn unary_operator(leaves: &[ValuedToken]) -> Option<(UnaryOperator, &[ValuedToken])>
     ensures { Finds (first (λ t. spec.unary_word t.word) leaves.now) result }
 {
     match leaves {
@@ -45,26 +45,26 @@ fn unary_operator(leaves: &[Leaf]) -> Option<(UnaryOperator, &[Leaf])>
     }
 }
 
-fn binary_sign(sign: Sign) -> Option<BinaryOperator>
+fn binary_sign(sign: Punctuator) -> Option<BinaryOperator>
     ensures { result ≡ spec.binary_sign sign }
 {
     match sign {
-        Sign::Star => Some(BinaryOperator::Multiply),
-        Sign::SlashSlash => Some(BinaryOperator::FloorDivide),
-        Sign::Percent => Some(BinaryOperator::Modulo),
-        Sign::Plus => Some(BinaryOperator::Add),
-        Sign::Minus => Some(BinaryOperator::Subtract),
-        Sign::ShiftLeft => Some(BinaryOperator::ShiftLeft),
-        Sign::ShiftRight => Some(BinaryOperator::ShiftRight),
-        Sign::Ampersand => Some(BinaryOperator::BitAnd),
-        Sign::Caret => Some(BinaryOperator::BitXor),
-        Sign::Bar => Some(BinaryOperator::BitOr),
+        Punctuator::Star => Some(BinaryOperator::Multiply),
+        Punctuator::SlashSlash => Some(BinaryOperator::FloorDivide),
+        Punctuator::Percent => Some(BinaryOperator::Modulo),
+        Punctuator::Plus => Some(BinaryOperator::Add),
+        Punctuator::Minus => Some(BinaryOperator::Subtract),
+        Punctuator::ShiftLeft => Some(BinaryOperator::ShiftLeft),
+        Punctuator::ShiftRight => Some(BinaryOperator::ShiftRight),
+        Punctuator::Ampersand => Some(BinaryOperator::BitAnd),
+        Punctuator::Caret => Some(BinaryOperator::BitXor),
+        Punctuator::Bar => Some(BinaryOperator::BitOr),
         _ => None,
     }
 }
 
-fn looseness(operator: BinaryOperator) -> usize
-    ensures { result ≡ spec.looseness operator }
+fn precedence(operator: BinaryOperator) -> usize
+    ensures { result ≡ spec.precedence operator }
 {
     match operator {
         BinaryOperator::Multiply | BinaryOperator::FloorDivide | BinaryOperator::Modulo => 0,
@@ -76,19 +76,19 @@ fn looseness(operator: BinaryOperator) -> usize
     }
 }
 
-fn binary_word(level: usize, word: &Word) -> Option<BinaryOperator>
+fn binary_word(level: usize, word: &TokenValue) -> Option<BinaryOperator>
     ensures { result ≡ spec.binary_word level word.now }
 {
     match word {
-        Word::Sign(sign) => match binary_sign(*sign) {
-            Some(operator) if looseness(operator) == level => Some(operator),
+        TokenValue::Punctuator(sign) => match binary_sign(*sign) {
+            Some(operator) if precedence(operator) == level => Some(operator),
             _ => None,
         },
         _ => None,
     }
 }
 
-fn binary_operator(level: usize, leaves: &[Leaf]) -> Option<(BinaryOperator, &[Leaf])>
+fn binary_operator(level: usize, leaves: &[ValuedToken]) -> Option<(BinaryOperator, &[ValuedToken])>
     ensures { Finds (first (λ t. spec.binary_word level t.word) leaves.now) result }
 {
     match leaves {
@@ -100,31 +100,31 @@ fn binary_operator(level: usize, leaves: &[Leaf]) -> Option<(BinaryOperator, &[L
     }
 }
 
-fn comparator_sign(sign: Sign) -> Option<Comparator>
+fn comparator_sign(sign: Punctuator) -> Option<Comparator>
     ensures { result ≡ spec.comparator_sign sign }
 {
     match sign {
-        Sign::EqualEqual => Some(Comparator::Equal),
-        Sign::NotEqual => Some(Comparator::NotEqual),
-        Sign::Less => Some(Comparator::Less),
-        Sign::Greater => Some(Comparator::Greater),
-        Sign::LessEqual => Some(Comparator::LessEqual),
-        Sign::GreaterEqual => Some(Comparator::GreaterEqual),
+        Punctuator::EqualEqual => Some(Comparator::Equal),
+        Punctuator::NotEqual => Some(Comparator::NotEqual),
+        Punctuator::Less => Some(Comparator::Less),
+        Punctuator::Greater => Some(Comparator::Greater),
+        Punctuator::LessEqual => Some(Comparator::LessEqual),
+        Punctuator::GreaterEqual => Some(Comparator::GreaterEqual),
         _ => None,
     }
 }
 
-fn comparator_word(word: &Word) -> Option<Comparator>
+fn comparator_word(word: &TokenValue) -> Option<Comparator>
     ensures { result ≡ spec.comparator_word word.now }
 {
     match word {
-        Word::Sign(sign) => comparator_sign(*sign),
-        Word::Keyword(Keyword::In) => Some(Comparator::In),
+        TokenValue::Punctuator(sign) => comparator_sign(*sign),
+        TokenValue::Keyword(Keyword::In) => Some(Comparator::In),
         _ => None,
     }
 }
 
-fn one_comparator(leaves: &[Leaf]) -> Option<(Comparator, &[Leaf])>
+fn one_comparator(leaves: &[ValuedToken]) -> Option<(Comparator, &[ValuedToken])>
     ensures { Finds (first (λ t. spec.comparator_word t.word) leaves.now) result }
 {
     match leaves {
@@ -202,10 +202,10 @@ fn conditional_of(
     )
 }
 
-impl<F: Fn(Global, u128, Level, &[Leaf]) -> Read<'_, Boxed<Expression>>> Grammar<F> {
+impl<F: Fn(Global, u128, Level, &[ValuedToken]) -> Read<'_, Boxed<Expression>>> Grammar<F> {
     /// `CmpOp = '==' | '!=' | '<' | '>' | '<=' | '>=' | 'in' | 'not' 'in'`
     #[tactic(auto, unfolding(crate::specs::Expressions::comparator))]
-    fn comparator<'a>(&self, leaves: &'a [Leaf]) -> Option<(Comparator, &'a [Leaf])>
+    fn comparator<'a>(&self, leaves: &'a [ValuedToken]) -> Option<(Comparator, &'a [ValuedToken])>
         ensures { Finds (reads self.now.depth spec.comparator leaves.now) result }
     {
         if let Some(found) = one_comparator(leaves) {
@@ -222,7 +222,7 @@ impl<F: Fn(Global, u128, Level, &[Leaf]) -> Read<'_, Boxed<Expression>>> Grammar
 
     /// `('+' | '-' | '~') Unary`
     #[tactic(auto, unfolding(crate::specs::Expressions::signed))]
-    fn signed<'a>(&self, leaves: &'a [Leaf]) -> Read<'a, Boxed<Expression>>
+    fn signed<'a>(&self, leaves: &'a [ValuedToken]) -> Read<'a, Boxed<Expression>>
         requires { Nests self.now.depth (F.pre self.now.expression) (F.post self.now.expression) }
         ensures { Gives (reads self.now.depth spec.signed leaves.now) result }
     {
@@ -237,7 +237,7 @@ impl<F: Fn(Global, u128, Level, &[Leaf]) -> Read<'_, Boxed<Expression>>> Grammar
 
     /// `Unary = ('+' | '-' | '~') Unary | Primary`
     #[tactic(auto, unfolding(crate::specs::Expressions::unary))]
-    pub fn unary<'a>(&self, leaves: &'a [Leaf]) -> Read<'a, Boxed<Expression>>
+    pub fn unary<'a>(&self, leaves: &'a [ValuedToken]) -> Read<'a, Boxed<Expression>>
         requires { Nests self.now.depth (F.pre self.now.expression) (F.post self.now.expression) }
         ensures { Gives (reads self.now.depth spec.unary leaves.now) result }
     {
@@ -257,7 +257,7 @@ impl<F: Fn(Global, u128, Level, &[Leaf]) -> Read<'_, Boxed<Expression>>> Grammar
     ///     BitXor = BitAnd {'^' BitAnd}
     ///     BitOr  = BitXor {'|' BitXor}
     #[tactic(auto, unfolding(crate::specs::Expressions::climb))]
-    fn climb<'a>(&self, level: usize, leaves: &'a [Leaf]) -> Read<'a, Boxed<Expression>>
+    fn climb<'a>(&self, level: usize, leaves: &'a [ValuedToken]) -> Read<'a, Boxed<Expression>>
         requires { Nests self.now.depth (F.pre self.now.expression) (F.post self.now.expression) }
         ensures { Gives (reads self.now.depth (spec.climb level) leaves.now) result }
     {
@@ -282,7 +282,7 @@ impl<F: Fn(Global, u128, Level, &[Leaf]) -> Read<'_, Boxed<Expression>>> Grammar
 
     /// `BitOr`: the loosest of the binary operators.
     #[tactic(auto, unfolding(crate::specs::Expressions::bit_or))]
-    fn bit_or<'a>(&self, leaves: &'a [Leaf]) -> Read<'a, Boxed<Expression>>
+    fn bit_or<'a>(&self, leaves: &'a [ValuedToken]) -> Read<'a, Boxed<Expression>>
         requires { Nests self.now.depth (F.pre self.now.expression) (F.post self.now.expression) }
         ensures { Gives (reads self.now.depth spec.bit_or leaves.now) result }
     {
@@ -291,7 +291,7 @@ impl<F: Fn(Global, u128, Level, &[Leaf]) -> Read<'_, Boxed<Expression>>> Grammar
 
     /// `CmpOp BitOr`
     #[tactic(auto, unfolding(crate::specs::Expressions::compared))]
-    fn compared<'a>(&self, leaves: &'a [Leaf]) -> Read<'a, (Comparator, Boxed<Expression>)>
+    fn compared<'a>(&self, leaves: &'a [ValuedToken]) -> Read<'a, (Comparator, Boxed<Expression>)>
         requires { Nests self.now.depth (F.pre self.now.expression) (F.post self.now.expression) }
         ensures { Gives (reads self.now.depth spec.compared leaves.now) result }
     {
@@ -306,7 +306,7 @@ impl<F: Fn(Global, u128, Level, &[Leaf]) -> Read<'_, Boxed<Expression>>> Grammar
 
     /// `Cmp = BitOr [CmpOp BitOr]`
     #[tactic(auto, unfolding(crate::specs::Expressions::comparison))]
-    fn comparison<'a>(&self, leaves: &'a [Leaf]) -> Read<'a, Boxed<Expression>>
+    fn comparison<'a>(&self, leaves: &'a [ValuedToken]) -> Read<'a, Boxed<Expression>>
         requires { Nests self.now.depth (F.pre self.now.expression) (F.post self.now.expression) }
         ensures { Gives (reads self.now.depth spec.comparison leaves.now) result }
     {
@@ -326,7 +326,7 @@ impl<F: Fn(Global, u128, Level, &[Leaf]) -> Read<'_, Boxed<Expression>>> Grammar
 
     /// `'not' Not`
     #[tactic(auto, unfolding(crate::specs::Expressions::denied))]
-    fn denied<'a>(&self, leaves: &'a [Leaf]) -> Read<'a, Boxed<Expression>>
+    fn denied<'a>(&self, leaves: &'a [ValuedToken]) -> Read<'a, Boxed<Expression>>
         requires { Nests self.now.depth (F.pre self.now.expression) (F.post self.now.expression) }
         ensures { Gives (reads self.now.depth spec.denied leaves.now) result }
     {
@@ -341,7 +341,7 @@ impl<F: Fn(Global, u128, Level, &[Leaf]) -> Read<'_, Boxed<Expression>>> Grammar
 
     /// `Not = 'not' Not | Cmp`
     #[tactic(auto, unfolding(crate::specs::Expressions::negation))]
-    pub fn negation<'a>(&self, leaves: &'a [Leaf]) -> Read<'a, Boxed<Expression>>
+    pub fn negation<'a>(&self, leaves: &'a [ValuedToken]) -> Read<'a, Boxed<Expression>>
         requires { Nests self.now.depth (F.pre self.now.expression) (F.post self.now.expression) }
         ensures { Gives (reads self.now.depth spec.negation leaves.now) result }
     {
@@ -353,7 +353,7 @@ impl<F: Fn(Global, u128, Level, &[Leaf]) -> Read<'_, Boxed<Expression>>> Grammar
 
     /// `'and' Not`
     #[tactic(auto, unfolding(crate::specs::Expressions::next_negation))]
-    fn next_negation<'a>(&self, leaves: &'a [Leaf]) -> Read<'a, Boxed<Expression>>
+    fn next_negation<'a>(&self, leaves: &'a [ValuedToken]) -> Read<'a, Boxed<Expression>>
         requires { Nests self.now.depth (F.pre self.now.expression) (F.post self.now.expression) }
         ensures { Gives (reads self.now.depth spec.next_negation leaves.now) result }
     {
@@ -365,7 +365,7 @@ impl<F: Fn(Global, u128, Level, &[Leaf]) -> Read<'_, Boxed<Expression>>> Grammar
 
     /// `And = Not {'and' Not}`
     #[tactic(auto, unfolding(crate::specs::Expressions::conjunction))]
-    fn conjunction<'a>(&self, leaves: &'a [Leaf]) -> Read<'a, Boxed<Expression>>
+    fn conjunction<'a>(&self, leaves: &'a [ValuedToken]) -> Read<'a, Boxed<Expression>>
         requires { Nests self.now.depth (F.pre self.now.expression) (F.post self.now.expression) }
         ensures { Gives (reads self.now.depth spec.conjunction leaves.now) result }
     {
@@ -384,7 +384,7 @@ impl<F: Fn(Global, u128, Level, &[Leaf]) -> Read<'_, Boxed<Expression>>> Grammar
 
     /// `'or' And`
     #[tactic(auto, unfolding(crate::specs::Expressions::next_conjunction))]
-    fn next_conjunction<'a>(&self, leaves: &'a [Leaf]) -> Read<'a, Boxed<Expression>>
+    fn next_conjunction<'a>(&self, leaves: &'a [ValuedToken]) -> Read<'a, Boxed<Expression>>
         requires { Nests self.now.depth (F.pre self.now.expression) (F.post self.now.expression) }
         ensures { Gives (reads self.now.depth spec.next_conjunction leaves.now) result }
     {
@@ -396,7 +396,7 @@ impl<F: Fn(Global, u128, Level, &[Leaf]) -> Read<'_, Boxed<Expression>>> Grammar
 
     /// `Or = And {'or' And}`
     #[tactic(auto, unfolding(crate::specs::Expressions::disjunction))]
-    pub fn disjunction<'a>(&self, leaves: &'a [Leaf]) -> Read<'a, Boxed<Expression>>
+    pub fn disjunction<'a>(&self, leaves: &'a [ValuedToken]) -> Read<'a, Boxed<Expression>>
         requires { Nests self.now.depth (F.pre self.now.expression) (F.post self.now.expression) }
         ensures { Gives (reads self.now.depth spec.disjunction leaves.now) result }
     {
@@ -415,7 +415,10 @@ impl<F: Fn(Global, u128, Level, &[Leaf]) -> Read<'_, Boxed<Expression>>> Grammar
 
     /// `'if' Or 'else' Test`
     #[tactic(auto, unfolding(crate::specs::Expressions::choice))]
-    fn choice<'a>(&self, leaves: &'a [Leaf]) -> Read<'a, (Boxed<Expression>, Boxed<Expression>)>
+    fn choice<'a>(
+        &self,
+        leaves: &'a [ValuedToken],
+    ) -> Read<'a, (Boxed<Expression>, Boxed<Expression>)>
         requires { Nests self.now.depth (F.pre self.now.expression) (F.post self.now.expression) }
         ensures { Gives (reads self.now.depth spec.choice leaves.now) result }
     {
@@ -436,7 +439,7 @@ impl<F: Fn(Global, u128, Level, &[Leaf]) -> Read<'_, Boxed<Expression>>> Grammar
 
     /// `Or ['if' Or 'else' Test]`
     #[tactic(auto, unfolding(crate::specs::Expressions::conditional))]
-    pub fn conditional<'a>(&self, leaves: &'a [Leaf]) -> Read<'a, Boxed<Expression>>
+    pub fn conditional<'a>(&self, leaves: &'a [ValuedToken]) -> Read<'a, Boxed<Expression>>
         requires { Nests self.now.depth (F.pre self.now.expression) (F.post self.now.expression) }
         ensures { Gives (reads self.now.depth spec.conditional leaves.now) result }
     {
@@ -452,7 +455,7 @@ impl<F: Fn(Global, u128, Level, &[Leaf]) -> Read<'_, Boxed<Expression>>> Grammar
 
     /// `Test = Or ['if' Or 'else' Test] | 'lambda' [Params] ':' Test`
     #[tactic(auto, unfolding(crate::specs::Expressions::any_test))]
-    pub fn any_test<'a>(&self, leaves: &'a [Leaf]) -> Read<'a, Boxed<Expression>>
+    pub fn any_test<'a>(&self, leaves: &'a [ValuedToken]) -> Read<'a, Boxed<Expression>>
         requires { Nests self.now.depth (F.pre self.now.expression) (F.post self.now.expression) }
         ensures { Gives (reads self.now.depth spec.any_test leaves.now) result }
     {

@@ -4,11 +4,11 @@ ghost use Rattle.std.specs.Prelude.{◌≡◌};
 ghost use Rattle.star_syntax.specs.Expressions as spec;
 ghost use Rattle.star_syntax.specs.Language.{Gives, Nests, reads};
 
-use crate::leaf::Leaf;
+use crate::leaf::ValuedToken;
 use crate::level::{Level, Suffix};
 use crate::reader::{Grammar, Read, atom, name, onto, sign, tuple_unless_one};
 use sqlite_items::{Boxed, Items};
-use star_lex::token::Sign;
+use star_lex::token::Punctuator;
 use star_tree::tree::Expression;
 use std::alloc::Global;
 
@@ -38,10 +38,10 @@ fn with_suffix(value: Boxed<Expression>, suffix: Suffix) -> Expression
     }
 }
 
-impl<F: Fn(Global, u128, Level, &[Leaf]) -> Read<'_, Boxed<Expression>>> Grammar<F> {
+impl<F: Fn(Global, u128, Level, &[ValuedToken]) -> Read<'_, Boxed<Expression>>> Grammar<F> {
     /// `name | int | string`
     #[tactic(auto, unfolding(crate::specs::Expressions::atom))]
-    fn atom<'a>(&self, leaves: &'a [Leaf]) -> Read<'a, Boxed<Expression>>
+    fn atom<'a>(&self, leaves: &'a [ValuedToken]) -> Read<'a, Boxed<Expression>>
         ensures { Gives (reads self.now.depth spec.atom leaves.now) result }
     {
         atom(self.alloc, leaves)
@@ -49,7 +49,7 @@ impl<F: Fn(Global, u128, Level, &[Leaf]) -> Read<'_, Boxed<Expression>>> Grammar
 
     /// `Operand = name | int | string | '(' .. ')' | '[' .. ']' | '{' .. '}'`
     #[tactic(auto, unfolding(crate::specs::Expressions::operand))]
-    fn operand<'a>(&self, leaves: &'a [Leaf]) -> Read<'a, Boxed<Expression>>
+    fn operand<'a>(&self, leaves: &'a [ValuedToken]) -> Read<'a, Boxed<Expression>>
         requires { Nests self.now.depth (F.pre self.now.expression) (F.post self.now.expression) }
         ensures { Gives (reads self.now.depth spec.operand leaves.now) result }
     {
@@ -67,10 +67,10 @@ impl<F: Fn(Global, u128, Level, &[Leaf]) -> Read<'_, Boxed<Expression>>> Grammar
 
     /// `'.' name`
     #[tactic(auto, unfolding(crate::specs::Expressions::attribute))]
-    fn attribute<'a>(&self, leaves: &'a [Leaf]) -> Read<'a, Suffix>
+    fn attribute<'a>(&self, leaves: &'a [ValuedToken]) -> Read<'a, Suffix>
         ensures { Gives (reads self.now.depth spec.attribute leaves.now) result }
     {
-        let Some((_, rest)) = sign(Sign::Dot, leaves) else {
+        let Some((_, rest)) = sign(Punctuator::Dot, leaves) else {
             return Ok(None);
         };
         let Some((found, rest)) = name(rest)? else {
@@ -80,7 +80,7 @@ impl<F: Fn(Global, u128, Level, &[Leaf]) -> Read<'_, Boxed<Expression>>> Grammar
     }
 
     /// `[Test]`
-    fn maybe_bound<'a>(&self, leaves: &'a [Leaf]) -> Read<'a, Option<Boxed<Expression>>>
+    fn maybe_bound<'a>(&self, leaves: &'a [ValuedToken]) -> Read<'a, Option<Boxed<Expression>>>
         requires { Nests self.now.depth (F.pre self.now.expression) (F.post self.now.expression) }
         ensures { Gives (reads self.now.depth (spec.opt spec.a_test) leaves.now) result }
     {
@@ -92,11 +92,11 @@ impl<F: Fn(Global, u128, Level, &[Leaf]) -> Read<'_, Boxed<Expression>>> Grammar
 
     /// `[':' [Test]]`
     #[tactic(auto, unfolding(crate::specs::Expressions::stride))]
-    fn stride<'a>(&self, leaves: &'a [Leaf]) -> Read<'a, Option<Boxed<Expression>>>
+    fn stride<'a>(&self, leaves: &'a [ValuedToken]) -> Read<'a, Option<Boxed<Expression>>>
         requires { Nests self.now.depth (F.pre self.now.expression) (F.post self.now.expression) }
         ensures { Gives (reads self.now.depth spec.stride leaves.now) result }
     {
-        match sign(Sign::Colon, leaves) {
+        match sign(Punctuator::Colon, leaves) {
             Some((_, rest)) => self.maybe_bound(rest),
             None => Ok(Some((None, leaves))),
         }
@@ -104,11 +104,11 @@ impl<F: Fn(Global, u128, Level, &[Leaf]) -> Read<'_, Boxed<Expression>>> Grammar
 
     /// `':' [Test] [':' [Test]]`
     #[tactic(auto, unfolding(crate::specs::Expressions::stop_and_stride))]
-    fn stop_and_stride<'a>(&self, leaves: &'a [Leaf]) -> Read<'a, StopAndStride>
+    fn stop_and_stride<'a>(&self, leaves: &'a [ValuedToken]) -> Read<'a, StopAndStride>
         requires { Nests self.now.depth (F.pre self.now.expression) (F.post self.now.expression) }
         ensures { Gives (reads self.now.depth spec.stop_and_stride leaves.now) result }
     {
-        let Some((_, rest)) = sign(Sign::Colon, leaves) else {
+        let Some((_, rest)) = sign(Punctuator::Colon, leaves) else {
             return Ok(None);
         };
         let Some((stop, rest)) = self.maybe_bound(rest)? else {
@@ -124,7 +124,7 @@ impl<F: Fn(Global, u128, Level, &[Leaf]) -> Read<'_, Boxed<Expression>>> Grammar
     #[tactic(auto, unfolding(crate::specs::Expressions::after_start))]
     fn after_start<'a>(
         &self,
-        leaves: &'a [Leaf],
+        leaves: &'a [ValuedToken],
     ) -> Read<'a, (Option<StopAndStride>, Items<Expression>)>
         requires { Nests self.now.depth (F.pre self.now.expression) (F.post self.now.expression) }
         ensures { Gives (reads self.now.depth spec.after_start leaves.now) result }
@@ -140,7 +140,7 @@ impl<F: Fn(Global, u128, Level, &[Leaf]) -> Read<'_, Boxed<Expression>>> Grammar
 
     /// `Test (':' [Test] [':' [Test]] | {',' Test})`
     #[tactic(auto, unfolding(crate::specs::Expressions::from_test))]
-    fn from_test<'a>(&self, leaves: &'a [Leaf]) -> Read<'a, Suffix>
+    fn from_test<'a>(&self, leaves: &'a [ValuedToken]) -> Read<'a, Suffix>
         requires { Nests self.now.depth (F.pre self.now.expression) (F.post self.now.expression) }
         ensures { Gives (reads self.now.depth spec.from_test leaves.now) result }
     {
@@ -172,7 +172,7 @@ impl<F: Fn(Global, u128, Level, &[Leaf]) -> Read<'_, Boxed<Expression>>> Grammar
 
     /// `Tests | [Test] ':' [Test] [':' [Test]]`
     #[tactic(auto, unfolding(crate::specs::Expressions::in_brackets))]
-    fn in_brackets<'a>(&self, leaves: &'a [Leaf]) -> Read<'a, Suffix>
+    fn in_brackets<'a>(&self, leaves: &'a [ValuedToken]) -> Read<'a, Suffix>
         requires { Nests self.now.depth (F.pre self.now.expression) (F.post self.now.expression) }
         ensures { Gives (reads self.now.depth spec.in_brackets leaves.now) result }
     {
@@ -195,17 +195,17 @@ impl<F: Fn(Global, u128, Level, &[Leaf]) -> Read<'_, Boxed<Expression>>> Grammar
 
     /// `'[' Tests ']' | '[' [Test] ':' [Test] [':' [Test]] ']'`
     #[tactic(auto, unfolding(crate::specs::Expressions::subscript))]
-    fn subscript<'a>(&self, leaves: &'a [Leaf]) -> Read<'a, Suffix>
+    fn subscript<'a>(&self, leaves: &'a [ValuedToken]) -> Read<'a, Suffix>
         requires { Nests self.now.depth (F.pre self.now.expression) (F.post self.now.expression) }
         ensures { Gives (reads self.now.depth spec.subscript leaves.now) result }
     {
-        let Some((_, rest)) = sign(Sign::LeftBracket, leaves) else {
+        let Some((_, rest)) = sign(Punctuator::LeftBracket, leaves) else {
             return Ok(None);
         };
         let Some((found, rest)) = self.in_brackets(rest)? else {
             return Ok(None);
         };
-        let Some((_, rest)) = sign(Sign::RightBracket, rest) else {
+        let Some((_, rest)) = sign(Punctuator::RightBracket, rest) else {
             return Ok(None);
         };
         Ok(Some((found, rest)))
@@ -213,7 +213,7 @@ impl<F: Fn(Global, u128, Level, &[Leaf]) -> Read<'_, Boxed<Expression>>> Grammar
 
     /// `'.' name | '(' .. ')' | '[' .. ']'`
     #[tactic(auto, unfolding(crate::specs::Expressions::suffix))]
-    fn suffix<'a>(&self, leaves: &'a [Leaf]) -> Read<'a, Suffix>
+    fn suffix<'a>(&self, leaves: &'a [ValuedToken]) -> Read<'a, Suffix>
         requires { Nests self.now.depth (F.pre self.now.expression) (F.post self.now.expression) }
         ensures { Gives (reads self.now.depth spec.suffix leaves.now) result }
     {
@@ -228,7 +228,7 @@ impl<F: Fn(Global, u128, Level, &[Leaf]) -> Read<'_, Boxed<Expression>>> Grammar
 
     /// `Primary = Operand {suffix}`
     #[tactic(auto, unfolding(crate::specs::Expressions::primary))]
-    pub fn primary<'a>(&self, leaves: &'a [Leaf]) -> Read<'a, Boxed<Expression>>
+    pub fn primary<'a>(&self, leaves: &'a [ValuedToken]) -> Read<'a, Boxed<Expression>>
         requires { Nests self.now.depth (F.pre self.now.expression) (F.post self.now.expression) }
         ensures { Gives (reads self.now.depth spec.primary leaves.now) result }
     {

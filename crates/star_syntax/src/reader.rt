@@ -15,17 +15,17 @@ ghost use Rattle.star_syntax.specs.Expressions as spec;
 ghost use Rattle.star_syntax.specs.Language.{Finds, Gives, Nests, reads, rule};
 ghost use Rattle.star_syntax.specs.Written.{EndsBefore};
 
-use crate::leaf::{Leaf, Word};
+use crate::leaf::{TokenValue, ValuedToken};
 use crate::level::Level;
 use sqlite_items::{Boxed, Items};
-use star_lex::token::{Keyword, Sign};
+use star_lex::token::{Keyword, Punctuator};
 use star_text::Text;
 use star_tree::tree::{Expression, Name, Position};
 use std::alloc::{AllocError, Global};
 
 /// The answer of a reader: the value at the front of the leaves and the leaves after it; or `None` if it reads nothing
 /// there.
-pub type Read<'a, T> = Result<Option<(T, &'a [Leaf])>, AllocError>;
+pub type Read<'a, T> = Result<Option<(T, &'a [ValuedToken])>, AllocError>;
 
 /// The grammar of expressions, with others nested in them no deeper than a depth.
 ///
@@ -42,7 +42,7 @@ pub struct Grammar<F> {
 
 /// Whether two signs are the same.
 #[tactic(auto, unfolding(crate::specs::Expressions::same_sign))]
-fn same_sign(one: Sign, other: Sign) -> bool
+fn same_sign(one: Punctuator, other: Punctuator) -> bool
     ensures { result ≡ spec.same_sign one other }
 {
     one == other
@@ -55,26 +55,26 @@ fn same_keyword(one: Keyword, other: Keyword) -> bool
     one == other
 }
 
-fn is_sign(expected: Sign, word: &Word) -> bool
+fn is_sign(expected: Punctuator, word: &TokenValue) -> bool
     ensures { spec.is_sign expected word.now ≡ spec.said result }
 {
     match word {
-        Word::Sign(found) => same_sign(expected, *found),
+        TokenValue::Punctuator(found) => same_sign(expected, *found),
         _ => false,
     }
 }
 
-fn is_keyword(expected: Keyword, word: &Word) -> bool
+fn is_keyword(expected: Keyword, word: &TokenValue) -> bool
     ensures { spec.is_keyword expected word.now ≡ spec.said result }
 {
     match word {
-        Word::Keyword(found) => same_keyword(expected, *found),
+        TokenValue::Keyword(found) => same_keyword(expected, *found),
         _ => false,
     }
 }
 
 /// The sign, if it is at the front of the leaves.
-pub fn sign(expected: Sign, leaves: &[Leaf]) -> Option<((), &[Leaf])>
+pub fn sign(expected: Punctuator, leaves: &[ValuedToken]) -> Option<((), &[ValuedToken])>
     ensures { Finds (first (λ t. spec.is_sign expected t.word) leaves.now) result }
 {
     match leaves {
@@ -84,7 +84,7 @@ pub fn sign(expected: Sign, leaves: &[Leaf]) -> Option<((), &[Leaf])>
 }
 
 /// The keyword, if it is at the front of the leaves.
-pub fn keyword(expected: Keyword, leaves: &[Leaf]) -> Option<((), &[Leaf])>
+pub fn keyword(expected: Keyword, leaves: &[ValuedToken]) -> Option<((), &[ValuedToken])>
     ensures { Finds (first (λ t. spec.is_keyword expected t.word) leaves.now) result }
 {
     match leaves {
@@ -94,7 +94,7 @@ pub fn keyword(expected: Keyword, leaves: &[Leaf]) -> Option<((), &[Leaf])>
 }
 
 /// The position of the sign, if it is at the front of the leaves.
-pub fn sign_at(expected: Sign, leaves: &[Leaf]) -> Option<(Position, &[Leaf])>
+pub fn sign_at(expected: Punctuator, leaves: &[ValuedToken]) -> Option<(Position, &[ValuedToken])>
     ensures { Finds (first (λ t. spec.placed_at t.position (spec.is_sign expected t.word)) leaves.now) result }
 {
     match leaves {
@@ -104,7 +104,7 @@ pub fn sign_at(expected: Sign, leaves: &[Leaf]) -> Option<(Position, &[Leaf])>
 }
 
 /// The position of the keyword, if it is at the front of the leaves.
-pub fn keyword_at(expected: Keyword, leaves: &[Leaf]) -> Option<(Position, &[Leaf])>
+pub fn keyword_at(expected: Keyword, leaves: &[ValuedToken]) -> Option<(Position, &[ValuedToken])>
     ensures { Finds (first (λ t. spec.placed_at t.position (spec.is_keyword expected t.word)) leaves.now) result }
 {
     match leaves {
@@ -114,12 +114,12 @@ pub fn keyword_at(expected: Keyword, leaves: &[Leaf]) -> Option<(Position, &[Lea
 }
 
 /// The name at the front of the leaves.
-pub fn name(leaves: &[Leaf]) -> Read<'_, Name>
+pub fn name(leaves: &[ValuedToken]) -> Read<'_, Name>
     ensures { Gives (first (λ t. spec.name_of t.position t.word) leaves.now) result }
 {
     match leaves {
         [leaf, rest @ ..] => match &leaf.word {
-            Word::Name(text) => {
+            TokenValue::Name(text) => {
                 let text = text.share()?;
                 let position = leaf.position;
                 Ok(Some((Name { text, position }, rest)))
@@ -131,19 +131,19 @@ pub fn name(leaves: &[Leaf]) -> Read<'_, Name>
 }
 
 /// The name, int or string at the front of the leaves.
-pub fn atom(alloc: Global, leaves: &[Leaf]) -> Read<'_, Boxed<Expression>>
+pub fn atom(alloc: Global, leaves: &[ValuedToken]) -> Read<'_, Boxed<Expression>>
     ensures { Gives (first (λ t. spec.atom_of t.position t.word) leaves.now) result }
 {
     match leaves {
         [leaf, rest @ ..] => match &leaf.word {
-            Word::Name(text) => {
+            TokenValue::Name(text) => {
                 let text = text.share()?;
                 let position = leaf.position;
                 let found = Expression::Name(Name { text, position });
                 Ok(Some((Boxed::new(alloc, found)?, rest)))
             }
-            Word::Int(value) => Ok(Some((Boxed::new(alloc, Expression::Int(*value))?, rest))),
-            Word::Text(text) => {
+            TokenValue::Int(value) => Ok(Some((Boxed::new(alloc, Expression::Int(*value))?, rest))),
+            TokenValue::Text(text) => {
                 let text = text.share()?;
                 Ok(Some((Boxed::new(alloc, Expression::Text(text))?, rest)))
             }
@@ -153,34 +153,34 @@ pub fn atom(alloc: Global, leaves: &[Leaf]) -> Read<'_, Boxed<Expression>>
     }
 }
 
-fn closes(sign: Sign) -> bool
-    ensures { result ≡ true → EndsBefore (Word.Sign sign) }
+fn closes(sign: Punctuator) -> bool
+    ensures { result ≡ true → EndsBefore (TokenValue.Punctuator sign) }
 {
     match sign {
-        Sign::Comma
-        | Sign::RightParen
-        | Sign::RightBracket
-        | Sign::RightBrace
-        | Sign::Colon
-        | Sign::Assign
-        | Sign::Semicolon => true,
+        Punctuator::Comma
+        | Punctuator::RightParen
+        | Punctuator::RightBracket
+        | Punctuator::RightBrace
+        | Punctuator::Colon
+        | Punctuator::Assign
+        | Punctuator::Semicolon => true,
         _ => false,
     }
 }
 
 /// Whether no expression goes on with the word.
-fn ends(word: &Word) -> bool
+fn ends(word: &TokenValue) -> bool
     ensures { result ≡ true → EndsBefore word.now }
 {
     match word {
-        Word::Newline => true,
-        Word::Sign(sign) => closes(*sign),
+        TokenValue::Newline => true,
+        TokenValue::Punctuator(sign) => closes(*sign),
         _ => false,
     }
 }
 
 /// The name, int or string at the front of the leaves, if the leaf after it ends the expression.
-fn alone(alloc: Global, leaves: &[Leaf]) -> Read<'_, Boxed<Expression>>
+fn alone(alloc: Global, leaves: &[ValuedToken]) -> Read<'_, Boxed<Expression>>
     ensures { ReadAlone leaves.now result }
 {
     match leaves {
@@ -219,9 +219,9 @@ pub fn tuple_unless_one(mut found: Items<Expression>) -> Expression
     }
 }
 
-impl<F: Fn(Global, u128, Level, &[Leaf]) -> Read<'_, Boxed<Expression>>> Grammar<F> {
+impl<F: Fn(Global, u128, Level, &[ValuedToken]) -> Read<'_, Boxed<Expression>>> Grammar<F> {
     /// An expression of a level, nested in another.
-    pub fn nested<'a>(&self, level: Level, leaves: &'a [Leaf]) -> Read<'a, Boxed<Expression>>
+    pub fn nested<'a>(&self, level: Level, leaves: &'a [ValuedToken]) -> Read<'a, Boxed<Expression>>
         requires { Nests self.now.depth (F.pre self.now.expression) (F.post self.now.expression) }
         ensures { Gives (run rule self.now.depth (at_level level) leaves.now) result }
     {
@@ -235,11 +235,11 @@ impl<F: Fn(Global, u128, Level, &[Leaf]) -> Read<'_, Boxed<Expression>>> Grammar
 
     /// `',' Test`
     #[tactic(auto, unfolding(crate::specs::Expressions::next_test))]
-    pub fn next_test<'a>(&self, leaves: &'a [Leaf]) -> Read<'a, Boxed<Expression>>
+    pub fn next_test<'a>(&self, leaves: &'a [ValuedToken]) -> Read<'a, Boxed<Expression>>
         requires { Nests self.now.depth (F.pre self.now.expression) (F.post self.now.expression) }
         ensures { Gives (reads self.now.depth spec.next_test leaves.now) result }
     {
-        let Some((_, rest)) = sign(Sign::Comma, leaves) else {
+        let Some((_, rest)) = sign(Punctuator::Comma, leaves) else {
             return Ok(None);
         };
         self.nested(Level::Test, rest)
@@ -247,7 +247,7 @@ impl<F: Fn(Global, u128, Level, &[Leaf]) -> Read<'_, Boxed<Expression>>> Grammar
 
     /// `Test {',' Test}`
     #[tactic(auto, unfolding(crate::specs::Expressions::list_of_tests), using(crate::proofs::Rounds::turns))]
-    pub fn list_of_tests<'a>(&self, leaves: &'a [Leaf]) -> Read<'a, Items<Expression>>
+    pub fn list_of_tests<'a>(&self, leaves: &'a [ValuedToken]) -> Read<'a, Items<Expression>>
         requires { Nests self.now.depth (F.pre self.now.expression) (F.post self.now.expression) }
         ensures { Gives (reads self.now.depth spec.list_of_tests leaves.now) result }
     {
@@ -268,7 +268,7 @@ impl<F: Fn(Global, u128, Level, &[Leaf]) -> Read<'_, Boxed<Expression>>> Grammar
 
     /// `{',' Test}`
     #[tactic(auto, unfolding(crate::specs::Expressions::further_tests), using(crate::proofs::Rounds::turns))]
-    pub fn further_tests<'a>(&self, leaves: &'a [Leaf]) -> Read<'a, Items<Expression>>
+    pub fn further_tests<'a>(&self, leaves: &'a [ValuedToken]) -> Read<'a, Items<Expression>>
         requires { Nests self.now.depth (F.pre self.now.expression) (F.post self.now.expression) }
         ensures { Gives (reads self.now.depth spec.further_tests leaves.now) result }
     {
@@ -286,7 +286,7 @@ impl<F: Fn(Global, u128, Level, &[Leaf]) -> Read<'_, Boxed<Expression>>> Grammar
 
     /// `Tests = Test {',' Test}`; several are a tuple.
     #[tactic(auto, unfolding(crate::specs::Expressions::tests))]
-    pub fn tests<'a>(&self, leaves: &'a [Leaf]) -> Read<'a, Boxed<Expression>>
+    pub fn tests<'a>(&self, leaves: &'a [ValuedToken]) -> Read<'a, Boxed<Expression>>
         requires { Nests self.now.depth (F.pre self.now.expression) (F.post self.now.expression) }
         ensures { Gives (reads self.now.depth spec.tests leaves.now) result }
     {

@@ -1,15 +1,16 @@
 -- The members of lists, and of labels in their order.
-use Rattle.std.proofs.Common.{◌≡◌, ◌<◌, ◌⊎◌, inl, inr, ℕ, zero, suc, List, [], ◌∷◌, ◌++◌, arith, get_or, length, map, refl, ap, sym, ◌∙◌}
+use Rattle.std.proofs.Common.{◌≡◌, ◌<◌, ◌⊎◌, ◌+◌, inl, inr, ℕ, zero, suc, List, [], ◌∷◌, ◌++◌, String, Global, arith, get_or, length, map, refl, string_bytes, take, ap, sym, ◌∙◌}
 use Rattle.std.specs.BTreeSet.{insert_key}
 use Rattle.std.specs.Cmp.Lexicographic.{slice_cmp}
 use Rattle.std.specs.Ordering.{match_ordering, nat_cmp}
 use Rattle.std.specs.declared.cmp.Ordering.{Ordering}
 use Rattle.std.specs.declared.cmp.Ordering.TheVariants.{Less, Equal, Greater}
+use Rattle.std.proofs.lemmas.List.{map-append, take_more}
 use Rattle.std.proofs.lemmas.Map.Lookups.{exact_bytes}
 use Rattle.star_label.specs.declared.label.Label.{Label}
 use Rattle.star_label.specs.contracts.label.LabelOrd.TheImpl.{cmp-value}
 use Rattle.star_label.specs.View.{text_of}
-use Rattle.star_words.specs.Named.{labels_of}
+use Rattle.star_words.specs.Named.{labels_of, texts_of}
 use Rattle.star_words.specs.Rows.{IsIn}
 
 abbrev R : List ℕ → List ℕ → Ordering
@@ -79,3 +80,8 @@ pub item_in : {X : Type 0} (xs : List X) (i : ℕ) (x : X) → i < length xs →
 item_in [] i x low e = absurd (omega (arith, low))
 item_in (y ∷ ys) zero x low e = inl (sym e)
 item_in (y ∷ ys) (suc i) x low e = inr (item_in ys i x (omega (arith, low)) e)
+
+-- the texts of the first words, and of the next one
+pub texts_more : (words : List (String Global)) (i : ℕ) (word : String Global) → i < length words → word ≡ get_or words i word → texts_of (take (i + 1) words) ≡ texts_of (take i words) ++ string_bytes word ∷ []
+texts_more words i word low is =
+    ap texts_of (take_more words i word low ∙ ap (λ x. take i words ++ x ∷ []) (sym is)) ∙ map-append string_bytes (take i words) (word ∷ [])

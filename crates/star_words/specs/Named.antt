@@ -1,5 +1,5 @@
 -- The labels that a run is asked for, by the texts of labels.
-use Rattle.std.specs.Prelude.{◌≡◌, ◌↔◌, ◌⊎◌, ⊤, ℕ, List, [], ◌∷◌, true, false, Option, Some, String, map, string_bytes}
+use Rattle.std.specs.Prelude.{◌≡◌, ◌↔◌, ◌⊎◌, ⊤, ℕ, List, [], ◌∷◌, true, false, Option, None, Some, String, map, string_bytes}
 use Rattle.std.specs.declared.alloc.Global.{Global}
 use Rattle.star_bundle.specs.Bundle.{is_label}
 use Rattle.star_bundle.specs.declared.error.ServeError.{ServeError}
@@ -19,6 +19,10 @@ texts_of words = map string_bytes words
 -- the texts are labels in normal form
 abbrev pub AllLabels : List (List ℕ) → Type 0
 AllLabels texts = (t : List ℕ) → IsIn t texts → is_label t ≡ true
+
+-- .. and these are the labels
+abbrev pub AreLabelsOf : List (List ℕ) → List (List ℕ) → Type 0
+AreLabelsOf texts labels = AllLabels texts × ((l : List ℕ) → IsIn l labels ↔ IsIn l texts)
 
 -- one of them is none
 abbrev pub OneIsNone : List (List ℕ) → Type 0
@@ -47,6 +51,10 @@ abbrev pub Names : List ℕ → List ℕ → Option (List ℕ) → Type 0
 Names here word found =
     ((p n : List ℕ) → Reads here word p n → found ≡ Some (label_text p n))
     × (((p n : List ℕ) → Reads here word p n → ⊥) → found ≡ path_named here word)
+
+-- one of the words names no label
+abbrev pub OneIsUnnamed : List ℕ → List (List ℕ) → Type 0
+OneIsUnnamed here words = (w : List ℕ) × IsIn w words × Names here w None
 
 -- each word names the label beside it
 abbrev pub AreNamed : List ℕ → List (List ℕ) → List (List ℕ) → Type 0

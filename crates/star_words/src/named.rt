@@ -2,7 +2,7 @@
 
 ghost use Rattle.std.specs.Prelude.{◌≡◌, ◌↔◌, ◌⊎◌, ℕ, List, IfOk, IfErr, MatchOption, option_map, string_bytes, true};
 ghost use Rattle.star_bundle.specs.Bundle.{is_label};
-ghost use Rattle.star_words.specs.Named.{AllLabels, AreAsked, IsMisnamed, OneIsNone, texts_of};
+ghost use Rattle.star_words.specs.Named.{AreAsked, AreLabelsOf, IsMisnamed, OneIsNone, texts_of};
 ghost use Rattle.star_words.specs.Rows.{IsIn};
 ghost use Rattle.star_words.specs.Named.{labels_of};
 
@@ -27,10 +27,8 @@ fn add_label(alloc: Global, labels: &mut BTreeSet<Label>, text: &str) -> Result<
 
 /// The labels of roots; `None` if one is not a label in normal form.
 fn root_labels(alloc: Global, roots: &[String]) -> Result<Option<BTreeSet<Label>>, AllocError>
-    ensures { IfOk result (λ labels. MatchOption labels
-        (OneIsNone (texts_of roots.now))
-        (λ set. AllLabels (texts_of roots.now)
-        × ((l : List ℕ) → IsIn l (labels_of set.keys) ↔ IsIn l (texts_of roots.now)))) }
+    ensures { IfOk result (λ labels. MatchOption labels (OneIsNone (texts_of roots.now))
+        (λ set. AreLabelsOf (texts_of roots.now) (labels_of set.keys))) }
 {
     let mut labels = BTreeSet::new(alloc);
     for root in roots {

@@ -1,7 +1,7 @@
 //! Words such as `//app/...`: the labels of all files below a folder.
 
-ghost use Rattle.std.specs.Prelude.{◌≡◌, ◌+◌, ◌≤◌, ◌∷◌, ◌++◌, [], ℕ, List, IfOk, IfSome, MatchOption, OnOk, length, string_bytes, vec_len};
-ghost use Rattle.star_label.specs.Label.{label_text, with_folder};
+ghost use Rattle.std.specs.Prelude.{◌≡◌, ◌+◌, ◌≤◌, ◌∷◌, ◌++◌, [], ℕ, List, IfOk, IfSome, MatchOption, OnOk, length, vec_len};
+ghost use Rattle.star_label.specs.Label.{label_text};
 ghost use Rattle.star_label.specs.View.{text_of};
 ghost use Rattle.star_words.specs.Below.{AreBelow, IsInside, IsWalked};
 ghost use Rattle.star_words.specs.Named.{labels_of};
@@ -11,6 +11,7 @@ use crate::walk::Walk;
 use crate::words::label_of;
 use star_bundle::error::ServeError;
 use star_folder::folder::{FolderError, Kind};
+use star_folder::path::inside;
 use star_label::error::LabelError;
 use star_label::label::Label;
 use star_label::segment::is_segment;
@@ -66,19 +67,6 @@ fn file_label(alloc: Global, path: &str, name: &str) -> Result<Option<Label>, Al
         Err(LabelError::BadLabel) => Ok(None),
         Err(_) => Err(AllocError),
     }
-}
-
-/// The path of a folder in the folder at a path.
-fn inside(alloc: Global, path: &str, name: &str) -> Result<String, AllocError>
-    ensures { IfOk result (λ text. string_bytes text ≡ with_folder path.now name.now) }
-{
-    if path == "" {
-        return String::from_str(alloc, name);
-    }
-    let mut text = String::from_str(alloc, path)?;
-    text.push('/')?;
-    text.push_str(name)?;
-    Ok(text)
 }
 
 /// Follows an entry of the folder at a path.

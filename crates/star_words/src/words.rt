@@ -1,10 +1,9 @@
 //! The label that a path or a label on the command line names.
 
-ghost use Rattle.std.specs.Prelude.{◌≡◌, ℕ, List, None, IfOk, IfErr, MatchOption, option_map, true};
+ghost use Rattle.std.specs.Prelude.{◌≡◌, IfOk, IfErr, MatchOption, option_map, true};
 ghost use Rattle.star_label.specs.Label.{is_package, parts};
 ghost use Rattle.star_label.specs.View.{text_of};
-ghost use Rattle.star_words.specs.Named.{AreNamed, Names, texts_of};
-ghost use Rattle.star_words.specs.Rows.{IsIn};
+ghost use Rattle.star_words.specs.Named.{AreNamed, Names, OneIsUnnamed, texts_of};
 ghost use Rattle.star_words.specs.Words.{Leads, folders_of, label_of_path, led, led_by, path_named};
 
 use star_label::error::LabelError;
@@ -96,9 +95,8 @@ pub fn labels_of_words(
     words: &[String],
 ) -> Result<Option<Vec<String>>, LabelError>
     requires { is_package «here».now ≡ true }
-    ensures labels { IfOk result (λ o. MatchOption o
-        ((w : List ℕ) × IsIn w (texts_of words.now) × Names here.now w None)
-        (λ labels. AreNamed here.now (texts_of words.now) (texts_of labels.items))) }
+    ensures labels { IfOk result (λ o. MatchOption o (OneIsUnnamed here.now (texts_of words.now))
+        (λ ls. AreNamed here.now (texts_of words.now) (texts_of ls.items))) }
     ensures only { IfErr result (λ e. e ≡ LabelError.Memory) }
 {
     let mut labels = Vec::new(alloc);

@@ -9,8 +9,8 @@ use Rattle.star_store.specs.declared.values.Cell.TheVariants as cell
 use Rattle.star_store.specs.Store.{slot_value}
 use Rattle.star_scope.specs.declared.spot.Spot.{Spot}
 use Rattle.star_scope.specs.declared.spot.Spot.TheVariants as spot
-use Rattle.star_meaning.specs.declared.fault.Code.TheVariants.{Unbound}
-use Rattle.star_meaning.specs.declared.place.Place.{Place}
+use Rattle.star_meaning.specs.declared.fault.FaultCode.TheVariants.{Unbound}
+use Rattle.star_meaning.specs.declared.site.Site.{Site}
 use Rattle.star_meaning.specs.Run.{State, Done, found}
 use Rattle.star_meaning.specs.Program.{Setting, seen}
 use Rattle.star_meaning.specs.Variables.{frame_of}
@@ -38,7 +38,7 @@ own (Some spot.Prelude) other h = absurd (none-some other h)
 own (Some spot.Outermost) other h = absurd (none-some other h)
 own None other h = absurd (none-some other h)
 
-pub near_spot : (w : Setting) (s : State) (p : Place) (name : List ℕ) (sp : Option Spot) (slot : ℕ) (v : Value)
+pub near_spot : (w : Setting) (s : State) (p : Site) (name : List ℕ) (sp : Option Spot) (slot : ℕ) (v : Value)
     → own_spot sp ≡ Some slot → slot_value (seen w s p.frame) slot ≡ Some v
     → found Unbound p.line (at_spot w s p name sp) s ≡ Done v s
 near_spot w s p name sp slot v h e =

@@ -14,6 +14,7 @@ use Rattle.star_scope.proofs.Numbers.{position_any}
 use Rattle.star_meaning.specs.Local.{outlines}
 use Rattle.star_meaning.specs.Programs.{Files, IsOfFile, PlacedFile, file_in, outline_at, slots_in, spots_in, tables_of, trees_of}
 use Rattle.star_world.specs.declared.orders.Order.{Order}
+use Rattle.star_world.specs.LaidOut.{IsLaidOut}
 use Rattle.star_world.specs.Orders.{AreLaidOut, HasLayout, Layout}
 
 -- the facts of the program of some file
@@ -60,8 +61,8 @@ outline_there files file =
 
 -- the order of a definition of the file at a place, and its slots
 pub order_there : (files : Files) (file number : ℕ) (f : PlacedFile) (o : Option Order) → Some f ≡ file_in files file
-    → IfSome o (λ r. (d : Definition) → definition_in (outline f.statements).definitions number ≡ Some d → AreLaidOut (spot_at f.spots) r.names.now r.layout.now d.parameters)
-    → IfSome o (λ r. (d : Definition) → option_and_then (λ t. definition_in t.definitions number) (outline_at files file) ≡ Some d → AreLaidOut ((tables_of files).spots file) r.names.now r.layout.now d.parameters)
+    → IfSome o (IsLaidOut (spot_at f.spots) (definition_in (outline f.statements).definitions number))
+    → IfSome o (IsLaidOut ((tables_of files).spots file) (option_and_then (λ t. definition_in t.definitions number) (outline_at files file)))
 order_there files file number f None e h = tt
 order_there files file number f (Some r) e h = λ d there.
     let found : definition_in (outline f.statements).definitions number ≡ Some d = ap (λ g. option_and_then (λ t. definition_in t.definitions number) (option_map (λ x. outline x.statements) g)) e ∙ there in

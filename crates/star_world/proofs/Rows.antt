@@ -9,7 +9,7 @@ use Rattle.star_tree.specs.declared.tree.Statement.{Statement}
 use Rattle.star_scope.specs.declared.error.ScopeFault.{ScopeFault}
 use Rattle.star_scope.specs.declared.program.Prelude.{Prelude}
 use Rattle.star_scope.specs.declared.program.Program.{Program}
-use Rattle.star_scope.specs.Definitions.{Definition, definition_in}
+use Rattle.star_scope.specs.Definitions.{definition_in}
 use Rattle.star_scope.specs.Names.{has_name}
 use Rattle.star_scope.specs.Outlines.{names_in}
 use Rattle.star_scope.specs.Resolve.{Resolves}
@@ -18,7 +18,7 @@ use Rattle.star_meaning.specs.Program.{Setting, blocks_in, definition_of, names_
 use Rattle.star_meaning.specs.Programs.{Files, IsOfFile, outline_at, placed_file, tables_of, trees_of}
 use Rattle.star_world.proofs.ProgramRows.{outline_there}
 use Rattle.star_world.specs.declared.orders.Order.{Order}
-use Rattle.star_world.specs.Orders.{AreLaidOut}
+use Rattle.star_world.specs.LaidOut.{IsLaidOut}
 use Rattle.star_world.specs.World.{AreOutlined}
 
 rows : List (Option (Bor (List Statement))) → List (Option (List Statement))
@@ -60,7 +60,7 @@ pub loaded_there : (w : Setting) (files : Files) (file : ℕ) (name : List ℕ) 
 loaded_there w files file name h = sym (ap (λ o. has_name (loaded_names o) name) (outline_in w files file h))
 
 pub order_given : (w : Setting) (files : Files) (file number : ℕ) (o : Option Order) → AreOutlined w files
-    → IfSome o (λ r. (d : Definition) → option_and_then (λ t. definition_in t.definitions number) (outline_at files file) ≡ Some d → AreLaidOut ((tables_of files).spots file) r.names.now r.layout.now d.parameters)
-    → IfSome o (λ r. (d : Definition) → definition_of w file number ≡ Some d → AreLaidOut ((tables_of files).spots file) r.names.now r.layout.now d.parameters)
+    → IfSome o (IsLaidOut ((tables_of files).spots file) (option_and_then (λ t. definition_in t.definitions number) (outline_at files file)))
+    → IfSome o (IsLaidOut ((tables_of files).spots file) (definition_of w file number))
 order_given w files file number None h k = tt
 order_given w files file number (Some r) h k = λ d e. k d (definition_there w files file number h ∙ e)

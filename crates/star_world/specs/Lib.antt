@@ -1,3 +1,5 @@
--- The environment of a run (World), and the layouts of parameters (Orders).
+-- The environment of a run (World), new functions (Closures), and the layouts of parameters (Orders, LaidOut).
+pub mod Closures
+pub mod LaidOut
 pub mod Orders
 pub mod World

@@ -22,7 +22,7 @@ use Rattle.star_world.specs.declared.layouts.Stage.TheVariants as stage
 -- `*name` and `**name`
 pub record Layout : Type 0 where
   pub count : ℕ
-  pub by_place : ℕ
+  pub positional : ℕ
   pub defaults : ℕ
   pub ranks : List (Option ℕ)
   pub needed : List ℕ
@@ -35,8 +35,8 @@ is_at None i = false
 is_at (Some j) i = nat_eq j i
 
 -- whether a slot takes a keyword argument
-abbrev pub is_own : Layout → ℕ → Bool
-is_own l i = nat_lt i l.count && (not (is_at l.rest i) && not (is_at l.names i))
+abbrev pub takes_keyword : Layout → ℕ → Bool
+takes_keyword l i = nat_lt i l.count && (not (is_at l.rest i) && not (is_at l.names i))
 
 -- a name has this slot of its frame
 abbrev pub IsSlot : Spots → Names → ℕ → Name → Type 0
@@ -44,29 +44,29 @@ IsSlot spots names i n = (own_spot (spots n.position.token) ≡ Some i) × (slot
 
 -- a parameter that gets one value may come here: before the end of those that take positional arguments, or after it
 abbrev pub MayStand : Layout → Stage → ℕ → Type 0
-MayStand l stage.ByPlace i = i < l.by_place
-MayStand l stage.ByName i = l.by_place ≤ i
+MayStand l stage.Positional i = i < l.positional
+MayStand l stage.ByName i = l.positional ≤ i
 MayStand l stage.Ended i = ⊥
 
 -- those that take positional values end here; the positional values that are left go to this slot, if there is one
 abbrev pub PlacesEnd : Layout → Stage → ℕ → Option ℕ → Type 0
-PlacesEnd l stage.ByPlace i rest = (i ≡ l.by_place) × (l.rest ≡ rest)
+PlacesEnd l stage.Positional i rest = (i ≡ l.positional) × (l.rest ≡ rest)
 PlacesEnd l stage.ByName i rest = ⊥
 PlacesEnd l stage.Ended i rest = ⊥
 
 -- they end here, or ended before
 abbrev pub PlacesAreOver : Layout → Stage → ℕ → Type 0
-PlacesAreOver l stage.ByPlace i = (i ≡ l.by_place) × (l.rest ≡ None)
+PlacesAreOver l stage.Positional i = (i ≡ l.positional) × (l.rest ≡ None)
 PlacesAreOver l stage.ByName i = Unit {0}
 PlacesAreOver l stage.Ended i = ⊥
 
 -- a parameter has the slot at the cursor: one with a name alone needs a value, one with a default has the next default
 abbrev pub StandsAt : Spots → Names → Layout → Cursor → ParameterForm → Type 0
 StandsAt spots names l c (tree.Plain n) =
-    MayStand l c.stage c.slot × IsSlot spots names c.slot n × (is_own l c.slot ≡ true)
+    MayStand l c.stage c.slot × IsSlot spots names c.slot n × (takes_keyword l c.slot ≡ true)
     × (slice_get l.ranks c.slot ≡ Some None) × (slice_get l.needed c.needed ≡ Some c.slot)
 StandsAt spots names l c (tree.Default n e) =
-    MayStand l c.stage c.slot × IsSlot spots names c.slot n × (is_own l c.slot ≡ true)
+    MayStand l c.stage c.slot × IsSlot spots names c.slot n × (takes_keyword l c.slot ≡ true)
     × (slice_get l.ranks c.slot ≡ Some (Some c.rank)) × (c.rank < l.defaults)
 StandsAt spots names l c (tree.Parameter-F.Parameter::Star n) =
     PlacesEnd l c.stage c.slot (Some c.slot) × IsSlot spots names c.slot n
@@ -85,11 +85,11 @@ after c (tree.Parameter-F.Parameter::StarStar n) = record c { stage = stage.Ende
 
 -- the cursor before all parameters
 abbrev pub start : Cursor
-start = record { stage = stage.ByPlace; slot = 0; rank = 0; needed = 0 }
+start = record { stage = stage.Positional; slot = 0; rank = 0; needed = 0 }
 
 -- no parameter is missing after the last
 abbrev pub MayEnd : Layout → Stage → ℕ → Type 0
-MayEnd l stage.ByPlace i = (i ≡ l.by_place) × (l.rest ≡ None) × (l.names ≡ None)
+MayEnd l stage.Positional i = (i ≡ l.positional) × (l.rest ≡ None) × (l.names ≡ None)
 MayEnd l stage.ByName i = l.names ≡ None
 MayEnd l stage.Ended i = Unit {0}
 
@@ -106,7 +106,7 @@ IsBelow (Some i) n = i < n
 
 -- a layout of no other slots than those of the parameters
 pub record IsBounded (l : Layout) : Type 0 where
-  pub places : l.by_place ≤ l.count
+  pub places : l.positional ≤ l.count
   pub ranks : length l.ranks ≤ l.count
   pub rest : IsBelow l.rest l.count
   pub names : IsBelow l.names l.count

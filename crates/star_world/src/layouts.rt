@@ -6,7 +6,7 @@
 ghost use Rattle.std.specs.Prelude.{◌≡◌, slice_get, IfOk, IfSome, IsTrue};
 ghost use Rattle.std.specs.Arc.{arc_slice_items};
 ghost use Rattle.star_scope.specs.Syntax as form;
-ghost use Rattle.star_world.specs.Orders.{IsBelow, IsBounded, after, is_at, is_own, start};
+ghost use Rattle.star_world.specs.Orders.{IsBelow, IsBounded, after, is_at, takes_keyword, start};
 
 use star_tree::tree::Parameter;
 use std::alloc::{AllocError, Global};
@@ -17,7 +17,7 @@ use std::sync::ArcSlice;
 #[derive(Clone, Copy)]
 pub enum Stage {
     /// Before the end of those that take positional arguments.
-    ByPlace,
+    Positional,
     /// Among those that take keyword arguments alone.
     ByName,
     /// After `**name`.
@@ -39,7 +39,7 @@ impl Cursor {
         ensures { result ≡ start }
     {
         Cursor {
-            stage: Stage::ByPlace,
+            stage: Stage::Positional,
             slot: 0,
             rank: 0,
             needed: 0,
@@ -71,7 +71,7 @@ impl Cursor {
 #[derive(Drop)]
 pub struct Layout {
     count: usize,
-    by_place: usize,
+    positional: usize,
     defaults: usize,
     ranks: ArcSlice<Option<usize>>,
     needed: Vec<usize>,
@@ -85,7 +85,7 @@ impl Model for Layout {
 
     ghost Value = { Laid };
 
-    ghost view = { λ l. record { count = l.count; by_place = l.by_place; defaults = l.defaults; ranks = arc_slice_items l.ranks; needed = l.needed.items; rest = l.rest; names = l.names } };
+    ghost view = { λ l. record { count = l.count; positional = l.positional; defaults = l.defaults; ranks = arc_slice_items l.ranks; needed = l.needed.items; rest = l.rest; names = l.names } };
 }
 
 impl Layout {
@@ -107,10 +107,10 @@ impl Layout {
     }
 
     /// How many of the first slots take positional arguments.
-    pub fn by_place(&self) -> usize
-        ensures { result ≡ self.now.by_place }
+    pub fn positional(&self) -> usize
+        ensures { result ≡ self.now.positional }
     {
-        self.by_place
+        self.positional
     }
 
     /// How many parameters have defaults.
@@ -156,8 +156,8 @@ impl Layout {
     }
 
     /// Whether the value of a slot can be given by keyword.
-    pub fn is_own(&self, slot: usize) -> bool
-        ensures { result ≡ is_own self.now slot }
+    pub fn takes_keyword(&self, slot: usize) -> bool
+        ensures { result ≡ takes_keyword self.now slot }
     {
         slot < self.count && !is_at(self.rest, slot) && !is_at(self.names, slot)
     }
@@ -166,7 +166,7 @@ impl Layout {
     pub(crate) fn is_bounded(&self) -> bool
         ensures { IsTrue result → IsBounded self.now }
     {
-        self.by_place <= self.count
+        self.positional <= self.count
             && self.ranks.as_slice().len() <= self.count
             && is_below(self.rest, self.count)
             && is_below(self.names, self.count)
@@ -196,7 +196,7 @@ fn is_below(place: Option<usize>, count: usize) -> bool
 /// The layout of the parameters so far.
 #[derive(Drop)]
 struct Sketch {
-    by_place: Option<usize>,
+    positional: Option<usize>,
     defaults: usize,
     ranks: Vec<Option<usize>>,
     needed: Vec<usize>,
@@ -208,7 +208,7 @@ impl Sketch {
     /// That of no parameter.
     fn new(alloc: Global) -> Sketch {
         Sketch {
-            by_place: None,
+            positional: None,
             defaults: 0,
             ranks: Vec::new(alloc),
             needed: Vec::new(alloc),
@@ -251,8 +251,8 @@ impl Sketch {
 
     /// Positional parameters end before the next slot, if they have not ended before.
     fn end_places(&mut self) {
-        if self.by_place.is_none() {
-            self.by_place = Some(self.ranks.len());
+        if self.positional.is_none() {
+            self.positional = Some(self.ranks.len());
         }
     }
 
@@ -261,7 +261,7 @@ impl Sketch {
         let count = self.ranks.len();
         Ok(Layout {
             count,
-            by_place: self.by_place.unwrap_or(count),
+            positional: self.positional.unwrap_or(count),
             defaults: self.defaults,
             ranks: ArcSlice::from_vec(self.ranks)?,
             needed: self.needed,

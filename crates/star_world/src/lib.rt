@@ -13,7 +13,7 @@
 //!
 //! Invariant of `World`: the definitions and blocks that its setting names are those of its programs.
 //!
-//! The promise of each function is `Gives` of `star_machine`, by the definitions of variables by spots
+//! The promise of each function is `Refines` of `star_machine`, by the definitions of variables by spots
 //! (`star_meaning/specs/Places`). That this is the same as looking names up by their text is the law
 //! `spots_mean_names`. See `docs/LANGUAGE.md`, "Blocks and variables".
 #![tactic(auto)]

@@ -3,7 +3,7 @@
 ghost use Rattle.std.specs.Prelude.{◌≡◌};
 ghost use Rattle.std.specs.Option.{option_and_then, option_copied};
 ghost use Rattle.star_store.specs.Store.{global_of};
-ghost use Rattle.star_machine.specs.Gives.{Gives};
+ghost use Rattle.star_machine.specs.Refines.{Refines};
 ghost use Rattle.star_meaning.specs.Run.{all_of};
 ghost use Rattle.star_meaning.specs.Statements as spec;
 ghost use Rattle.star_world.specs.World.{variables};
@@ -12,8 +12,8 @@ use crate::variables::bind;
 use crate::world::World;
 use star_machine::fault::{Stop, faulted};
 use star_machine::machine::Machine;
-use star_meaning::fault::Code;
-use star_meaning::place::Place;
+use star_meaning::fault::FaultCode;
+use star_meaning::site::Site;
 use star_store::arena::Frozen;
 use star_store::values::Value;
 use star_tree::tree::{LoadedName, Position};
@@ -42,15 +42,15 @@ fn global(published: Option<&Frozen>, name: &LoadedName) -> Option<Value>
 fn load_name(
     machine: &mut Machine,
     world: &World,
-    place: &Place,
+    place: &Site,
     published: Option<&Frozen>,
     name: &LoadedName,
 ) -> Result<(), Stop>
-    ensures { Gives (spec.load_name (variables world.now) place.now (option_copied published.entry) name.now
+    ensures { Refines (spec.load_name (variables world.now) place.now (option_copied published.entry) name.now
         machine.old) result machine.new }
 {
     let Some(value) = global(published, name) else {
-        return Err(faulted(Code::NoName, place.line));
+        return Err(faulted(FaultCode::NoName, place.line));
     };
     bind(machine, world, place, &name.local, value)
 }
@@ -59,11 +59,11 @@ fn load_name(
 fn load_each(
     machine: &mut Machine,
     world: &World,
-    place: &Place,
+    place: &Site,
     published: Option<&Frozen>,
     names: &[LoadedName],
 ) -> Result<(), Stop>
-    ensures { Gives (all_of (spec.load_name (variables world.now) place.now (option_copied published.entry)) names.now
+    ensures { Refines (all_of (spec.load_name (variables world.now) place.now (option_copied published.entry)) names.now
         machine.old) result machine.new }
 {
     for name in names {
@@ -77,11 +77,12 @@ fn load_each(
 pub fn load_names(
     machine: &mut Machine,
     world: &World,
-    place: &Place,
+    place: &Site,
     position: Position,
     names: &[LoadedName],
 ) -> Result<(), Stop>
-    ensures { Gives (all_of (spec.load_name (variables world.now) place.now (spec.module_of world.now.setting position))
+    ensures { Refines (all_of (spec.load_name (variables world.now) place.now
+        (spec.module_of world.now.setting position))
         names.now machine.old) result machine.new }
 {
     let published = published(world, position);

@@ -7,7 +7,7 @@ ghost use Rattle.std.specs.Ordering.{nat_cmp};
 ghost use Rattle.star_scope.specs.Outlines.{names_in};
 ghost use Rattle.star_scope.specs.Spots.{spot_at};
 ghost use Rattle.star_scope.specs.Syntax as form;
-ghost use Rattle.star_world.specs.Orders.{AreLaidOut, HasLayout, HaveLayouts, InOrder, IsSlot, MayEnd, MayStand, PlacesAreOver, PlacesEnd, StandsAt, is_own, start};
+ghost use Rattle.star_world.specs.Orders.{AreLaidOut, HasLayout, HaveLayouts, InOrder, IsSlot, MayEnd, MayStand, PlacesAreOver, PlacesEnd, StandsAt, takes_keyword, start};
 
 use crate::layouts::{Cursor, Layout, Stage, is_at};
 use crate::variables::own_spot;
@@ -40,8 +40,8 @@ fn may_stand(layout: &Layout, cursor: Cursor) -> bool
     ensures { IsTrue result → MayStand layout.now cursor.stage cursor.slot }
 {
     match cursor.stage {
-        Stage::ByPlace => cursor.slot < layout.by_place(),
-        Stage::ByName => layout.by_place() <= cursor.slot,
+        Stage::Positional => cursor.slot < layout.positional(),
+        Stage::ByName => layout.positional() <= cursor.slot,
         Stage::Ended => false,
     }
 }
@@ -51,7 +51,7 @@ fn places_end(layout: &Layout, cursor: Cursor, rest: Option<usize>) -> bool
     ensures { IsTrue result → PlacesEnd layout.now cursor.stage cursor.slot rest }
 {
     match cursor.stage {
-        Stage::ByPlace => cursor.slot == layout.by_place() && layout.rest() == rest,
+        Stage::Positional => cursor.slot == layout.positional() && layout.rest() == rest,
         _ => false,
     }
 }
@@ -61,7 +61,7 @@ fn places_are_over(layout: &Layout, cursor: Cursor) -> bool
     ensures { IsTrue result → PlacesAreOver layout.now cursor.stage cursor.slot }
 {
     match cursor.stage {
-        Stage::ByPlace => cursor.slot == layout.by_place() && layout.rest() == None,
+        Stage::Positional => cursor.slot == layout.positional() && layout.rest() == None,
         Stage::ByName => true,
         Stage::Ended => false,
     }
@@ -72,8 +72,8 @@ fn may_end(layout: &Layout, cursor: Cursor) -> bool
     ensures { IsTrue result → MayEnd layout.now cursor.stage cursor.slot }
 {
     match cursor.stage {
-        Stage::ByPlace => {
-            cursor.slot == layout.by_place() && layout.rest() == None && layout.names() == None
+        Stage::Positional => {
+            cursor.slot == layout.positional() && layout.rest() == None && layout.names() == None
         }
         Stage::ByName => layout.names() == None,
         Stage::Ended => true,
@@ -90,11 +90,11 @@ fn has_own_slot(
 ) -> bool
     ensures may_stand { IsTrue result → MayStand layout.now cursor.stage cursor.slot }
     ensures slot { IsTrue result → IsSlot (spot_at program.now.spots) names.now cursor.slot name.now }
-    ensures own { IsTrue result → IsTrue (is_own layout.now cursor.slot) }
+    ensures own { IsTrue result → IsTrue (takes_keyword layout.now cursor.slot) }
 {
     may_stand(layout, cursor)
         && is_slot(program, names, cursor.slot, name)
-        && layout.is_own(cursor.slot)
+        && layout.takes_keyword(cursor.slot)
 }
 
 /// Whether the slot at a cursor is the next that needs a value.

@@ -1,13 +1,14 @@
 //! Makes new values and enters comprehensions; the parts of expressions and statements that evaluate nothing.
 
-ghost use Rattle.std.specs.Prelude.{◌≡◌, ◌+◌, ◌∷◌, [], MatchOption};
-ghost use Rattle.star_machine.specs.Gives.{Gives};
+ghost use Rattle.std.specs.Prelude.{◌≡◌, ◌+◌, []};
+ghost use Rattle.star_machine.specs.Refines.{Refines};
 ghost use Rattle.star_meaning.specs.Calls.{answer_of};
 ghost use Rattle.star_meaning.specs.Comprehensions.{inner};
 ghost use Rattle.star_meaning.specs.Module.{at_line};
 ghost use Rattle.star_meaning.specs.Run.{build};
 ghost use Rattle.star_meaning.specs.Values.{new_text};
 ghost use Rattle.star_store.specs.declared.values.Cell.TheVariants as cell;
+ghost use Rattle.star_world.specs.Closures.{closure};
 ghost use Rattle.star_world.specs.World.{variables};
 
 use crate::variables::paid_frame;
@@ -15,33 +16,23 @@ use crate::world::World;
 use sqlite_items::Boxed;
 use star_machine::fault::Stop;
 use star_machine::machine::Machine;
-use star_meaning::place::{Flow, Place};
+use star_meaning::site::{Flow, Site};
 use star_store::defaults::Defaults;
 use star_store::values::{Cell, Entries, Function, Value, Values};
 use star_text::Text;
 use star_tree::tree::Statement;
 
-/// The place of a statement. A fault gets the line of the innermost statement of the running module's own file.
-pub fn place_of(world: &World, place: &Place, statement: &Statement) -> Place
-    ensures { result ≡ at_line world.now.setting place.now statement.now }
+/// The site of a statement. A fault gets the line of the innermost statement of the running module's own file.
+pub fn site_of(world: &World, site: &Site, statement: &Statement) -> Site
+    ensures { result ≡ at_line world.now.setting site.now statement.now }
 {
-    if place.file != world.setting().home() {
-        return *place;
+    if site.file != world.setting().home() {
+        return *site;
     }
-    Place {
-        file: place.file,
-        frame: place.frame,
+    Site {
+        file: site.file,
+        frame: site.frame,
         line: statement.position.line,
-    }
-}
-
-/// The first value, and those after it.
-pub fn split_first(values: &[Value]) -> Option<(Value, &[Value])>
-    ensures { MatchOption result (values.now ≡ []) (λ x. values.now ≡ x.0 ∷ x.1.now) }
-{
-    match values {
-        [first, rest @ ..] => Some((*first, rest)),
-        [] => None,
     }
 }
 
@@ -58,7 +49,7 @@ pub fn answer_of(flow: Flow) -> Value
 /// A new string of these bytes, which pays 1 and one for each.
 #[inline(never)]
 pub fn new_string(machine: &mut Machine, line: usize, text: &Text) -> Result<Value, Stop>
-    ensures { Gives (new_text line text.now machine.old) result machine.new }
+    ensures { Refines (new_text line text.now machine.old) result machine.new }
 {
     let copy = text.share()?;
     Ok(machine.new_text(line, copy)?)
@@ -67,58 +58,46 @@ pub fn new_string(machine: &mut Machine, line: usize, text: &Text) -> Result<Val
 /// A new function, which pays 1.
 pub fn new_closure(
     machine: &mut Machine,
-    place: &Place,
+    site: &Site,
     token: usize,
     name: &str,
     defaults: Defaults,
 ) -> Result<Value, Stop>
-    ensures { Gives (build place.now.line 1
-        (cell.Func (record {
-          file = place.now.file;
-          definition = token;
-          name = name.now;
-          defaults = defaults;
-          frame = place.now.frame;
-        })) machine.old) result machine.new }
+    ensures { Refines (closure site.now token name.now defaults machine.old) result machine.new }
 {
     let Ok(definition) = u32::try_from(token) else {
         return Err(Stop::Memory);
     };
     let function = Function {
-        file: place.file,
+        file: site.file,
         definition,
         name: Text::new(machine.alloc(), name)?,
         defaults,
-        frame: place.frame,
+        frame: site.frame,
     };
     let function = Boxed::new(machine.alloc(), function)?;
-    machine.build(place.line, 1, Cell::Func(function))
+    machine.build(site.line, 1, Cell::Func(function))
 }
 
 /// A new list of no items, which pays 1.
-pub fn new_row(machine: &mut Machine, line: usize) -> Result<Value, Stop>
-    ensures { Gives (build line 1 (cell.List []) machine.old) result machine.new }
+pub fn new_empty_list(machine: &mut Machine, line: usize) -> Result<Value, Stop>
+    ensures { Refines (build line 1 (cell.List []) machine.old) result machine.new }
 {
     let items = Values::new(Vec::new(machine.alloc()));
     machine.build(line, 1, Cell::List(items))
 }
 
 /// A new dictionary of no entries, which pays 1.
-pub fn new_table(machine: &mut Machine, line: usize) -> Result<Value, Stop>
-    ensures { Gives (build line 1 (cell.Dict []) machine.old) result machine.new }
+pub fn new_empty_dict(machine: &mut Machine, line: usize) -> Result<Value, Stop>
+    ensures { Refines (build line 1 (cell.Dict []) machine.old) result machine.new }
 {
     let entries = Entries::new(machine.alloc());
     machine.build(line, 1, Cell::Dict(entries))
 }
 
-/// The place inside of a comprehension: its frame, whose parent is the running one. 1 is paid.
-pub fn enter(
-    machine: &mut Machine,
-    world: &World,
-    place: &Place,
-    token: usize,
-) -> Result<Place, Stop>
-    ensures { Gives (inner (variables world.now) place.now (1 + token) machine.old) result machine.new }
+/// The site inside of a comprehension: its frame, whose parent is the running one. 1 is paid.
+pub fn enter(machine: &mut Machine, world: &World, site: &Site, token: usize) -> Result<Site, Stop>
+    ensures { Refines (inner (variables world.now) site.now (1 + token) machine.old) result machine.new }
 {
     let Some(block) = token.checked_add(1) else {
         return Err(Stop::Memory);
@@ -126,14 +105,14 @@ pub fn enter(
     let frame = paid_frame(
         machine,
         world,
-        place.line,
-        place.file,
+        site.line,
+        site.file,
         block,
-        Some(place.frame),
+        Some(site.frame),
     )?;
-    Ok(Place {
-        file: place.file,
+    Ok(Site {
+        file: site.file,
         frame,
-        line: place.line,
+        line: site.line,
     })
 }

@@ -1,12 +1,12 @@
 //! A program with the layouts of its definitions that have many parameters.
 
-ghost use Rattle.std.specs.Prelude.{◌≡◌, ◌+◌, IfOk, IfSome, MatchOption, Some, ⊤};
+ghost use Rattle.std.specs.Prelude.{◌≡◌, ◌+◌, IfOk, IfSome, MatchOption, ⊤};
 ghost use Rattle.std.specs.Option.{option_map};
-ghost use Rattle.star_scope.specs.Definitions.{Definition, definition_in};
+ghost use Rattle.star_scope.specs.Definitions.{definition_in};
 ghost use Rattle.star_scope.specs.Outlines.{names_in, outline};
 ghost use Rattle.star_scope.specs.Spots.{spot_at};
 ghost use Rattle.star_meaning.specs.Programs.{IsOfFile, placed_file};
-ghost use Rattle.star_world.specs.Orders.{AreLaidOut};
+ghost use Rattle.star_world.specs.LaidOut.{IsLaidOut};
 
 use crate::orders::{Order, Orders, slot_names};
 use star_scope::program::Program;
@@ -62,8 +62,7 @@ impl<'a, 't> Placed<'a, 't> {
     /// The layout of the definition with a number, if it has many parameters and they are in order.
     pub(crate) fn order(&self, number: u32) -> Option<Order<'_, 't>>
         ensures in_order { IfSome result
-            (λ o. (d : Definition) → definition_in (outline self.now.statements).definitions number ≡ Some d
-            → AreLaidOut (spot_at self.now.spots) o.names.now o.layout.now d.parameters) }
+            (IsLaidOut (spot_at self.now.spots) (definition_in (outline self.now.statements).definitions number)) }
         ensures names { IfSome result (λ o. o.names.now ≡ names_in (outline self.now.statements).blocks (1 + number)) }
     {
         let layout = self.orders.layout(number as usize)?;

@@ -3,15 +3,15 @@
 //! They are a row of references, like the stores in `Homes`: a host keeps programs where it likes, and takes no lock.
 //! Contracts see each as its statements and the spots of its names (`PlacedFile`).
 
-ghost use Rattle.std.specs.Prelude.{◌≡◌, ◌+◌, ◌∷◌, ◌++◌, [], ⊤, length, IfSome, MatchOption, OnErr, OnOk, Some};
+ghost use Rattle.std.specs.Prelude.{◌≡◌, ◌+◌, ◌∷◌, ◌++◌, [], ⊤, length, IfSome, MatchOption, OnErr, OnOk};
 ghost use Rattle.std.specs.Option.{option_and_then, option_copied, option_map, unwrap_or};
-ghost use Rattle.star_scope.specs.Definitions.{Definition as OneDefinition, definition_in, definition_of};
+ghost use Rattle.star_scope.specs.Definitions.{definition_in, definition_of};
 ghost use Rattle.star_scope.specs.Names.{has_name};
 ghost use Rattle.star_scope.specs.Outlines.{names_in};
 ghost use Rattle.star_meaning.specs.Module.{loaded_names};
 ghost use Rattle.star_meaning.specs.Program.{blocks_in};
 ghost use Rattle.star_meaning.specs.Programs.{IsOfFile, file_in, outline_at, placed_file, tables_of};
-ghost use Rattle.star_world.specs.Orders.{AreLaidOut};
+ghost use Rattle.star_world.specs.LaidOut.{IsLaidOut};
 
 use crate::orders::Order;
 use crate::placed::{Placed, place_program};
@@ -117,10 +117,8 @@ impl<'a, 't> Programs<'a, 't> {
     /// logarithmic time; constant time if the files have no such definition.
     #[tactic(auto, using(crate::proofs::ProgramRows::slots_there))]
     pub fn order(&self, file: usize, number: u32) -> Option<Order<'_, 't>>
-        ensures in_order { IfSome result
-            (λ o. (d : OneDefinition) → option_and_then (λ o. definition_in o.definitions number)
-            (outline_at self.now file) ≡ Some d
-            → AreLaidOut ((tables_of self.now).spots file) o.names.now o.layout.now d.parameters) }
+        ensures in_order { IfSome result (IsLaidOut ((tables_of self.now).spots file)
+            (option_and_then (λ o. definition_in o.definitions number) (outline_at self.now file))) }
         ensures names { IfSome result (λ o. length o.names.now ≡ (tables_of self.now).slots file (1 + number)) }
     {
         if !self.has_orders {

@@ -4,20 +4,20 @@ ghost use Rattle.std.specs.Prelude.{◌≡◌, ◌<◌, ◌+◌, ◌^◌, None, 
 ghost use Rattle.std.specs.Option.{option_and_then, option_copied};
 ghost use Rattle.star_store.specs.Names.{built_in_name};
 ghost use Rattle.star_store.specs.Store.{global_of};
-ghost use Rattle.star_machine.specs.Gives.{Gives};
+ghost use Rattle.star_machine.specs.Refines.{Refines};
 ghost use Rattle.star_meaning.specs.Places.{at_spot, bind_spot, frame_above, joined, new_slots, own_spot, read_spot, slot_in};
 ghost use Rattle.star_meaning.specs.Program.{published_of, seen};
 ghost use Rattle.star_meaning.specs.Programs.{tables_of};
 ghost use Rattle.star_meaning.specs.Run.{and_then, build, found, pay};
-ghost use Rattle.star_meaning.specs.declared.fault.Code.TheVariants.{Unbound};
+ghost use Rattle.star_meaning.specs.declared.fault.FaultCode.TheVariants.{Unbound};
 ghost use Rattle.star_meaning.specs.Variables.{built_ins, frame_of, outermost};
 
 use crate::world::World;
 use star_machine::fault::{Stop, faulted};
 use star_machine::machine::Machine;
 use star_machine::setting::Setting;
-use star_meaning::fault::Code;
-use star_meaning::place::Place;
+use star_meaning::fault::FaultCode;
+use star_meaning::site::Site;
 use star_scope::spot::Spot;
 use star_store::names::BuiltIn;
 use star_store::slots::Slots;
@@ -173,15 +173,15 @@ fn outermost_value(name: &str) -> Option<Value>
 fn at_spot(
     machine: &Machine,
     setting: &Setting,
-    place: &Place,
+    site: &Site,
     name: &str,
     spot: Option<Spot>,
 ) -> Option<Value>
-    ensures { result ≡ at_spot setting.now machine.now place.now name.now spot }
+    ensures { result ≡ at_spot setting.now machine.now site.now name.now spot }
 {
     match spot {
         Some(Spot::Frame { up, slot }) => {
-            let frame = frame_above(machine, setting, up, place.frame);
+            let frame = frame_above(machine, setting, up, site.frame);
             return value_in(machine, setting, slot, frame);
         }
         Some(Spot::Prelude) => prelude_value(setting, name),
@@ -193,17 +193,17 @@ fn at_spot(
 /// The value of a name. `Unbound` if it has none.
 #[inline(always)]
 #[tactic(auto, unfolding(star_meaning::specs::Places::read_spot), using(crate::proofs::Near::near_spot))]
-pub fn read(machine: &Machine, world: &World, place: &Place, name: &Name) -> Result<Value, Stop>
-    ensures { Gives (read_spot (tables_of world.now.files) world.now.setting place.now name.now machine.now)
+pub fn read(machine: &Machine, world: &World, site: &Site, name: &Name) -> Result<Value, Stop>
+    ensures { Refines (read_spot (tables_of world.now.files) world.now.setting site.now name.now machine.now)
         result machine.now }
 {
-    let spot = world.spot(place.file, name.position.token);
+    let spot = world.spot(site.file, name.position.token);
     if let Some(slot) = own_spot(spot) {
-        if let Some(value) = machine.near(place.frame, slot) {
+        if let Some(value) = machine.near(site.frame, slot) {
             return Ok(value);
         }
     }
-    read_far(machine, world, place, name, spot)
+    read_far(machine, world, site, name, spot)
 }
 
 /// The value of a name at its spot. `Unbound` if it has none.
@@ -211,16 +211,16 @@ pub fn read(machine: &Machine, world: &World, place: &Place, name: &Name) -> Res
 fn read_far(
     machine: &Machine,
     world: &World,
-    place: &Place,
+    site: &Site,
     name: &Name,
     spot: Option<Spot>,
 ) -> Result<Value, Stop>
-    ensures { Gives (found Unbound place.now.line
-        (at_spot world.now.setting machine.now place.now name.now.text spot) machine.now) result machine.now }
+    ensures { Refines (found Unbound site.now.line
+        (at_spot world.now.setting machine.now site.now name.now.text spot) machine.now) result machine.now }
 {
-    match at_spot(machine, world.setting(), place, name.text.as_str(), spot) {
+    match at_spot(machine, world.setting(), site, name.text.as_str(), spot) {
         Some(value) => Ok(value),
-        None => Err(faulted(Code::Unbound, place.line)),
+        None => Err(faulted(FaultCode::Unbound, site.line)),
     }
 }
 
@@ -240,14 +240,14 @@ pub(crate) fn own_spot(spot: Option<Spot>) -> Option<usize>
 pub fn bind(
     machine: &mut Machine,
     world: &World,
-    place: &Place,
+    site: &Site,
     name: &Name,
     value: Value,
 ) -> Result<(), Stop>
-    ensures { Gives (bind_spot (tables_of world.now.files) place.now name.now value machine.old) result machine.new }
+    ensures { Refines (bind_spot (tables_of world.now.files) site.now name.now value machine.old) result machine.new }
 {
-    match own_spot(world.spot(place.file, name.position.token)) {
-        Some(slot) => machine.bind(place.frame, slot, value),
+    match own_spot(world.spot(site.file, name.position.token)) {
+        Some(slot) => machine.bind(site.frame, slot, value),
         None => Ok(()),
     }
 }
@@ -282,7 +282,7 @@ pub fn new_frame(
     parent: Option<Value>,
 ) -> Result<Value, Stop>
     requires { length machine.old.store.cells + machine.old.steps + 1 < 2 ^ 32 }
-    ensures { Gives (new_slots (tables_of world.now.files) file block parent machine.old) result machine.new }
+    ensures { Refines (new_slots (tables_of world.now.files) file block parent machine.old) result machine.new }
 {
     let slots = Slots::unbound(machine.alloc(), world.slots(file, block as usize))?;
     let cell = frame_cell(machine.alloc(), file, block, parent, slots)?;
@@ -298,7 +298,7 @@ pub fn frame_with(
     parent: Option<Value>,
     slots: Slots,
 ) -> Result<Value, Stop>
-    ensures { Gives (build line 1 (Cell.Frame (record { file = file; block = block; parent = parent; slots = slots }))
+    ensures { Refines (build line 1 (Cell.Frame (record { file = file; block = block; parent = parent; slots = slots }))
         machine.old) result machine.new }
 {
     let Ok(block) = u32::try_from(block) else {
@@ -318,7 +318,7 @@ pub fn paid_frame(
     block: usize,
     parent: Option<Value>,
 ) -> Result<Value, Stop>
-    ensures { Gives (and_then (pay line 1 machine.old) (λ _. new_slots (tables_of world.now.files) file block parent))
+    ensures { Refines (and_then (pay line 1 machine.old) (λ _. new_slots (tables_of world.now.files) file block parent))
         result machine.new }
 {
     let slots = Slots::unbound(machine.alloc(), world.slots(file, block))?;

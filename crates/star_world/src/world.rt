@@ -1,14 +1,15 @@
 //! The environment of a run: its setting, and the programs of all files.
 
-ghost use Rattle.std.specs.Prelude.{◌≡◌, ◌+◌, [], length, IfSome, Some};
+ghost use Rattle.std.specs.Prelude.{◌≡◌, ◌+◌, [], length, IfSome};
 ghost use Rattle.std.specs.Option.{option_copied, option_map, unwrap_or};
 ghost use Rattle.star_meaning.specs.Local.{outlines};
 ghost use Rattle.star_meaning.specs.Module.{loaded_names};
 ghost use Rattle.star_meaning.specs.Program as program;
-ghost use Rattle.star_meaning.specs.Programs.{load_files, tables_of, trees_of};
-ghost use Rattle.star_scope.specs.Definitions.{Definition as OneDefinition, definition_of};
+ghost use Rattle.star_meaning.specs.Programs.{tables_of, trees_of};
+ghost use Rattle.star_scope.specs.Definitions.{definition_of};
 ghost use Rattle.star_scope.specs.Names.{has_name};
-ghost use Rattle.star_world.specs.Orders.{AreLaidOut};
+ghost use Rattle.star_world.specs.LaidOut.{IsLaidOut};
+ghost use Rattle.star_world.specs.World.{world_of};
 
 use crate::files::Files;
 use crate::orders::Order;
@@ -31,12 +32,12 @@ pub struct World<'a, 't> {
 }
 
 impl<'a, 't> Model for World<'a, 't> {
-    ghost use Rattle.star_world.specs.World.{AreOutlined, World as Given};
+    ghost use Rattle.star_world.specs.World.{AreOutlined, World as Arguments};
     ghost use Rattle.std.specs.Prelude.{◌≡◌};
     ghost use Rattle.std.specs.Option.{option_map};
     ghost use Rattle.star_meaning.specs.Programs.{file_in, placed_file};
 
-    ghost Value = { Given };
+    ghost Value = { Arguments };
 
     ghost use Rattle.std.specs.Coded.{codes};
     ghost use Rattle.star_tree.specs.contracts.tree.Expression as expression;
@@ -63,16 +64,7 @@ impl<'a, 't> World<'a, 't> {
         loads: &'a [Load],
         prelude: Option<u32>,
     ) -> World<'a, 't>
-        ensures { result ≡ record {
-          setting = record {
-            home = home;
-            outlines = outlines (trees_of files.now);
-            shelf = homes.now;
-            loads = load_files loads.now;
-            prelude = prelude;
-          };
-          files = files.now;
-        } }
+        ensures { result ≡ world_of home homes.now files.now loads.now prelude }
     {
         let statements = files.statements();
         let setting = Setting::over(home, homes, statements, loads, prelude);
@@ -140,8 +132,8 @@ impl<'a, 't> World<'a, 't> {
     /// The layout of a file's definition with a number, if it has many parameters and they are in order. Takes
     /// logarithmic time; constant time if the files have no such definition.
     pub fn order(&self, file: u32, number: u32) -> Option<Order<'a, 't>>
-        ensures in_order { IfSome result (λ o. (d : OneDefinition) → program.definition_of self.now.setting file number
-            ≡ Some d → AreLaidOut ((tables_of self.now.files).spots file) o.names.now o.layout.now d.parameters) }
+        ensures in_order { IfSome result
+            (IsLaidOut ((tables_of self.now.files).spots file) (program.definition_of self.now.setting file number)) }
         ensures slots { IfSome result (λ o. length o.names.now ≡ (tables_of self.now.files).slots file (1 + number)) }
     {
         self.files.programs().order(file as usize, number)

@@ -3,7 +3,7 @@ use Rattle.std.specs.Prelude.{◌≡◌, ℕ, ◌≤◌, nat_eq, Bool, true, fal
 use Rattle.std.specs.Cmp.Lexicographic.{pointwise}
 use Rattle.std.specs.Option.{option_map_or}
 use Rattle.std.specs.Str.Parse.{IsNumeral, digits_value, without_leading_plus}
-use Rattle.clap.specs.Matches.{found_of, matched_of, one_text, raw_values}
+use Rattle.clap.specs.Matches.{first_value, found_of, matched_of, one_text, raw_values}
 use Rattle.star_report.specs.declared.wanted.Output.{Output}
 use Rattle.star_report.specs.declared.wanted.Output.TheVariants.{Check, Global, Graph, Report}
 use Rattle.star_report.specs.declared.wanted.Wanted.{Wanted}
@@ -23,6 +23,14 @@ has_word word (w ∷ ws) = if pointwise nat_eq w word then true else has_word wo
 abbrev pub is_named : ArgMatches → List ℕ → List ℕ → Bool
 is_named matches id value = has_word value (values_of matches id)
 
+-- a flag is given
+abbrev pub HasFlag : ArgMatches → List ℕ → Type 0
+HasFlag matches id = one_text (found_of matches) id ≡ Some (codes "true")
+
+-- .. or it is not
+abbrev pub LacksFlag : ArgMatches → List ℕ → Type 0
+LacksFlag matches id = one_text (found_of matches) id ≡ Some (codes "false")
+
 -- a word writes a number in decimal digits and nothing more, but that a plus may come before them
 abbrev pub Writes : List ℕ → ℕ → Type 0
 Writes word n = IsNumeral 10 (without_leading_plus word) × (digits_value 10 (without_leading_plus word) ≡ n)
@@ -38,20 +46,30 @@ pub record IsWanted (matches : ArgMatches) (wanted : Wanted) : Type 0 where
   pub values : wanted.values ≡ is_named matches (codes "with") (codes "values")
   pub loads : wanted.loads ≡ is_named matches (codes "with") (codes "loads")
   pub steps : wanted.steps ≡ is_named matches (codes "with") (codes "steps")
-  pub only_roots : one_text (found_of matches) (codes "only-roots") ≡ Some (codes "true") → wanted.only_roots ≡ true
-  pub all : one_text (found_of matches) (codes "only-roots") ≡ Some (codes "false") → wanted.only_roots ≡ false
+  pub only_roots : HasFlag matches (codes "only-roots") → wanted.only_roots ≡ true
+  pub all : LacksFlag matches (codes "only-roots") → wanted.only_roots ≡ false
 
 -- the check, which of what there is nothing against shows the roots alone by their flag
 abbrev pub IsCheckFor : ArgMatches → Output → Type 0
 IsCheckFor matches output =
-    (one_text (found_of matches) (codes "only-roots") ≡ Some (codes "true") → output ≡ Check true)
-    × (one_text (found_of matches) (codes "only-roots") ≡ Some (codes "false") → output ≡ Check false)
+    (HasFlag matches (codes "only-roots") → output ≡ Check true)
+    × (LacksFlag matches (codes "only-roots") → output ≡ Check false)
 
 -- the globals of a name, where there is one, and else the report
 abbrev pub IsReportOrGlobal : ArgMatches → Option (List ℕ) → Output → Type 0
 IsReportOrGlobal matches (Some name) (Global s) = string_bytes s ≡ name
 IsReportOrGlobal matches None (Report wanted) = IsWanted matches wanted
 IsReportOrGlobal matches name output = ⊥
+
+-- where neither the graph nor the check is wanted: the globals of the name after `--get`, and else the report
+abbrev pub IsOtherOutput : ArgMatches → Output → Type 0
+IsOtherOutput matches output = IsReportOrGlobal matches (first_value (found_of matches) (codes "get")) output
+
+-- this holds unless a person is to be told: by `--explain`, or since standard error is a terminal
+abbrev pub UnlessTold : ArgMatches → Errors → Type 0 → Type 0
+UnlessTold matches errors P =
+    is_named matches (codes "explain") (codes "always") ≡ false
+    → is_named matches (codes "explain") (codes "all") ≡ false → errors.is_terminal ≡ false → P
 
 -- whether there are colours: where they are asked for, or by themselves on a terminal where the environment has nothing
 -- against it

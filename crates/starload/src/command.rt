@@ -11,7 +11,7 @@ use star_serve::serve::{Form, Options, Output, Wanted};
 use std::alloc::{AllocError, Global};
 
 /// The words of `--version` after the program's name: its version, and the kit that proved it.
-const VERSION: &str = "1.6.0 (rattle-kit-13f logic dac8208d650f15bf)";
+const VERSION: &str = "1.6.1 (rattle-kit-13f logic dac8208d650f15bf)";
 
 /// The end of the help, after the options.
 const EXAMPLE: &str =
@@ -312,10 +312,8 @@ fn wanted(matches: &ArgMatches<'_>) -> Wanted
     ensures values { result.values ≡ spec.is_named matches.now (codes "with") (codes "values") }
     ensures loads { result.loads ≡ spec.is_named matches.now (codes "with") (codes "loads") }
     ensures steps { result.steps ≡ spec.is_named matches.now (codes "with") (codes "steps") }
-    ensures only_roots { (one_text (found_of matches.now) (codes "only-roots") ≡ Some (codes "true"))
-        → (result.only_roots ≡ true) }
-    ensures all { (one_text (found_of matches.now) (codes "only-roots") ≡ Some (codes "false"))
-        → (result.only_roots ≡ false) }
+    ensures only_roots { spec.HasFlag matches.now (codes "only-roots") → (result.only_roots ≡ true) }
+    ensures all { spec.LacksFlag matches.now (codes "only-roots") → (result.only_roots ≡ false) }
 {
     Wanted {
         values: is_named(matches, "with", "values"),
@@ -328,13 +326,11 @@ fn wanted(matches: &ArgMatches<'_>) -> Wanted
 /// The kind of text that the words of the command line want: the graph, the check, or the globals of a name, or else the
 /// report.
 fn output(alloc: Global, matches: &ArgMatches<'_>) -> Result<Output, AllocError>
-    ensures graph { IfOk result (λ o. (one_text (found_of matches.now) (codes "graph") ≡ Some (codes "true"))
-        → (o ≡ Output.Graph)) }
-    ensures check { IfOk result (λ o. (one_text (found_of matches.now) (codes "graph") ≡ Some (codes "false"))
-        → (one_text (found_of matches.now) (codes "check") ≡ Some (codes "true")) → spec.IsCheckFor matches.now o) }
-    ensures other { IfOk result (λ o. (one_text (found_of matches.now) (codes "graph") ≡ Some (codes "false"))
-        → (one_text (found_of matches.now) (codes "check") ≡ Some (codes "false"))
-        → spec.IsReportOrGlobal matches.now (first_value (found_of matches.now) (codes "get")) o) }
+    ensures graph { IfOk result (λ o. spec.HasFlag matches.now (codes "graph") → (o ≡ Output.Graph)) }
+    ensures check { IfOk result (λ o. spec.LacksFlag matches.now (codes "graph")
+        → spec.HasFlag matches.now (codes "check") → spec.IsCheckFor matches.now o) }
+    ensures other { IfOk result (λ o. spec.LacksFlag matches.now (codes "graph")
+        → spec.LacksFlag matches.now (codes "check") → spec.IsOtherOutput matches.now o) }
 {
     if matches.get_flag("graph") {
         return Ok(Output::Graph);
@@ -381,9 +377,7 @@ pub fn is_shown(matches: &ArgMatches<'_>, errors: Errors) -> bool
 /// by their paths in the folder that has them.
 fn form_of(matches: &ArgMatches<'_>, errors: Errors) -> Option<Form>
     ensures colored { IfSome result (λ f. f.is_colored ≡ spec.is_colored matches.now errors) }
-    ensures none { spec.is_named matches.now (codes "explain") (codes "always") ≡ false
-        → spec.is_named matches.now (codes "explain") (codes "all") ≡ false
-        → errors.is_terminal ≡ false → result ≡ None }
+    ensures none { spec.UnlessTold matches.now errors (result ≡ None) }
 {
     let is_whole = is_named(matches, "explain", "all");
     let is_asked = is_whole || is_named(matches, "explain", "always");
@@ -421,21 +415,14 @@ pub fn options(
     ensures prelude { IfOk result (λ o. option_map string_bytes o.prelude
         ≡ first_value (found_of matches.now) (codes "prelude")) }
     ensures dir { IfOk result (λ o. option_map string_bytes o.dir ≡ first_value (found_of matches.now) (codes "dir")) }
-    ensures graph { IfOk result (λ o. (one_text (found_of matches.now) (codes "graph") ≡ Some (codes "true"))
-        → (o.output ≡ Output.Graph)) }
-    ensures check { IfOk result (λ o. (one_text (found_of matches.now) (codes "graph") ≡ Some (codes "false"))
-        → (one_text (found_of matches.now) (codes "check") ≡ Some (codes "true"))
-        → spec.IsCheckFor matches.now o.output) }
-    ensures other { IfOk result (λ o. (one_text (found_of matches.now) (codes "graph") ≡ Some (codes "false"))
-        → (one_text (found_of matches.now) (codes "check") ≡ Some (codes "false"))
-        → spec.IsReportOrGlobal matches.now (first_value (found_of matches.now) (codes "get")) o.output) }
-    ensures trace { IfOk result (λ o. (one_text (found_of matches.now) (codes "trace") ≡ Some (codes "true"))
-        → (o.trace ≡ true)) }
-    ensures no_trace { IfOk result (λ o. (one_text (found_of matches.now) (codes "trace") ≡ Some (codes "false"))
-        → (o.trace ≡ false)) }
-    ensures unexplained { IfOk result (λ o. spec.is_named matches.now (codes "explain") (codes "always") ≡ false
-        → spec.is_named matches.now (codes "explain") (codes "all") ≡ false
-        → errors.is_terminal ≡ false → o.explain ≡ None) }
+    ensures graph { IfOk result (λ o. spec.HasFlag matches.now (codes "graph") → (o.output ≡ Output.Graph)) }
+    ensures check { IfOk result (λ o. spec.LacksFlag matches.now (codes "graph")
+        → spec.HasFlag matches.now (codes "check") → spec.IsCheckFor matches.now o.output) }
+    ensures other { IfOk result (λ o. spec.LacksFlag matches.now (codes "graph")
+        → spec.LacksFlag matches.now (codes "check") → spec.IsOtherOutput matches.now o.output) }
+    ensures trace { IfOk result (λ o. spec.HasFlag matches.now (codes "trace") → (o.trace ≡ true)) }
+    ensures no_trace { IfOk result (λ o. spec.LacksFlag matches.now (codes "trace") → (o.trace ≡ false)) }
+    ensures unexplained { IfOk result (λ o. spec.UnlessTold matches.now errors (o.explain ≡ None)) }
     ensures colored { IfOk result (λ o. IfSome o.explain (λ f. f.is_colored ≡ spec.is_colored matches.now errors)) }
     ensures unshown { IfOk result (λ o. o.progress ≡ None) }
 {

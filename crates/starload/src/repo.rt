@@ -176,18 +176,17 @@ fn here_of(place: &Place) -> Option<&str>
 fn push_below(
     rt: &HostRuntime,
     alloc: Global,
-    dir: &str,
+    asked: &RepoAsked,
     place: &Place,
     word: &str,
     front: &str,
-    pattern: &str,
     labels: &mut Vec<String>,
 ) -> Result<(), Refusal> {
     let here = here_of(place).unwrap_or("");
     let mut found = BTreeSet::new(alloc);
     if let Some(label) = label_below(alloc, here, front)? {
-        let mut folder = DiskRepo::new(rt, dir);
-        found = files_below(alloc, &mut folder, label.package(), pattern)?;
+        let mut folder = DiskRepo::new(rt, asked.dir.as_str());
+        found = files_below(alloc, &mut folder, label.package(), asked.pattern.as_str())?;
     }
     if found.is_empty() {
         let word = String::from_str(alloc, word)?;
@@ -228,11 +227,10 @@ fn roots_named(
     words: &[String],
 ) -> Result<Vec<String>, Refusal> {
     let mut labels = Vec::new(alloc);
-    let (dir, pattern) = (asked.dir.as_str(), asked.pattern.as_str());
     for word in words {
         let word = word.as_str();
         match front_of(word) {
-            Some(front) => push_below(rt, alloc, dir, place, word, front, pattern, &mut labels)?,
+            Some(front) => push_below(rt, alloc, asked, place, word, front, &mut labels)?,
             None => labels.push(label_named(alloc, place, word, ServeError::BadRoot)?)?,
         }
     }

@@ -2,7 +2,7 @@
 
 use crate::checks::{holds, reads};
 use sqlite_items::Boxed;
-use star_machine::gathered::Gathered;
+use star_machine::gathered::DictBuilder;
 use star_store::arena::write::Change;
 use star_store::arena::{Arena, Homes, freeze};
 use star_store::budget::Budget;
@@ -88,21 +88,31 @@ fn shows(
     Ok(())
 }
 
-/// Asserts how a text is refused with these steps and levels, and how many steps it leaves.
+/// The steps and levels for a text, how it is refused with them, if it is, and how many steps it leaves.
+#[derive(Clone, Copy)]
+struct TextCase {
+    steps: u64,
+    levels: u32,
+    refusal: Option<StoreFault>,
+    left: u64,
+}
+
+/// Asserts what a text needs.
 fn tells(
     alloc: Global,
     rt: &impl Abort,
     arena: &Arena,
     homes: &Homes,
-    (steps, levels): (u64, u32),
     value: Value,
-    want: Option<StoreFault>,
-    left: u64,
+    want: TextCase,
 ) {
-    let mut budget = Budget { steps, levels };
+    let mut budget = Budget {
+        steps: want.steps,
+        levels: want.levels,
+    };
     let refusal = repr(alloc, arena, homes, &mut budget, value).err();
-    holds!(rt; refusal == want);
-    holds!(rt; budget.steps == left);
+    holds!(rt; refusal == want.refusal);
+    holds!(rt; budget.steps == want.left);
 }
 
 /// Asserts the answer of a write.
@@ -440,12 +450,18 @@ fn texts_of_what_holds_itself(
     let key = text(alloc, rt, arena, "d")?;
     writes(rt, arena, homes, d, Change::Put(key, d), Ok(None));
     shows(alloc, rt, arena, homes, d, "{\"d\": {...}}")?;
-    for (budget, want, left) in [
-        ((4, 400), None, 1),
-        ((1, 400), Some(StoreFault::Steps), 0),
-        ((4, 1), Some(StoreFault::Deep), 3),
+    for (steps, levels, refusal, left) in [
+        (4, 400, None, 1),
+        (1, 400, Some(StoreFault::Steps), 0),
+        (4, 1, Some(StoreFault::Deep), 3),
     ] {
-        tells(alloc, rt, arena, homes, budget, d, want, left);
+        let want = TextCase {
+            steps,
+            levels,
+            refusal,
+            left,
+        };
+        tells(alloc, rt, arena, homes, d, want);
     }
     Ok(())
 }
@@ -696,7 +712,7 @@ fn rows_with_room(rt: &impl Abort, alloc: Global) -> Result<(), Fail> {
     entries.push(Value::Int(2), Value::Bool(true))?;
     holds!(rt; entries.get(0) == Some((Value::Int(1), Value::NoneValue)));
     holds!(rt; entries.get(1) == Some((Value::Int(2), Value::Bool(true))));
-    let gathered = Gathered::with_capacity(alloc, 1)?.into_entries();
+    let gathered = DictBuilder::with_capacity(alloc, 1)?.into_entries();
     holds!(rt; gathered.len() == 0);
     Ok(())
 }

@@ -33,7 +33,7 @@ enum Said {
     Ready(usize, bool),
     Failed(usize, bool),
     Ended,
-    Refused(BookError),
+    CyclicLoad(BookError),
     GivenBack(BookError, usize, bool),
 }
 
@@ -46,7 +46,7 @@ fn said_of<L: Ledger>(reply: Result<Reply<Kept<L>>, BookError>) -> Said {
         Ok(Reply::Spoiled) => Said::Spoiled,
         Ok(Reply::Ready(kept)) => Said::Ready(kept.number, kept.good),
         Ok(Reply::Failed(kept)) => Said::Failed(kept.number, kept.good),
-        Err(error) => Said::Refused(error),
+        Err(error) => Said::CyclicLoad(error),
     }
 }
 
@@ -74,7 +74,7 @@ fn called<L: Ledger>(rt: &impl Abort, book: &mut Book<Kept<L>>, call: Call) -> S
         },
         Call::Abandon(seat) => match book.abandon(seat) {
             Ok(()) => Said::Ended,
-            Err(error) => Said::Refused(error),
+            Err(error) => Said::CyclicLoad(error),
         },
     }
 }
@@ -135,9 +135,9 @@ fn a_refused_call_changes_nothing(rt: HostRuntime) -> Result<(), Fail> {
         (Call::Ask(0, None, 0), Said::Begun),
         (Call::Finish(0, 1), not_top),
         (Call::Ask(1, None, 0), Said::Wait),
-        (Call::Ask(1, None, 1), Said::Refused(BookError::Waiting)),
-        (Call::Wake(0), Said::Refused(BookError::NotWaiting)),
-        (Call::Wake(2), Said::Refused(BookError::NoSuch)),
+        (Call::Ask(1, None, 1), Said::CyclicLoad(BookError::Waiting)),
+        (Call::Wake(0), Said::CyclicLoad(BookError::NotWaiting)),
+        (Call::Wake(2), Said::CyclicLoad(BookError::NoSuch)),
     ];
     answers(&rt, &mut book, &rows);
     is_at(&rt, &book, 0, Some(0), None);

@@ -1,19 +1,19 @@
 use Rattle.std.proofs.Common.{◌≡◌, List, ◌+◌, ◌-◌, ◌*◌, ◌^◌, ◌≤◌, drop, length, vec_len}
 use Rattle.star_meaning.specs.Calls.{pass}
 use Rattle.star_meaning.specs.Expressions.{defaults, entry_of}
-use Rattle.star_machine.specs.Gives.{with_front}
-use Rattle.star_meaning.specs.Meaning.{block, turns}
+use Rattle.star_machine.specs.Refines.{with_front}
+use Rattle.star_meaning.specs.Semantics.{block, turns}
 use Rattle.star_meaning.specs.Run.{Action, and_then, each}
-use Rattle.star_meaning.specs.declared.place.Flow.{Flow}
+use Rattle.star_meaning.specs.declared.site.Flow.{Flow}
 use Rattle.star_tree.specs.declared.tree.Argument.{Argument}
 use Rattle.star_tree.specs.declared.tree.Arm.{Arm}
 use Rattle.star_tree.specs.declared.tree.Clause.{Clause}
-use Rattle.star_meaning.specs.Statements.{arms, loop_turn}
+use Rattle.star_meaning.specs.Statements.{arms}
 use Rattle.star_meaning.specs.Targets.{to_each}
-use Rattle.star_world.specs.World.{meant, variables}
-use Rattle.star_enter.specs.ByPlace.{expression_of}
-use Rattle.star_eval.specs.Steps.{all_left, after, turns_left}
-use Rattle.star_call.specs.Passed.{all_shown}
+use Rattle.star_world.specs.World.{semantics, variables}
+use Rattle.star_enter.specs.Positional.{expression_of}
+use Rattle.star_eval.specs.Steps.{all_left, after, turn_in, turns_left}
+use Rattle.star_call.specs.EvaluatedArgument.{all_shown}
 use Rattle.star_eval.proofs.+run.Given as goal
 
 abbrev pub decreases-evaluate::evaluate : goal.decreases-evaluate::evaluate
@@ -88,8 +88,8 @@ decreases-execute::unpack_to l = 2 ^ 70 * l.levels + 3
 abbrev pub decreases-evaluate::call : goal.decreases-evaluate::call
 decreases-evaluate::call l = 2 ^ 70 * l.levels + 4
 
-abbrev pub decreases-evaluate::call_by_place : goal.decreases-evaluate::call_by_place
-decreases-evaluate::call_by_place l = 2 ^ 70 * l.levels + 3
+abbrev pub decreases-evaluate::call_positional : goal.decreases-evaluate::call_positional
+decreases-evaluate::call_positional l = 2 ^ 70 * l.levels + 3
 
 abbrev pub decreases-evaluate::call_with : goal.decreases-evaluate::call_with
 decreases-evaluate::call_with l = 2 ^ 70 * l.levels + 3
@@ -100,8 +100,8 @@ decreases-evaluate::call_function l = 2 ^ 70 * l.levels + 1
 abbrev pub decreases-evaluate::evaluate_arguments : goal.decreases-evaluate::evaluate_arguments
 decreases-evaluate::evaluate_arguments l = 2 ^ 70 * l.levels + 1
 
-abbrev pub decreases-evaluate::run_by_place : goal.decreases-evaluate::run_by_place
-decreases-evaluate::run_by_place l = 2 ^ 70 * l.levels
+abbrev pub decreases-evaluate::run_positional : goal.decreases-evaluate::run_positional
+decreases-evaluate::run_positional l = 2 ^ 70 * l.levels
 
 abbrev pub decreases-evaluate::run_bound : goal.decreases-evaluate::run_bound
 decreases-evaluate::run_bound l = 2 ^ 70 * l.levels
@@ -146,19 +146,13 @@ abbrev pub decreases-execute::assign_node : goal.decreases-execute::assign_node
 decreases-execute::assign_node l = 2 ^ 70 * l.levels + (2 ^ 70 - 1)
 
 abbrev pub decreases-comprehensions::make_list : goal.decreases-comprehensions::make_list
-decreases-comprehensions::make_list l = 2 ^ 70 * l.levels + (2 ^ 69 + 2)
+decreases-comprehensions::make_list l = 2 ^ 70 * l.levels + (2 ^ 69 + 1)
 
 abbrev pub decreases-comprehensions::fill : goal.decreases-comprehensions::fill
 decreases-comprehensions::fill l = 2 ^ 70 * l.levels + 2 ^ 69
 
-abbrev pub decreases-comprehensions::fill_list : goal.decreases-comprehensions::fill_list
-decreases-comprehensions::fill_list l = 2 ^ 70 * l.levels + (2 ^ 69 + 1)
-
 abbrev pub decreases-comprehensions::make_dict : goal.decreases-comprehensions::make_dict
-decreases-comprehensions::make_dict l = 2 ^ 70 * l.levels + (2 ^ 69 + 2)
-
-abbrev pub decreases-comprehensions::fill_dict : goal.decreases-comprehensions::fill_dict
-decreases-comprehensions::fill_dict l = 2 ^ 70 * l.levels + (2 ^ 69 + 1)
+decreases-comprehensions::make_dict l = 2 ^ 70 * l.levels + (2 ^ 69 + 1)
 
 abbrev pub decreases-comprehensions::add : goal.decreases-comprehensions::add
 decreases-comprehensions::add l = 2 ^ 70 * l.levels + 2
@@ -210,51 +204,50 @@ decreases-nodes::evaluate_unary l = 2 ^ 70 * l.levels + 3
 
 abbrev pub invariant-evaluate::evaluate_each-loop-expression : goal.invariant-evaluate::evaluate_each-loop-expression
 invariant-evaluate::evaluate_each-loop-expression l =
-    let f = (meant l.world l.levels).expr l.place in
+    let f = (semantics l.world l.levels).expr l.site in
     with_front l.values (each f (drop l.expression-index l.expressions) l.machine) ≡ each f l.expressions l.fn.machine
 
 abbrev pub invariant-evaluate::evaluate_entries-loop-entry : goal.invariant-evaluate::evaluate_entries-loop-entry
 invariant-evaluate::evaluate_entries-loop-entry l =
-    let f = entry_of (meant l.world l.levels) l.place in
+    let f = entry_of (semantics l.world l.levels) l.site in
     with_front l.found (each f (drop l.entry-index l.entries) l.machine) ≡ each f l.entries l.fn.machine
 
 abbrev pub invariant-evaluate::evaluate_defaults-loop-parameter : goal.invariant-evaluate::evaluate_defaults-loop-parameter
 invariant-evaluate::evaluate_defaults-loop-parameter l =
-    let f = defaults (meant l.world l.levels) l.place in
+    let f = defaults (semantics l.world l.levels) l.site in
     with_front l.values.items (f (drop l.parameter-index l.parameters) l.machine) ≡ f l.parameters l.fn.machine
 
 abbrev pub invariant-evaluate::evaluate_arguments-loop-argument : goal.invariant-evaluate::evaluate_arguments-loop-argument
 invariant-evaluate::evaluate_arguments-loop-argument l =
-    let f = λ (a : Argument). (meant l.world l.levels).expr l.place (expression_of a) in
+    let f = λ (a : Argument). (semantics l.world l.levels).expr l.site (expression_of a) in
     with_front l.values (each f (drop l.argument-index l.arguments) l.machine) ≡ each f l.arguments l.fn.machine
 
 abbrev pub invariant-evaluate::pass_each-loop-argument : goal.invariant-evaluate::pass_each-loop-argument
 invariant-evaluate::pass_each-loop-argument l =
-    let f = pass (meant l.world l.levels) l.place in
+    let f = pass (semantics l.world l.levels) l.site in
     with_front (all_shown l.values.items) (each f (drop l.argument-index l.arguments) l.machine) ≡ each f l.arguments l.fn.machine
 
 abbrev pub invariant-execute::execute_each-loop-statement : goal.invariant-execute::execute_each-loop-statement
 invariant-execute::execute_each-loop-statement l =
-    let f = (meant l.world l.levels).stmt l.place in
+    let f = (semantics l.world l.levels).stmt l.site in
     block f (drop l.statement-index l.statements) l.machine ≡ block f l.statements l.fn.machine
 
 abbrev pub invariant-execute::execute_arms-loop-arm : goal.invariant-execute::execute_arms-loop-arm
 invariant-execute::execute_arms-loop-arm l =
-    let m = meant l.world l.levels in
-    let f : List Arm → Action Flow = λ xs. arms l.world.setting m l.place xs (block (m.stmt l.place) l.otherwise) in
+    let m = semantics l.world l.levels in
+    let f : List Arm → Action Flow = λ xs. arms l.world.setting m l.site xs (block (m.stmt l.site) l.otherwise) in
     f (drop l.arm-index l.arms) l.machine ≡ f l.arms l.fn.machine
 
 abbrev pub invariant-execute::execute_turns-loop-i : goal.invariant-execute::execute_turns-loop-i
 invariant-execute::execute_turns-loop-i l =
-    let c = l.world in
-    let f = loop_turn (variables c) c.setting (meant c l.levels) l.place l.target l.body l.value in
+    let f = turn_in l.world l.levels l.site l.for_loop in
     turns f (l.count - l.i) l.i l.machine ≡ turns f l.count 0 l.fn.machine
 
 abbrev pub invariant-comprehensions::run_turns-turns : goal.invariant-comprehensions::run_turns-turns
 invariant-comprehensions::run_turns-turns l =
     let c = l.world in
     let levels = l.levels in
-    let p = l.place in
+    let p = l.site in
     and_then (turns_left c levels p l.output l.clause l.machine) (λ _. all_left c levels p l.output l.outer.items) ≡ turns_left c levels p l.output l.fn.first l.fn.machine
 
 -- each turn pays, and opens one clause at most
@@ -263,7 +256,7 @@ decreases-comprehensions::run_turns-turns l = 2 * l.machine.steps + vec_len l.ou
 
 abbrev pub invariant-comprehensions::run_clauses-loop-rest : goal.invariant-comprehensions::run_clauses-loop-rest
 invariant-comprehensions::run_clauses-loop-rest l =
-    let f : List Clause → Action (Unit {0}) = λ cs. after l.world l.levels l.place cs l.output in
+    let f : List Clause → Action (Unit {0}) = λ cs. after l.world l.levels l.site cs l.output in
     record { same : f l.rest l.machine ≡ f l.clauses l.fn.machine; spent : l.machine.steps ≤ l.fn.machine.steps }
 
 abbrev pub decreases-comprehensions::run_clauses-loop-rest : goal.decreases-comprehensions::run_clauses-loop-rest
@@ -272,5 +265,5 @@ decreases-comprehensions::run_clauses-loop-rest l = length l.rest
 abbrev pub invariant-execute::assign_each-loop-target : goal.invariant-execute::assign_each-loop-target
 invariant-execute::assign_each-loop-target l =
     let c = l.world in
-    let f = to_each (variables c) (meant c l.levels) l.place in
+    let f = to_each (variables c) (semantics c l.levels) l.site in
     f (drop l.target-index l.targets) l.rest l.machine ≡ f l.targets l.values l.fn.machine

@@ -75,7 +75,7 @@ impl Arena {
     {
         if let Some(index) = self.made_index(at) {
             // Without memory for it the dictionary has no index, and look-ups walk.
-            let _put = put_row(&mut self.rows, at, index);
+            let _put = put_index(&mut self.rows, at, index);
         }
     }
 
@@ -147,7 +147,7 @@ fn index_of(arena: &Arena, entries: &Entries) -> Option<KeyIndex>
 }
 
 /// Puts an index at an address.
-fn put_row(
+fn put_index(
     rows: &mut Vec<Option<Box<KeyIndex>>>,
     at: u32,
     index: Box<KeyIndex>,

@@ -15,7 +15,7 @@ use crate::content::{KeyContent, content};
 use crate::index::Index;
 use crate::key_index::KeyIndex;
 use crate::table::{Row, Rows, Table};
-use crate::values::{Cell, Counted, Value};
+use crate::values::{Cell, HeapCell, Value};
 use std::alloc::AllocError;
 
 /// If so many keys of a store have one content, a walk may be faster.
@@ -119,7 +119,7 @@ impl Arena {
         &self,
         homes: &Homes,
         home: u32,
-        cells: &[Counted],
+        cells: &[HeapCell],
     ) -> Result<Option<Rows>, AllocError>
         requires { Shows (look self.now homes.now) home cells.now }
         ensures { IfOk result (λ o. IfSome o (λ rows. AreRows home cells.now rows.contents rows.addresses.items)) }
@@ -162,7 +162,7 @@ impl Arena {
 }
 
 /// How many cells there are, if their addresses have room for it.
-fn cell_count(cells: &[Counted]) -> Option<u32>
+fn cell_count(cells: &[HeapCell]) -> Option<u32>
     ensures { IfSome result (λ count. count ≡ length cells.now) }
 {
     if cells.len() <= u32::MAX as usize {
@@ -194,7 +194,7 @@ fn earlier(one: Option<usize>, other: Option<usize>) -> Option<usize>
 }
 
 /// Whether no tuple among the cells of a file has a value that another file made.
-fn is_closed(home: u32, cells: &[Counted]) -> bool
+fn is_closed(home: u32, cells: &[HeapCell]) -> bool
     ensures { result ≡ is_closed home cells.now }
 {
     for counted in cells {

@@ -10,7 +10,7 @@ use crate::arena::rows::change_row;
 use crate::arena::{Arena, Homes, is_container};
 use crate::fault::StoreFault;
 use crate::key::may_be_key;
-use crate::values::{Cell, Counted, Entries, Value, Values};
+use crate::values::{Cell, Entries, HeapCell, Value, Values};
 
 /// A change of a list or of a dictionary. Positions are counted from the front, from 0 on.
 #[derive(Clone, Copy, Debug, PartialEq, Eq)]
@@ -181,7 +181,7 @@ impl Arena {
 }
 
 fn change_at(
-    cells: &mut [Counted],
+    cells: &mut [HeapCell],
     at: u32,
     change: Change,
     place: Option<usize>,
@@ -196,7 +196,7 @@ fn change_at(
 }
 
 fn change_in(
-    counted: &mut Counted,
+    counted: &mut HeapCell,
     change: Change,
     place: Option<usize>,
 ) -> Result<Option<Value>, StoreFault>

@@ -1,9 +1,7 @@
-use Rattle.std.proofs.Common.{◌≡◌, length, sym, subst}
-use Rattle.star_outcome.specs.Kept.{AllGood, AreModules, AreModulesOf}
-use Rattle.star_plan.specs.Plan.{Plan}
-use Rattle.star_plan.specs.Reading.{IsPlanOf}
+use Rattle.std.proofs.Common.{sym, subst}
+use Rattle.star_outcome.specs.Kept.{AllGood, AreModulesOf}
 use Rattle.star_reading.specs.Found.{IsReadOf}
-use Rattle.star_report.specs.Shown.{IsReportBut}
+use Rattle.star_report.specs.Shown.{ReportsRun}
 use Rattle.star_report.proofs.Planned.{lead_to_files}
 use Rattle.star_alone.proofs.Answers.{answered_in}
 use Rattle.star_alone.proofs.answer.answer_over.Goals as goal
@@ -26,5 +24,5 @@ returns-clause-ok c =
     answered_in wanted asked.files asked.roots.items asked.prelude steps row run text c.all_good-all_ok.result c.in-Ok.ensures.begun
     (subst (λ roots. AreModulesOf asked.files roots asked.prelude steps run.kept) value c.in-Ok.ensures.modules)
     (subst (λ roots. IsReadOf asked.files roots asked.prelude row) value c.in-Ok.ensures.read)
-    (subst (λ roots. (plan : Plan) → IsPlanOf asked.files plan → plan.roots ≡ roots → IsReadOf asked.files roots plan.prelude row → AreModules plan run.kept → IsReportBut wanted asked.files plan (length run.kept) run.begun text) value c.in_ok-text.ensures.text)
+    (subst (λ roots. ReportsRun wanted asked.files row roots run text) value c.in_ok-text.ensures.text)
     (λ e. subst (λ r. AllGood r.kept) same (c.all_good-all_ok.ensures.good e)) (λ e all. c.all_good-all_ok.ensures.bad e (subst (λ r. AllGood r.kept) (sym same) all))

@@ -3,11 +3,11 @@ use Rattle.std.proofs.lemmas.Result.{IfOk-weaker}
 use Rattle.std.specs.Prelude.{All}
 use Rattle.star_cause.specs.Causes.{AreNextsOf}
 use Rattle.star_outcome.specs.Kept.{KeptView}
-use Rattle.star_report.specs.Pages.{AreMarked, AreWritten, SaysShown}
+use Rattle.star_report.specs.Pages.{AreWritten, SaysShown}
 use Rattle.star_report.specs.Shown.{IsReportBut}
 use Rattle.star_report.specs.declared.pages.Page.{Page}
 use Rattle.star_outcome.proofs.Lent.{written_back}
-use Rattle.star_reading.specs.Found.{IsReadOf}
+use Rattle.star_reading.specs.Found.{AreMarked, IsReadOf}
 use Rattle.star_reading.specs.Readings.{readings}
 use Rattle.star_report.proofs.Planned.{read_plan}
 use Rattle.star_report.proofs.Sheets.{both_ok, pages_text}

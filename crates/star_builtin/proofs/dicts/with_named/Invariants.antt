@@ -1,5 +1,5 @@
 use Rattle.std.proofs.Common.{◌≡◌, drop}
-use Rattle.star_machine.specs.Gathered.{IsGathered}
+use Rattle.star_machine.specs.DictBuilder.{IsGathered}
 use Rattle.star_meaning.specs.Pairs.{with_named}
 use Rattle.star_builtin.proofs.dicts.with_named.Given as goal
 

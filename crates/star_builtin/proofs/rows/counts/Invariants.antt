@@ -1,5 +1,5 @@
 use Rattle.std.proofs.Common.{◌≡◌, drop}
-use Rattle.star_machine.specs.Gives.{with_front}
+use Rattle.star_machine.specs.Refines.{with_front}
 use Rattle.star_meaning.specs.Run.{each}
 use Rattle.star_meaning.specs.Values.{count_of}
 use Rattle.star_builtin.proofs.rows.counts.Given as goal

@@ -1,6 +1,6 @@
 use Rattle.std.proofs.Common.{◌≡◌, drop}
 use Rattle.star_store.specs.declared.values.Value.{Value}
-use Rattle.star_machine.specs.Gives.{with_front}
+use Rattle.star_machine.specs.Refines.{with_front}
 use Rattle.star_meaning.specs.Run.{each}
 use Rattle.star_meaning.specs.Values.{take_item}
 use Rattle.star_builtin.proofs.rows.items_at.Given as goal

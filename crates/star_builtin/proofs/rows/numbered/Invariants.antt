@@ -1,5 +1,5 @@
 use Rattle.std.proofs.Common.{◌≡◌, ◌+ℤ◌, pos, drop}
-use Rattle.star_machine.specs.Gives.{with_front}
+use Rattle.star_machine.specs.Refines.{with_front}
 use Rattle.star_meaning.specs.BuiltIns.{numbered}
 use Rattle.star_builtin.proofs.rows.numbered.Given as goal
 

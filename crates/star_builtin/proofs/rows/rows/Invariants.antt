@@ -1,5 +1,5 @@
 use Rattle.std.proofs.Common.{◌≡◌, ◌-◌}
-use Rattle.star_machine.specs.Gives.{with_front}
+use Rattle.star_machine.specs.Refines.{with_front}
 use Rattle.star_meaning.specs.Run.{collect}
 use Rattle.star_meaning.specs.BuiltIns.{row_at}
 use Rattle.star_builtin.proofs.rows.rows.Given as goal

@@ -1,6 +1,6 @@
 use Rattle.std.proofs.Common.{◌≡◌, drop}
 use Rattle.star_meaning.specs.Arguments.{star_star_of}
-use Rattle.star_call.specs.Passed.{all_shown}
+use Rattle.star_call.specs.EvaluatedArgument.{all_shown}
 use Rattle.star_call.proofs.passed.star_star_of.Given as goal
 
 abbrev pub invariant-loop-argument : goal.invariant-loop-argument

@@ -1,6 +1,6 @@
 use Rattle.std.proofs.Common.{◌≡◌, take, drop}
 use Rattle.star_meaning.specs.Arguments.{take_names}
-use Rattle.star_machine.specs.Gives.{with_front}
+use Rattle.star_machine.specs.Refines.{with_front}
 use Rattle.star_call.proofs.passed.take_names.Given as goal
 
 abbrev pub invariant-loop-name : goal.invariant-loop-name

@@ -2,7 +2,7 @@ use Rattle.std.proofs.Common.{◌≡◌, ◌<◌, ◌∷◌, ◌++◌, [], ◌�
 use Rattle.std.specs.Prelude.{Contains}
 use Rattle.std.proofs.lemmas.List.{length_push}
 use Rattle.star_cause.specs.declared.ends.End.TheVariants.{Last}
-use Rattle.star_cause.specs.declared.ends.Stop.TheVariants.{Known}
+use Rattle.star_cause.specs.declared.ends.WalkEnd.TheVariants.{Known}
 use Rattle.star_cause.specs.Ends.{IsFresh, IsWalked}
 use Rattle.star_cause.specs.Ways.{Goes}
 use Rattle.star_cause.proofs.Walks.{OnWay, room, stopped_known, stopped_last, stopped_met, went_on}

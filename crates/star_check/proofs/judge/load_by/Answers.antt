@@ -10,5 +10,5 @@ returns-in-Lacks-clause-none c = λ none plan read lack i same.
     let row = c.args.reads.now.all.items in
     let n = c.args.n in
     let place = c.in-Lacks.place in
-    let is : IsAt (loads_at row n) place c.get.result = subst (λ ls. IsAt ls place c.get.result) c.loads_in.ensures c.get.ensures.lookup.3 in
+    let is : IsAt (loads_at row n) place c.get.result = subst (λ ls. IsAt ls place c.get.result) c.loads.ensures c.get.ensures.lookup.3 in
     load_none row n place c.get.result is none plan read (subst (IsProspect (needs plan) n) c.in-Lacks.is lack)

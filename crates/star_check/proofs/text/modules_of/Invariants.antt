@@ -1,7 +1,7 @@
 use Rattle.std.proofs.Common.{◌≡◌, ℕ, List, map, take}
 use Rattle.serde_json.specs.View.{view}
-use Rattle.star_check.specs.Judged.{AreMarked}
-use Rattle.star_check.proofs.Shown.{shown_of}
+use Rattle.star_reading.specs.Found.{AreMarked}
+use Rattle.star_check.specs.Judged.{shown_of}
 use Rattle.star_check.proofs.text.modules_of.Given as goal
 
 abbrev pub invariant-loop-it : goal.invariant-loop-it

@@ -1,6 +1,6 @@
 use Rattle.std.proofs.Common.{subst, sym, map}
 use Rattle.serde_json.specs.View.{view}
-use Rattle.star_check.specs.Judged.{AreMarked}
+use Rattle.star_reading.specs.Found.{AreMarked}
 use Rattle.star_check.proofs.Shown.{text_is}
 use Rattle.star_check.proofs.text.text_of.Goals as goal
 

@@ -1,6 +1,6 @@
 use Rattle.std.proofs.Common.{◌≡◌, drop}
 use Rattle.std.specs.List.{list_all}
-use Rattle.star_enter.specs.ByPlace.{is_positional}
+use Rattle.star_enter.specs.Positional.{is_positional}
 use Rattle.star_enter.proofs.calls.are_positional.Given as goal
 
 abbrev pub invariant-loop-argument : goal.invariant-loop-argument

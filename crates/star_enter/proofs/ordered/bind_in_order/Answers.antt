@@ -1,7 +1,7 @@
 use Rattle.std.proofs.Common.{◌≡◌, ◌≤◌, [], None, drop, length, take, true, ap, sym, subst, ◌∙◌, arith}
 use Rattle.std.specs.List.{list_all}
 use Rattle.star_store.specs.Slots.{default_at, row}
-use Rattle.star_enter.specs.Ordered.{AreTaken, bound_row, is_set, placed, unowned, unplaced, with_named, with_plain}
+use Rattle.star_enter.specs.Ordered.{AreTaken, bound_row, is_set, placed, extra_in_order, unplaced, with_named, with_plain}
 use Rattle.star_enter.proofs.OrderedRows.{bound_slots, fits}
 use Rattle.star_enter.proofs.ordered.bind_in_order.Goals as goal
 
@@ -11,8 +11,8 @@ returns c =
     let names = c.args.order.now.names.now in
     let ds = c.args.defaults.now in
     let g = c.args.given.now in
-    let some : c.split_plain.result.0.now ≡ placed l g = c.split_plain.ensures.placed ∙ ap (λ n. take n c.as_slice.result.now) c.by_place.ensures ∙ ap (take l.by_place) c.as_slice.ensures in
-    let more : c.split_plain.result.1.now ≡ unplaced l g = c.split_plain.ensures.left ∙ ap (λ n. drop n c.as_slice.result.now) c.by_place.ensures ∙ ap (drop l.by_place) c.as_slice.ensures in
+    let some : c.split_plain.result.0.now ≡ placed l g = c.split_plain.ensures.placed ∙ ap (λ n. take n c.as_slice.result.now) c.positional.ensures ∙ ap (take l.positional) c.as_slice.ensures in
+    let more : c.split_plain.result.1.now ≡ unplaced l g = c.split_plain.ensures.left ∙ ap (λ n. drop n c.as_slice.result.now) c.positional.ensures ∙ ap (drop l.positional) c.as_slice.ensures in
     let given = c.as_slice-named.ensures in
     let all : c.set_plain.new.slots ≡ bound_row l names ds g =
     c.in_ok-set_plain.ensures
@@ -37,5 +37,5 @@ returns c =
       rest = c.rest.ensures;
       more = more;
       others = c.names.ensures;
-      left = c.in_ok-left_of.ensures (length c.split_plain.result.0.now) between ∙ ap (unowned l names) given;
+      left = c.in_ok-left_of.ensures (length c.split_plain.result.0.now) between ∙ ap (extra_in_order l names) given;
     }

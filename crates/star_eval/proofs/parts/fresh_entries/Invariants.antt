@@ -1,5 +1,5 @@
 use Rattle.std.proofs.Common.{◌≡◌, [], drop}
-use Rattle.star_machine.specs.Gathered.{IsGathered}
+use Rattle.star_machine.specs.DictBuilder.{IsGathered}
 use Rattle.star_meaning.specs.Expressions.{fresh_entries}
 use Rattle.star_eval.proofs.parts.fresh_entries.Given as goal
 

@@ -1,10 +1,6 @@
-use Rattle.std.proofs.Common.{refl, ap, sym, ◌∙◌, subst}
-use Rattle.star_outcome.specs.Views.{IsModule, ended_well}
-use Rattle.star_host.proofs.Ends.{told_is}
+use Rattle.std.proofs.Common.{sym, subst}
+use Rattle.star_outcome.specs.Views.{IsTold}
 use Rattle.star_host.proofs.loading.end.Goals as goal
 
-pub new-requires-clause-right : goal.new-requires-clause-right
-new-requires-clause-right g c = told_is g.J.Naming.files g.J.Naming.plan c.number-n.result c.in_ok-module.module.value _ refl c.number-n.ensures.asked c.in-Ok.ensures.1 (subst (IsModule g.J.Naming.plan c.number-n.result) (sym c.in_ok-module.ensures) c.in_ok-made.ensures) (c.is_good-good.ensures ∙ ap (λ m. ended_well m.ended) (sym c.in_ok-module.ensures))
-
 pub finish-requires : goal.finish-requires
-finish-requires g c = record { right = rw c.new.ensures (told_is g.J.Naming.files g.J.Naming.plan c.number-n.result c.in_ok-module.module.value _ refl c.number-n.ensures.asked c.in-Ok.ensures.1 (subst (IsModule g.J.Naming.plan c.number-n.result) (sym c.in_ok-module.ensures) c.in_ok-made.ensures) (c.is_good-good.ensures ∙ ap (λ m. ended_well m.ended) (sym c.in_ok-module.ensures))) }
+finish-requires g c = record { right = subst (λ n. IsTold g.J.Naming.files g.J.Naming.plan n c.in_ok-told.told) (sym c.number-n.ensures.number) c.in_ok-told.ensures }

@@ -1,4 +1,4 @@
-use Rattle.star_laws.proofs.Shares.{bound_as_given}
+use Rattle.star_laws.proofs.BoundArguments.{bound_as_given}
 use Rattle.star_laws.proofs.law.bound_as_given.Goals as goal
 
 pub returns : goal.returns

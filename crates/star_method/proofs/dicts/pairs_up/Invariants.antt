@@ -1,6 +1,6 @@
 use Rattle.std.proofs.Common.{◌≡◌, drop}
 use Rattle.star_meaning.specs.DictMethods.{pair_up}
-use Rattle.star_machine.specs.Gives.{with_front}
+use Rattle.star_machine.specs.Refines.{with_front}
 use Rattle.star_meaning.specs.Run.{each}
 use Rattle.star_method.proofs.dicts.pairs_up.Given as goal
 

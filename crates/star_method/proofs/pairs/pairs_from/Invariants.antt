@@ -1,5 +1,5 @@
 use Rattle.std.proofs.Common.{◌≡◌, drop}
-use Rattle.star_machine.specs.Gives.{with_front}
+use Rattle.star_machine.specs.Refines.{with_front}
 use Rattle.star_meaning.specs.Pairs.{pair_of}
 use Rattle.star_meaning.specs.Run.{each}
 use Rattle.star_method.proofs.pairs.pairs_from.Given as goal

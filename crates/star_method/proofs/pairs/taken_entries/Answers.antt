@@ -1,5 +1,5 @@
 use Rattle.std.proofs.lemmas.List.{drop_more}
-use Rattle.star_method.specs.Gathered.{taken_entry}
+use Rattle.star_method.specs.DictBuilder.{taken_entry}
 use Rattle.star_method.proofs.Each.{each_more}
 use Rattle.star_method.proofs.pairs.taken_entries.Goals as goal
 

@@ -1,7 +1,7 @@
 use Rattle.std.proofs.Common.{◌≡◌, drop}
-use Rattle.star_machine.specs.Gives.{with_front}
+use Rattle.star_machine.specs.Refines.{with_front}
 use Rattle.star_meaning.specs.Run.{each}
-use Rattle.star_method.specs.Gathered.{taken_entry}
+use Rattle.star_method.specs.DictBuilder.{taken_entry}
 use Rattle.star_method.proofs.pairs.taken_entries.Given as goal
 
 abbrev pub invariant-loop-entry : goal.invariant-loop-entry

@@ -1,7 +1,7 @@
 use Rattle.std.proofs.Common.{◌≡◌, length}
 use denote.Shadow.{shadow}
 use denote.Text.{Utf8}
-use Rattle.star_machine.specs.Gives.{with_front}
+use Rattle.star_machine.specs.Refines.{with_front}
 use Rattle.star_meaning.specs.Run.{each}
 use Rattle.star_meaning.specs.Texts.{parts}
 use Rattle.star_meaning.specs.Values.{new_text}

@@ -2,19 +2,17 @@ use Rattle.std.proofs.Common.{◌∙◌, suc, arith, subst, sym}
 use Rattle.star_repo.specs.Held.{Fits, Held, Said}
 use Rattle.star_repo.specs.Reach.{AreReachedFiles}
 use Rattle.star_repo.specs.Refusal.{Pass}
-use Rattle.star_repo.specs.Turn.{IsTurn}
 use Rattle.star_repo.specs.Views.{IsOnWay, Says, labels_of, words_of}
+use Rattle.star_repo.proofs.Turns.{turned}
 use Rattle.star_repo.proofs.reach.read_reached.Goals as goal
 
 pub rounds-preserved : goal.rounds-preserved
 rounds-preserved g c =
     let inv = c.rounds.invariant in
     let words = words_of c.args.words.keys in
-    let round = c.rounds.round in
     let next = c.in-Ok-Next.next in
     let says = g.F.Repo.says c.rounds.folder in
-    let way = subst (λ (s : Said). IsOnWay s words inv.on_way.0 round.found (labels_of round.waiting.keys)) (sym inv.same) inv.on_way.1 in
-    let turn = subst (IsTurn says words inv.on_way.0 round.found.count) c.in-Ok-Next.field-0-is (c.in-Ok-Next.ensures.turns words inv.on_way.0 way inv.all_read inv.fresh) in
+    let turn = turned (g.F.Repo.says c.args.folder.now) says words inv.on_way.0 c.rounds.round _ _ inv.same inv.on_way.1 inv.all_read inv.fresh c.in-Ok-Next.ensures.turns c.in-Ok-Next.field-0-is in
     record {
       on_way = (suc inv.on_way.0, subst (λ (s : Said). IsOnWay s words (suc inv.on_way.0) next.found (labels_of next.waiting.keys)) inv.same turn.0);
       all_read = turn.1;
@@ -27,30 +25,24 @@ pub rounds-smaller : goal.rounds-smaller
 rounds-smaller g c =
     let inv = c.rounds.invariant in
     let words = words_of c.args.words.keys in
-    let round = c.rounds.round in
     let says = g.F.Repo.says c.rounds.folder in
-    let way = subst (λ (s : Said). IsOnWay s words inv.on_way.0 round.found (labels_of round.waiting.keys)) (sym inv.same) inv.on_way.1 in
-    let turn = subst (IsTurn says words inv.on_way.0 round.found.count) c.in-Ok-Next.field-0-is (c.in-Ok-Next.ensures.turns words inv.on_way.0 way inv.all_read inv.fresh) in
+    let turn = turned (g.F.Repo.says c.args.folder.now) says words inv.on_way.0 c.rounds.round _ _ inv.same inv.on_way.1 inv.all_read inv.fresh c.in-Ok-Next.ensures.turns c.in-Ok-Next.field-0-is in
     omega (arith, turn.3, c.in-Ok-Next.next.found.few_files)
 
 pub ended-requires : goal.ended-requires
 ended-requires g c =
     let inv = c.rounds.invariant in
     let words = words_of c.args.words.keys in
-    let round = c.rounds.round in
     let says = g.F.Repo.says c.rounds.folder in
-    let way = subst (λ (s : Said). IsOnWay s words inv.on_way.0 round.found (labels_of round.waiting.keys)) (sym inv.same) inv.on_way.1 in
-    let turn = subst (IsTurn says words inv.on_way.0 round.found.count) c.in-Ok-End.field-0-is (c.in-Ok-End.ensures.turns words inv.on_way.0 way inv.all_read inv.fresh) in
+    let turn = turned (g.F.Repo.says c.args.folder.now) says words inv.on_way.0 c.rounds.round _ _ inv.same inv.on_way.1 inv.all_read inv.fresh c.in-Ok-End.ensures.turns c.in-Ok-End.field-0-is in
     (says, words, inv.on_way.0, turn.0, turn.2)
 
 pub returns-in-Ok-End-clause-files : goal.returns-in-Ok-End-clause-files
 returns-in-Ok-End-clause-files g c =
     let inv = c.rounds.invariant in
     let words = words_of c.args.words.keys in
-    let round = c.rounds.round in
     let says = g.F.Repo.says c.rounds.folder in
-    let way = subst (λ (s : Said). IsOnWay s words inv.on_way.0 round.found (labels_of round.waiting.keys)) (sym inv.same) inv.on_way.1 in
-    let turn = subst (IsTurn says words inv.on_way.0 round.found.count) c.in-Ok-End.field-0-is (c.in-Ok-End.ensures.turns words inv.on_way.0 way inv.all_read inv.fresh) in
+    let turn = turned (g.F.Repo.says c.args.folder.now) says words inv.on_way.0 c.rounds.round _ _ inv.same inv.on_way.1 inv.all_read inv.fresh c.in-Ok-End.ensures.turns c.in-Ok-End.field-0-is in
     let files = c.in_ok-ended-in-Ok-End.field-0.files in
     subst (λ (s : Said). (held : Held) × Fits s held × AreReachedFiles held words files × Pass files) inv.same (c.in_ok-ended-in-Ok-End.ensures.files says words inv.on_way.0 turn.0 turn.2)
 
@@ -58,10 +50,8 @@ pub returns-in-Ok-End-clause-parsed : goal.returns-in-Ok-End-clause-parsed
 returns-in-Ok-End-clause-parsed g c =
     let inv = c.rounds.invariant in
     let words = words_of c.args.words.keys in
-    let round = c.rounds.round in
     let says = g.F.Repo.says c.rounds.folder in
-    let way = subst (λ (s : Said). IsOnWay s words inv.on_way.0 round.found (labels_of round.waiting.keys)) (sym inv.same) inv.on_way.1 in
-    let turn = subst (IsTurn says words inv.on_way.0 round.found.count) c.in-Ok-End.field-0-is (c.in-Ok-End.ensures.turns words inv.on_way.0 way inv.all_read inv.fresh) in
+    let turn = turned (g.F.Repo.says c.args.folder.now) says words inv.on_way.0 c.rounds.round _ _ inv.same inv.on_way.1 inv.all_read inv.fresh c.in-Ok-End.ensures.turns c.in-Ok-End.field-0-is in
     c.in_ok-ended-in-Ok-End.ensures.parsed turn.1
 
 pub returns-in-Err-clause-refused : goal.returns-in-Err-clause-refused

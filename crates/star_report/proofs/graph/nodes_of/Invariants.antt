@@ -1,5 +1,6 @@
 use Rattle.std.proofs.Common.{length, map}
-use Rattle.star_report.specs.Drawn.{AreNodesWithin, InReadPlans, IsGraphBelow, node_view}
+use Rattle.star_reading.specs.Readings.{InReadPlans}
+use Rattle.star_report.specs.Drawn.{AreNodesWithin, IsGraphBelow, node_view}
 use Rattle.star_report.specs.Table.{IsTable}
 use Rattle.star_report.proofs.graph.nodes_of.Given as goal
 

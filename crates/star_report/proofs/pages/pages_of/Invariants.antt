@@ -1,6 +1,7 @@
 use Rattle.std.proofs.Common.{◌≡◌, ◌<◌, ℕ, List, length, map, take}
 use Rattle.std.specs.Prelude.{All}
-use Rattle.star_report.specs.Pages.{AreMarked, HasItsLoads, SaysShown, known_of}
+use Rattle.star_reading.specs.Found.{AreMarked}
+use Rattle.star_report.specs.Pages.{HasItsLoads, SaysShown, known_of}
 use Rattle.star_report.proofs.pages.pages_of.Given as goal
 
 abbrev pub invariant-loop-i : goal.invariant-loop-i

@@ -1,5 +1,5 @@
 use Rattle.std.proofs.Common.{take}
-use Rattle.star_scope.specs.Placed.{Places}
+use Rattle.star_scope.specs.ResolvedNames.{Places}
 use Rattle.star_scope.specs.Uses.{all_uses, default_uses, in_argument, in_clause, in_entry, in_expression, in_target}
 use Rattle.star_scope.proofs.uses.+expressions.Given as goal
 

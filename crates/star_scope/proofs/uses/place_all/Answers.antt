@@ -1,7 +1,7 @@
 use Rattle.std.proofs.Common.{◌∷◌, [], None, sym, ◌∙◌}
-use Rattle.star_scope.specs.declared.uses.Placed.{Placed}
+use Rattle.star_scope.specs.declared.uses.ResolvedNames.{ResolvedNames}
 use Rattle.star_scope.specs.Chains.{names_outside}
-use Rattle.star_scope.specs.Placed.{Places}
+use Rattle.star_scope.specs.ResolvedNames.{Places}
 use Rattle.star_scope.specs.Spots.{spot_at}
 use Rattle.star_scope.specs.Uses.{all_uses, in_statement, uses}
 use Rattle.star_scope.proofs.Placing.{all_placed, place_as, place_part}
@@ -12,7 +12,7 @@ whole : (c : goal.In_ok-place_statements)
     → Places c.args.scope.now (uses c.args.statements.now) (record { spots = c.new.result; first = None }) c.place_statements.new.placed
 whole c =
     let scope = c.args.scope.now in
-    let a : Placed = record { spots = c.new.result; first = None } in
+    let a : ResolvedNames = record { spots = c.new.result; first = None } in
     let z = c.place_statements.new.placed in
     place_as scope _ _ a z (of_file c.args.statements.now)
     (place_part (λ k. all_uses in_statement c.args.statements.now k) scope c.of_file.result (0 ∷ []) a z c.of_file.ensures c.in_ok-place_statements.ensures)

@@ -1,5 +1,5 @@
 use Rattle.std.proofs.Common.{take}
-use Rattle.star_scope.specs.Placed.{Places}
+use Rattle.star_scope.specs.ResolvedNames.{Places}
 use Rattle.star_scope.specs.Uses.{all_uses, loaded_use}
 use Rattle.star_scope.proofs.uses.place_loaded.Given as goal
 

@@ -1,5 +1,5 @@
 use Rattle.std.proofs.Common.{take}
-use Rattle.star_scope.specs.Placed.{Places}
+use Rattle.star_scope.specs.ResolvedNames.{Places}
 use Rattle.star_scope.specs.Uses.{all_uses, parameter_name_uses}
 use Rattle.star_scope.proofs.uses.place_parameter_names.Given as goal
 

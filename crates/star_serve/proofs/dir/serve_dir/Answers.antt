@@ -1,23 +1,22 @@
-use Rattle.std.proofs.Common.{◌≡◌, List, Ok, refl, sym, ◌∙◌, arith, map, string_bytes}
+use Rattle.std.proofs.Common.{◌≡◌, refl, ◌∙◌, arith, map, string_bytes}
 use Rattle.std.specs.Option.{option_map}
 use Rattle.std.proofs.lemmas.Result.{IfOk-weaker}
-use Rattle.star_label.specs.Files.{File}
 use Rattle.star_bundle.specs.Bundle.{asked_among}
 use Rattle.star_bundle.specs.View.{asked_view}
 use Rattle.star_folder.specs.Refusal.{IsStopped}
-use Rattle.star_folder.specs.Walk.{AreFilesOf}
 use Rattle.star_folder.proofs.StopKinds.{of_walk}
+use Rattle.star_serve.specs.Serve.{AsksForDir}
 use Rattle.star_serve.proofs.Traced.{if_ok_both}
 use Rattle.star_serve.proofs.Refusals.{IsOfWords, if_err, words_kind}
 use Rattle.star_serve.proofs.FolderRefusals.{run_counts, run_refused, stopped_refused, stopped_writes, words_failed, words_refused}
-use Rattle.star_serve.proofs.Spoken.{words_of}
+use Rattle.star_serve.proofs.Spoken.{same_by_words}
 use Rattle.star_serve.proofs.dir.serve_dir.Goals as goal
 
 pub returns-in-Err-clause-refused : goal.returns-in-Err-clause-refused
 returns-in-Err-clause-refused g c =
     let held = g.F.Folder.holds c.args.folder.now in
     stopped_refused (IsStopped held)
-    (λ r. (files : List File) × AreFilesOf held files × (asked_among (map string_bytes c.args.options.now.roots.items) (option_map string_bytes c.args.options.now.prelude) files ≡ r))
+    (AsksForDir held c.args.options.now)
     (c.args.writer.now ≡ c.args.writer.now)
     c.in-Err.error (of_walk held c.in-Err.error c.in-Err.ensures.stopped) c.in-Err.ensures.stopped refl
 
@@ -31,11 +30,9 @@ returns-in-Err-asked_in-clause-refused g c =
     let roots = map string_bytes c.as_slice.result.now in
     let prelude = option_map (λ p. string_bytes p.now) c.as_ref.result in
     let given = asked_among roots prelude c.in-Ok.files in
-    let words = words_of c.as_ref.result c.args.options.now.prelude c.as_ref.ensures.value in
-    let same : asked_among (map string_bytes c.args.options.now.roots.items) (option_map string_bytes c.args.options.now.prelude) c.in-Ok.files ≡ given =
-    rw (c.as_slice.ensures.value, words) refl in
+    let same = same_by_words (λ rs p. asked_among rs p c.in-Ok.files) c.args.options.now c.as_slice.result.now c.as_ref.result c.as_slice.ensures.value c.as_ref.ensures.value in
     words_refused (IsStopped held)
-    (λ r. (files : List File) × AreFilesOf held files × (asked_among (map string_bytes c.args.options.now.roots.items) (option_map string_bytes c.args.options.now.prelude) files ≡ r))
+    (AsksForDir held c.args.options.now)
     (c.args.writer.now ≡ c.args.writer.now)
     c.in-Err-asked_in.error given c.in-Err-asked_in.ensures.asked (words_kind IsOfWords roots prelude c.in-Ok.files tt tt tt tt)
     (c.in-Ok.files, c.in-Ok.ensures.files, same) refl
@@ -64,15 +61,11 @@ returns-in-Err-asked_in-clause-writes g c =
 pub returns-clause-refused : goal.returns-clause-refused
 returns-clause-refused g c =
     let held = g.F.Folder.holds c.args.folder.now in
-    let roots = map string_bytes c.as_slice.result.now in
-    let prelude = option_map (λ p. string_bytes p.now) c.as_ref.result in
-    let words = words_of c.as_ref.result c.args.options.now.prelude c.as_ref.ensures.value in
-    let same : asked_among (map string_bytes c.args.options.now.roots.items) (option_map string_bytes c.args.options.now.prelude) c.in-Ok.files ≡ asked_among roots prelude c.in-Ok.files =
-    rw (c.as_slice.ensures.value, words) refl in
+    let same = same_by_words (λ rs p. asked_among rs p c.in-Ok.files) c.args.options.now c.as_slice.result.now c.as_ref.result c.as_slice.ensures.value c.as_ref.ensures.value in
     let found = same ∙ c.in-Ok-asked_in.ensures.asked in
     if_err c.reported.result _ _
     (λ e h. run_refused (IsStopped held)
-    (λ r. (files : List File) × AreFilesOf held files × (asked_among (map string_bytes c.args.options.now.roots.items) (option_map string_bytes c.args.options.now.prelude) files ≡ r))
+    (AsksForDir held c.args.options.now)
     (c.reported.new.writer ≡ c.args.writer.now)
     e (asked_view c.in-Ok-asked_in.asked) h (c.in-Ok.files, c.in-Ok.ensures.files, found))
     c.reported.ensures.refused
@@ -85,11 +78,7 @@ returns-clause-reads g c = omega (arith, (run_counts _ c.reported.result c.repor
 
 pub returns-clause-ok : goal.returns-clause-ok
 returns-clause-ok g c =
-    let roots = map string_bytes c.as_slice.result.now in
-    let prelude = option_map (λ p. string_bytes p.now) c.as_ref.result in
-    let words = words_of c.as_ref.result c.args.options.now.prelude c.as_ref.ensures.value in
-    let same : asked_among (map string_bytes c.args.options.now.roots.items) (option_map string_bytes c.args.options.now.prelude) c.in-Ok.files ≡ asked_among roots prelude c.in-Ok.files =
-    rw (c.as_slice.ensures.value, words) refl in
+    let same = same_by_words (λ rs p. asked_among rs p c.in-Ok.files) c.args.options.now c.as_slice.result.now c.as_ref.result c.as_slice.ensures.value c.as_ref.ensures.value in
     let found = same ∙ c.in-Ok-asked_in.ensures.asked in
-    IfOk-weaker c.reported.result _ _ (λ all_ok h. (c.in-Ok.files, c.in-Ok.ensures.files, asked_view c.in-Ok-asked_in.asked, found, h.0, h.1))
+    IfOk-weaker c.reported.result _ _ (λ all_ok h. (asked_view c.in-Ok-asked_in.asked, (c.in-Ok.files, c.in-Ok.ensures.files, found), h.0, h.1))
     (if_ok_both c.reported.result _ _ c.reported.ensures.ok c.reported.ensures.traced)

@@ -1,5 +1,5 @@
 use Rattle.std.proofs.Common.{◌≡◌}
-use Rattle.star_serve.proofs.Shown.{ShowsLines}
+use Rattle.star_serve.specs.Progress.{ShowsLines}
 use Rattle.star_serve.proofs.progress.show_lines.Given as goal
 
 abbrev pub invariant-loop : goal.invariant-loop

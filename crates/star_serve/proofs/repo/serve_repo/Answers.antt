@@ -1,9 +1,9 @@
 use Rattle.std.proofs.Common.{◌≡◌, ap, map, string_bytes, subst, sym}
 use Rattle.std.specs.Option.{option_map}
 use Rattle.star_words.specs.Named.{AreLabels}
-use Rattle.star_repo.specs.Asked.{AreFilesFor}
+use Rattle.star_serve.specs.Serve.{prelude_word, root_words}
 use Rattle.star_serve.proofs.RepoRefusals.{read_refused}
-use Rattle.star_serve.proofs.Spoken.{words_of}
+use Rattle.star_serve.proofs.Spoken.{files_by_words, words_of}
 use Rattle.star_serve.proofs.Zipped.{parses_of}
 use Rattle.star_serve.proofs.repo.serve_repo.Goals as goal
 
@@ -13,12 +13,18 @@ reported_of-outcome-requires-clause-parsed g c κs within = parses_of _ _ c.in-O
 pub returns-in-Err-outcome-clause-refused : goal.returns-in-Err-outcome-clause-refused
 returns-in-Err-outcome-clause-refused g c =
     let said = g.F.Repo.says c.args.folder.now in
-    let roots = map string_bytes c.args.options.now.roots.items in
-    let prelude = option_map string_bytes c.args.options.now.prelude in
+    let options = c.args.options.now in
     let files = c.in-Ok-read_asked.reached.files in
-    let words = map string_bytes c.as_slice.result.now in
-    let same : words ≡ roots = ap (map string_bytes) c.as_slice.ensures.value in
-    let given : option_map (λ p. string_bytes p.now) c.as_ref.result ≡ prelude = sym (words_of c.as_ref.result c.args.options.now.prelude c.as_ref.ensures.value) in
-    let are : AreFilesFor said roots prelude files = subst (λ r. AreFilesFor said r prelude files) same (subst (λ p. AreFilesFor said words p files) given c.in-Ok-read_asked.ensures.files) in
-    let labels : AreLabels roots prelude = subst (λ r. AreLabels r prelude) same (subst (AreLabels words) given c.in-Ok-read_asked.ensures.labels) in
-    read_refused said roots prelude files _ c.in-Err-outcome.error are labels c.in-Err-outcome.ensures.refused
+    let same = c.as_slice.ensures.value in
+    let given = words_of c.as_ref.result options.prelude c.as_ref.ensures.value in
+    let are = files_by_words said options c.as_slice.result.now c.as_ref.result files same c.as_ref.ensures.value c.in-Ok-read_asked.ensures.files in
+    let prelude = option_map (λ p. string_bytes p.now) c.as_ref.result in
+    let labels : AreLabels (root_words options) (prelude_word options) = subst (AreLabels (root_words options)) (sym given) (subst (λ rs. AreLabels (map string_bytes rs) prelude) same c.in-Ok-read_asked.ensures.labels) in
+    read_refused said (root_words options) (prelude_word options) files _ c.in-Err-outcome.error are labels c.in-Err-outcome.ensures.refused
+
+pub returns-in-Ok-outcome-clause-ok : goal.returns-in-Ok-outcome-clause-ok
+returns-in-Ok-outcome-clause-ok g c =
+    let files = c.in-Ok-read_asked.reached.files in
+    let are = files_by_words (g.F.Repo.says c.args.folder.now) c.args.options.now c.as_slice.result.now c.as_ref.result files c.as_slice.ensures.value c.as_ref.ensures.value c.in-Ok-read_asked.ensures.files in
+    let h = c.in-Ok-outcome.ensures.ok in
+    (h.0, (files, are, h.1), h.2, h.3)

@@ -6,17 +6,17 @@ use Rattle.star_serve.proofs.serve.checked.Goals as goal
 
 pub check-requires-clause-sized : goal.check-requires-clause-sized
 check-requires-clause-sized g c =
-    let asked = c.args.asked.now in
+    let asked = c.args.job.now.asked.now in
     row_size asked.files c.as_slice-roots.result.now asked.prelude c.in_ok-read.read.all.items c.in_ok-read.ensures.read
 
 pub check-requires-clause-loads : goal.check-requires-clause-loads
 check-requires-clause-loads g c =
-    let asked = c.args.asked.now in
+    let asked = c.args.job.now.asked.now in
     lead_within asked.files c.as_slice-roots.result.now asked.prelude c.in_ok-read.read.all.items c.in_ok-read.ensures.read
 
 pub returns : goal.returns
 returns g c = λ steps.
-    let asked = c.args.asked.now in
+    let asked = c.args.job.now.asked.now in
     let row = c.in_ok-read.read.all.items in
     let value = c.as_slice-roots.ensures.value in
     let read : IsReadOf asked.files asked.roots.items asked.prelude row = subst (λ rs. IsReadOf asked.files rs asked.prelude row) value c.in_ok-read.ensures.read in

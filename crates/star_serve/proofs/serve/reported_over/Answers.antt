@@ -6,7 +6,9 @@ use Rattle.star_report.specs.Output.{InPlanOf, IsOutput, IsSaid}
 use Rattle.star_serve.specs.Stream.{Adds}
 use Rattle.star_bundle.specs.View.{asked_view}
 use Rattle.star_serve.specs.Trace.{Traces, trace_text}
+use Rattle.star_serve.proofs.Checked.{checked_said}
 use Rattle.star_serve.proofs.Streams.{went_well}
+use Rattle.star_serve.proofs.Traced.{if_ok_both}
 use Rattle.star_serve.proofs.Refusals.{started_refused, started_writes}
 use Rattle.star_serve.proofs.WrittenTexts.{if_ok-map, not_said}
 use Rattle.star_serve.proofs.serve.reported_over.Goals as goal
@@ -19,20 +21,20 @@ returns-in-Err-clause-writes g c = omega (arith, started_writes c.in-Err.error c
 
 pub returns-clause-ok : goal.returns-clause-ok
 returns-clause-ok g c =
-    let asked = c.args.asked.now in
+    let asked = c.args.job.now.asked.now in
     let options = c.args.options.now in
     let it = c.in-Ok.answer.written in
     (c.as_slice.result.now, went_well c.write_some.result (sym c.is_err.ensures.value ∙ c.if-is_err.false) c.write_some.ensures.takes, subst (λ text. InPlanOf asked.files asked.roots.items asked.prelude options.steps (λ plan. IsOutput options.output asked.files plan text it.all_ok)) (sym c.as_slice.ensures.value) c.in-Ok.ensures.text)
 
 pub say-requires : goal.say-requires
 say-requires g c =
-    let asked = c.args.asked.now in
+    let asked = c.args.job.now.asked.now in
     subst (λ rs. All (λ r. (r.file < length asked.files) × (r.loaded < length asked.files)) rs) (sym c.refused.ensures)
     (all_files asked.files asked.roots.items asked.prelude c.args.options.now.steps _ c.in-Ok.ensures.refused)
 
 pub returns-clause-traced : goal.returns-clause-traced
 returns-clause-traced g c = λ none same.
-    let asked = c.args.asked.now in
+    let asked = c.args.job.now.asked.now in
     let options = c.args.options.now in
     let run = c.in-Ok.answer.run in
     let said = string_bytes c.in-Ok.answer.written.said in
@@ -44,7 +46,7 @@ returns-clause-traced g c = λ none same.
 
 pub returns-clause-untraced : goal.returns-clause-untraced
 returns-clause-untraced g c = λ quiet off none.
-    let asked = c.args.asked.now in
+    let asked = c.args.job.now.asked.now in
     let options = c.args.options.now in
     let empty = not_said options.output asked.files asked.roots.items asked.prelude options.steps c.in-Ok.answer.written.all_ok (string_bytes c.in-Ok.answer.written.said) c.in-Ok.ensures.said none in
     c.write_explained.ensures quiet ∙ c.say.ensures.none (c.as_str.ensures.value ∙ empty) off
@@ -53,7 +55,12 @@ pub returns-in-Check-clause-ok : goal.returns-in-Check-clause-ok
 returns-in-Check-clause-ok g c = rw c.in-Check.is c.checked_over.ensures.ok
 
 pub returns-in-Check-clause-traced : goal.returns-in-Check-clause-traced
-returns-in-Check-clause-traced g c = if_ok-map c.checked_over.result (λ ok h none same. rw c.in-Check.is (h none)) c.checked_over.ensures.traced
+returns-in-Check-clause-traced g c =
+    let asked = asked_view c.args.job.now.asked.now in
+    let options = c.args.options.now in
+    if_ok-map c.checked_over.result
+    (λ ok h none same. rw c.in-Check.is (checked_said asked options.steps c.in-Check.only_roots ok options.trace h.0.0 (g.E.Sink.taken c.args.errors.now) (g.E.Sink.taken c.checked_over.new.errors) (ap g.E.Sink.taken (h.1 none)) h.0.2))
+    (if_ok_both c.checked_over.result _ _ c.checked_over.ensures.ok c.checked_over.ensures.untold)
 
 pub returns-in-Check-clause-untraced : goal.returns-in-Check-clause-untraced
 returns-in-Check-clause-untraced g c = if_ok-map c.checked_over.result (λ ok h none off said. h none) c.checked_over.ensures.untold

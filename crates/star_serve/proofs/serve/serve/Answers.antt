@@ -1,31 +1,27 @@
-use Rattle.std.proofs.Common.{◌≡◌, ℕ, ◌<◌, ◌≤◌, List, length, Ok, refl, sym, ◌∙◌, arith, map, string_bytes}
+use Rattle.std.proofs.Common.{◌≡◌, refl, ap, sym, ◌∙◌, arith, map, string_bytes}
 use Rattle.std.specs.Option.{option_map}
 use Rattle.std.proofs.lemmas.Result.{IfOk-weaker}
 use Rattle.star_bundle.specs.Bundle.{asked_of}
-use Rattle.star_serve.specs.Serve.{ReadsAll, input_limit}
-use Rattle.star_serve.specs.Stream.{GaveFirst, Gives}
+use Rattle.star_serve.specs.Serve.{Asks, BreaksOff, Overruns}
 use Rattle.star_bundle.specs.View.{asked_view}
 use Rattle.star_serve.proofs.Traced.{if_ok_both}
 use Rattle.star_serve.proofs.Refusals.{asked_kind, refused_by, run_refused, run_reads, if_err, no_read_failed, no_write_failed}
-use Rattle.star_serve.proofs.Spoken.{words_of}
+use Rattle.star_serve.proofs.Spoken.{same_by_words}
 use Rattle.star_serve.proofs.serve.serve.Goals as goal
 
 pub returns-in-Err-asked_for-clause-refused : goal.returns-in-Err-asked_for-clause-refused
 returns-in-Err-asked_for-clause-refused g c =
+    let options = c.args.options.now in
+    let old = g.R.Source.said c.args.reader.now in
+    let new = g.R.Source.said c.read_all.new.reader in
     let roots = map string_bytes c.as_slice-2.result.now in
     let prelude = option_map (λ p. string_bytes p.now) c.as_ref.result in
     let given = asked_of roots prelude c.as_slice.result.now in
-    let words = words_of c.as_ref.result c.args.options.now.prelude c.as_ref.ensures.value in
-    let same : asked_of (map string_bytes c.args.options.now.roots.items) (option_map string_bytes c.args.options.now.prelude) c.in-Ok.bytes.items ≡ given =
-    rw (c.as_slice.ensures.value, c.as_slice-2.ensures.value, words) refl in
-    refused_by
-    (λ r. (x : List ℕ) × ReadsAll (g.R.Source.said c.args.reader.now) (g.R.Source.said c.read_all.new.reader) x
-    × (asked_of (map string_bytes c.args.options.now.roots.items) (option_map string_bytes c.args.options.now.prelude) x ≡ r))
-    ((x : List ℕ) × GaveFirst (g.R.Source.said c.args.reader.now) (g.R.Source.said c.read_all.new.reader) x × (length x ≤ input_limit))
-    ((x : List ℕ) × Gives (g.R.Source.said c.args.reader.now) (g.R.Source.said c.read_all.new.reader) x × (input_limit < length x))
-    (c.args.writer.now ≡ c.args.writer.now)
+    let same = same_by_words (λ rs p. asked_of rs p c.in-Ok.bytes.items) options c.as_slice-2.result.now c.as_ref.result c.as_slice-2.ensures.value c.as_ref.ensures.value in
+    let read = ap (asked_of roots prelude) c.as_slice.ensures.value in
+    refused_by (Asks old new options) (BreaksOff old new) (Overruns old new) (c.args.writer.now ≡ c.args.writer.now)
     c.in-Err-asked_for.error given c.in-Err-asked_for.ensures.asked (asked_kind roots prelude c.as_slice.result.now)
-    (c.in-Ok.bytes.items, (c.in-Ok.ensures.ok, c.in-Ok.ensures.within), same) refl
+    (c.in-Ok.bytes.items, (c.in-Ok.ensures.ok, c.in-Ok.ensures.within), same ∙ sym read) refl
 
 pub returns-in-Err-asked_for-clause-reads : goal.returns-in-Err-asked_for-clause-reads
 returns-in-Err-asked_for-clause-reads g c =
@@ -43,20 +39,15 @@ returns-in-Err-asked_for-clause-writes g c =
 
 pub returns-clause-refused : goal.returns-clause-refused
 returns-clause-refused g c =
-    let roots = map string_bytes c.as_slice-2.result.now in
-    let prelude = option_map (λ p. string_bytes p.now) c.as_ref.result in
-    let words = words_of c.as_ref.result c.args.options.now.prelude c.as_ref.ensures.value in
-    let same : asked_of (map string_bytes c.args.options.now.roots.items) (option_map string_bytes c.args.options.now.prelude) c.in-Ok.bytes.items ≡ asked_of roots prelude c.as_slice.result.now =
-    rw (c.as_slice.ensures.value, c.as_slice-2.ensures.value, words) refl in
+    let options = c.args.options.now in
+    let old = g.R.Source.said c.args.reader.now in
+    let new = g.R.Source.said c.read_all.new.reader in
+    let same = same_by_words (λ rs p. asked_of rs p c.in-Ok.bytes.items) options c.as_slice-2.result.now c.as_ref.result c.as_slice-2.ensures.value c.as_ref.ensures.value in
+    let read = ap (asked_of (map string_bytes c.as_slice-2.result.now) (option_map (λ p. string_bytes p.now) c.as_ref.result)) c.as_slice.ensures.value in
     let asked = asked_view c.in-Ok-asked_for.asked in
-    let found = same ∙ c.in-Ok-asked_for.ensures.asked in
+    let found = same ∙ sym read ∙ c.in-Ok-asked_for.ensures.asked in
     if_err c.reported.result _ _
-    (λ e h. run_refused
-    (λ r. (x : List ℕ) × ReadsAll (g.R.Source.said c.args.reader.now) (g.R.Source.said c.read_all.new.reader) x
-    × (asked_of (map string_bytes c.args.options.now.roots.items) (option_map string_bytes c.args.options.now.prelude) x ≡ r))
-    ((x : List ℕ) × GaveFirst (g.R.Source.said c.args.reader.now) (g.R.Source.said c.read_all.new.reader) x × (length x ≤ input_limit))
-    ((x : List ℕ) × Gives (g.R.Source.said c.args.reader.now) (g.R.Source.said c.read_all.new.reader) x × (input_limit < length x))
-    (c.reported.new.writer ≡ c.args.writer.now)
+    (λ e h. run_refused (Asks old new options) (BreaksOff old new) (Overruns old new) (c.reported.new.writer ≡ c.args.writer.now)
     e asked h (c.in-Ok.bytes.items, (c.in-Ok.ensures.ok, c.in-Ok.ensures.within), found))
     c.reported.ensures.refused
 
@@ -65,13 +56,11 @@ returns-clause-reads g c = omega (arith, run_reads _ c.reported.result c.reporte
 
 pub returns-clause-ok : goal.returns-clause-ok
 returns-clause-ok g c =
-    let roots = map string_bytes c.as_slice-2.result.now in
-    let prelude = option_map (λ p. string_bytes p.now) c.as_ref.result in
-    let words = words_of c.as_ref.result c.args.options.now.prelude c.as_ref.ensures.value in
-    let same : asked_of (map string_bytes c.args.options.now.roots.items) (option_map string_bytes c.args.options.now.prelude) c.in-Ok.bytes.items ≡ asked_of roots prelude c.as_slice.result.now =
-    rw (c.as_slice.ensures.value, c.as_slice-2.ensures.value, words) refl in
+    let options = c.args.options.now in
+    let same = same_by_words (λ rs p. asked_of rs p c.in-Ok.bytes.items) options c.as_slice-2.result.now c.as_ref.result c.as_slice-2.ensures.value c.as_ref.ensures.value in
+    let read = ap (asked_of (map string_bytes c.as_slice-2.result.now) (option_map (λ p. string_bytes p.now) c.as_ref.result)) c.as_slice.ensures.value in
     let asked = asked_view c.in-Ok-asked_for.asked in
-    let found = same ∙ c.in-Ok-asked_for.ensures.asked in
+    let found = same ∙ sym read ∙ c.in-Ok-asked_for.ensures.asked in
     IfOk-weaker c.reported.result _ _
-    (λ all_ok h. (c.in-Ok.bytes.items, (c.in-Ok.ensures.ok, c.in-Ok.ensures.within), asked, found, h.0, h.1))
+    (λ all_ok h. (asked, (c.in-Ok.bytes.items, (c.in-Ok.ensures.ok, c.in-Ok.ensures.within), found), h.0, h.1))
     (if_ok_both c.reported.result _ _ c.reported.ensures.ok c.reported.ensures.traced)

@@ -6,7 +6,7 @@ returns-in-Check-clause-text g c = rw c.in-Check.is c.in_ok-written.ensures.text
 
 pub returns : goal.returns
 returns g c =
-    let asked = c.args.asked.now in
+    let asked = c.args.job.now.asked.now in
     record {
       kinds = tt;
       text = c.in-Ok.ensures.text;

@@ -29,10 +29,10 @@ loop-preserved g c =
     let d = IsAnsweredIn (g.F.Repo.says c.args.folder.now) c.args.settings.now.defaults in
     let said = g.R.Source.said in
     let taken = g.W.Sink.taken in
-    let one = subst (λ b. IsStep d (said c.loop.reader) (said c.next_answer.new.reader) (ahead_of c.loop.lines) (ahead_of c.next_answer.new.lines) (taken c.loop.writer) (taken c.next_answer.new.writer) c.loop.standing.files c.next_answer.new.standing.files b) c.if-not-branch.false c.in_ok-next_answer.ensures.step in (
+    let one = subst (λ b. IsStep d (said c.loop.reader) (said c.next_answer.new.reader) (ahead_of c.loop.session.lines) (ahead_of c.next_answer.new.session.lines) (taken c.loop.writer) (taken c.next_answer.new.writer) c.loop.session.standing.files c.next_answer.new.session.standing.files b) c.if-not-branch.false c.in_ok-next_answer.ensures.step in (
       tt,
       tt,
-      part_then_part d (said c.args.reader.now) (said c.loop.reader) (said c.next_answer.new.reader) [] (ahead_of c.loop.lines) (ahead_of c.next_answer.new.lines) (taken c.args.writer.now) (taken c.loop.writer) (taken c.next_answer.new.writer) [] c.loop.standing.files c.next_answer.new.standing.files c.loop.invariant.2 one,
+      part_then_part d (said c.args.reader.now) (said c.loop.reader) (said c.next_answer.new.reader) [] (ahead_of c.loop.session.lines) (ahead_of c.next_answer.new.session.lines) (taken c.args.writer.now) (taken c.loop.writer) (taken c.next_answer.new.writer) [] c.loop.session.standing.files c.next_answer.new.session.standing.files c.loop.invariant.2 one,
       c.next_answer.ensures.standing,
       c.in_ok-next_answer.ensures.cut,
       omega (arith, c.in_ok-next_answer.ensures.reads, c.loop.invariant.5),
@@ -44,6 +44,6 @@ returns-then-not-branch-clause-session g c =
     let d = IsAnsweredIn (g.F.Repo.says c.args.folder.now) c.args.settings.now.defaults in
     let said = g.R.Source.said in
     let taken = g.W.Sink.taken in
-    let last = subst (λ b. IsStep d (said c.loop.reader) (said c.next_answer.new.reader) (ahead_of c.loop.lines) (ahead_of c.next_answer.new.lines) (taken c.loop.writer) (taken c.next_answer.new.writer) c.loop.standing.files c.next_answer.new.standing.files b) c.if-not-branch.true c.in_ok-next_answer.ensures.step in
+    let last = subst (λ b. IsStep d (said c.loop.reader) (said c.next_answer.new.reader) (ahead_of c.loop.session.lines) (ahead_of c.next_answer.new.session.lines) (taken c.loop.writer) (taken c.next_answer.new.writer) c.loop.session.standing.files c.next_answer.new.session.standing.files b) c.if-not-branch.true c.in_ok-next_answer.ensures.step in
     session d (said c.args.reader.now) (said c.next_answer.new.reader) (taken c.args.writer.now) (taken c.next_answer.new.writer)
-    (part_then_rest d (said c.args.reader.now) (said c.loop.reader) (said c.next_answer.new.reader) [] (ahead_of c.loop.lines) (taken c.args.writer.now) (taken c.loop.writer) (taken c.next_answer.new.writer) [] c.loop.standing.files c.loop.invariant.2 last)
+    (part_then_rest d (said c.args.reader.now) (said c.loop.reader) (said c.next_answer.new.reader) [] (ahead_of c.loop.session.lines) (taken c.args.writer.now) (taken c.loop.writer) (taken c.next_answer.new.writer) [] c.loop.session.standing.files c.loop.invariant.2 last)

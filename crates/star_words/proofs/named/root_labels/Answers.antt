@@ -1,11 +1,11 @@
 use Rattle.std.proofs.Common.{◌≡◌, ◌∙◌, ◌∷◌, ◌++◌, ◌+◌, ◌⊎◌, [], List, ℕ, false, true, ap, subst, sym, string_bytes, take, arith, map, Contains}
 use Rattle.std.specs.Prelude.{◌↔◌}
-use Rattle.std.proofs.lemmas.List.{map-append, take_all, take_more}
+use Rattle.std.proofs.lemmas.List.{take_all}
 use Rattle.star_bundle.specs.Bundle.{is_label}
 use Rattle.star_words.specs.Named.{AllLabels, labels_of, texts_of}
 use Rattle.star_words.specs.Rows.{IsIn}
 use Rattle.star_words.proofs.Labels.{all_more, are_more}
-use Rattle.star_words.proofs.Members.{in_map, item_in}
+use Rattle.star_words.proofs.Members.{in_map, item_in, texts_more}
 use Rattle.star_words.proofs.named.root_labels.Goals as goal
 
 pub returns-then-not-branch : goal.returns-then-not-branch
@@ -21,8 +21,7 @@ loop-root-preserved c =
     let item = c.root-item.result in
     let text = string_bytes item in
     let before = texts_of (take i roots) in
-    let cut : texts_of (take (i + 1) roots) ≡ before ++ text ∷ [] =
-    ap texts_of (take_more roots i item c.loop-root-test.true ∙ ap (λ x. take i roots ++ x ∷ []) (sym c.root-item.is)) ∙ map-append string_bytes (take i roots) (item ∷ []) in
+    let cut : texts_of (take (i + 1) roots) ≡ before ++ text ∷ [] = texts_more roots i item c.loop-root-test.true c.root-item.is in
     let is : is_label text ≡ true = subst (λ t. is_label t ≡ true) c.as_str.ensures.value (c.in_ok-add_label.ensures.is ∙ c.if-not-branch.false) in
     let added = subst (λ t. (m : List ℕ) → IsIn m (labels_of c.add_label.new.labels.keys) ↔ (IsIn m (labels_of c.loop-root.labels.keys) ⊎ (m ≡ t))) c.as_str.ensures.value (c.in_ok-add_label.ensures.added c.if-not-branch.false) in
     record {

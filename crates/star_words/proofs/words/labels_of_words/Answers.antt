@@ -1,10 +1,10 @@
 use Rattle.std.proofs.Common.{◌≡◌, ◌∙◌, ◌∷◌, ◌++◌, ◌+◌, [], List, ℕ, Some, None, ap, subst, sym, string_bytes, take, arith}
 use Rattle.std.specs.Prelude.{option_map}
-use Rattle.std.proofs.lemmas.List.{map-append, take_all, take_more}
+use Rattle.std.proofs.lemmas.List.{map-append}
 use Rattle.star_label.specs.View.{text_of}
 use Rattle.star_words.specs.Named.{AreNamed, Names, texts_of}
 use Rattle.star_words.proofs.Labels.{named_more}
-use Rattle.star_words.proofs.Members.{in_map, item_in}
+use Rattle.star_words.proofs.Members.{in_map, item_in, texts_more}
 use Rattle.star_words.proofs.words.labels_of_words.Goals as goal
 
 pub returns-in_default-clause-labels : goal.returns-in_default-clause-labels
@@ -21,8 +21,7 @@ loop-word-preserved c =
     let item = c.word-item.result in
     let text = string_bytes item in
     let before = texts_of (take i words) in
-    let cut : texts_of (take (i + 1) words) ≡ before ++ text ∷ [] =
-    ap texts_of (take_more words i item c.loop-word-test.true ∙ ap (λ x. take i words ++ x ∷ []) (sym c.word-item.is)) ∙ map-append string_bytes (take i words) (item ∷ []) in
+    let cut : texts_of (take (i + 1) words) ≡ before ++ text ∷ [] = texts_more words i item c.loop-word-test.true c.word-item.is in
     let label = text_of c.in-Some.label in
     let names : Names here text (Some label) = subst (λ t. Names here t (Some label)) c.as_str.ensures.value (subst (λ o. Names here c.as_str.result.now (option_map text_of o)) c.in-Some.is c.in_ok-label.ensures.label) in
     let made = string_bytes c.in_ok-from_str.field-0 in

@@ -4,6 +4,9 @@ use Rattle.star_reading.specs.Found.{IsRowOf}
 use Rattle.star_reading.proofs.Finds.{all_found, waits_within}
 use Rattle.star_alone.proofs.reading.Reader.read_all.Goals as goal
 
+pub loop-n-init : goal.loop-n-init
+loop-n-init c = c.in_ok-found.ensures (option_copied c.args.self.now.prelude)
+
 pub returns : goal.returns
 returns c =
     let r = c.args.self.now in

@@ -1,5 +1,5 @@
 use Rattle.std.proofs.Common.{◌<◌, ◌∙◌, length, ap, arith}
-use Rattle.star_call.specs.Shares.{all_named}
+use Rattle.star_call.specs.BoundArguments.{all_named}
 use Rattle.star_call.specs.Steps.{progress_of}
 use Rattle.star_call.proofs.Steps.{turn_passed, turn_pushed}
 use Rattle.star_call.proofs.binding.Names.shares.Goals as goal

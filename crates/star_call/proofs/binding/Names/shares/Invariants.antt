@@ -1,6 +1,6 @@
 use Rattle.std.proofs.Common.{◌≡◌, drop}
 use Rattle.star_meaning.specs.Binding.{also, shares}
-use Rattle.star_call.specs.Shares.{all_named, all_shown}
+use Rattle.star_call.specs.BoundArguments.{all_named, all_shown}
 use Rattle.star_call.specs.Steps.{progress_of}
 use Rattle.star_call.proofs.binding.Names.shares.Given as goal
 

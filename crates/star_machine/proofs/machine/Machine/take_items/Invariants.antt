@@ -1,6 +1,6 @@
 use Rattle.std.proofs.Common.{◌≡◌, ◌-◌}
 use Rattle.star_meaning.specs.Run.{collect}
-use Rattle.star_machine.specs.Gives.{with_front}
+use Rattle.star_machine.specs.Refines.{with_front}
 use Rattle.star_meaning.specs.Values.{take_item}
 use Rattle.star_machine.proofs.machine.Machine.take_items.Given as goal
 

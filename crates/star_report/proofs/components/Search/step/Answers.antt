@@ -10,7 +10,7 @@ follow-requires-clause-to c =
     let j = c.args.frame.next in
     let load = c.in-Some.load.now in
     let there = c.in-Some.ensures.lookup in
-    let at : (j < length (loads_at row n)) × (load ≡ get_or (loads_at row n) j load) = subst (λ loads. (j < length loads) × (load ≡ get_or loads j load)) c.loads_in.ensures (there.3.0, there.1) in
+    let at : (j < length (loads_at row n)) × (load ≡ get_or (loads_at row n) j load) = subst (λ loads. (j < length loads) × (load ≡ get_or loads j load)) c.loads.ensures (there.3.0, there.1) in
     let less = load_within row n j load c.requires.loads at.0 at.1 in
     let size = c.requires.search.sized in
     omega (arith, less, size)

@@ -1,0 +1,208 @@
+//! `print`, `fail`, `repr`, `str` and `type`.
+
+ghost use Rattle.std.specs.Prelude.{◌≡◌, ◌∷◌, IfOk, OnOk, string_bytes};
+ghost use Rattle.star_meaning.specs.BuiltIns as spec;
+ghost use Rattle.star_machine.specs.Refines.{Refines, RefinesBy};
+ghost use Rattle.star_meaning.specs.Run.{each};
+ghost use Rattle.star_machine.specs.Shown.{shown};
+ghost use Rattle.star_meaning.specs.Values.{str, type_name};
+ghost use Rattle.star_builtin.specs.Parts as part;
+
+use star_machine::content::Content;
+use star_machine::fault::{Stop, faulted};
+use star_machine::machine::Machine;
+use star_machine::setting::Setting;
+use star_meaning::fault::FaultCode;
+use star_meaning::given::Arguments;
+use star_store::values::{Cell, Value};
+use star_text::Text;
+use std::alloc::{AllocError, Global};
+
+/// The separator between the texts of a line: a space, unless `sep` is given. `BadType` if it is not a string.
+fn want_separator(
+    machine: &Machine,
+    setting: &Setting,
+    line: usize,
+    separator: Option<Value>,
+) -> Result<Text, Stop>
+    ensures { Refines (spec.want_separator setting.now line separator machine.now) result machine.now }
+{
+    let Some(value) = separator else {
+        return Ok(Text::new(machine.alloc(), " ")?);
+    };
+    let text = machine.want_text(setting, line, value)?;
+    Ok(text.share()?)
+}
+
+/// The `str` of each value.
+fn texts(
+    machine: &mut Machine,
+    setting: &Setting,
+    levels: u32,
+    line: usize,
+    values: &[Value],
+) -> Result<Vec<Text>, Stop>
+    ensures { RefinesBy (λ v. v.items) (each (str setting.now levels line) values.now machine.old) result machine.new }
+{
+    let mut texts = Vec::new(machine.alloc());
+    for value in values {
+        texts.push(machine.str(setting, levels, line, *value)?)?;
+    }
+    Ok(texts)
+}
+
+/// Puts texts after a line, each after another text.
+fn push_texts(line: &mut String, by: &Text, texts: &[Text]) -> Result<(), AllocError>
+    ensures { OnOk result (string_bytes line.new ≡ spec.joined by.now (string_bytes line.old ∷ texts.now)) }
+{
+    for text in texts {
+        line.push_str(by.as_str())?;
+        line.push_str(text.as_str())?;
+    }
+    Ok(())
+}
+
+/// Texts in one, with another one between each and the next.
+fn joined(alloc: Global, by: &Text, texts: &[Text]) -> Result<Text, AllocError>
+    ensures { IfOk result (λ t. t ≡ spec.joined by.now texts.now) }
+{
+    match texts {
+        [first, rest @ ..] => {
+            let mut line = String::from_str(alloc, first.as_str())?;
+            push_texts(&mut line, by, rest)?;
+            Text::of(line)
+        }
+        [] => Text::new(alloc, ""),
+    }
+}
+
+/// Adds a line of the `str` of each value, with a text between each and the next: 1 and the bytes of the line are paid
+/// before it.
+fn say(
+    machine: &mut Machine,
+    setting: &Setting,
+    levels: u32,
+    line: usize,
+    by: &Text,
+    values: &[Value],
+) -> Result<(), Stop>
+    ensures { Refines (part.said setting.now levels line by.now values.now machine.old) result machine.new }
+{
+    let texts = texts(machine, setting, levels, line, values)?;
+    let said = joined(machine.alloc(), by, &texts)?;
+    machine.pay(line, 1 + said.as_str().len() as u128)?;
+    machine.add_line(said)
+}
+
+/// The name of the type of a content.
+fn type_name(content: Content) -> &'static str
+    ensures { result.now ≡ type_name (shown content.entry) }
+{
+    match content {
+        Content::Nothing => "NoneType",
+        Content::Truth(_) => "bool",
+        Content::Number(_) => "int",
+        Content::BuiltInFunction(_) => "builtin_function_or_method",
+        Content::Held(Cell::Text(_)) => "string",
+        Content::Held(Cell::Range(_)) => "range",
+        Content::Held(Cell::Tuple(_)) => "tuple",
+        Content::Held(Cell::List(_)) => "list",
+        Content::Held(Cell::Dict(_)) => "dict",
+        Content::Held(Cell::Func(_)) => "function",
+        Content::Held(Cell::Frame(_)) => "",
+        Content::Held(Cell::Bound(_, _)) => "builtin_function_or_method",
+        Content::Nowhere => "",
+    }
+}
+
+/// The line of `print` and of `fail`: the `str` of each value, with the separator between each and the next. `Args` for
+/// a keyword argument but `sep`, `BadType` if the separator is not a string.
+fn print_line(
+    machine: &mut Machine,
+    setting: &Setting,
+    levels: u32,
+    line: usize,
+    given: &Arguments,
+) -> Result<(), Stop>
+    ensures { Refines (spec.print_line setting.now levels line given.now machine.old) result machine.new }
+{
+    let (values, separator) = machine.with_name(line, "sep", given)?;
+    let by = want_separator(machine, setting, line, separator)?;
+    say(machine, setting, levels, line, &by, values)
+}
+
+/// `print(*x, sep=" ")`: adds a line. `Args` for a keyword argument but `sep`, `BadType` if the separator is not a
+/// string.
+pub fn call_print(
+    machine: &mut Machine,
+    setting: &Setting,
+    levels: u32,
+    line: usize,
+    given: &Arguments,
+) -> Result<Value, Stop>
+    ensures { Refines (spec.call_print setting.now levels line given.now machine.old) result machine.new }
+{
+    print_line(machine, setting, levels, line, given)?;
+    Ok(Value::NoneValue)
+}
+
+/// `fail(*x, sep=" ")`: adds a line, and is then the fault `Fail`. `Args` for a keyword argument but `sep`, `BadType`
+/// if the separator is not a string.
+pub fn call_fail(
+    machine: &mut Machine,
+    setting: &Setting,
+    levels: u32,
+    line: usize,
+    given: &Arguments,
+) -> Result<Value, Stop>
+    ensures { Refines (spec.call_fail setting.now levels line given.now machine.old) result machine.new }
+{
+    print_line(machine, setting, levels, line, given)?;
+    Err(faulted(FaultCode::Fail, line))
+}
+
+/// `repr(x)`: the text of a value, as a new string. `Args` for another number of values and for a name.
+pub fn call_repr(
+    machine: &mut Machine,
+    setting: &Setting,
+    levels: u32,
+    line: usize,
+    given: &Arguments,
+) -> Result<Value, Stop>
+    ensures { Refines (spec.call_repr setting.now levels line given.now machine.old) result machine.new }
+{
+    let value = machine.only_one(line, machine.positional(line, given)?)?;
+    let text = machine.repr(setting, levels, line, value)?;
+    machine.new_text(line, text)
+}
+
+/// `str(x)`: a string as it is, else the text of a value, as a new string. `Args` for another number of values and for
+/// a name.
+pub fn call_str(
+    machine: &mut Machine,
+    setting: &Setting,
+    levels: u32,
+    line: usize,
+    given: &Arguments,
+) -> Result<Value, Stop>
+    ensures { Refines (spec.call_str setting.now levels line given.now machine.old) result machine.new }
+{
+    let value = machine.only_one(line, machine.positional(line, given)?)?;
+    let text = machine.str(setting, levels, line, value)?;
+    machine.new_text(line, text)
+}
+
+/// `type(x)`: the name of the type of a value, as a new string. `Args` for another number of values and for a name.
+pub fn call_type(
+    machine: &mut Machine,
+    setting: &Setting,
+    line: usize,
+    given: &Arguments,
+) -> Result<Value, Stop>
+    ensures { Refines (spec.call_type setting.now line given.now machine.old) result machine.new }
+{
+    let value = machine.only_one(line, machine.positional(line, given)?)?;
+    let name = type_name(machine.content(setting, value));
+    let text = Text::new(machine.alloc(), name)?;
+    machine.new_text(line, text)
+}

@@ -1,0 +1,7 @@
+use Rattle.std.proofs.Common.{◌≡◌, ◌++◌, drop}
+use Rattle.star_meaning.specs.Arguments.{positional_of}
+use Rattle.star_call.specs.EvaluatedArgument.{all_shown}
+use Rattle.star_call.proofs.passed.positional_of.Given as goal
+
+abbrev pub invariant-loop-argument : goal.invariant-loop-argument
+invariant-loop-argument l = l.positional.items ++ positional_of (all_shown (drop l.argument-index l.passed)) ≡ positional_of (all_shown l.passed)

@@ -1,0 +1,29 @@
+-- The effect of the code's walk over a part of a file: each name gets its spot, and the first undefined one is found.
+use Rattle.std.specs.Prelude.{◌≡◌, ◌≤◌, List, [], ◌∷◌, length, Option, Some}
+use Rattle.star_scope.specs.declared.chain.Scope.{Scope}
+use Rattle.star_scope.specs.declared.spot.Spot.{Spot}
+use Rattle.star_scope.specs.declared.uses.ResolvedNames.{ResolvedNames}
+use Rattle.star_scope.specs.Chains.{names_outside}
+use Rattle.star_scope.specs.Faults.{first_from}
+use Rattle.star_scope.specs.Names.{Names}
+use Rattle.star_scope.specs.Outlines.{Block}
+use Rattle.star_scope.specs.Places.{Spots, chain_length, spot_of, undefined}
+use Rattle.star_scope.specs.Spots.{Keeps, spot_at}
+use Rattle.star_scope.specs.Uses.{Use, Named, Defined}
+
+-- a use of a name is in no more blocks than a chain may have, and if the name has a spot, its token has it
+abbrev pub HasSpot : Spots → List Block → Option Names → Use → Type 0
+HasSpot spots blocks prelude (Named n chain) =
+    (length chain ≤ chain_length) × ((s : Spot) → spot_of blocks prelude n.text chain ≡ Some s → spots n.position.token
+    ≡ Some s)
+HasSpot spots blocks prelude (Defined number chain) = Unit {0}
+
+abbrev pub AllHaveSpots : Spots → List Block → Option Names → List Use → Type 0
+AllHaveSpots spots blocks prelude [] = Unit {0}
+AllHaveSpots spots blocks prelude (u ∷ us) = HasSpot spots blocks prelude u × AllHaveSpots spots blocks prelude us
+
+-- spots that are there stay; the uses have theirs; and the first undefined name is found, among these and before
+pub record Places (scope : Scope) (us : List Use) (old new : ResolvedNames) : Type 0 where
+  pub kept : Keeps old.spots new.spots
+  pub have : AllHaveSpots (spot_at new.spots) scope.blocks.now (names_outside scope.prelude) us
+  pub found : new.first ≡ first_from old.first (undefined scope.blocks.now (names_outside scope.prelude) us)
