@@ -2,26 +2,11 @@
 //! resolver.
 //!
 //! Tests are crates of their own, so that no crate is proved once more for its tests. They call public functions only.
-//! Most tests go through a table: a row has a text and the result that it must have. Begin at `tokens.rt` and
-//! `rows.rt`, or at `names.rt` for the resolver. What a report shows is in `tests/cases` instead, static faults among
-//! it; bundles, and files on demand, are in `serve_tests`; folders of the disk in `tests/folders`.
+//! Most tests go through a table: a row has a text and the result that it must have. Begin at `tests/tokens.rt` and
+//! `tests/rows.rt`, or at `tests/names.rt` for the resolver. What a report shows is in `tests/cases` of the repository
+//! instead, static faults among it; bundles, and files on demand, are in `serve_tests`; folders of the disk in
+//! `tests/folders` of the repository.
 #![tactic(auto)]
 
 #[cfg(test)]
-mod checks;
-#[cfg(test)]
-mod folder;
-#[cfg(test)]
-mod labels;
-#[cfg(test)]
-mod names;
-#[cfg(test)]
-mod rows;
-#[cfg(test)]
-mod text;
-#[cfg(test)]
-mod tokens;
-#[cfg(test)]
-mod trees;
-#[cfg(test)]
-mod words;
+mod tests;

@@ -1,6 +1,6 @@
 //! Tests of the resolver: the spots of the names of small files.
 
-use crate::checks::{answers, holds};
+use star_checks::{holds, reads};
 use star_label::files::Files;
 use star_label::label::Label;
 use star_parser::parse;
@@ -95,7 +95,7 @@ fn check(rt: &impl Abort, alloc: Global, cells: &[&str]) -> Result<(), Fail> {
         Some(&prelude)
     };
     let found = shown_by(rt, alloc, tree, seen)?;
-    answers(rt, text, found.as_str(), *wanted);
+    reads!(rt; found.as_str(), *wanted, text);
     Ok(())
 }
 

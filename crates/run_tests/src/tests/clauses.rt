@@ -1,6 +1,6 @@
 //! Tests of comprehensions with many clauses.
 
-use crate::samples::gives;
+use crate::tests::samples::gives;
 use std::alloc::{AllocError, Global};
 use std::process::Abort;
 use std::test::Fail;

@@ -3,7 +3,7 @@
 //! Each of them is called here on its happy path, since a body that always gives up for want of memory would meet its
 //! contract. What else a file's text can show is in `tests/cases`.
 
-use crate::samples::gives;
+use crate::tests::samples::gives;
 use star_machine::fault::faulted;
 use star_meaning::fault::FaultCode;
 use std::test::Fail;
@@ -101,24 +101,24 @@ const FAULTS: &[(&'static str, FaultCode, usize)] = &[
     ("def f(): return f()\nf()", FaultCode::Recursion, 1),
     ("r = [5]\nfor x in r:\n  r[0] = 6", FaultCode::Iterating, 3),
     ("r = [5]\nr[9] = 6", FaultCode::Index, 2),
-    (
-        "d = {n: n for n in range(40)}\nd.pop(38)\nd.pop(38)",
-        FaultCode::Key,
-        3,
-    ),
     ("{[]: 0}", FaultCode::BadType, 1),
     ("1 < 'ab'", FaultCode::BadType, 1),
-    (
-        "x = []\nx.append(x)\ny = []\ny.append(y)\nx == y",
-        FaultCode::Deep,
-        5,
-    ),
     ("def f(k): pass\nf(1, 2)", FaultCode::Args, 2),
     ("'é'[0]", FaultCode::Cut, 1),
     ("x = 9223372036854775807\nx + 1", FaultCode::Overflow, 2),
     ("x = [][0:1:0]", FaultCode::BadValue, 1),
     ("def f():\n  y = x\n  x = 2\nf()", FaultCode::Unbound, 2),
     ("def f():\n  return 1 // 0\nx = [\nf()]", FaultCode::Zero, 2),
+    (
+        "d = {n: n for n in range(40)}\nd.pop(38)\nd.pop(38)",
+        FaultCode::Key,
+        3,
+    ),
+    (
+        "x = []\nx.append(x)\ny = []\ny.append(y)\nx == y",
+        FaultCode::Deep,
+        5,
+    ),
 ];
 
 #[test]

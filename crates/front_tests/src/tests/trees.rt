@@ -1,9 +1,11 @@
 //! Tests of the parser: which texts have a tree, and the faults of the others.
 
-use crate::checks::{answers, holds, reads};
+use crate::tests::rows::rows_of;
+use star_checks::{holds, reads};
 use star_lex::token::SyntaxFault;
 use star_parser::parse;
 use std::alloc::{AllocError, Global};
+use std::process::Abort;
 
 /// A letter for the answer of `parse` for a text, and the line of a fault that has one: a tree, or a bad token,
 /// indentation, nesting or syntax.
@@ -18,6 +20,13 @@ fn shown(alloc: Global, text: &str) -> Result<String, AllocError> {
         Err(SyntaxFault::TooNested { line }) => ('n', *line),
     };
     format!(in alloc; "{letter}{line}")
+}
+
+/// Asserts the answer of `parse` for a text.
+fn parses_to(rt: &impl Abort, alloc: Global, text: &str, wanted: &str) -> Result<(), AllocError> {
+    let found = shown(alloc, text)?;
+    reads!(rt; found.as_str(), wanted, text);
+    Ok(())
 }
 
 /// Each row is a text, and the answer for it as text.
@@ -128,15 +137,11 @@ const ROWS: &str = "\
 
 #[test]
 fn rules_of_the_grammar(rt: HostRuntime) -> Result<(), AllocError> {
-    let mut count = 0u32;
-    for row in ROWS.split('\x1e').skip(1) {
-        if let Some((text, wanted)) = row.split_once('\x1f') {
-            let found = shown(rt.alloc(), text)?;
-            answers(&rt, text, found.as_str(), wanted);
-            count = count.saturating_add(1);
-        }
+    let rows = rows_of(rt.alloc(), ROWS)?;
+    holds!(&rt; rows.len() == 102);
+    for (text, wanted) in rows.as_slice() {
+        parses_to(&rt, rt.alloc(), *text, *wanted)?;
     }
-    holds!(&rt; count == 102);
     Ok(())
 }
 
@@ -164,8 +169,7 @@ fn nesting(rt: HostRuntime) -> Result<(), AllocError> {
     ];
     for (opening, closing, wanted) in rows {
         let text = brackets(rt.alloc(), opening, closing)?;
-        let found = shown(rt.alloc(), text.as_str())?;
-        reads(&rt, found.as_str(), wanted);
+        parses_to(&rt, rt.alloc(), text.as_str(), wanted)?;
     }
     Ok(())
 }

@@ -3,10 +3,10 @@
 ghost use Rattle.star_call.specs.Callees.{IsDefined, IsFound};
 ghost use Rattle.star_meaning.specs.Programs.{IsOfFile};
 
-use crate::checks::{hold, holds};
-use crate::samples::two;
+use crate::tests::samples::two;
 use star_call::callee::{Called, Callee};
 use star_call::passed::{EvaluatedArgument, given};
+use star_checks::holds;
 use star_enter::calls::callee_of;
 use star_enter::ordered::{bound_of, enter_bound};
 use star_label::files::Files as Labels;
@@ -73,27 +73,26 @@ fn are_bound(rt: &impl Abort, machine: &Machine, world: &World, frame: Value) {
             holds!(rt; slots.get(15) != Some(None) && slots.get(18) != Some(None));
             holds!(rt; slots.get(19).is_none());
         }
-        _ => hold(rt, false, "a frame"),
+        _ => holds!(rt; false, "a frame"),
     }
 }
 
-fn a_call_is_bound_by_its_layout(
-    rt: &impl Abort,
+/// The frame of a call that is bound by its layout.
+fn frame_of(
     machine: &mut Machine,
     world: &World,
     called: Called<'_>,
     given: &Arguments,
-) -> Result<(), Fail>
+) -> Result<Value, Fail>
     requires { IsDefined world.now.setting called }
 {
     match bound_of(machine, world, &called, given)? {
         Some(bound) => {
             let site = enter_bound(machine, 1, called, bound)?;
-            are_bound(rt, machine, world, site.frame);
+            Ok(site.frame)
         }
-        None => return Err(Fail::from("a call that is not bound")),
+        None => Err(Fail::from("a call that is not bound")),
     }
-    Ok(())
 }
 
 fn a_callee_is_bound_by_its_layout(
@@ -107,7 +106,9 @@ fn a_callee_is_bound_by_its_layout(
 {
     match callee {
         Callee::AFunction(called) => {
-            a_call_is_bound_by_its_layout(rt, machine, world, called, given)
+            let frame = frame_of(machine, world, called, given)?;
+            are_bound(rt, machine, world, frame);
+            Ok(())
         }
         _ => Err(Fail::from("a callee that is no function")),
     }

@@ -2,7 +2,7 @@
 
 ghost use Rattle.star_meaning.specs.Programs.{IsOfFile};
 
-use crate::checks::hold;
+use star_checks::holds;
 use star_eval::evaluate::evaluate;
 use star_eval::execute::{execute, execute_each};
 use star_label::files::Files as Labels;
@@ -112,7 +112,7 @@ fn sample_is_as_wanted_in(
         Ok(text) => Ok(text.as_str()),
         Err(stop) => Err(*stop),
     };
-    hold(rt, made == sample.want, sample.source);
+    holds!(rt; made == sample.want, sample.source);
     Ok(())
 }
 

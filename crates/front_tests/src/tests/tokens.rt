@@ -1,7 +1,7 @@
 //! Tests of the lexer: texts with their tokens or their first fault.
 
-use crate::checks::{answers, holds};
-use crate::rows::ROWS;
+use crate::tests::rows::{ROWS, rows_of};
+use star_checks::{holds, reads};
 use star_lex::lex;
 use star_lex::token::{Kind, SyntaxFault, Token};
 use std::alloc::{AllocError, Global};
@@ -45,14 +45,11 @@ fn shown(alloc: Global, text: &str) -> Result<String, AllocError> {
 
 #[test]
 fn tokens_of_the_rows(rt: HostRuntime) -> Result<(), AllocError> {
-    let mut count = 0u32;
-    for row in ROWS.split('\x1e').skip(1) {
-        if let Some((text, wanted)) = row.split_once('\x1f') {
-            let found = shown(rt.alloc(), text)?;
-            answers(&rt, text, found.as_str(), wanted);
-            count = count.saturating_add(1);
-        }
+    let rows = rows_of(rt.alloc(), ROWS)?;
+    holds!(&rt; rows.len() == 401);
+    for (text, wanted) in rows.as_slice() {
+        let found = shown(rt.alloc(), *text)?;
+        reads!(&rt; found.as_str(), *wanted, *text);
     }
-    holds!(&rt; count == 401);
     Ok(())
 }

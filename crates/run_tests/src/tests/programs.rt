@@ -1,6 +1,6 @@
 //! Tests of small programs: the steps that they pay and the levels that they open.
 
-use crate::samples::{Need, takes};
+use crate::tests::samples::{Need, takes};
 use std::test::Fail;
 
 /// Programs, the steps that each takes, and the line in which it stops if one is missing.
@@ -31,37 +31,31 @@ const STEPS: &[(&'static str, u32, usize)] = &[
     ("x = [0 for a in [1, 2] if None for b in [3]]", 14, 1),
 ];
 
-#[test]
-fn what_is_done_is_paid(rt: HostRuntime) -> Result<(), Fail> {
-    for row in STEPS {
-        takes(&rt, rt.alloc(), Need::Steps, *row)?;
-    }
-    Ok(())
-}
-
 /// Programs, the levels that each opens, and the line in which it stops if one is missing.
 const LEVELS: &[(&'static str, u32, usize)] = &[
     ("pass", 1, 1),
     ("x = 1", 2, 1),
-    ("x = 1 + 2", 3, 1),
-    ("x = [[[1]]]", 5, 1),
     ("x = (lambda: 1)()", 4, 1),
-    ("a, b = 1, 2", 3, 1),
-    ("x = [0]\nx[0] = 1", 3, 1),
-    ("if 1:\n  if 1:\n    if 1:\n      pass", 4, 3),
-    ("for i in [1]:\n  pass", 3, 1),
     (
         "f = lambda: 1\ng = lambda: f()\nh = lambda: g()\nx = h()",
         8,
         4,
     ),
+    ("x = 1 + 2", 3, 1),
+    ("x = [[[1]]]", 5, 1),
+    ("a, b = 1, 2", 3, 1),
+    ("x = [0]\nx[0] = 1", 3, 1),
+    ("if 1:\n  if 1:\n    if 1:\n      pass", 4, 3),
+    ("for i in [1]:\n  pass", 3, 1),
     ("def f():\n  return 1\nx = f()", 5, 2),
 ];
 
 #[test]
-fn what_runs_opens_levels(rt: HostRuntime) -> Result<(), Fail> {
-    for row in LEVELS {
-        takes(&rt, rt.alloc(), Need::Levels, *row)?;
+fn what_runs_pays_steps_and_opens_levels(rt: HostRuntime) -> Result<(), Fail> {
+    for (need, rows) in [(Need::Steps, STEPS), (Need::Levels, LEVELS)] {
+        for row in rows {
+            takes(&rt, rt.alloc(), need, *row)?;
+        }
     }
     Ok(())
 }

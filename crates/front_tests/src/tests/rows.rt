@@ -1,5 +1,21 @@
 //! Rows of texts with their tokens, for the tests of the lexer.
 
+use std::alloc::{AllocError, Global};
+
+/// The rows of a table, each after a byte 30: a text, and after a byte 31 its result.
+pub(crate) fn rows_of<'t>(
+    alloc: Global,
+    table: &'t str,
+) -> Result<Vec<(&'t str, &'t str)>, AllocError> {
+    let mut rows = Vec::new(alloc);
+    for row in table.split('\x1e') {
+        if let Some(cells) = row.split_once('\x1f') {
+            rows.push(cells)?;
+        }
+    }
+    Ok(rows)
+}
+
 /// Rows, each after a byte 30: a text, a byte 31, and its fault or its tokens. A token is a letter for its kind, its
 /// line, and the bytes at which it starts and ends.
 pub const ROWS: &str = "\
@@ -387,21 +403,21 @@ pub const ROWS: &str = "\
 \x1e'\n'\x1fbad_token 1\
 \x1e'\\\x1fbad_token 1\
 \x1eif x:\n\ty\n\x1fbad_indent 2\
-\x1ea\n\nb # c\nd\x1fn1:0-1 N1:1-1 n3:3-4 N3:4-4 n4:9-10 N4:10-10 E4:10-10\
-\x1e(\n)\n\x1fs1:0-1 s2:2-3 N2:3-3 E3:4-4\
-\x1ex \\\ny\n\x1fn1:0-1 n2:4-5 N2:5-5 E3:6-6\
-\x1e'''\n'''\nz\x1ft1:0-7 N2:7-7 n3:8-9 N3:9-9 E3:9-9\
-\x1eif a:\n b\n  c\n d\x1fk1:0-2 n1:3-4 s1:4-5 N1:5-5 I2:7-7 n2:7-8 N2:8-8 I3:11-11 n3:11-12 N3:12-12 O4:14-14 n4:14-15 N4:15-15 O4:15-15 E4:15-15\
 \x1eif x:\r\n\ty\r\n\x1fbad_indent 2\
-\x1ea\r\n\r\nb # c\r\nd\x1fn1:0-1 N1:1-1 n3:5-6 N3:6-6 n4:12-13 N4:13-13 E4:13-13\
-\x1e(\r\n)\r\n\x1fs1:0-1 s2:3-4 N2:4-4 E3:6-6\
-\x1ex \\\r\ny\r\n\x1fn1:0-1 n2:5-6 N2:6-6 E3:8-8\
-\x1e'''\r\n'''\r\nz\x1ft1:0-8 N2:8-8 n3:10-11 N3:11-11 E3:11-11\
-\x1eif a:\r\n b\r\n  c\r\n d\x1fk1:0-2 n1:3-4 s1:4-5 N1:5-5 I2:8-8 n2:8-9 N2:9-9 I3:13-13 n3:13-14 N3:14-14 O4:17-17 n4:17-18 N4:18-18 O4:18-18 E4:18-18\
 \x1eif x:\r\ty\r\x1fbad_indent 2\
+\x1ea\n\nb # c\nd\x1fn1:0-1 N1:1-1 n3:3-4 N3:4-4 n4:9-10 N4:10-10 E4:10-10\
+\x1ea\r\n\r\nb # c\r\nd\x1fn1:0-1 N1:1-1 n3:5-6 N3:6-6 n4:12-13 N4:13-13 E4:13-13\
 \x1ea\r\rb # c\rd\x1fn1:0-1 N1:1-1 n3:3-4 N3:4-4 n4:9-10 N4:10-10 E4:10-10\
+\x1e(\n)\n\x1fs1:0-1 s2:2-3 N2:3-3 E3:4-4\
+\x1e(\r\n)\r\n\x1fs1:0-1 s2:3-4 N2:4-4 E3:6-6\
 \x1e(\r)\r\x1fs1:0-1 s2:2-3 N2:3-3 E3:4-4\
+\x1ex \\\ny\n\x1fn1:0-1 n2:4-5 N2:5-5 E3:6-6\
+\x1ex \\\r\ny\r\n\x1fn1:0-1 n2:5-6 N2:6-6 E3:8-8\
 \x1ex \\\ry\r\x1fn1:0-1 n2:4-5 N2:5-5 E3:6-6\
+\x1e'''\n'''\nz\x1ft1:0-7 N2:7-7 n3:8-9 N3:9-9 E3:9-9\
+\x1e'''\r\n'''\r\nz\x1ft1:0-8 N2:8-8 n3:10-11 N3:11-11 E3:11-11\
 \x1e'''\r'''\rz\x1ft1:0-7 N2:7-7 n3:8-9 N3:9-9 E3:9-9\
+\x1eif a:\n b\n  c\n d\x1fk1:0-2 n1:3-4 s1:4-5 N1:5-5 I2:7-7 n2:7-8 N2:8-8 I3:11-11 n3:11-12 N3:12-12 O4:14-14 n4:14-15 N4:15-15 O4:15-15 E4:15-15\
+\x1eif a:\r\n b\r\n  c\r\n d\x1fk1:0-2 n1:3-4 s1:4-5 N1:5-5 I2:8-8 n2:8-9 N2:9-9 I3:13-13 n3:13-14 N3:14-14 O4:17-17 n4:17-18 N4:18-18 O4:18-18 E4:18-18\
 \x1eif a:\r b\r  c\r d\x1fk1:0-2 n1:3-4 s1:4-5 N1:5-5 I2:7-7 n2:7-8 N2:8-8 I3:11-11 n3:11-12 N3:12-12 O4:14-14 n4:14-15 N4:15-15 O4:15-15 E4:15-15\
 ";

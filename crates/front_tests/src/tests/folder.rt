@@ -1,7 +1,7 @@
 //! Tests of folders of the disk, as far as a test can see: it runs in a folder without files of the language.
 
-use crate::checks::{holds, reads};
 use star_bundle::error::ServeError;
+use star_checks::{holds, reads};
 use star_folder::disk::{DiskFolder, front_at, path_of};
 use star_folder::walk::files_in;
 use star_label::label::Label;
@@ -29,14 +29,14 @@ fn files_of_the_disk(rt: HostRuntime) -> Result<(), Fail> {
         ("/", "//a/b/c.star"),
         ("", "a/b/c.star"),
     ] {
-        reads(&rt, path_of(alloc, top, &label)?.as_str(), want);
+        reads!(&rt; path_of(alloc, top, &label)?.as_str(), want);
     }
     let label = Label::read(alloc, "//:BUILD", "")?;
-    reads(&rt, path_of(alloc, ".", &label)?.as_str(), ".//BUILD");
+    reads!(&rt; path_of(alloc, ".", &label)?.as_str(), ".//BUILD");
     fs::write(&rt, "front-of-a-file", "x = 1")?;
     let front = front_at(&rt, String::from_str(alloc, "front-of-a-file")?, 3)?;
     fs::remove_file(&rt, "front-of-a-file")?;
     holds!(&rt; front.bytes.as_slice() == b"x =".as_slice());
-    reads(&rt, front.path.as_str(), "front-of-a-file");
+    reads!(&rt; front.path.as_str(), "front-of-a-file");
     Ok(())
 }

@@ -1,6 +1,6 @@
 //! Tests of labels and of numbered files, with values from the environment, so that no compiler can fold them.
 
-use crate::checks::{answers, hold, holds, reads};
+use star_checks::{holds, reads};
 use star_label::error::LabelError;
 use star_label::files::Files;
 use star_label::label::Label;
@@ -72,7 +72,7 @@ fn reads_the_table(rt: HostRuntime) -> Result<(), Fail> {
             Err(LabelError::BadLabel) => "!",
             Err(_) => "another fault",
         };
-        answers(&rt, text, found, wanted);
+        reads!(&rt; found, wanted, text);
         rows = u32::saturating_add(rows, 1);
     }
     holds!(&rt; rows == 256);
@@ -84,10 +84,10 @@ fn has_a_package_and_a_text(rt: HostRuntime) -> Result<(), Fail> {
     let alloc = rt.alloc();
     assert!(rt; is_package("lib"));
     let label = Label::read(alloc, ":x.star", "lib")?;
-    reads(&rt, label.text(), "//lib:x.star");
-    reads(&rt, label.package(), "lib");
+    reads!(&rt; label.text(), "//lib:x.star");
+    reads!(&rt; label.package(), "lib");
     let text = format!(in alloc; "{}", &label)?;
-    reads(&rt, text.as_str(), "//lib:x.star");
+    reads!(&rt; text.as_str(), "//lib:x.star");
     Ok(())
 }
 
@@ -95,9 +95,9 @@ fn has_a_package_and_a_text(rt: HostRuntime) -> Result<(), Fail> {
 fn stands_at_folders(rt: HostRuntime) -> Result<(), Fail> {
     let alloc = rt.alloc();
     let deep = Label::at(alloc, &["lib", "a-b"], "b.star")?;
-    reads(&rt, deep.text(), "//lib/a-b:b.star");
+    reads!(&rt; deep.text(), "//lib/a-b:b.star");
     let top = Label::at(alloc, &[], "b.star")?;
-    reads(&rt, top.text(), "//:b.star");
+    reads!(&rt; top.text(), "//:b.star");
     for (folder, name) in [
         ("lib", "x y.star"),
         ("..", "x"),
@@ -106,7 +106,7 @@ fn stands_at_folders(rt: HostRuntime) -> Result<(), Fail> {
         ("lib", ""),
     ] {
         let refused = Label::at(alloc, &[folder], name).err();
-        hold(&rt, refused == Some(LabelError::BadLabel), name);
+        holds!(&rt; refused == Some(LabelError::BadLabel), name);
     }
     Ok(())
 }
@@ -169,8 +169,8 @@ fn numbers_by_the_order_of_labels(rt: HostRuntime) -> Result<(), Fail> {
     assert!(rt; files.len() == 4);
     for (n, name) in ["//:z", "//a/b:x", "//a:y", "//b:a"].iter().enumerate() {
         assert!(rt; n < files.len());
-        reads(&rt, files.label(n).text(), *name);
-        reads(&rt, files.text(n), *name);
+        reads!(&rt; files.label(n).text(), *name);
+        reads!(&rt; files.text(n), *name);
         let label = Label::read(alloc, *name, "")?;
         holds!(&rt; files.find(&label) == Some(n));
     }

@@ -1,0 +1,5 @@
+//! Tests of stores, and of the indexes of dictionaries.
+
+mod fixture;
+mod indexes;
+mod stores;
