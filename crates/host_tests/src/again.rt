@@ -5,9 +5,9 @@ ghost use Rattle.star_outcome.specs.GoodEnds.{AreGoodEndsOf};
 ghost use Rattle.star_outcome.specs.Kept.{AreModulesOf};
 ghost use Rattle.star_reading.specs.Found.{Within};
 
-use crate::checks::holds;
 use crate::meeting::Meeting;
 use crate::runs::{all_roots, files_of, report_text};
+use star_checks::holds;
 use star_host::{GoodEnd, Known, Reads, Run, RunOptions, Trees, run_in};
 use star_label::files::Files;
 use star_report::wanted::Wanted;

@@ -1,8 +1,8 @@
 //! Reports of bundles by the caller's own thread.
 
-use crate::checks::holds;
 use star_alone::answer::answer_alone;
 use star_bundle::error::ServeError;
+use star_checks::holds;
 use star_report::wanted::Wanted;
 use std::alloc::{AllocError, Global};
 use std::test::Fail;

@@ -1,6 +1,6 @@
 //! Tests of the schedule: the file that a loader runs next.
 
-use crate::checks::holds;
+use star_checks::holds;
 use star_flow::{Flow, Graph, Schedule};
 use std::alloc::Global;
 use std::test::Fail;

@@ -4,10 +4,10 @@ ghost use Rattle.std.specs.Prelude.{◌≡◌, ◌<◌, All, length};
 ghost use Rattle.star_host.specs.Worlds.{IsWorld};
 ghost use Rattle.star_outcome.specs.Fits.{IsAsked};
 
-use crate::checks::holds;
 use crate::meeting::Meeting;
 use crate::runs::{all_roots, files_of};
 use star_cache::{LoadCache, Seat};
+use star_checks::holds;
 use star_host::{
     Common, LoadError, Naming, RunOptions, Shelf, Told, Trace, Trees, load, programs, read_files,
 };

@@ -11,8 +11,6 @@ mod alone;
 #[cfg(test)]
 mod cache;
 #[cfg(test)]
-mod checks;
-#[cfg(test)]
 mod flow;
 #[cfg(test)]
 mod held;

@@ -4,9 +4,9 @@ ghost use Rattle.std.specs.Prelude.{◌≡◌, ◌<◌, All, length};
 ghost use Rattle.star_host.specs.Worlds.{IsWorld};
 ghost use Rattle.star_outcome.specs.Fits.{IsAsked};
 
-use crate::checks::holds;
 use crate::runs::{THREE, files_of};
 use star_cache::{Book, LoadCache};
+use star_checks::holds;
 use star_host::gate::Open;
 use star_host::{
     Common, LoadError, Naming, RunOptions, Shelf, Told, Trace, Trees, load, programs, read_files,
@@ -15,6 +15,7 @@ use star_label::files::Files;
 use star_label::label::Label;
 use std::alloc::{AllocError, Global};
 use std::marker::Brand;
+use std::process::Abort;
 use std::sync::Wait;
 use std::sync::ledger::Blank;
 use std::test::Fail;
@@ -96,38 +97,37 @@ fn load_label<R: Threads + Wait + Sync>(
     load_first::<Brand, R>(rt, &common, &roots, Blank::new(2))
 }
 
-#[test]
-fn a_root_is_loaded_with_all_that_it_loads(rt: HostRuntime) -> Result<(), Fail> {
-    let alloc = rt.alloc();
-    let files = files_of(alloc, &THREE)?;
+/// Asserts whether the module of `//:a.star` is good, and how many files were begun, all by the first loader.
+fn loads<R: Abort + Threads + Wait + Sync>(
+    rt: &R,
+    alloc: Global,
+    bundle: &[(&str, &str)],
+    good: bool,
+    begun: u32,
+) -> Result<(), Fail> {
+    let files = files_of(alloc, bundle)?;
     let label = Label::read(alloc, "//:a.star", "")?;
-    let loaded = load_label(&rt, alloc, &files, &label)?;
+    let loaded = load_label(rt, alloc, &files, &label)?;
     let want = Loaded {
-        good: true,
-        begun: 3,
-        first: 3,
-        sum: 3,
+        good,
+        begun,
+        first: begun,
+        sum: begun,
     };
-    holds!(&rt; loaded == Some(want));
+    holds!(rt; loaded == Some(want));
     Ok(())
 }
 
 #[test]
+fn a_root_is_loaded_with_all_that_it_loads(rt: HostRuntime) -> Result<(), Fail> {
+    loads(&rt, rt.alloc(), &THREE, true, 3)
+}
+
+#[test]
 fn a_root_is_told_bad_where_a_name_is_missing(rt: HostRuntime) -> Result<(), Fail> {
-    let alloc = rt.alloc();
     let bundle = [
         ("//:a.star", "load(\"//:b.star\", \"y\")\nx = y"),
         ("//:b.star", "y = missing"),
     ];
-    let files = files_of(alloc, &bundle)?;
-    let label = Label::read(alloc, "//:a.star", "")?;
-    let loaded = load_label(&rt, alloc, &files, &label)?;
-    let want = Loaded {
-        good: false,
-        begun: 2,
-        first: 2,
-        sum: 2,
-    };
-    holds!(&rt; loaded == Some(want));
-    Ok(())
+    loads(&rt, rt.alloc(), &bundle, false, 2)
 }

@@ -1,6 +1,6 @@
 //! A gate that makes bodies wait for one another.
 
-use crate::checks::holds;
+use star_checks::holds;
 use star_host::gate::Gate;
 use std::process::Abort;
 use std::sync::atomic::{AtomicU64, Ordering};

@@ -2,7 +2,7 @@
 
 ghost use Rattle.std.specs.Prelude.{◌≡◌, ◌<◌, ◌≤◌, All, IfOk, length};
 
-use crate::checks::{holds, reads};
+use star_checks::{holds, reads};
 use star_host::gate::{Gate, Open};
 use star_host::{Reads, Run, RunOptions, run};
 use star_label::files::Files;
@@ -150,7 +150,7 @@ pub fn reports<R: Abort + Threads + Sync>(
     requires { length run.old.cells ≡ length files.now }
 {
     let text = report_text(rt, alloc, files, run, &[], Wanted::NOTHING, threads)?;
-    reads(rt, text.as_str(), want);
+    reads!(rt; text.as_str(), want);
     Ok(())
 }
 

@@ -2,7 +2,7 @@
 
 ghost use Rattle.std.specs.Prelude.{◌<◌, All};
 
-use crate::checks::holds;
+use star_checks::holds;
 use star_sound::{Prospect, prospects};
 use std::alloc::Global;
 use std::process::Abort;

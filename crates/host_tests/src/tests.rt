@@ -1,7 +1,7 @@
 //! Reports of whole runs by 1, 2, 3, 4 and 64 loaders, which must all be the same.
 
-use crate::checks::reads;
 use crate::runs::report_of;
+use star_checks::reads;
 use std::test::Fail;
 
 #[test]
@@ -13,11 +13,7 @@ fn a_file_that_two_load_runs_once(rt: HostRuntime) -> Result<(), Fail> {
     ];
     for loaders in [1, 2, 3, 4, 64] {
         let report = report_of(&rt, rt.alloc(), &bundle, loaders)?;
-        reads(
-            &rt,
-            report.as_str(),
-            "{\"begun\":3,\"modules\":[{\"globals\":{\"x\":\"(1,)\"},\"label\":\"//:a.star\",\"lines\":[],\"status\":\"ok\"},{\"globals\":{\"y\":\"[(1,), (1,)]\"},\"label\":\"//:b.star\",\"lines\":[],\"status\":\"ok\"},{\"globals\":{\"k\":\"(1,)\"},\"label\":\"//:c.star\",\"lines\":[\"once\"],\"status\":\"ok\"}]}\n",
-        );
+        reads!(&rt; report.as_str(), "{\"begun\":3,\"modules\":[{\"globals\":{\"x\":\"(1,)\"},\"label\":\"//:a.star\",\"lines\":[],\"status\":\"ok\"},{\"globals\":{\"y\":\"[(1,), (1,)]\"},\"label\":\"//:b.star\",\"lines\":[],\"status\":\"ok\"},{\"globals\":{\"k\":\"(1,)\"},\"label\":\"//:c.star\",\"lines\":[\"once\"],\"status\":\"ok\"}]}\n");
     }
     Ok(())
 }

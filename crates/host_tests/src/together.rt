@@ -1,8 +1,8 @@
 //! Tests of loaders that work at the same time.
 
-use crate::checks::{hold, holds, reads};
 use crate::meeting::{Counting, Meeting};
 use crate::runs::{THREE, began, files_of, report_of, report_text, reports, rings, run_all, sums};
+use star_checks::{holds, reads};
 use star_host::gate::Open;
 use star_report::wanted::Wanted;
 use std::test::Fail;
@@ -88,7 +88,7 @@ fn each_body_runs_once(rt: HostRuntime) -> Result<(), Fail> {
     let mut run = run_all(&rt, alloc, &files, 1, &alone)?;
     let one = report_text(&rt, alloc, &files, &mut run, &[], Wanted::NOTHING, 1)?;
     let has_sum = one.as_str().contains("832040");
-    hold(&rt, has_sum, "the 30th sum is there");
+    holds!(&rt; has_sum, "the 30th sum is there");
     for loaders in [2, 3, 4, 64] {
         let gate = Meeting::new([0, 0, 0, 0], LOOKS);
         let mut run = run_all(&rt, alloc, &files, loaders, &gate)?;
@@ -113,19 +113,21 @@ fn each_of_three_bodies_runs_once(rt: HostRuntime) -> Result<(), Fail> {
     Ok(())
 }
 
+/// Three files that load one another, and one that loads one of them.
+const RING: [(&str, &str); 4] = [
+    ("//:a.star", "load(\":b.star\", \"x\")"),
+    ("//:b.star", "load(\":c.star\", \"x\")"),
+    ("//:c.star", "load(\":a.star\", \"x\")"),
+    ("//:d.star", "load(\":b.star\", \"x\")"),
+];
+
 #[test]
 fn a_ring_has_one_report(rt: HostRuntime) -> Result<(), Fail> {
     let alloc = rt.alloc();
-    let bundle = [
-        ("//:a.star", "load(\":b.star\", \"x\")"),
-        ("//:b.star", "load(\":c.star\", \"x\")"),
-        ("//:c.star", "load(\":a.star\", \"x\")"),
-        ("//:d.star", "load(\":b.star\", \"x\")"),
-    ];
-    let one = report_of(&rt, alloc, &bundle, 1)?;
+    let one = report_of(&rt, alloc, &RING, 1)?;
     for _ in 0..50 {
-        let three = report_of(&rt, alloc, &bundle, 3)?;
-        reads(&rt, three.as_str(), one.as_str());
+        let three = report_of(&rt, alloc, &RING, 3)?;
+        reads!(&rt; three.as_str(), one.as_str());
     }
     Ok(())
 }

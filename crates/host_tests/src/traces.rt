@@ -2,7 +2,7 @@
 
 ghost use Rattle.star_outcome.specs.Refusals.{IsRefusal};
 
-use crate::checks::holds;
+use star_checks::holds;
 use star_host::{CyclicLoad, Naming, Trace};
 use std::alloc::{AllocError, Global};
 use std::marker::Brand;

@@ -1,7 +1,7 @@
 //! A second run in one process, after one that may have been refused memory.
 
-use crate::checks::holds;
 use crate::runs::all_roots;
+use star_checks::holds;
 use star_host::gate::Open;
 use star_host::{Reads, RunOptions, run};
 use star_label::files::Files;

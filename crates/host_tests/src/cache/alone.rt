@@ -1,12 +1,13 @@
 //! Tests of the book alone, without a lock: rows of calls, each with what it answers.
 
-ghost use Rattle.std.specs.Prelude.{◌≡◌, ◌<◌, true, MatchOption};
+ghost use Rattle.std.specs.Prelude.{◌≡◌, ◌<◌, ◌≤◌, true, MatchOption};
 ghost use Rattle.star_cache.specs.Ring.{ring};
 ghost use Rattle.star_cache.specs.State.{Loads};
 
 use super::kept::{Kept, ended};
-use crate::checks::{hold, holds};
 use star_cache::{Book, BookError, ByDepth, Entry, Reply, no_cycle_is_good};
+use star_checks::holds;
+use std::alloc::Global;
 use std::marker::{Brand, PhantomData};
 use std::process::Abort;
 use std::sync::ledger::Ledger;
@@ -87,13 +88,22 @@ fn answers<L: Ledger>(rt: &impl Abort, book: &mut Book<Kept<L>>, rows: &[(Call, 
     }
 }
 
+/// A book of so many seats, each of which has begun the file of its number.
+fn begun(rt: &impl Abort, alloc: Global, seats: usize) -> Result<Book<Kept<Brand>>, Fail>
+    requires { (1 ≤ seats) × (seats ≤ 64) }
+{
+    let mut book: Book<Kept<Brand>> = Book::new(alloc, 64, seats)?;
+    for seat in 0..seats {
+        let call = Call::Ask(seat, None, seat);
+        answers(rt, &mut book, &[(call, Said::Begun)]);
+    }
+    Ok(book)
+}
+
 #[test]
 fn a_ring_of_three_is_refused_where_it_would_close(rt: HostRuntime) -> Result<(), Fail> {
-    let mut book: Book<Kept<Brand>> = Book::new(rt.alloc(), 64, 3)?;
+    let mut book = begun(&rt, rt.alloc(), 3)?;
     let rows = [
-        (Call::Ask(0, None, 0), Said::Begun),
-        (Call::Ask(1, None, 1), Said::Begun),
-        (Call::Ask(2, None, 2), Said::Begun),
         (Call::Ask(0, Some(0), 1), Said::Wait),
         (Call::Ask(1, Some(1), 2), Said::Wait),
         (Call::Ask(2, Some(2), 0), Said::Cycle),
@@ -155,10 +165,8 @@ fn has_begun<L: Ledger>(rt: &impl Abort, book: &Book<Kept<L>>, seat: usize, want
 
 #[test]
 fn an_abandoned_file_stays_spoiled_and_counted(rt: HostRuntime) -> Result<(), Fail> {
-    let mut book: Book<Kept<Brand>> = Book::new(rt.alloc(), 64, 2)?;
+    let mut book = begun(&rt, rt.alloc(), 2)?;
     let rows = [
-        (Call::Ask(0, None, 0), Said::Begun),
-        (Call::Ask(1, None, 1), Said::Begun),
         (Call::Ask(1, Some(1), 0), Said::Wait),
         (Call::Abandon(0), Said::Ended),
         (Call::Wake(1), Said::Spoiled),
@@ -174,14 +182,7 @@ fn an_abandoned_file_stays_spoiled_and_counted(rt: HostRuntime) -> Result<(), Fa
 
 #[test]
 fn sixty_four_loaders_in_a_ring(rt: HostRuntime) -> Result<(), Fail> {
-    let mut book: Book<Kept<Brand>> = Book::new(rt.alloc(), 64, 64)?;
-    for seat in 0..64 {
-        answers(
-            &rt,
-            &mut book,
-            &[(Call::Ask(seat, None, seat), Said::Begun)],
-        );
-    }
+    let mut book = begun(&rt, rt.alloc(), 64)?;
     for seat in 0..63 {
         let call = Call::Ask(seat, Some(seat), seat + 1);
         answers(&rt, &mut book, &[(call, Said::Wait)]);
@@ -204,7 +205,7 @@ fn ninth_is_done<L: Ledger>(rt: &impl Abort, book: Book<Kept<L>>) {
         Some(Entry::Done(kept)) => kept.number == 9 && kept.good,
         _ => false,
     };
-    hold(rt, is_good, "the file 9 is done and good");
+    holds!(rt; is_good, "the file 9 is done and good");
     holds!(rt; matches!(entries.get(11), Some(Entry::Fresh)));
 }
 

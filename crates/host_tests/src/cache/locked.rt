@@ -5,10 +5,11 @@ ghost use Rattle.star_cache.specs.Ring.{ring};
 ghost use Rattle.star_cache.specs.State.{Loads};
 
 use super::kept::{Kept, ended, next};
-use crate::checks::holds;
 use star_cache::{Book, BookError, Entry, LoadCache, Reply, Seat};
+use star_checks::holds;
 use std::alloc::{AllocError, Global};
 use std::marker::Brand;
+use std::process::Abort;
 use std::sync::Wait;
 use std::sync::atomic::{AtomicU64, Ordering};
 use std::sync::ledger::{Blank, Ledger};
@@ -118,22 +119,32 @@ fn ring<R: Threads + Wait + Sync>(
     ring_ends::<Brand, R>(rt, alloc, Blank::new(loaders as u64), loaders, size)
 }
 
-#[test]
-fn three_loaders_end_a_ring_of_four(rt: HostRuntime) -> Result<(), Fail> {
-    for _ in 0..200u32 {
-        let ends = ring(&rt, rt.alloc(), 3, 4)?;
-        holds!(&rt; ends);
+// Several loaders end a ring, as often as is asked for.
+fn rings_end<R: Abort + Threads + Wait + Sync>(
+    rt: &R,
+    alloc: Global,
+    times: u32,
+    loaders: usize,
+    size: usize,
+) -> Result<(), Fail>
+    requires loaders { (1 ≤ loaders) × (loaders ≤ 64) }
+    requires size { (1 ≤ size) × (size ≤ 64) }
+{
+    for _ in 0..times {
+        let ends = ring(rt, alloc, loaders, size)?;
+        holds!(rt; ends);
     }
     Ok(())
 }
 
 #[test]
+fn three_loaders_end_a_ring_of_four(rt: HostRuntime) -> Result<(), Fail> {
+    rings_end(&rt, rt.alloc(), 200, 3, 4)
+}
+
+#[test]
 fn two_loaders_end_two_files_that_load_each_other(rt: HostRuntime) -> Result<(), Fail> {
-    for _ in 0..2000u32 {
-        let ends = ring(&rt, rt.alloc(), 2, 2)?;
-        holds!(&rt; ends);
-    }
-    Ok(())
+    rings_end(&rt, rt.alloc(), 2000, 2, 2)
 }
 
 // One loader asks for a file. Who begins it runs it for a while.
