@@ -14,6 +14,7 @@ use Rattle.star_check.proofs.Judgements.{fault_unsound, faulty_barred, lack_unso
 use Rattle.std.proofs.lemmas.Bool.{cases_order}
 use Rattle.star_check.specs.Text.{IsCheckAnswer, IsCheckText, check_text}
 use Rattle.star_plan.proofs.Rising.{same_rising}
+use Rattle.star_reply.proofs.Rows.{same_rows}
 
 -- a file with a static fault
 abbrev IsBarred : Plan → ℕ → Type 0
@@ -151,19 +152,14 @@ one_verdict plan n Unrun (AtFault g) x y = absurd (fault_unsound plan n g y x)
 one_verdict plan n Unrun (Fails d k) x y = absurd (lack_unsound plan n y.1.0 y.1.2 x)
 one_verdict plan n Unrun Unrun x y = refl
 
-same_modules : (plan : Plan) (ms ks : List Module) → map (λ (m : Module). m.file) ms ≡ map (λ (m : Module). m.file) ks → All (λ (m : Module). IsVerdict plan m.file m.verdict) ms → All (λ (m : Module). IsVerdict plan m.file m.verdict) ks → ms ≡ ks
-same_modules plan [] [] e p q = refl
-same_modules plan [] (k ∷ ks) e p q = absurd (let no : ⊥ = cc in no)
-same_modules plan (m ∷ ms) [] e p q = absurd (let no : ⊥ = cc in no)
-same_modules plan (m ∷ ms) (k ∷ ks) e p q =
-    let files : m.file ≡ k.file = cc in
-    let rest : map (λ (x : Module). x.file) ms ≡ map (λ (x : Module). x.file) ks = cc in
-    let own : IsVerdict plan m.file m.verdict = p 0 m (omega arith) in
-    let other : IsVerdict plan m.file k.verdict = subst (λ z. IsVerdict plan z k.verdict) (sym files) (q 0 k (omega arith)) in
+one_module : (plan : Plan) (m k : Module) → m.file ≡ k.file → IsVerdict plan m.file m.verdict → IsVerdict plan k.file k.verdict → m ≡ k
+one_module plan m k files own its =
+    let other : IsVerdict plan m.file k.verdict = subst (λ z. IsVerdict plan z k.verdict) (sym files) its in
     let same : m.verdict ≡ k.verdict = one_verdict plan m.file m.verdict k.verdict own other in
-    let heads : m ≡ k = ap (λ z. let r : Module = record { file = z; verdict = m.verdict } in r) files ∙ ap (λ z. let r : Module = record { file = k.file; verdict = z } in r) same in
-    let tails : ms ≡ ks = same_modules plan ms ks rest (λ i d less. p (suc i) d (omega (arith, less))) (λ i d less. q (suc i) d (omega (arith, less))) in
-    ap (λ x. x ∷ ms) heads ∙ ap (λ xs. k ∷ xs) tails
+    ap (λ z. let r : Module = record { file = z; verdict = m.verdict } in r) files ∙ ap (λ z. let r : Module = record { file = k.file; verdict = z } in r) same
+
+same_modules : (plan : Plan) (ms ks : List Module) → map (λ (m : Module). m.file) ms ≡ map (λ (m : Module). m.file) ks → All (λ (m : Module). IsVerdict plan m.file m.verdict) ms → All (λ (m : Module). IsVerdict plan m.file m.verdict) ks → ms ≡ ks
+same_modules plan = same_rows (λ (m : Module). m.file) (λ (m : Module). IsVerdict plan m.file m.verdict) (one_module plan)
 
 one_check : (plan : Plan) (ms ks : List Module) → IsCheck plan ms → IsCheck plan ks → ms ≡ ks
 one_check plan ms ks x y =

@@ -19,6 +19,7 @@ use Rattle.star_report.proofs.OneText.{one_full_text}
 use Rattle.star_reply.proofs.Checks.{one_check_text}
 use Rattle.star_plan.proofs.Rising.{same_rising}
 use Rattle.star_reply.proofs.Goods.{all_good_too, same_answer}
+use Rattle.star_reply.proofs.Rows.{same_rows}
 
 -- ---- globals
 
@@ -68,16 +69,13 @@ same_test false true f g = f.1 (g.0 refl)
 abbrev Tests : (Edge → Type 0) → List Edge → Type 0
 Tests A es = All (λ (e : Edge). (e.on_cycle ≡ true) ↔ A e) es
 
+one_edge : (A : ℕ → Type 0) (e f : Edge) → e.to ≡ f.to → (e.on_cycle ≡ true) ↔ A e.to → (f.on_cycle ≡ true) ↔ A f.to → e ≡ f
+one_edge A e f to p q =
+    let cycle : e.on_cycle ≡ f.on_cycle = same_test e.on_cycle f.on_cycle p (subst (λ n. (f.on_cycle ≡ true) ↔ A n) (sym to) q) in
+    ap (λ n. let x : Edge = record { to = n; on_cycle = e.on_cycle } in x) to ∙ ap (λ b. let x : Edge = record { to = f.to; on_cycle = b } in x) cycle
+
 same_edges : (A : ℕ → Type 0) (es fs : List Edge) → map (λ (e : Edge). e.to) es ≡ map (λ (e : Edge). e.to) fs → Tests (λ (e : Edge). A e.to) es → Tests (λ (e : Edge). A e.to) fs → es ≡ fs
-same_edges A [] [] s p q = refl
-same_edges A [] (f ∷ fs) s p q = absurd (let no : ⊥ = cc in no)
-same_edges A (e ∷ es) [] s p q = absurd (let no : ⊥ = cc in no)
-same_edges A (e ∷ es) (f ∷ fs) s p q =
-    let to : e.to ≡ f.to = cc in
-    let rest : map (λ (x : Edge). x.to) es ≡ map (λ (x : Edge). x.to) fs = cc in
-    let cycle : e.on_cycle ≡ f.on_cycle = same_test e.on_cycle f.on_cycle (p 0 e (omega arith)) (subst (λ n. (f.on_cycle ≡ true) ↔ A n) (sym to) (q 0 f (omega arith))) in
-    let head : e ≡ f = ap (λ n. let x : Edge = record { to = n; on_cycle = e.on_cycle } in x) to ∙ ap (λ b. let x : Edge = record { to = f.to; on_cycle = b } in x) cycle in
-    ap (λ x. x ∷ es) head ∙ ap (λ xs. f ∷ xs) (same_edges A es fs rest (λ i d less. p (suc i) d (omega (arith, less))) (λ i d less. q (suc i) d (omega (arith, less))))
+same_edges A = same_rows (λ (e : Edge). e.to) (λ (e : Edge). (e.on_cycle ≡ true) ↔ A e.to) (one_edge A)
 
 same_node : (plan : Plan) (v w : Node) → v.file ≡ w.file → IsNode plan v → IsNode plan w → v ≡ w
 same_node plan v w at p q =
@@ -88,14 +86,7 @@ same_node plan v w at p q =
     ∙ (ap (λ b. let x : Node = record { file = w.file; is_ok = b; edges = v.edges } in x) ok ∙ ap (λ es. let x : Node = record { file = w.file; is_ok = w.is_ok; edges = es } in x) edges)
 
 same_nodes : (plan : Plan) (vs ws : List Node) → map (λ (v : Node). v.file) vs ≡ map (λ (v : Node). v.file) ws → All (IsNode plan) vs → All (IsNode plan) ws → vs ≡ ws
-same_nodes plan [] [] s p q = refl
-same_nodes plan [] (w ∷ ws) s p q = absurd (let no : ⊥ = cc in no)
-same_nodes plan (v ∷ vs) [] s p q = absurd (let no : ⊥ = cc in no)
-same_nodes plan (v ∷ vs) (w ∷ ws) s p q =
-    let at : v.file ≡ w.file = cc in
-    let rest : map (λ (x : Node). x.file) vs ≡ map (λ (x : Node). x.file) ws = cc in
-    ap (λ x. x ∷ vs) (same_node plan v w at (p 0 v (omega arith)) (q 0 w (omega arith)))
-    ∙ ap (λ xs. w ∷ xs) (same_nodes plan vs ws rest (λ i d less. p (suc i) d (omega (arith, less))) (λ i d less. q (suc i) d (omega (arith, less))))
+same_nodes plan = same_rows (λ (v : Node). v.file) (IsNode plan) (same_node plan)
 
 one_graph : (plan : Plan) (vs ws : List Node) → IsGraph plan vs → IsGraph plan ws → vs ≡ ws
 one_graph plan vs ws x y =
