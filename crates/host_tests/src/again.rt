@@ -6,7 +6,7 @@ ghost use Rattle.star_outcome.specs.Kept.{AreModulesOf};
 ghost use Rattle.star_reading.specs.Found.{Within};
 
 use crate::meeting::Meeting;
-use crate::runs::{all_roots, files_of, report_text};
+use crate::runs::{BY_TWO, all_roots, files_of, report_text};
 use star_checks::holds;
 use star_host::{GoodEnd, Known, Reads, Run, RunOptions, Trees, run_in};
 use star_label::files::Files;
@@ -46,13 +46,7 @@ fn run_with<R: Threads + Wait + Sync>(
         parses: parses.as_slice(),
         ends: ends.as_slice(),
     };
-    let options = RunOptions {
-        roots,
-        prelude: None,
-        loaders: 2,
-        steps: 100_000,
-        seed: 1,
-    };
+    let options = RunOptions { roots, ..BY_TWO };
     Ok(run_in(rt, alloc, files, known, &mut reads, options, gate)?)
 }
 

@@ -1,15 +1,16 @@
 //! A test that a module can be read while the body of another file is running.
 
 ghost use Rattle.std.specs.Prelude.{◌≡◌, ◌<◌, All, length};
-ghost use Rattle.star_host.specs.Worlds.{IsWorld};
+ghost use Rattle.star_host.specs.Worlds.{IsContext};
 ghost use Rattle.star_outcome.specs.Fits.{IsAsked};
 
 use crate::meeting::Meeting;
-use crate::runs::{all_roots, files_of};
+use crate::runs::{BY_TWO, all_roots, files_of};
 use star_cache::{LoadCache, Seat};
 use star_checks::holds;
 use star_host::{
-    Common, LoadError, Naming, RunOptions, Shelf, Told, Trace, Trees, load, programs, read_files,
+    LoadContext, LoadError, RunId, RunOptions, Shelf, Told, Trace, Trees, load, programs,
+    read_files,
 };
 use star_label::files::Files;
 use std::alloc::{AllocError, Global};
@@ -27,16 +28,16 @@ const LOOKS: u32 = 10_000_000;
 const BODY: usize = 1;
 
 /// Reads the module of the first root by its note, when the body of the second is held, and lets that go then.
-fn read_meanwhile<J: Naming, R: Wait>(
+fn read_meanwhile<J: RunId, R: Wait>(
     rt: &R,
-    common: &Common<'_, '_, '_, '_>,
+    common: &LoadContext<'_, '_, '_, '_>,
     gate: &Meeting,
     cache: &LoadCache<Told<J>>,
     seat: &mut Seat<Told<J>>,
     root: usize,
     trace: &Trace<J>,
 ) -> Result<(), LoadError>
-    requires world { IsWorld J.files J.plan J.shelf common.now }
+    requires world { IsContext J.files J.plan J.shelf common.now }
     requires root { IsAsked J.files J.plan root }
 {
     let mut told = load(rt, common, gate, cache, seat, root, trace)?;
@@ -48,16 +49,16 @@ fn read_meanwhile<J: Naming, R: Wait>(
 }
 
 /// One loader reads the module of the first root, the other loads the second.
-fn read_or_load<J: Naming, R: Wait>(
+fn read_or_load<J: RunId, R: Wait>(
     rt: &R,
-    common: &Common<'_, '_, '_, '_>,
+    common: &LoadContext<'_, '_, '_, '_>,
     gate: &Meeting,
     cache: &LoadCache<Told<J>>,
     seat: Seat<Told<J>>,
     roots: &[usize],
     trace: &Trace<J>,
 ) -> Seat<Told<J>>
-    requires world { IsWorld J.files J.plan J.shelf common.now }
+    requires world { IsContext J.files J.plan J.shelf common.now }
     requires roots { All (IsAsked J.files J.plan) roots.now }
     requires two { length roots.now ≡ 2 }
 {
@@ -71,16 +72,16 @@ fn read_or_load<J: Naming, R: Wait>(
 }
 
 /// Both at once: whether the cache closes then.
-fn read_and_load<J: Naming + Send + Sync, R: Threads + Wait + Sync>(
+fn read_and_load<J: RunId + Send + Sync, R: Threads + Wait + Sync>(
     rt: &R,
-    common: &Common<'_, '_, '_, '_>,
+    common: &LoadContext<'_, '_, '_, '_>,
     gate: &Meeting,
     roots: &[usize],
     blank: Blank,
 ) -> Result<bool, AllocError>
     requires name { blank.name ≡ J.name }
     requires parts { (blank.parts ≡ J.parts) × (blank.parts ≡ 2) }
-    requires world { IsWorld J.files J.plan J.shelf common.now }
+    requires world { IsContext J.files J.plan J.shelf common.now }
     requires roots { All (IsAsked J.files J.plan) roots.now }
     requires two { length roots.now ≡ 2 }
 {
@@ -91,7 +92,7 @@ fn read_and_load<J: Naming + Send + Sync, R: Threads + Wait + Sync>(
         rt,
         seats,
         &|seat: Seat<Told<J>>| -> Seat<Told<J>>
-            requires { IsWorld J.files J.plan J.shelf common.now × All (IsAsked J.files J.plan) roots.now
+            requires { IsContext J.files J.plan J.shelf common.now × All (IsAsked J.files J.plan) roots.now
                 × (length roots.now ≡ 2) }
         { read_or_load(rt, common, gate, &cache, seat, roots, &trace) },
     )?;
@@ -113,14 +114,8 @@ fn read_while_held<R: Threads + Wait + Sync>(
     let shelf = Shelf::new(alloc, files.len())?;
     let reads = read_files(rt, alloc, files, &trees, roots, None, 2)?;
     let programs = programs(alloc, &reads)?;
-    let options = RunOptions {
-        roots,
-        prelude: None,
-        loaders: 2,
-        steps: 100_000,
-        seed: 1,
-    };
-    let common = Common::new(alloc, files, &reads, &programs, &shelf, &[], options);
+    let options = RunOptions { roots, ..BY_TWO };
+    let common = LoadContext::new(alloc, files, &reads, &programs, &shelf, &[], options);
     read_and_load::<Brand, R>(rt, &common, gate, roots, Blank::new(2))
 }
 

@@ -1,15 +1,16 @@
 //! Tests of `load` as another program calls it: a root is loaded by itself.
 
 ghost use Rattle.std.specs.Prelude.{◌≡◌, ◌<◌, All, length};
-ghost use Rattle.star_host.specs.Worlds.{IsWorld};
+ghost use Rattle.star_host.specs.Worlds.{IsContext};
 ghost use Rattle.star_outcome.specs.Fits.{IsAsked};
 
-use crate::runs::{THREE, files_of};
+use crate::runs::{BY_TWO, THREE, files_of};
 use star_cache::{Book, LoadCache};
 use star_checks::holds;
 use star_host::gate::Open;
 use star_host::{
-    Common, LoadError, Naming, RunOptions, Shelf, Told, Trace, Trees, load, programs, read_files,
+    LoadContext, LoadError, RunId, RunOptions, Shelf, Told, Trace, Trees, load, programs,
+    read_files,
 };
 use star_label::files::Files;
 use star_label::label::Label;
@@ -32,7 +33,7 @@ struct Loaded {
 }
 
 /// The result of a closed cache.
-fn loaded_of<J: Naming>(good: bool, closed: (Book<Told<J>>, [u32; 64])) -> Loaded {
+fn loaded_of<J: RunId>(good: bool, closed: (Book<Told<J>>, [u32; 64])) -> Loaded {
     let (book, counts) = closed;
     let sum = counts
         .iter()
@@ -46,15 +47,15 @@ fn loaded_of<J: Naming>(good: bool, closed: (Book<Told<J>>, [u32; 64])) -> Loade
 }
 
 /// One loader of two loads the first root, and the cache is closed with both seats.
-fn load_first<J: Naming, R: Wait>(
+fn load_first<J: RunId, R: Wait>(
     rt: &R,
-    common: &Common<'_, '_, '_, '_>,
+    common: &LoadContext<'_, '_, '_, '_>,
     roots: &[usize],
     blank: Blank,
 ) -> Result<Option<Loaded>, LoadError>
     requires name { blank.name ≡ J.name }
     requires parts { (blank.parts ≡ J.parts) × (blank.parts ≡ 2) }
-    requires world { IsWorld J.files J.plan J.shelf common.now }
+    requires world { IsContext J.files J.plan J.shelf common.now }
     requires roots { All (IsAsked J.files J.plan) roots.now }
     requires some { 0 < length roots.now }
 {
@@ -88,12 +89,9 @@ fn load_label<R: Threads + Wait + Sync>(
     let programs = programs(alloc, &reads)?;
     let options = RunOptions {
         roots: &roots,
-        prelude: None,
-        loaders: 2,
-        steps: 100_000,
-        seed: 1,
+        ..BY_TWO
     };
-    let common = Common::new(alloc, files, &reads, &programs, &shelf, &[], options);
+    let common = LoadContext::new(alloc, files, &reads, &programs, &shelf, &[], options);
     load_first::<Brand, R>(rt, &common, &roots, Blank::new(2))
 }
 

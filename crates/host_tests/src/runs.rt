@@ -26,6 +26,15 @@ pub const THREE: [(&str, &str); 3] = [
     ("//:c.star", "k = 1"),
 ];
 
+/// Two loaders, no roots and no prelude, and 100,000 steps for each body.
+pub const BY_TWO: RunOptions<'static> = RunOptions {
+    roots: &[],
+    prelude: None,
+    loaders: 2,
+    steps: 100_000,
+    seed: 1,
+};
+
 /// The files with these labels and texts.
 pub fn files_of(alloc: Global, bundle: &[(&str, &str)]) -> Result<Files, Fail> {
     let mut files = BTreeMap::new(alloc);
@@ -112,10 +121,8 @@ pub fn run_all<R: Threads + Wait + Sync, G: Gate + Sync>(
     let roots = all_roots(alloc, files)?;
     let options = RunOptions {
         roots: &roots,
-        prelude: None,
         loaders,
-        steps: 100_000,
-        seed: 1,
+        ..BY_TWO
     };
     Ok(run(rt, alloc, files, options, gate)?)
 }

@@ -3,14 +3,14 @@
 ghost use Rattle.star_outcome.specs.Refusals.{IsRefusal};
 
 use star_checks::holds;
-use star_host::{CyclicLoad, Naming, Trace};
+use star_host::{CyclicLoad, RunId, Trace};
 use std::alloc::{AllocError, Global};
 use std::marker::Brand;
 use std::sync::Wait;
 use std::test::Fail;
 
 /// Two loads of a file that loads itself are pushed, and read back.
-fn two_are_read<J: Naming, R: Wait>(rt: &R, alloc: Global) -> Result<bool, AllocError>
+fn two_are_read<J: RunId, R: Wait>(rt: &R, alloc: Global) -> Result<bool, AllocError>
     requires first { IsRefusal J.plan (record { file = 0; index = 0; loaded = 0 }) }
     requires second { IsRefusal J.plan (record { file = 0; index = 1; loaded = 0 }) }
 {

@@ -1,6 +1,6 @@
 //! A second run in one process, after one that may have been refused memory.
 
-use crate::runs::all_roots;
+use crate::runs::{BY_TWO, all_roots};
 use star_checks::holds;
 use star_host::gate::Open;
 use star_host::{Reads, RunOptions, run};
@@ -34,10 +34,8 @@ fn reported<R: Threads + Wait + Sync>(rt: &R, alloc: Global) -> Option<String> {
     let roots = all_roots(alloc, &files).ok()?;
     let options = RunOptions {
         roots: &roots,
-        prelude: None,
         loaders: 1,
-        steps: 100_000,
-        seed: 1,
+        ..BY_TWO
     };
     let mut run = run(rt, alloc, &files, options, &Open).ok()?;
     let reads = Reads::new(alloc);

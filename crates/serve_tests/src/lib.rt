@@ -6,18 +6,4 @@
 #![tactic(auto)]
 
 #[cfg(test)]
-mod checks;
-#[cfg(test)]
-mod cut;
-#[cfg(test)]
-mod kept;
-#[cfg(test)]
-mod ondemand;
-#[cfg(test)]
-mod outputs;
-#[cfg(test)]
-mod progress;
-#[cfg(test)]
-mod requests;
-#[cfg(test)]
 mod tests;

@@ -5,13 +5,17 @@ ghost use Rattle.std.specs.Prelude.{◌≤◌, IfOk, None, Some, false, ◌==◌
 ghost use Rattle.star_folder.specs.Memory.{contents_of, rows_of};
 
 mod bundles;
-mod faults;
-mod more_values;
-mod static_faults;
-mod values;
+mod cut;
+mod memo;
+mod ondemand;
+mod outputs;
+mod programs;
+mod progress;
+mod requests;
 
-use crate::checks::{hold, holds, writes};
+use serde_json::Value;
 use star_bundle::error::{ServeError, status};
+use star_checks::{holds, writes};
 use star_folder::folder::{Folder, FolderError, Kind};
 use star_folder::memory::{MemoryFolder, Row};
 use star_label::label::Label;
@@ -26,24 +30,66 @@ use std::test::Fail;
 use std::thread::Threads;
 
 /// A bundle with the words that ask for its files, and the expected result.
-struct Case {
-    bundle: &'static str,
+#[derive(Clone, Copy)]
+struct Case<'a> {
+    bundle: &'a str,
     roots: &'static [&'static str],
     prelude: Option<&'static str>,
     steps: u32,
-    /// The lines that one loader writes to standard error, if the trace is asked for.
+    /// The lines that one loader writes to standard error, if the trace is asked for: none if it is not asked for.
     trace: Option<&'static str>,
     answer: Result<bool, ServeError>,
-    report: &'static str,
+    report: &'a str,
 }
 
-/// Gives bytes, at most `piece` at a time. The read with a given number fails, counted from 0.
+/// A bundle of the empty file `//:a.star`.
+const EMPTY: &str = "{\"//:a.star\":\"\"}";
+
+/// The root of most bundles.
+const A_STAR: &[&str] = &["//:a.star"];
+
+/// Bundles, roots and preludes that are refused, and why.
+const REFUSED: [(&str, &[&str], Option<&str>, ServeError); 7] = [
+    ("[]", A_STAR, None, ServeError::BadBundle),
+    ("{\"a\":\"\"}", A_STAR, None, ServeError::BadKey),
+    ("{\"a\":1}", A_STAR, None, ServeError::BadBundle),
+    (EMPTY, A_STAR, Some("p"), ServeError::BadPrelude),
+    (EMPTY, A_STAR, Some("//:z.star"), ServeError::NoPrelude),
+    (EMPTY, &["a.star"], None, ServeError::BadRoot),
+    (
+        "{\"//:a.star\":\"x = 1\"}",
+        &["//:z.star"],
+        None,
+        ServeError::NoRoot,
+    ),
+];
+
+/// Counts calls from 0, of which one fails.
+#[derive(Drop)]
+struct Calls {
+    made: usize,
+    fails_at: usize,
+}
+
+impl Calls {
+    fn failing_at(fails_at: usize) -> Calls {
+        Calls { made: 0, fails_at }
+    }
+
+    /// Whether this call fails.
+    fn fails(&mut self) -> bool {
+        let call = self.made;
+        self.made = usize::saturating_add(call, 1);
+        call == self.fails_at
+    }
+}
+
+/// Gives bytes, at most `piece` at a time. One read fails.
 #[derive(Drop)]
 pub(crate) struct Script<'a> {
     rest: &'a [u8],
     piece: usize,
-    calls: usize,
-    fails_at: usize,
+    calls: Calls,
     failed: u64,
     ended: bool,
 }
@@ -54,9 +100,7 @@ impl<'a> Source for Script<'a> {
     ghost failed = { λ s. s.failed };
 
     fn read(&mut self, buffer: &mut [u8]) -> Result<usize, Failed> {
-        let call = self.calls;
-        self.calls = usize::saturating_add(call, 1);
-        if call == self.fails_at && self.failed < u64::MAX {
+        if self.calls.fails() && self.failed < u64::MAX {
             self.failed += 1;
             return Err(Failed);
         }
@@ -88,12 +132,11 @@ impl Source for Spaces {
     }
 }
 
-/// Keeps the bytes that it takes. The write with a given number fails, counted from 0.
+/// Keeps the bytes that it takes. One write fails.
 #[derive(Drop)]
 pub(crate) struct Kept {
     pub bytes: Vec<u8>,
-    calls: usize,
-    fails_at: usize,
+    calls: Calls,
     failed: u64,
 }
 
@@ -106,9 +149,7 @@ impl Sink for Kept {
         if self.failed == u64::MAX {
             return Ok(());
         }
-        let call = self.calls;
-        self.calls = usize::saturating_add(call, 1);
-        if call != self.fails_at && self.bytes.extend_from_slice(bytes).is_ok() {
+        if !self.calls.fails() && self.bytes.extend_from_slice(bytes).is_ok() {
             return Ok(());
         }
         self.failed += 1;
@@ -123,8 +164,7 @@ pub(crate) fn scripted(bytes: &[u8], piece: usize, fails_at: usize) -> Script<'_
     Script {
         rest: bytes,
         piece,
-        calls: 0,
-        fails_at,
+        calls: Calls::failing_at(fails_at),
         failed: 0,
         ended: false,
     }
@@ -133,19 +173,18 @@ pub(crate) fn scripted(bytes: &[u8], piece: usize, fails_at: usize) -> Script<'_
 pub(crate) fn writer_of(alloc: Global, fails_at: usize) -> Kept {
     Kept {
         bytes: Vec::new(alloc),
-        calls: 0,
-        fails_at,
+        calls: Calls::failing_at(fails_at),
         failed: 0,
     }
 }
 
-/// The options for the root `//:a.star`, with `loaders` loaders.
-pub(crate) fn options_of(alloc: Global, loaders: usize) -> Result<Options, AllocError>
+/// The options for a root, with `loaders` loaders and the trace.
+pub(crate) fn options_of(alloc: Global, loaders: usize, root: &str) -> Result<Options, AllocError>
     requires { (1 ≤ loaders) × (loaders ≤ 64) }
     ensures { IfOk result (λ o. (1 ≤ o.loaders) × (o.loaders ≤ 64) × (1 ≤ o.steps) × (o.steps ≤ 100000000)) }
 {
     let mut roots = Vec::new(alloc);
-    roots.push(String::from_str(alloc, "//:a.star")?)?;
+    roots.push(String::from_str(alloc, root)?)?;
     Ok(Options {
         loaders,
         steps: 10_000,
@@ -170,10 +209,17 @@ fn served<H: Threads + Wait + Sync, R: Source>(
 ) -> Result<(Result<bool, ServeError>, Vec<u8>), AllocError> {
     let mut writer = writer_of(alloc, if fails { 0 } else { NEVER });
     let mut errors = writer_of(alloc, NEVER);
-    let options = options_of(alloc, 2)?;
+    let options = options_of(alloc, 2, "//:a.star")?;
     let outcome = serve(rt, alloc, reader, &mut writer, &mut errors, &options);
     let Kept { bytes, .. } = writer;
     Ok((outcome, bytes))
+}
+
+/// Asserts that a call failed so, and that it wrote nothing.
+fn fails_by(rt: &impl Abort, answer: (Result<bool, ServeError>, Vec<u8>), want: ServeError) {
+    let (outcome, written) = answer;
+    holds!(rt; outcome == Err(want));
+    holds!(rt; written.is_empty());
 }
 
 /// The input is refused so, and nothing is written.
@@ -183,13 +229,17 @@ fn refuses<H: Abort + Threads + Wait + Sync>(
     input: &[u8],
     want: ServeError,
 ) -> Result<(), Fail> {
-    let (outcome, written) = served(rt, alloc, &mut scripted(input, 7, NEVER), false)?;
-    holds!(rt; outcome == Err(want));
-    holds!(rt; written.is_empty());
+    let answer = served(rt, alloc, &mut scripted(input, 7, NEVER), false)?;
+    fails_by(rt, answer, want);
     Ok(())
 }
 
-fn asked_by(alloc: Global, case: &Case, loaders: usize) -> Result<Options, AllocError>
+fn asked_by(
+    alloc: Global,
+    case: &Case<'_>,
+    loaders: usize,
+    trace: bool,
+) -> Result<Options, AllocError>
     ensures { IfOk result (λ o. (1 ≤ o.loaders) × (o.loaders ≤ 64) × (1 ≤ o.steps) × (o.steps ≤ 100000000)) }
 {
     let mut roots = Vec::new(alloc);
@@ -207,7 +257,7 @@ fn asked_by(alloc: Global, case: &Case, loaders: usize) -> Result<Options, Alloc
         roots,
         prelude,
         output: Output::Report(Wanted::NOTHING),
-        trace: case.trace.is_some(),
+        trace,
         dir: None,
         explain: None,
         progress: None,
@@ -218,66 +268,115 @@ fn asked_by(alloc: Global, case: &Case, loaders: usize) -> Result<Options, Alloc
 fn comes_of<H: Abort + Threads + Wait + Sync>(
     rt: &H,
     alloc: Global,
-    case: &Case,
+    case: &Case<'_>,
     loaders: usize,
+    trace: Option<&str>,
 ) -> Result<(), Fail> {
-    let options = asked_by(alloc, case, loaders)?;
+    let options = asked_by(alloc, case, loaders, trace.is_some())?;
     let mut reader = scripted(case.bundle.as_bytes(), 5, NEVER);
     let (mut writer, mut errors) = (writer_of(alloc, NEVER), writer_of(alloc, NEVER));
     let answer = serve(rt, alloc, &mut reader, &mut writer, &mut errors, &options);
-    hold(rt, answer == case.answer, case.report);
-    writes(rt, writer.bytes.as_slice(), case.report);
-    if loaders == 1 || case.trace.is_none() {
-        writes(rt, errors.bytes.as_slice(), case.trace.unwrap_or(""));
+    holds!(rt; answer == case.answer, case.report);
+    writes!(rt; writer.bytes.as_slice(), case.report);
+    if loaders == 1 || trace.is_none() {
+        writes!(rt; errors.bytes.as_slice(), trace.unwrap_or(""));
     }
     Ok(())
+}
+
+#[test]
+fn bundles_with_their_reports(rt: HostRuntime) -> Result<(), Fail> {
+    for case in &bundles::BUNDLES {
+        for loaders in [1, 2, 3, 4, 64] {
+            comes_of(&rt, rt.alloc(), case, loaders, None)?;
+            if case.trace.is_some() {
+                comes_of(&rt, rt.alloc(), case, loaders, case.trace)?;
+            }
+        }
+    }
+    Ok(())
+}
+
+/// The bundle of the file `//:a.star` with this text, and of what follows it.
+pub(crate) fn bundle_of(alloc: Global, text: &str, more: &str) -> Result<String, Fail> {
+    let text = Value::try_from_str(alloc, text)?.to_string(alloc)?;
+    Ok(format!(in alloc; "{{\"//:a.star\":{text}{more}}}")?)
+}
+
+/// The report of a file `//:a.star` with this status. What comes of it is its globals if it is ok, and else a fault and
+/// its line.
+fn report_of(alloc: Global, status: &str, end: &str) -> Result<String, Fail> {
+    if status == "ok" {
+        return Ok(format!(in alloc;
+            "{{\"begun\":1,\"modules\":[{{\"globals\":{{{end}}},\"label\":\"//:a.star\",\"lines\":[],\"status\":\"ok\"}}]}}\n"
+        )?);
+    }
+    let Some((fault, line)) = end.split_once(' ') else {
+        return Err(Fail::from("a row without a line"));
+    };
+    Ok(format!(in alloc;
+        "{{\"begun\":1,\"modules\":[{{\"fault\":\"{fault}\",\"label\":\"//:a.star\",\"line\":{line},\"lines\":[],\"status\":\"{status}\"}}]}}\n"
+    )?)
+}
+
+/// Asserts the report of a row's text, which is alone in its bundle, by one loader and by three.
+fn comes_of_row<H: Abort + Threads + Wait + Sync>(
+    rt: &H,
+    alloc: Global,
+    status: &str,
+    row: &str,
+) -> Result<(), Fail> {
+    let Some((text, end)) = row.split_once('\x1f') else {
+        return Err(Fail::from("a row without a result"));
+    };
+    let bundle = bundle_of(alloc, text, "")?;
+    let report = report_of(alloc, status, end)?;
+    let case = Case {
+        bundle: bundle.as_str(),
+        roots: A_STAR,
+        prelude: None,
+        steps: 1_000_000,
+        trace: None,
+        answer: Ok(status == "ok"),
+        report: report.as_str(),
+    };
+    comes_of(rt, alloc, &case, 1, None)?;
+    comes_of(rt, alloc, &case, 3, None)
 }
 
 #[test]
 fn files_that_end_well(rt: HostRuntime) -> Result<(), Fail> {
-    for case in &values::VALUES {
-        for loaders in [1, 3] {
-            comes_of(&rt, rt.alloc(), case, loaders)?;
-        }
+    for row in programs::ENDS_WELL {
+        comes_of_row(&rt, rt.alloc(), "ok", row)?;
     }
     Ok(())
 }
 
 #[test]
-fn more_files_that_end_well(rt: HostRuntime) -> Result<(), Fail> {
-    for case in &more_values::MORE_VALUES {
-        for loaders in [1, 3] {
-            comes_of(&rt, rt.alloc(), case, loaders)?;
-        }
+fn files_at_fault(rt: HostRuntime) -> Result<(), Fail> {
+    for row in programs::STATIC_FAULTS {
+        comes_of_row(&rt, rt.alloc(), "static", row)?;
+    }
+    for row in programs::FAULTS {
+        comes_of_row(&rt, rt.alloc(), "fault", row)?;
     }
     Ok(())
 }
 
 #[test]
-fn files_with_a_static_fault(rt: HostRuntime) -> Result<(), Fail> {
-    for case in &static_faults::STATIC_FAULTS {
-        for loaders in [1, 3] {
-            comes_of(&rt, rt.alloc(), case, loaders)?;
-        }
-    }
-    Ok(())
-}
-
-#[test]
-fn files_that_stop(rt: HostRuntime) -> Result<(), Fail> {
-    for case in &faults::FAULTS {
-        for loaders in [1, 3] {
-            comes_of(&rt, rt.alloc(), case, loaders)?;
-        }
-    }
-    Ok(())
-}
-
-#[test]
-fn many_files(rt: HostRuntime) -> Result<(), Fail> {
-    for case in &bundles::BUNDLES {
+fn what_is_refused(rt: HostRuntime) -> Result<(), Fail> {
+    for (bundle, roots, prelude, error) in REFUSED {
+        let case = Case {
+            bundle,
+            roots,
+            prelude,
+            steps: 1_000_000,
+            trace: None,
+            answer: Err(error),
+            report: "",
+        };
         for loaders in [1, 2, 3, 4, 64] {
-            comes_of(&rt, rt.alloc(), case, loaders)?;
+            comes_of(&rt, rt.alloc(), &case, loaders, None)?;
         }
     }
     Ok(())
@@ -308,20 +407,14 @@ fn what_is_no_bundle(rt: HostRuntime) -> Result<(), Fail> {
 }
 
 #[test]
-fn two_hundred_arrays(rt: HostRuntime) -> Result<(), Fail> {
+fn two_hundred_arrays_and_a_text_that_is_too_long(rt: HostRuntime) -> Result<(), Fail> {
     let alloc = rt.alloc();
-    let opened = "[".repeat(alloc, 200)?;
-    let closed = "]".repeat(alloc, 200)?;
-    let input = format!(in alloc; "{{\"//:a.star\":{opened}{closed}}}")?;
-    refuses(&rt, rt.alloc(), input.as_bytes(), ServeError::BadBundle)
-}
-
-#[test]
-fn a_text_that_is_too_long(rt: HostRuntime) -> Result<(), Fail> {
-    let alloc = rt.alloc();
-    let text = " ".repeat(alloc, 1_048_577)?;
-    let input = format!(in alloc; "{{\"//:a.star\":\"{text}\"}}")?;
-    refuses(&rt, rt.alloc(), input.as_bytes(), ServeError::TooLong)
+    let (opened, closed) = ("[".repeat(alloc, 200)?, "]".repeat(alloc, 200)?);
+    let arrays = format!(in alloc; "{{\"//:a.star\":{opened}{closed}}}")?;
+    refuses(&rt, alloc, arrays.as_bytes(), ServeError::BadBundle)?;
+    let spaces = " ".repeat(alloc, 1_048_577)?;
+    let text = format!(in alloc; "{{\"//:a.star\":\"{spaces}\"}}")?;
+    refuses(&rt, alloc, text.as_bytes(), ServeError::TooLong)
 }
 
 /// Sixteen bytes are given in six reads, and a seventh finds the end.
@@ -329,13 +422,12 @@ fn a_text_that_is_too_long(rt: HostRuntime) -> Result<(), Fail> {
 fn a_reader_that_fails_at_each_call(rt: HostRuntime) -> Result<(), Fail> {
     let alloc = rt.alloc();
     for fails_at in 0..7 {
-        let mut reader = scripted(b"{\"//:a.star\":\"\"}", 3, fails_at);
-        let (outcome, written) = served(&rt, alloc, &mut reader, false)?;
-        holds!(&rt; outcome == Err(ServeError::Read));
-        holds!(&rt; written.is_empty());
+        let mut reader = scripted(EMPTY.as_bytes(), 3, fails_at);
+        let answer = served(&rt, alloc, &mut reader, false)?;
+        fails_by(&rt, answer, ServeError::Read);
         holds!(&rt; reader.failed == 1);
     }
-    let mut reader = scripted(b"{\"//:a.star\":\"\"}", 3, 7);
+    let mut reader = scripted(EMPTY.as_bytes(), 3, 7);
     let (outcome, _) = served(&rt, alloc, &mut reader, false)?;
     holds!(&rt; outcome == Ok(true));
     Ok(())
@@ -343,18 +435,16 @@ fn a_reader_that_fails_at_each_call(rt: HostRuntime) -> Result<(), Fail> {
 
 #[test]
 fn a_reader_that_never_ends(rt: HostRuntime) -> Result<(), Fail> {
-    let (outcome, written) = served(&rt, rt.alloc(), &mut Spaces, false)?;
-    holds!(&rt; outcome == Err(ServeError::TooBig));
-    holds!(&rt; written.is_empty());
+    let answer = served(&rt, rt.alloc(), &mut Spaces, false)?;
+    fails_by(&rt, answer, ServeError::TooBig);
     Ok(())
 }
 
 #[test]
 fn a_writer_that_fails(rt: HostRuntime) -> Result<(), Fail> {
-    let mut reader = scripted(b"{\"//:a.star\":\"\"}", 9, NEVER);
-    let (outcome, written) = served(&rt, rt.alloc(), &mut reader, true)?;
-    holds!(&rt; outcome == Err(ServeError::Write));
-    holds!(&rt; written.is_empty());
+    let mut reader = scripted(EMPTY.as_bytes(), 9, NEVER);
+    let answer = served(&rt, rt.alloc(), &mut reader, true)?;
+    fails_by(&rt, answer, ServeError::Write);
     Ok(())
 }
 
@@ -366,13 +456,13 @@ fn a_trace_that_fails(rt: HostRuntime) -> Result<(), Fail> {
         "{\"//:a.star\":\"load(':a.star', 'x')\\nload(':b.star', 'y')\",\"//:b.star\":\"load(':b.star', 'z')\"}";
     let line = "starload: cycle: //:a.star loads //:a.star\n";
     for (fails_at, want) in [(0, ""), (1, line)] {
-        let options = options_of(alloc, 1)?;
+        let options = options_of(alloc, 1, "//:a.star")?;
         let mut reader = scripted(bundle.as_bytes(), 9, NEVER);
         let (mut writer, mut errors) = (writer_of(alloc, NEVER), writer_of(alloc, fails_at));
         let outcome = serve(&rt, alloc, &mut reader, &mut writer, &mut errors, &options);
         holds!(&rt; outcome == Ok(false));
         holds!(&rt; !writer.bytes.is_empty());
-        writes(&rt, errors.bytes.as_slice(), want);
+        writes!(&rt; errors.bytes.as_slice(), want);
         holds!(&rt; errors.failed == 1);
     }
     Ok(())
@@ -387,12 +477,11 @@ fn statuses(rt: HostRuntime) -> Result<(), Fail> {
     Ok(())
 }
 
-/// A folder in memory whose call with this number fails, counted from 0.
+/// A folder in memory, of whose calls one fails.
 #[derive(Drop)]
 struct Failing<'a> {
     folder: MemoryFolder<'a>,
-    fails_at: usize,
-    calls: usize,
+    calls: Calls,
     failed_listings: u64,
     failed_reads: u64,
 }
@@ -405,9 +494,7 @@ impl<'a> Folder for Failing<'a> {
     ghost failed_reads = { λ s. s.failed_reads };
 
     fn list(&mut self, alloc: Global, path: &str) -> Result<BTreeMap<String, Kind>, FolderError> {
-        let call = self.calls;
-        self.calls = usize::saturating_add(call, 1);
-        if call == self.fails_at && self.failed_listings < u64::MAX {
+        if self.calls.fails() && self.failed_listings < u64::MAX {
             self.failed_listings += 1;
             return Err(FolderError::Failed);
         }
@@ -415,9 +502,7 @@ impl<'a> Folder for Failing<'a> {
     }
 
     fn read(&mut self, alloc: Global, label: &Label) -> Result<Vec<u8>, FolderError> {
-        let call = self.calls;
-        self.calls = usize::saturating_add(call, 1);
-        if call == self.fails_at && self.failed_reads < u64::MAX {
+        if self.calls.fails() && self.failed_reads < u64::MAX {
             self.failed_reads += 1;
             return Err(FolderError::Failed);
         }
@@ -447,14 +532,13 @@ fn served_dir<H: Threads + Wait + Sync>(
 {
     let mut folder = Failing {
         folder: MemoryFolder::new(rows),
-        fails_at,
-        calls: 0,
+        calls: Calls::failing_at(fails_at),
         failed_listings: 0,
         failed_reads: 0,
     };
     let mut writer = writer_of(alloc, if fails { 0 } else { NEVER });
     let mut errors = writer_of(alloc, NEVER);
-    let options = options_of(alloc, loaders)?;
+    let options = options_of(alloc, loaders, "//:a.star")?;
     let outcome = serve_dir(rt, alloc, &mut folder, &mut writer, &mut errors, &options);
     let Kept { bytes, .. } = writer;
     Ok((outcome, bytes))
@@ -482,7 +566,7 @@ fn a_folder_is_reported(rt: HostRuntime) -> Result<(), Fail> {
         let rows = two_files();
         let (outcome, written) = served_dir(&rt, rt.alloc(), &rows, 99, false, loaders)?;
         holds!(&rt; outcome == Ok(true));
-        writes(&rt, written.as_slice(), want);
+        writes!(&rt; written.as_slice(), want);
     }
     Ok(())
 }
@@ -497,9 +581,8 @@ fn a_folder_that_fails(rt: HostRuntime) -> Result<(), Fail> {
         (3, ServeError::BadFile),
     ] {
         let rows = two_files();
-        let (outcome, written) = served_dir(&rt, rt.alloc(), &rows, fails_at, false, 1)?;
-        holds!(&rt; outcome == Err(want));
-        holds!(&rt; written.is_empty());
+        let answer = served_dir(&rt, rt.alloc(), &rows, fails_at, false, 1)?;
+        fails_by(&rt, answer, want);
     }
     let (outcome, _) = served_dir(&rt, rt.alloc(), &two_files(), 4, true, 1)?;
     holds!(&rt; outcome == Err(ServeError::Write));
@@ -509,9 +592,8 @@ fn a_folder_that_fails(rt: HostRuntime) -> Result<(), Fail> {
 #[test]
 fn a_folder_that_is_refused(rt: HostRuntime) -> Result<(), Fail> {
     let rows = [row("", "a.star", Kind::File, b"\xff")];
-    let (outcome, written) = served_dir(&rt, rt.alloc(), &rows, 99, false, 1)?;
-    holds!(&rt; outcome == Err(ServeError::NotText));
-    holds!(&rt; written.is_empty());
+    let answer = served_dir(&rt, rt.alloc(), &rows, 99, false, 1)?;
+    fails_by(&rt, answer, ServeError::NotText);
     let (outcome, _) = served_dir(&rt, rt.alloc(), &[], 99, false, 1)?;
     holds!(&rt; outcome == Err(ServeError::NoRoot));
     Ok(())

@@ -30,6 +30,20 @@ impl<'w, 'a, 't> Look<'w, 'a, 't> {
         Ok((found, ran.values))
     }
 
+    /// Evaluates one part: its value, or else a report, if it stops as the run did.
+    fn value_of_one(
+        &mut self,
+        site: &Site,
+        token: usize,
+        part: &Expression,
+    ) -> Result<Result<Value, Option<Found>>, AllocError> {
+        let (found, values) = self.first_of(site, token, &[part])?;
+        match values.first().copied() {
+            Some(Some(value)) => Ok(Ok(value)),
+            _ => Ok(Err(found)),
+        }
+    }
+
     /// `target = value`
     fn assigned(
         &mut self,
@@ -38,9 +52,9 @@ impl<'w, 'a, 't> Look<'w, 'a, 't> {
         target: &Target,
         value: &Expression,
     ) -> Result<Option<Found>, AllocError> {
-        let (found, values) = self.first_of(site, token, &[value])?;
-        let Some(Some(value)) = values.first().copied() else {
-            return Ok(found);
+        let value = match self.value_of_one(site, token, value)? {
+            Ok(value) => value,
+            Err(found) => return Ok(found),
         };
         match target {
             Target::Name(_) => Ok(None),
@@ -137,9 +151,9 @@ impl<'w, 'a, 't> Look<'w, 'a, 't> {
         arms: &[Arm],
     ) -> Result<Option<Found>, AllocError> {
         for arm in arms {
-            let (found, values) = self.first_of(site, token, &[&arm.condition])?;
-            let Some(Some(value)) = values.first().copied() else {
-                return Ok(found);
+            let value = match self.value_of_one(site, token, &arm.condition)? {
+                Ok(value) => value,
+                Err(found) => return Ok(found),
             };
             if self.machine.is_true(self.world.setting(), value) {
                 break;
@@ -156,10 +170,9 @@ impl<'w, 'a, 't> Look<'w, 'a, 't> {
         target: &Target,
         iterable: &Expression,
     ) -> Result<Option<Found>, AllocError> {
-        let (found, values) = self.first_of(site, token, &[iterable])?;
-        match values.first().copied() {
-            Some(Some(value)) => self.items_unpacked(token, target, value),
-            _ => Ok(found),
+        match self.value_of_one(site, token, iterable)? {
+            Ok(value) => self.items_unpacked(token, target, value),
+            Err(found) => Ok(found),
         }
     }
 

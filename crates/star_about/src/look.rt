@@ -1,7 +1,7 @@
 //! The way in: a second look at the store of a run that has stopped.
 
 use star_found::about::{About, Found};
-use star_machine::fault::Stop;
+use star_machine::fault::EvalError;
 use star_machine::machine::Machine;
 use star_meaning::fault::FaultCode;
 use star_meaning::story::Step;
@@ -57,7 +57,7 @@ impl<'w, 'a, 't> Look<'w, 'a, 't> {
 }
 
 /// The result of a call whose only error is want of memory.
-fn memory(answer: Result<(), Stop>) -> Result<(), AllocError> {
+fn memory(answer: Result<(), EvalError>) -> Result<(), AllocError> {
     match answer {
         Ok(()) => Ok(()),
         Err(_) => Err(AllocError),

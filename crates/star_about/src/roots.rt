@@ -4,7 +4,7 @@ use crate::look::Look;
 use star_found::about::Found;
 use star_meaning::site::Site;
 use star_meaning::story::Step;
-use star_scope::outline::Body;
+use star_outline::outline::Body;
 use star_store::values::{Cell, Value};
 use star_tree::tree::{Expression, Form, Statement};
 use star_world::files::Files;

@@ -4,7 +4,7 @@ use crate::look::Look;
 use crate::parts::{inner_parts, parts_of, token_of};
 use star_eval::evaluate::evaluate;
 use star_found::about::Found;
-use star_machine::fault::Stop;
+use star_machine::fault::EvalError;
 use star_meaning::fault::FaultCode;
 use star_meaning::site::Site;
 use star_store::values::Value;
@@ -58,8 +58,8 @@ impl<'w, 'a, 't> Look<'w, 'a, 't> {
         for part in parts {
             match evaluate(&mut self.machine, self.world, LEVELS, site, *part) {
                 Ok(value) => values.push(Some(value))?,
-                Err(Stop::Memory) => return Err(AllocError),
-                Err(Stop::Faulted { code, .. }) => {
+                Err(EvalError::Memory) => return Err(AllocError),
+                Err(EvalError::Faulted { code, .. }) => {
                     if is_same(self.fault.code, code) {
                         return Ok(Ran {
                             failing: Some(*part),

@@ -3,7 +3,7 @@
 use crate::look::Look;
 use star_found::about::{Shown, Type};
 use star_machine::content::{Content, Kind};
-use star_machine::fault::Stop;
+use star_machine::fault::EvalError;
 use star_store::values::{Cell, Value};
 use star_text::Text;
 use std::alloc::{AllocError, Global};
@@ -75,7 +75,7 @@ impl<'w, 'a, 't> Look<'w, 'a, 't> {
         }
         match self.machine.repr(setting, LEVELS, self.fault.line, value) {
             Ok(text) => cut(self.alloc, text.as_str()),
-            Err(Stop::Memory) => Err(AllocError),
+            Err(EvalError::Memory) => Err(AllocError),
             Err(_) => Text::new(self.alloc, ""),
         }
     }

@@ -10,7 +10,7 @@ ghost use Rattle.star_plan.specs.Plan.{loaded};
 ghost use Rattle.star_plan.specs.Results.{IsGood};
 
 use star_cache::{Book, BookError, Reply};
-use star_outcome::naming::Naming;
+use star_outcome::naming::RunId;
 use star_outcome::told::Told;
 use star_outcome::trace::CyclicLoad;
 use std::alloc::{AllocError, Global};
@@ -18,12 +18,12 @@ use std::marker::Model;
 
 /// A book with one loader, and the loads that it has refused. It is seen as the book.
 #[derive(Drop)]
-pub(crate) struct Cache<J: Naming> {
+pub(crate) struct Cache<J: RunId> {
     book: Book<Told<J>>,
     refused: Vec<CyclicLoad>,
 }
 
-impl<J: Naming> Model for Cache<J> {
+impl<J: RunId> Model for Cache<J> {
     ghost use Rattle.std.specs.Prelude.{◌≡◌, length};
     ghost use Rattle.star_cache.specs.State.{BookState};
     ghost use Rattle.star_outcome.specs.Refusals.{AreRefusals};
@@ -36,7 +36,7 @@ impl<J: Naming> Model for Cache<J> {
     ghost invariant = { λ c. (length c.book.loaders ≡ 1) × AreRefusals J.plan c.refused.items };
 }
 
-impl<J: Naming> Cache<J> {
+impl<J: RunId> Cache<J> {
     /// A book of `count` files, none of which has been asked for.
     pub(crate) fn new(alloc: Global, files: usize) -> Result<Cache<J>, AllocError>
         requires files { files ≡ length J.files }

@@ -2,26 +2,26 @@
 
 ghost use Rattle.std.specs.Prelude.{◌≡◌, IfOk, length};
 ghost use Rattle.star_plan.specs.Plan.{loads_of};
-ghost use Rattle.star_host.specs.Worlds.{IsTurn, IsWorld};
+ghost use Rattle.star_host.specs.Worlds.{IsTurn, IsContext};
 ghost use Rattle.star_outcome.specs.Fits.{IsAsked};
 
 use crate::cache::Cache;
 use star_cache::Reply;
-use star_host::Common;
+use star_host::LoadContext;
 use star_host::gate::Open;
 use star_host::loading::{LoadError, Turn, next_load, published, told_module};
-use star_outcome::naming::Naming;
+use star_outcome::naming::RunId;
 use star_outcome::open_file::OpenFile;
 use star_outcome::trace::CyclicLoad;
 use std::alloc::AllocError;
 
 /// Publishes how a file ended, and then says that it is done.
-fn end<'s, 'r, 'p, 't, J: Naming>(
-    common: &Common<'s, 'r, 'p, 't>,
+fn end<'s, 'r, 'p, 't, J: RunId>(
+    common: &LoadContext<'s, 'r, 'p, 't>,
     cache: &mut Cache<J>,
     frame: &OpenFile<'s, J>,
 ) -> Result<(), LoadError>
-    requires world { IsWorld J.files J.plan J.shelf common.now }
+    requires world { IsContext J.files J.plan J.shelf common.now }
     requires told { frame.now.told ≡ length (loads_of J.plan frame.now.n) }
 {
     let n = frame.number();
@@ -33,12 +33,12 @@ fn end<'s, 'r, 'p, 't, J: Naming>(
 }
 
 /// One turn of the file on top.
-fn take_turn<'s, 'r, 'p, 't, J: Naming>(
-    common: &Common<'s, 'r, 'p, 't>,
+fn take_turn<'s, 'r, 'p, 't, J: RunId>(
+    common: &LoadContext<'s, 'r, 'p, 't>,
     cache: &mut Cache<J>,
     top: &mut OpenFile<'s, J>,
 ) -> Result<Turn, LoadError>
-    requires world { IsWorld J.files J.plan J.shelf common.now }
+    requires world { IsContext J.files J.plan J.shelf common.now }
     ensures turn { IfOk result (IsTurn J.files J.plan) }
 {
     let file = top.number();
@@ -68,7 +68,7 @@ fn take_turn<'s, 'r, 'p, 't, J: Naming>(
 }
 
 /// Asks for a root: whether it was begun.
-fn begins<J: Naming>(cache: &mut Cache<J>, root: usize) -> Result<bool, LoadError>
+fn begins<J: RunId>(cache: &mut Cache<J>, root: usize) -> Result<bool, LoadError>
     requires { IsAsked J.files J.plan root }
 {
     match cache.ask(None, root) {
@@ -85,12 +85,12 @@ fn begins<J: Naming>(cache: &mut Cache<J>, root: usize) -> Result<bool, LoadErro
 /// Loads a file and all that it loads, unless it has ended. A file whose load was begun asks for it again once it has
 /// ended. `Memory` if an allocation failed; `Unpublished` where a cell of the shelf had something already, and
 /// after 2^64 - 1 turns; `Spoiled` where the book refuses a call.
-pub(crate) fn load<'s, 'r, 'p, 't, J: Naming>(
-    common: &Common<'s, 'r, 'p, 't>,
+pub(crate) fn load<'s, 'r, 'p, 't, J: RunId>(
+    common: &LoadContext<'s, 'r, 'p, 't>,
     cache: &mut Cache<J>,
     root: usize,
 ) -> Result<(), LoadError>
-    requires world { IsWorld J.files J.plan J.shelf common.now }
+    requires world { IsContext J.files J.plan J.shelf common.now }
     requires root { IsAsked J.files J.plan root }
 {
     let mut stack: Vec<OpenFile<'s, J>> = Vec::new(common.alloc);

@@ -3,7 +3,7 @@
 ghost use Rattle.std.specs.Prelude.{◌≡◌, ◌+◌, ◌<◌, ◌≤◌, ℕ, All, IfOk, IfSome, length, sum, vec_len};
 ghost use Rattle.star_cache.specs.State.{HasEnded};
 ghost use Rattle.star_host.specs.Counts.{AreCounts};
-ghost use Rattle.star_host.specs.Worlds.{IsWorld};
+ghost use Rattle.star_host.specs.Worlds.{IsContext};
 ghost use Rattle.star_outcome.specs.Fits.{IsWithin};
 ghost use Rattle.star_outcome.specs.Kept.{AllKept, AreModules, AreModulesOf};
 ghost use Rattle.star_outcome.specs.Refusals.{AreRefusals, AreRefusalsOf};
@@ -17,10 +17,10 @@ use crate::reading::{ReadError, read_alone};
 use star_cache::Book;
 use star_host::running::root_at;
 use star_host::settle::{kept_of, reached};
-use star_host::{Common, LoadError, Run, RunError, RunOptions, programs};
+use star_host::{LoadContext, LoadError, Run, RunError, RunOptions, programs};
 use star_label::files::Files as Labels;
 use star_outcome::module::Module;
-use star_outcome::naming::Naming;
+use star_outcome::naming::RunId;
 use star_outcome::outcome::Kept;
 use star_outcome::shelf::Shelf;
 use star_outcome::told::Told;
@@ -47,11 +47,11 @@ struct Ended {
 }
 
 /// Loads each root.
-fn load_each<'s, 'r, 'p, 't, J: Naming>(
-    common: &Common<'s, 'r, 'p, 't>,
+fn load_each<'s, 'r, 'p, 't, J: RunId>(
+    common: &LoadContext<'s, 'r, 'p, 't>,
     cache: &mut Cache<J>,
 ) -> Result<(), LoadError>
-    requires world { IsWorld J.files J.plan J.shelf common.now }
+    requires world { IsContext J.files J.plan J.shelf common.now }
     requires within { IsWithin J.files J.plan }
     requires roots { common.now.roots.now ≡ J.plan.roots }
 {
@@ -63,7 +63,7 @@ fn load_each<'s, 'r, 'p, 't, J: Naming>(
 }
 
 /// What a book tells in which all reached files have ended.
-fn ended_of<J: Naming>(
+fn ended_of<J: RunId>(
     alloc: Global,
     book: Book<Told<J>>,
     refused: Vec<CyclicLoad>,
@@ -87,8 +87,10 @@ fn ended_of<J: Naming>(
 }
 
 /// The run of a naming: its roots are loaded, and the modules of all reached files are kept.
-fn run_named<'s, 'r, 'p, 't, J: Naming>(common: &Common<'s, 'r, 'p, 't>) -> Result<Ended, RunError>
-    requires world { IsWorld J.files J.plan J.shelf common.now }
+fn run_named<'s, 'r, 'p, 't, J: RunId>(
+    common: &LoadContext<'s, 'r, 'p, 't>,
+) -> Result<Ended, RunError>
+    requires world { IsContext J.files J.plan J.shelf common.now }
     requires within { IsWithin J.files J.plan }
     requires roots { common.now.roots.now ≡ J.plan.roots }
     ensures kept { IfOk result (λ c. AllKept common.now.modules.now c.kept.items) }
@@ -128,7 +130,7 @@ fn run_over<'s, 'r, 't>(
         IfOk result (λ c. AreRefusalsOf files.now o.roots.now o.prelude o.steps c.refused.items) }
 {
     let programs = programs(alloc, reads)?;
-    let common = Common::new(alloc, files, reads, &programs, modules, &[], options);
+    let common = LoadContext::new(alloc, files, reads, &programs, modules, &[], options);
     run_named::<Brand>(&common)
 }
 

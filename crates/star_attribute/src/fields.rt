@@ -11,9 +11,9 @@ ghost use Rattle.star_attribute.specs.Fields.{as_found, as_numbering, field_text
 ghost use Rattle.star_meaning.specs.BuiltIns.{is_digit, number_from};
 ghost use Rattle.star_meaning.specs.Format as spec;
 ghost use Rattle.star_machine.specs.Refines.{RefinesBy};
-ghost use Rattle.star_scope.specs.Names.{same_name};
+ghost use Rattle.star_outline.specs.Names.{same_name};
 
-use star_machine::fault::{Stop, faulted};
+use star_machine::fault::{EvalError, fault_at};
 use star_machine::machine::Machine;
 use star_machine::setting::Setting;
 use star_meaning::fault::FaultCode;
@@ -119,16 +119,16 @@ fn next_value(
     line: usize,
     values: &[Value],
     numbering: Numbering,
-) -> Result<(Value, Numbering), Stop>
+) -> Result<(Value, Numbering), EvalError>
     ensures { RefinesBy as_found (next_value line values.now (as_numbering numbering) machine.now) result machine.now }
 {
     let place = match numbering {
         Numbering::Unused => 0,
         Numbering::Automatic(place) => place,
-        Numbering::ByNumber => return Err(faulted(FaultCode::BadValue, line)),
+        Numbering::ByNumber => return Err(fault_at(FaultCode::BadValue, line)),
     };
     let Some(value) = value_in(values, place) else {
-        return Err(faulted(FaultCode::Index, line));
+        return Err(fault_at(FaultCode::Index, line));
     };
     Ok((value, Numbering::Automatic(place + 1)))
 }
@@ -140,15 +140,15 @@ fn numbered_value(
     values: &[Value],
     digits: &[u8],
     numbering: Numbering,
-) -> Result<(Value, Numbering), Stop>
+) -> Result<(Value, Numbering), EvalError>
     ensures { RefinesBy as_found (numbered_value line values.now digits.now (as_numbering numbering) machine.now)
         result machine.now }
 {
     if let Numbering::Automatic(_) = numbering {
-        return Err(faulted(FaultCode::BadValue, line));
+        return Err(fault_at(FaultCode::BadValue, line));
     }
     let Some(value) = value_at(values, digits) else {
-        return Err(faulted(FaultCode::Index, line));
+        return Err(fault_at(FaultCode::Index, line));
     };
     Ok((value, Numbering::ByNumber))
 }
@@ -160,13 +160,13 @@ fn named_value(
     values: &[KeywordArgument],
     name: &str,
     numbering: Numbering,
-) -> Result<(Value, Numbering), Stop>
+) -> Result<(Value, Numbering), EvalError>
     ensures { RefinesBy as_found (spec.named_value line values.now name.now (as_numbering numbering) machine.now)
         result machine.now }
 {
     match value_named(values, name) {
         Some(value) => Ok((value, numbering)),
-        None => Err(faulted(FaultCode::Key, line)),
+        None => Err(fault_at(FaultCode::Key, line)),
     }
 }
 
@@ -179,7 +179,7 @@ fn field_value(
     given: &Arguments,
     field: &str,
     numbering: Numbering,
-) -> Result<(Value, Numbering), Stop>
+) -> Result<(Value, Numbering), EvalError>
     ensures { RefinesBy as_found (spec.field_value line given.now field.now (as_numbering numbering) machine.now)
         result machine.now }
 {
@@ -199,7 +199,7 @@ fn field_value(
     if is_field_name(field.as_bytes()) {
         return named_value(machine, line, given.named.as_slice(), field, numbering);
     }
-    Err(faulted(FaultCode::BadValue, line))
+    Err(fault_at(FaultCode::BadValue, line))
 }
 
 /// The `str` of the value of a field, and how fields find their values from then on. The faults are those of the field
@@ -212,7 +212,7 @@ pub fn field_text(
     given: &Arguments,
     field: &str,
     numbering: Numbering,
-) -> Result<(Text, Numbering), Stop>
+) -> Result<(Text, Numbering), EvalError>
     ensures { RefinesBy text_and_numbering
         (field_text setting.now levels line given.now field.now (as_numbering numbering) machine.old)
         result machine.new }

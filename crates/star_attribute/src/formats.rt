@@ -14,41 +14,31 @@ ghost use Rattle.star_meaning.specs.Values.{content};
 
 use crate::fields::{Numbering, field_text};
 use star_machine::cuts::{cut_at, first_ascii};
-use star_machine::fault::{Stop, faulted};
+use star_machine::fault::{EvalError, fault_at};
 use star_machine::machine::Machine;
-use star_machine::setting::Setting;
 use star_meaning::fault::FaultCode;
-use star_meaning::given::Arguments;
+use star_method::call::Call;
 use star_method::texts::pay_for_bytes;
 use star_store::values::Value;
 use star_text::Text;
-
-/// A call of `format`: its arguments, and what the texts of its fields need.
-#[derive(Clone, Copy)]
-struct FormatCall<'a> {
-    setting: &'a Setting<'a>,
-    levels: u32,
-    line: usize,
-    given: &'a Arguments,
-}
 
 /// Puts the text for the braces after a `{`: that of a field's value, or a `{` for another `{`. Returns the rest of the
 /// format, and how fields find their values from then on. `BadValue` if no brace follows, and for a `{` inside of a
 /// field.
 fn read_field<'a>(
     machine: &mut Machine,
-    call: FormatCall<'_>,
+    call: Call<'_>,
     out: &mut String,
     after: &'a str,
     numbering: Numbering,
-) -> Result<(&'a str, Numbering), Stop>
+) -> Result<(&'a str, Numbering), EvalError>
     ensures reads { ReadsOn call.entry
         (formatting call.entry after.now (spec.Field []) numbering (string_bytes out.old) machine.old)
         result out.new machine.new }
     ensures shorter { IfOk result (λ r. length r.0.now ≤ length after.now) }
 {
     let Some((field, brace, more)) = cut_at(after, b'{', b'}') else {
-        return Err(faulted(FaultCode::BadValue, call.line));
+        return Err(fault_at(FaultCode::BadValue, call.line));
     };
     if brace == b'}' {
         let (text, next) = field_text(
@@ -64,7 +54,7 @@ fn read_field<'a>(
         return Ok((more, next));
     }
     if !field.is_empty() {
-        return Err(faulted(FaultCode::BadValue, call.line));
+        return Err(fault_at(FaultCode::BadValue, call.line));
     }
     out.push('{')?;
     Ok((more, numbering))
@@ -74,12 +64,12 @@ fn read_field<'a>(
 /// values from then on. `BadValue` for a `{` that is not closed and for a `}` that closes nothing.
 fn read_brace<'a>(
     machine: &mut Machine,
-    call: FormatCall<'_>,
+    call: Call<'_>,
     out: &mut String,
     brace: u8,
     after: &'a str,
     numbering: Numbering,
-) -> Result<(&'a str, Numbering), Stop>
+) -> Result<(&'a str, Numbering), EvalError>
     requires { is_neither 123 125 brace ≡ false }
     ensures reads { ReadsOn call.entry
         (formatting call.entry (brace ∷ after.now) spec.Outside numbering (string_bytes out.old) machine.old)
@@ -94,13 +84,13 @@ fn read_brace<'a>(
             out.push('}')?;
             Ok((more, numbering))
         }
-        _ => Err(faulted(FaultCode::BadValue, call.line)),
+        _ => Err(fault_at(FaultCode::BadValue, call.line)),
     }
 }
 
 /// The format from left to right, with the texts of the values in the places of its fields. `BadValue` for braces that
 /// are not paired, and the faults of the fields.
-fn formatted(machine: &mut Machine, call: FormatCall<'_>, format: &str) -> Result<Text, Stop>
+fn formatted(machine: &mut Machine, call: Call<'_>, format: &str) -> Result<Text, EvalError>
     ensures { Refines (formatting call.entry format.now spec.Outside Numbering.Unused [] machine.old)
         result machine.new }
 {
@@ -120,25 +110,13 @@ fn formatted(machine: &mut Machine, call: FormatCall<'_>, format: &str) -> Resul
 /// `format(*x, **kw)`: the bytes are paid, then a new string, with the `str` of a value in the place of each `{}` (the
 /// next value), `{0}` (a value by its number) and `{name}`, and a brace for two. `BadValue` for another use of braces
 /// and for `{}` beside a number, `Index` for a place beyond all values, `Key` for a name that is not given.
-pub fn call_format(
-    machine: &mut Machine,
-    setting: &Setting,
-    levels: u32,
-    line: usize,
-    text: Value,
-    given: &Arguments,
-) -> Result<Value, Stop>
-    ensures { Refines (methods.call_format setting.now levels line (bytes_of (content setting.now machine.old text))
-        given.now machine.old) result machine.new }
+pub fn call_format(machine: &mut Machine, text: Value, call: &Call) -> Result<Value, EvalError>
+    ensures { Refines (methods.call_format call.now.setting.now call.now.levels call.now.line
+        (bytes_of (content call.now.setting.now machine.old text)) call.now.given.now machine.old)
+        result machine.new }
 {
-    let format = machine.copied_text(setting, text)?;
-    pay_for_bytes(machine, setting, line, text)?;
-    let call = FormatCall {
-        setting,
-        levels,
-        line,
-        given,
-    };
-    let made = formatted(machine, call, format.as_str())?;
-    machine.new_text(line, made)
+    let format = machine.copied_text(call.setting, text)?;
+    pay_for_bytes(machine, call.setting, call.line, text)?;
+    let made = formatted(machine, *call, format.as_str())?;
+    machine.new_text(call.line, made)
 }

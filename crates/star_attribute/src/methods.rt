@@ -7,19 +7,19 @@ ghost use Rattle.star_meaning.specs.Methods as spec;
 ghost use Rattle.star_meaning.specs.Run.{and_then};
 ghost use Rattle.star_machine.specs.Shown.{shown};
 ghost use Rattle.star_meaning.specs.Values.{type_name, want_text};
-ghost use Rattle.star_scope.specs.Names.{same_name};
+ghost use Rattle.star_outline.specs.Names.{same_name};
 ghost use Rattle.star_store.specs.Names.{method_name};
 
 use crate::formats::call_format;
 use star_machine::content::Content;
-use star_machine::fault::{Stop, faulted};
+use star_machine::fault::{EvalError, fault_at};
 use star_machine::machine::Machine;
 use star_machine::setting::Setting;
 use star_meaning::fault::FaultCode;
 use star_meaning::given::Arguments;
+use star_method::call::Call;
 use star_method::dicts::{
-    call_dict_pop, call_get, call_items, call_keys, call_popitem, call_setdefault, call_update,
-    call_values,
+    Keyed, Listed, call_get, call_keyed, call_listed, call_popitem, call_update,
 };
 use star_method::lists::{
     call_append, call_clear, call_extend, call_index, call_insert, call_pop, call_remove,
@@ -101,11 +101,11 @@ pub fn attribute(
     line: usize,
     value: Value,
     name: &str,
-) -> Result<Value, Stop>
+) -> Result<Value, EvalError>
     ensures { Refines (spec.attribute setting.now line value name.now machine.old) result machine.new }
 {
     let Some(method) = method_of(machine.content(setting, value), name) else {
-        return Err(faulted(FaultCode::BadType, line));
+        return Err(fault_at(FaultCode::BadType, line));
     };
     machine.build(line, 1, Cell::Bound(method, value))
 }
@@ -113,37 +113,67 @@ pub fn attribute(
 /// Calls a method of a string. `BadType` if the receiver is not a string, or the method is not one of strings.
 fn call_on_text(
     machine: &mut Machine,
-    setting: &Setting,
-    levels: u32,
-    line: usize,
     method: Method,
     text: Value,
-    given: &Arguments,
-) -> Result<Value, Stop>
-    ensures { Refines (and_then (want_text setting.now line text machine.old)
-        (λ t. spec.on_text setting.now levels line method t given.now)) result machine.new }
+    call: &Call,
+) -> Result<Value, EvalError>
+    ensures { Refines (and_then (want_text call.now.setting.now call.now.line text machine.old)
+        (λ t. spec.on_text call.now.setting.now call.now.levels call.now.line method t call.now.given.now))
+        result machine.new }
 {
-    machine.check_text(setting, line, text)?;
+    machine.check_text(call.setting, call.line, text)?;
     match method {
-        Method::StringEndswith => call_edge(machine, setting, line, Edge::End, text, given),
-        Method::StringFind => call_find(machine, setting, line, text, given),
-        Method::StringFormat => call_format(machine, setting, levels, line, text, given),
-        Method::StringJoin => call_join(machine, setting, line, text, given),
-        Method::StringLower => call_case(machine, setting, line, Case::Lower, text, given),
-        Method::StringLstrip => call_strip(machine, setting, line, true, false, text, given),
-        Method::StringReplace => call_replace(machine, setting, line, text, given),
-        Method::StringRstrip => call_strip(machine, setting, line, false, true, text, given),
-        Method::StringSplit => call_split(machine, setting, line, text, given),
-        Method::StringStartswith => call_edge(machine, setting, line, Edge::Front, text, given),
-        Method::StringStrip => call_strip(machine, setting, line, true, true, text, given),
-        Method::StringUpper => call_case(machine, setting, line, Case::Upper, text, given),
-        _ => Err(faulted(FaultCode::BadType, line)),
+        Method::StringEndswith => call_edge(machine, Edge::End, text, call),
+        Method::StringFind => call_find(machine, text, call),
+        Method::StringFormat => call_format(machine, text, call),
+        Method::StringJoin => call_join(machine, text, call),
+        Method::StringLower => call_case(machine, Case::Lower, text, call),
+        Method::StringLstrip => call_strip(machine, true, false, text, call),
+        Method::StringReplace => call_replace(machine, text, call),
+        Method::StringRstrip => call_strip(machine, false, true, text, call),
+        Method::StringSplit => call_split(machine, text, call),
+        Method::StringStartswith => call_edge(machine, Edge::Front, text, call),
+        Method::StringStrip => call_strip(machine, true, true, text, call),
+        Method::StringUpper => call_case(machine, Case::Upper, text, call),
+        _ => Err(fault_at(FaultCode::BadType, call.line)),
+    }
+}
+
+/// Runs a method on its receiver for a call of it. The faults are those of the method; `BadType` too if the receiver is
+/// not of the method's type.
+#[tactic(auto, unfolding(star_meaning::specs::Methods::call_method))]
+fn run_method(
+    machine: &mut Machine,
+    method: Method,
+    receiver: Value,
+    call: &Call,
+) -> Result<Value, EvalError>
+    ensures { Refines (spec.call_method call.now.setting.now call.now.levels call.now.line method receiver
+        call.now.given.now machine.old) result machine.new }
+{
+    match method {
+        Method::ListAppend => call_append(machine, receiver, call),
+        Method::ListClear => call_clear(machine, receiver, call),
+        Method::ListExtend => call_extend(machine, receiver, call),
+        Method::ListIndex => call_index(machine, receiver, call),
+        Method::ListInsert => call_insert(machine, receiver, call),
+        Method::ListPop => call_pop(machine, receiver, call),
+        Method::ListRemove => call_remove(machine, receiver, call),
+        Method::DictClear => call_clear(machine, receiver, call),
+        Method::DictGet => call_get(machine, receiver, call),
+        Method::DictItems => call_listed(machine, Listed::Items, receiver, call),
+        Method::DictKeys => call_listed(machine, Listed::Keys, receiver, call),
+        Method::DictPop => call_keyed(machine, Keyed::Pop, receiver, call),
+        Method::DictPopitem => call_popitem(machine, receiver, call),
+        Method::DictSetdefault => call_keyed(machine, Keyed::SetDefault, receiver, call),
+        Method::DictUpdate => call_update(machine, receiver, call),
+        Method::DictValues => call_listed(machine, Listed::Values, receiver, call),
+        _ => call_on_text(machine, method, receiver, call),
     }
 }
 
 /// Calls a bound method on its receiver. `levels` bounds the depth of comparisons and of texts. The faults are those of
 /// the method; `BadType` too if the receiver is not of the method's type.
-#[tactic(auto, unfolding(star_meaning::specs::Methods::call_method))]
 pub fn call_method(
     machine: &mut Machine,
     setting: &Setting,
@@ -152,27 +182,15 @@ pub fn call_method(
     method: Method,
     receiver: Value,
     given: &Arguments,
-) -> Result<Value, Stop>
+) -> Result<Value, EvalError>
     ensures { Refines (spec.call_method setting.now levels line method receiver given.now machine.old)
         result machine.new }
 {
-    match method {
-        Method::ListAppend => call_append(machine, setting, line, receiver, given),
-        Method::ListClear => call_clear(machine, setting, line, receiver, given),
-        Method::ListExtend => call_extend(machine, setting, line, receiver, given),
-        Method::ListIndex => call_index(machine, setting, levels, line, receiver, given),
-        Method::ListInsert => call_insert(machine, setting, line, receiver, given),
-        Method::ListPop => call_pop(machine, setting, line, receiver, given),
-        Method::ListRemove => call_remove(machine, setting, levels, line, receiver, given),
-        Method::DictClear => call_clear(machine, setting, line, receiver, given),
-        Method::DictGet => call_get(machine, setting, levels, line, receiver, given),
-        Method::DictItems => call_items(machine, setting, line, receiver, given),
-        Method::DictKeys => call_keys(machine, setting, line, receiver, given),
-        Method::DictPop => call_dict_pop(machine, setting, levels, line, receiver, given),
-        Method::DictPopitem => call_popitem(machine, setting, line, receiver, given),
-        Method::DictSetdefault => call_setdefault(machine, setting, levels, line, receiver, given),
-        Method::DictUpdate => call_update(machine, setting, levels, line, receiver, given),
-        Method::DictValues => call_values(machine, setting, line, receiver, given),
-        _ => call_on_text(machine, setting, levels, line, method, receiver, given),
-    }
+    let call = Call {
+        setting,
+        levels,
+        line,
+        given,
+    };
+    run_method(machine, method, receiver, &call)
 }

@@ -73,18 +73,7 @@ ints_alike Nowhere d h k = cc
 
 held_text : (c : Content) → is_text c ≡ true → c ≡ Held (cell.Text (bytes_of c))
 held_text (Held (cell.Text t)) h = refl
-held_text Nothing h = cc
-held_text (Truth b) h = cc
-held_text (Number n) h = cc
-held_text (BuiltInFunction b) h = cc
-held_text (Held (cell.Range r)) h = cc
-held_text (Held (cell.Tuple xs)) h = cc
-held_text (Held (cell.List xs)) h = cc
-held_text (Held (cell.Dict es)) h = cc
-held_text (Held (cell.Func f)) h = cc
-held_text (Held (cell.Frame f)) h = cc
-held_text (Held (cell.Bound m v)) h = cc
-held_text Nowhere h = cc
+held_text _ h = cc
 
 texts_alike : (c d : Content) → is_text c ≡ true → is_text d ≡ true → is_before c d ≡ is_lt (by_contents c d)
 texts_alike c d h k =

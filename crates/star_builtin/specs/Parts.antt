@@ -2,10 +2,10 @@
 use Rattle.std.specs.Prelude.{ℕ, ◌+◌, ◌^◌, min, List, [], ◌∷◌, length, ℤ, pos}
 use Rattle.star_store.specs.declared.values.Value.{Value}
 use Rattle.star_meaning.specs.declared.fault.FaultCode.TheVariants as code
-use Rattle.star_meaning.specs.Run.{Action, ◌>>=◌, pay, check, found, each, collect, add_line}
+use Rattle.star_meaning.specs.Run.{Action, ◌>>=◌, pay, check, found, each, add_line}
 use Rattle.star_meaning.specs.Program.{Setting}
-use Rattle.star_meaning.specs.Values.{with_content, want_int, new_int, new_tuple, new_list, count_of, str}
-use Rattle.star_meaning.specs.BuiltIns.{length_in, range_of, is_range_count, joined, least, row_at}
+use Rattle.star_meaning.specs.Values.{with_content, want_int, new_int, new_tuple, str}
+use Rattle.star_meaning.specs.BuiltIns.{length_in, range_of, is_range_count, joined}
 
 -- the length of a value
 abbrev pub length_of : Setting → ℕ → Value → Action Value
@@ -19,13 +19,6 @@ range_from w line xs =
 -- the tuple of a number and an item
 abbrev pub numbered_item : ℕ → ℤ → Value → Action Value
 numbered_item line z x = new_int line z >>= λ n. new_tuple line (n ∷ x ∷ [])
-
--- the rows of some values, in a list
-abbrev pub zipped : Setting → ℕ → List Value → Action Value
-zipped w line vs = do
-  ns ← each (count_of w line) vs
-  rows ← collect (row_at w line vs) (least ns) 0
-  new_list line rows
 
 -- the line of some values
 abbrev pub said : Setting → ℕ → ℕ → List ℕ → List Value → Action (Unit {0})

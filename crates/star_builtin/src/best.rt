@@ -5,11 +5,11 @@ ghost use Rattle.star_meaning.specs.BuiltIns as spec;
 ghost use Rattle.star_machine.specs.Refines.{Refines};
 ghost use Rattle.star_builtin.specs.Best.{better, best_among};
 
-use star_machine::fault::{Stop, faulted};
+use star_machine::fault::{EvalError, fault_at};
 use star_machine::machine::Machine;
 use star_machine::setting::Setting;
 use star_meaning::fault::FaultCode;
-use star_meaning::given::Arguments;
+use star_method::call::Call;
 use star_store::values::Value;
 use std::cmp::Ordering;
 
@@ -41,7 +41,7 @@ fn best_of(
     wanted: Best,
     first: Value,
     rest: &[Value],
-) -> Result<Value, Stop>
+) -> Result<Value, EvalError>
     ensures { Refines (spec.best_of setting.now levels line (better wanted) first rest.now machine.old)
         result machine.new }
 {
@@ -55,23 +55,6 @@ fn best_of(
     Ok(best)
 }
 
-/// The best of some values: the first of equals. `BadValue` for none, `BadType` if two have no order.
-fn best_in(
-    machine: &mut Machine,
-    setting: &Setting,
-    levels: u32,
-    line: usize,
-    wanted: Best,
-    values: &[Value],
-) -> Result<Value, Stop>
-    ensures { Refines (spec.best_in setting.now levels line (better wanted) values.now machine.old) result machine.new }
-{
-    match values {
-        [first, rest @ ..] => best_of(machine, setting, levels, line, wanted, *first, rest),
-        [] => Err(faulted(FaultCode::BadValue, line)),
-    }
-}
-
 /// The best of one value's items, or of several values: the first of equals. `Args` for no value, `BadType` if the one
 /// value is not iterable and if two have no order, `BadValue` for no item.
 fn best_among(
@@ -81,33 +64,36 @@ fn best_among(
     line: usize,
     wanted: Best,
     values: &[Value],
-) -> Result<Value, Stop>
+) -> Result<Value, EvalError>
     ensures { Refines (best_among setting.now levels line (better wanted) values.now machine.old) result machine.new }
 {
     match values {
-        [] => Err(faulted(FaultCode::Args, line)),
+        [] => Err(fault_at(FaultCode::Args, line)),
         [value] => {
             let items = machine.take_all(setting, line, *value)?;
-            best_in(machine, setting, levels, line, wanted, items.as_slice())
+            match items.as_slice() {
+                [first, rest @ ..] => best_of(machine, setting, levels, line, wanted, *first, rest),
+                [] => Err(fault_at(FaultCode::BadValue, line)),
+            }
         }
-        _ => best_in(machine, setting, levels, line, wanted, values),
+        [first, rest @ ..] => best_of(machine, setting, levels, line, wanted, *first, rest),
     }
 }
 
 /// `max(x, ..)` or `min(x, ..)`: the best of the items of one value, or of several values, and the first of equals.
 /// `Args` for no value and for a keyword argument, `BadType` if the one value is not iterable and if two have no order,
 /// `BadValue` for no item.
-pub fn call_best(
-    machine: &mut Machine,
-    setting: &Setting,
-    levels: u32,
-    line: usize,
-    wanted: Best,
-    given: &Arguments,
-) -> Result<Value, Stop>
-    ensures { Refines (spec.call_best setting.now levels line (better wanted) given.now machine.old)
-        result machine.new }
+pub fn call_best(machine: &mut Machine, wanted: Best, call: &Call) -> Result<Value, EvalError>
+    ensures { Refines (spec.call_best call.now.setting.now call.now.levels call.now.line (better wanted)
+        call.now.given.now machine.old) result machine.new }
 {
-    let values = machine.positional(line, given)?;
-    best_among(machine, setting, levels, line, wanted, values)
+    let values = machine.positional(call.line, call.given)?;
+    best_among(
+        machine,
+        call.setting,
+        call.levels,
+        call.line,
+        wanted,
+        values,
+    )
 }

@@ -2,9 +2,10 @@
 //!
 //! Begin at `calls::call_built_in`, the `match` over all of them. Each other file has one function or a group. In a
 //! file the work on values comes first, and the functions `call_..` at its end unpack the arguments and do that work.
+//! Two that differ in one step are one function, which is told which of them is called.
 //!
-//! No built-in function runs a function of the program: `sorted` takes `reverse` and no `key`. It has no types of its
-//! own and no state.
+//! No built-in function runs a function of the program: `sorted` takes `reverse` and no `key`. Each is given a `Call`,
+//! the type of `star_method`; `Best`, `Form` and `Row` say which of two functions is called. It has no state.
 //!
 //! The promise of each `call_..` is `Refines` of `star_machine`: it has the result of its definition in
 //! `star_meaning/specs/BuiltIns`, the fault, the payments and the printed lines included.

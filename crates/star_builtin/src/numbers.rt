@@ -9,15 +9,15 @@ ghost use Rattle.star_builtin.specs.Parts as part;
 use crate::ints::narrow;
 use crate::spelling::spelled;
 use star_machine::content::Content;
-use star_machine::fault::{Stop, faulted};
+use star_machine::fault::{EvalError, fault_at};
 use star_machine::machine::Machine;
 use star_machine::setting::Setting;
 use star_meaning::fault::FaultCode;
-use star_meaning::given::Arguments;
+use star_method::call::Call;
 use star_store::values::{Cell, Value};
 
 /// How far an int lies from 0. `Overflow` for the least one.
-fn absolute(machine: &Machine, line: usize, int: i64) -> Result<Value, Stop>
+fn absolute(machine: &Machine, line: usize, int: i64) -> Result<Value, EvalError>
     ensures { Refines (spec.absolute line int machine.now) result machine.now }
 {
     machine.new_int(line, narrow(int.unsigned_abs() as i128))
@@ -25,7 +25,7 @@ fn absolute(machine: &Machine, line: usize, int: i64) -> Result<Value, Stop>
 
 /// The int of a content: an int itself, a bool as 1 or 0, or the int that a string spells. `BadValue` for a string that
 /// spells no int, `Overflow` for one outside 64 bits, `BadType` for another content.
-fn to_int(machine: &Machine, line: usize, content: Content) -> Result<Value, Stop>
+fn to_int(machine: &Machine, line: usize, content: Content) -> Result<Value, EvalError>
     ensures { Refines (spec.to_int line (shown content.entry) machine.now) result machine.now }
 {
     match content {
@@ -33,9 +33,9 @@ fn to_int(machine: &Machine, line: usize, content: Content) -> Result<Value, Sto
         Content::Truth(truth) => Ok(Value::Int(if truth { 1 } else { 0 })),
         Content::Held(Cell::Text(text)) => match spelled(text.as_str().as_bytes()) {
             Some(int) => machine.new_int(line, int),
-            None => Err(faulted(FaultCode::BadValue, line)),
+            None => Err(fault_at(FaultCode::BadValue, line)),
         },
-        _ => Err(faulted(FaultCode::BadType, line)),
+        _ => Err(fault_at(FaultCode::BadType, line)),
     }
 }
 
@@ -50,55 +50,48 @@ fn length_in(content: Content) -> Option<usize>
 }
 
 /// How many bytes a string has, or items an iterable. `BadType` for another value, `Overflow` for more than 2^63 - 1.
-fn length_of(machine: &Machine, setting: &Setting, line: usize, value: Value) -> Result<Value, Stop>
+fn length_of(
+    machine: &Machine,
+    setting: &Setting,
+    line: usize,
+    value: Value,
+) -> Result<Value, EvalError>
     ensures { Refines (part.length_of setting.now line value machine.now) result machine.now }
 {
     match length_in(machine.content(setting, value)) {
         Some(length) => machine.new_int(line, narrow(length as i128)),
-        None => Err(faulted(FaultCode::BadType, line)),
+        None => Err(fault_at(FaultCode::BadType, line)),
     }
 }
 
 /// `abs(x)`: the distance of an int from 0. `Args` for another number of values and for a keyword argument, `BadType`
 /// if it is not an int, `Overflow` for the least int.
-pub fn call_abs(
-    machine: &Machine,
-    setting: &Setting,
-    line: usize,
-    given: &Arguments,
-) -> Result<Value, Stop>
-    ensures { Refines (spec.call_abs setting.now line given.now machine.now) result machine.now }
+pub fn call_abs(machine: &Machine, call: &Call) -> Result<Value, EvalError>
+    ensures { Refines (spec.call_abs call.now.setting.now call.now.line call.now.given.now machine.now)
+        result machine.now }
 {
-    let value = machine.only_one(line, machine.positional(line, given)?)?;
-    let int = machine.want_int(setting, line, value)?;
-    absolute(machine, line, int)
+    let value = call.only_one(machine)?;
+    let int = machine.want_int(call.setting, call.line, value)?;
+    absolute(machine, call.line, int)
 }
 
 /// `int(x)`: an int, a bool as 1 or 0, or the int that a string of an optional sign and decimal digits spells. `Args`
 /// for another number of values and for a keyword argument, `BadType` for another value, `BadValue` for another string,
 /// `Overflow` outside 64 bits.
-pub fn call_int(
-    machine: &Machine,
-    setting: &Setting,
-    line: usize,
-    given: &Arguments,
-) -> Result<Value, Stop>
-    ensures { Refines (spec.call_int setting.now line given.now machine.now) result machine.now }
+pub fn call_int(machine: &Machine, call: &Call) -> Result<Value, EvalError>
+    ensures { Refines (spec.call_int call.now.setting.now call.now.line call.now.given.now machine.now)
+        result machine.now }
 {
-    let value = machine.only_one(line, machine.positional(line, given)?)?;
-    to_int(machine, line, machine.content(setting, value))
+    let value = call.only_one(machine)?;
+    to_int(machine, call.line, machine.content(call.setting, value))
 }
 
 /// `len(x)`: the bytes of a string, or the items of an iterable. `Args` for another number of values and for a name,
 /// `BadType` for another value.
-pub fn call_len(
-    machine: &Machine,
-    setting: &Setting,
-    line: usize,
-    given: &Arguments,
-) -> Result<Value, Stop>
-    ensures { Refines (spec.call_len setting.now line given.now machine.now) result machine.now }
+pub fn call_len(machine: &Machine, call: &Call) -> Result<Value, EvalError>
+    ensures { Refines (spec.call_len call.now.setting.now call.now.line call.now.given.now machine.now)
+        result machine.now }
 {
-    let value = machine.only_one(line, machine.positional(line, given)?)?;
-    length_of(machine, setting, line, value)
+    let value = call.only_one(machine)?;
+    length_of(machine, call.setting, call.line, value)
 }

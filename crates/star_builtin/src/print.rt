@@ -6,33 +6,18 @@ ghost use Rattle.star_machine.specs.Refines.{Refines, RefinesBy};
 ghost use Rattle.star_meaning.specs.Run.{each};
 ghost use Rattle.star_machine.specs.Shown.{shown};
 ghost use Rattle.star_meaning.specs.Values.{str, type_name};
+ghost use Rattle.star_builtin.specs.Forms.{call_text};
 ghost use Rattle.star_builtin.specs.Parts as part;
 
 use star_machine::content::Content;
-use star_machine::fault::{Stop, faulted};
+use star_machine::fault::{EvalError, fault_at};
 use star_machine::machine::Machine;
 use star_machine::setting::Setting;
 use star_meaning::fault::FaultCode;
-use star_meaning::given::Arguments;
+use star_method::call::Call;
 use star_store::values::{Cell, Value};
 use star_text::Text;
 use std::alloc::{AllocError, Global};
-
-/// The separator between the texts of a line: a space, unless `sep` is given. `BadType` if it is not a string.
-fn want_separator(
-    machine: &Machine,
-    setting: &Setting,
-    line: usize,
-    separator: Option<Value>,
-) -> Result<Text, Stop>
-    ensures { Refines (spec.want_separator setting.now line separator machine.now) result machine.now }
-{
-    let Some(value) = separator else {
-        return Ok(Text::new(machine.alloc(), " ")?);
-    };
-    let text = machine.want_text(setting, line, value)?;
-    Ok(text.share()?)
-}
 
 /// The `str` of each value.
 fn texts(
@@ -41,7 +26,7 @@ fn texts(
     levels: u32,
     line: usize,
     values: &[Value],
-) -> Result<Vec<Text>, Stop>
+) -> Result<Vec<Text>, EvalError>
     ensures { RefinesBy (λ v. v.items) (each (str setting.now levels line) values.now machine.old) result machine.new }
 {
     let mut texts = Vec::new(machine.alloc());
@@ -85,7 +70,7 @@ fn say(
     line: usize,
     by: &Text,
     values: &[Value],
-) -> Result<(), Stop>
+) -> Result<(), EvalError>
     ensures { Refines (part.said setting.now levels line by.now values.now machine.old) result machine.new }
 {
     let texts = texts(machine, setting, levels, line, values)?;
@@ -115,94 +100,71 @@ fn type_name(content: Content) -> &'static str
     }
 }
 
-/// The line of `print` and of `fail`: the `str` of each value, with the separator between each and the next. `Args` for
-/// a keyword argument but `sep`, `BadType` if the separator is not a string.
-fn print_line(
-    machine: &mut Machine,
-    setting: &Setting,
-    levels: u32,
-    line: usize,
-    given: &Arguments,
-) -> Result<(), Stop>
-    ensures { Refines (spec.print_line setting.now levels line given.now machine.old) result machine.new }
+/// The line of `print` and of `fail`: the `str` of each value, with the separator, a space without `sep`, between each
+/// and the next. `Args` for a keyword argument but `sep`, `BadType` if the separator is not a string.
+fn print_line(machine: &mut Machine, call: &Call) -> Result<(), EvalError>
+    ensures { Refines (spec.print_line call.now.setting.now call.now.levels call.now.line call.now.given.now
+        machine.old) result machine.new }
 {
-    let (values, separator) = machine.with_name(line, "sep", given)?;
-    let by = want_separator(machine, setting, line, separator)?;
-    say(machine, setting, levels, line, &by, values)
+    let (values, separator) = machine.with_name(call.line, "sep", call.given)?;
+    let by = match separator {
+        Some(value) => {
+            let text = machine.want_text(call.setting, call.line, value)?;
+            text.share()?
+        }
+        None => Text::new(machine.alloc(), " ")?,
+    };
+    say(machine, call.setting, call.levels, call.line, &by, values)
 }
 
 /// `print(*x, sep=" ")`: adds a line. `Args` for a keyword argument but `sep`, `BadType` if the separator is not a
 /// string.
-pub fn call_print(
-    machine: &mut Machine,
-    setting: &Setting,
-    levels: u32,
-    line: usize,
-    given: &Arguments,
-) -> Result<Value, Stop>
-    ensures { Refines (spec.call_print setting.now levels line given.now machine.old) result machine.new }
+pub fn call_print(machine: &mut Machine, call: &Call) -> Result<Value, EvalError>
+    ensures { Refines (spec.call_print call.now.setting.now call.now.levels call.now.line call.now.given.now
+        machine.old) result machine.new }
 {
-    print_line(machine, setting, levels, line, given)?;
+    print_line(machine, call)?;
     Ok(Value::NoneValue)
 }
 
 /// `fail(*x, sep=" ")`: adds a line, and is then the fault `Fail`. `Args` for a keyword argument but `sep`, `BadType`
 /// if the separator is not a string.
-pub fn call_fail(
-    machine: &mut Machine,
-    setting: &Setting,
-    levels: u32,
-    line: usize,
-    given: &Arguments,
-) -> Result<Value, Stop>
-    ensures { Refines (spec.call_fail setting.now levels line given.now machine.old) result machine.new }
+pub fn call_fail(machine: &mut Machine, call: &Call) -> Result<Value, EvalError>
+    ensures { Refines (spec.call_fail call.now.setting.now call.now.levels call.now.line call.now.given.now
+        machine.old) result machine.new }
 {
-    print_line(machine, setting, levels, line, given)?;
-    Err(faulted(FaultCode::Fail, line))
+    print_line(machine, call)?;
+    Err(fault_at(FaultCode::Fail, call.line))
 }
 
-/// `repr(x)`: the text of a value, as a new string. `Args` for another number of values and for a name.
-pub fn call_repr(
-    machine: &mut Machine,
-    setting: &Setting,
-    levels: u32,
-    line: usize,
-    given: &Arguments,
-) -> Result<Value, Stop>
-    ensures { Refines (spec.call_repr setting.now levels line given.now machine.old) result machine.new }
-{
-    let value = machine.only_one(line, machine.positional(line, given)?)?;
-    let text = machine.repr(setting, levels, line, value)?;
-    machine.new_text(line, text)
+/// The text of a value that `repr` answers, or the one that `str` answers: of a string the string itself.
+#[derive(Clone, Copy, Debug, PartialEq, Eq)]
+pub enum Form {
+    Repr,
+    Str,
 }
 
-/// `str(x)`: a string as it is, else the text of a value, as a new string. `Args` for another number of values and for
-/// a name.
-pub fn call_str(
-    machine: &mut Machine,
-    setting: &Setting,
-    levels: u32,
-    line: usize,
-    given: &Arguments,
-) -> Result<Value, Stop>
-    ensures { Refines (spec.call_str setting.now levels line given.now machine.old) result machine.new }
+/// `repr(x)` or `str(x)`: the text of a value, as a new string. `Args` for another number of values and for a keyword
+/// argument.
+pub fn call_text(machine: &mut Machine, form: Form, call: &Call) -> Result<Value, EvalError>
+    ensures { Refines (call_text call.now.setting.now call.now.levels call.now.line form call.now.given.now
+        machine.old) result machine.new }
 {
-    let value = machine.only_one(line, machine.positional(line, given)?)?;
-    let text = machine.str(setting, levels, line, value)?;
-    machine.new_text(line, text)
+    let value = call.only_one(machine)?;
+    let text = match form {
+        Form::Repr => machine.repr(call.setting, call.levels, call.line, value)?,
+        Form::Str => machine.str(call.setting, call.levels, call.line, value)?,
+    };
+    machine.new_text(call.line, text)
 }
 
 /// `type(x)`: the name of the type of a value, as a new string. `Args` for another number of values and for a name.
-pub fn call_type(
-    machine: &mut Machine,
-    setting: &Setting,
-    line: usize,
-    given: &Arguments,
-) -> Result<Value, Stop>
-    ensures { Refines (spec.call_type setting.now line given.now machine.old) result machine.new }
+pub fn call_type(machine: &mut Machine, call: &Call) -> Result<Value, EvalError>
+    ensures { Refines (spec.call_type call.now.setting.now call.now.line call.now.given.now machine.old)
+        result machine.new }
 {
-    let value = machine.only_one(line, machine.positional(line, given)?)?;
-    let name = type_name(machine.content(setting, value));
+    let value = call.only_one(machine)?;
+    let name = type_name(machine.content(call.setting, value));
     let text = Text::new(machine.alloc(), name)?;
-    machine.new_text(line, text)
+    machine.new_text(call.line, text)
 }

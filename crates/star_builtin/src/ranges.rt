@@ -4,23 +4,23 @@ ghost use Rattle.star_meaning.specs.BuiltIns as spec;
 ghost use Rattle.star_machine.specs.Refines.{Refines};
 ghost use Rattle.star_builtin.specs.Parts as part;
 
-use star_machine::fault::{Stop, faulted};
+use star_machine::fault::{EvalError, fault_at};
 use star_machine::machine::Machine;
 use star_machine::setting::Setting;
 use star_meaning::fault::FaultCode;
-use star_meaning::given::Arguments;
+use star_method::call::Call;
 use star_store::range::Range;
 use star_store::values::{Cell, Value};
 
 /// A new range. `BadValue` for a step of 0, `Overflow` for more than 2^63 - 1 ints.
-fn new_range(machine: &mut Machine, line: usize, range: Range) -> Result<Value, Stop>
+fn new_range(machine: &mut Machine, line: usize, range: Range) -> Result<Value, EvalError>
     ensures { Refines (spec.new_range line range machine.old) result machine.new }
 {
     if range.step == 0 {
-        return Err(faulted(FaultCode::BadValue, line));
+        return Err(fault_at(FaultCode::BadValue, line));
     }
     if range.len() > i64::MAX as u64 {
-        return Err(faulted(FaultCode::Overflow, line));
+        return Err(fault_at(FaultCode::Overflow, line));
     }
     machine.build(line, 1, Cell::Range(range))
 }
@@ -32,7 +32,7 @@ fn range_of(
     setting: &Setting,
     line: usize,
     values: &[Value],
-) -> Result<Value, Stop>
+) -> Result<Value, EvalError>
     ensures { Refines (part.range_from setting.now line values.now machine.old) result machine.new }
 {
     match values {
@@ -61,20 +61,16 @@ fn range_of(
             let step = machine.want_int(setting, line, *step)?;
             new_range(machine, line, Range { start, stop, step })
         }
-        _ => Err(faulted(FaultCode::Args, line)),
+        _ => Err(fault_at(FaultCode::Args, line)),
     }
 }
 
 /// `range([start], stop, [step])`. `Args` for another number of values and for a keyword argument, `BadType` if one is
 /// not an int, `BadValue` for a step of 0, `Overflow` for more than 2^63 - 1 ints.
-pub fn call_range(
-    machine: &mut Machine,
-    setting: &Setting,
-    line: usize,
-    given: &Arguments,
-) -> Result<Value, Stop>
-    ensures { Refines (spec.call_range setting.now line given.now machine.old) result machine.new }
+pub fn call_range(machine: &mut Machine, call: &Call) -> Result<Value, EvalError>
+    ensures { Refines (spec.call_range call.now.setting.now call.now.line call.now.given.now machine.old)
+        result machine.new }
 {
-    let values = machine.positional(line, given)?;
-    range_of(machine, setting, line, values)
+    let values = machine.positional(call.line, call.given)?;
+    range_of(machine, call.setting, call.line, values)
 }

@@ -7,29 +7,22 @@ ghost use Rattle.star_meaning.specs.BuiltIns as spec;
 ghost use Rattle.star_machine.specs.Refines.{Refines, RefinesBy};
 ghost use Rattle.star_meaning.specs.Run.{collect, each};
 ghost use Rattle.star_meaning.specs.Values.{count_of, take_item};
+ghost use Rattle.star_builtin.specs.Forms.{call_row};
 ghost use Rattle.star_builtin.specs.Parts as part;
 
 use crate::ints::narrow;
-use star_machine::fault::Stop;
+use star_machine::fault::EvalError;
 use star_machine::machine::Machine;
 use star_machine::setting::Setting;
-use star_meaning::given::Arguments;
+use star_method::call::Call;
 use star_store::values::{Value, Values};
 use std::alloc::{AllocError, Global};
 
-/// All items of an iterable; nothing without one. `BadType` if the value is not iterable.
-fn taken_from(
-    machine: &mut Machine,
-    setting: &Setting,
-    line: usize,
-    value: Option<Value>,
-) -> Result<Values, Stop>
-    ensures { Refines (spec.taken_from setting.now line value machine.old) result machine.new }
-{
-    match value {
-        Some(value) => machine.take_all(setting, line, value),
-        None => Ok(Values::new(Vec::new(machine.alloc()))),
-    }
+/// A list or a tuple.
+#[derive(Clone, Copy, Debug, PartialEq, Eq)]
+pub enum Row {
+    List,
+    Tuple,
 }
 
 /// The values of a row in the other order.
@@ -47,7 +40,7 @@ fn numbered_item(
     line: usize,
     number: i128,
     item: Value,
-) -> Result<Value, Stop>
+) -> Result<Value, EvalError>
     ensures { Refines (part.numbered_item line number item machine.old) result machine.new }
 {
     let number = machine.new_int(line, narrow(number))?;
@@ -56,7 +49,12 @@ fn numbered_item(
 }
 
 /// Each item with its number, from one on, as a new tuple. `Overflow` for a number outside 64 bits.
-fn numbered(machine: &mut Machine, line: usize, start: i64, items: &[Value]) -> Result<Values, Stop>
+fn numbered(
+    machine: &mut Machine,
+    line: usize,
+    start: i64,
+    items: &[Value],
+) -> Result<Values, EvalError>
     ensures { Refines (spec.numbered line start items.now machine.old) result machine.new }
 {
     let mut pairs = Vec::new(machine.alloc());
@@ -74,7 +72,7 @@ fn counts(
     setting: &Setting,
     line: usize,
     values: &[Value],
-) -> Result<Vec<usize>, Stop>
+) -> Result<Vec<usize>, EvalError>
     ensures { RefinesBy (λ v. v.items) (each (count_of setting.now line) values.now machine.now) result machine.now }
 {
     let mut counts = Vec::new(machine.alloc());
@@ -113,7 +111,7 @@ fn items_at(
     line: usize,
     values: &[Value],
     at: usize,
-) -> Result<Values, Stop>
+) -> Result<Values, EvalError>
     ensures { Refines (each (λ v. take_item setting.now line v at) values.now machine.old) result machine.new }
 {
     let mut items = Vec::new(machine.alloc());
@@ -130,7 +128,7 @@ fn row_at(
     line: usize,
     values: &[Value],
     at: usize,
-) -> Result<Value, Stop>
+) -> Result<Value, EvalError>
     ensures { Refines (spec.row_at setting.now line values.now at machine.old) result machine.new }
 {
     let items = items_at(machine, setting, line, values, at)?;
@@ -145,7 +143,7 @@ fn rows(
     line: usize,
     values: &[Value],
     count: usize,
-) -> Result<Values, Stop>
+) -> Result<Values, EvalError>
     ensures { Refines (collect (spec.row_at setting.now line values.now) count 0 machine.old) result machine.new }
 {
     let mut rows = Vec::new(machine.alloc());
@@ -155,111 +153,60 @@ fn rows(
     Ok(Values::new(rows))
 }
 
-/// As many tuples as the shortest value has items, each new and of one item of each, in a new list. `BadType` if a
-/// value is not iterable.
-fn zipped(
-    machine: &mut Machine,
-    setting: &Setting,
-    line: usize,
-    values: &[Value],
-) -> Result<Value, Stop>
-    ensures { Refines (part.zipped setting.now line values.now machine.old) result machine.new }
+/// `list([it])` or `tuple([it])`: all items in a new list or a new tuple, and no items without `it`. `Args` for more
+/// values and for a keyword argument, `BadType` if `it` is not iterable.
+pub fn call_row(machine: &mut Machine, row: Row, call: &Call) -> Result<Value, EvalError>
+    ensures { Refines (call_row call.now.setting.now call.now.line row call.now.given.now machine.old)
+        result machine.new }
 {
-    let counts = counts(machine, setting, line, values)?;
-    let rows = rows(machine, setting, line, values, least(&counts))?;
-    machine.new_list(line, rows)
-}
-
-/// `list([it])`: all items in a new list. `Args` for more values and for a keyword argument, `BadType` if `it` is not
-/// iterable.
-pub fn call_list(
-    machine: &mut Machine,
-    setting: &Setting,
-    line: usize,
-    given: &Arguments,
-) -> Result<Value, Stop>
-    ensures { Refines (spec.call_list setting.now line given.now machine.old) result machine.new }
-{
-    let value = machine.none_or_one(line, machine.positional(line, given)?)?;
-    let items = taken_from(machine, setting, line, value)?;
-    machine.new_list(line, items)
-}
-
-/// `tuple([it])`: all items in a new tuple. `Args` for more values and for a keyword argument, `BadType` if `it` is not
-/// iterable.
-pub fn call_tuple(
-    machine: &mut Machine,
-    setting: &Setting,
-    line: usize,
-    given: &Arguments,
-) -> Result<Value, Stop>
-    ensures { Refines (spec.call_tuple setting.now line given.now machine.old) result machine.new }
-{
-    let value = machine.none_or_one(line, machine.positional(line, given)?)?;
-    let items = taken_from(machine, setting, line, value)?;
-    machine.new_tuple(line, items)
+    let items = match call.none_or_one(machine)? {
+        Some(value) => machine.take_all(call.setting, call.line, value)?,
+        None => Values::new(Vec::new(machine.alloc())),
+    };
+    match row {
+        Row::List => machine.new_list(call.line, items),
+        Row::Tuple => machine.new_tuple(call.line, items),
+    }
 }
 
 /// `reversed(it)`: all items in the other order, in a new list. `Args` for another number of values and for a keyword
 /// argument, `BadType` if `it` is not iterable.
-pub fn call_reversed(
-    machine: &mut Machine,
-    setting: &Setting,
-    line: usize,
-    given: &Arguments,
-) -> Result<Value, Stop>
-    ensures { Refines (spec.call_reversed setting.now line given.now machine.old) result machine.new }
+pub fn call_reversed(machine: &mut Machine, call: &Call) -> Result<Value, EvalError>
+    ensures { Refines (spec.call_reversed call.now.setting.now call.now.line call.now.given.now machine.old)
+        result machine.new }
 {
-    let value = machine.only_one(line, machine.positional(line, given)?)?;
-    let items = machine.take_all(setting, line, value)?;
+    let value = call.only_one(machine)?;
+    let items = machine.take_all(call.setting, call.line, value)?;
     let turned = turned_round(machine.alloc(), items.as_slice())?;
-    machine.new_list(line, turned)
-}
-
-/// The number of the first item: 0 if no start is given. `BadType` if the start is not an int.
-fn want_start(
-    machine: &Machine,
-    setting: &Setting,
-    line: usize,
-    start: Option<Value>,
-) -> Result<i64, Stop>
-    ensures { Refines (spec.want_start setting.now line start machine.now) result machine.now }
-{
-    match start {
-        Some(value) => machine.want_int(setting, line, value),
-        None => Ok(0),
-    }
+    machine.new_list(call.line, turned)
 }
 
 /// `enumerate(it, [start])`: for each item a new tuple of its number and itself, in a new list. `Args` for another
 /// number of values and for a keyword argument, `BadType` if `it` is not iterable or `start` not an int, `Overflow` for
 /// a number outside 64 bits.
-pub fn call_enumerate(
-    machine: &mut Machine,
-    setting: &Setting,
-    line: usize,
-    given: &Arguments,
-) -> Result<Value, Stop>
-    ensures { Refines (spec.call_enumerate setting.now line given.now machine.old) result machine.new }
+pub fn call_enumerate(machine: &mut Machine, call: &Call) -> Result<Value, EvalError>
+    ensures { Refines (spec.call_enumerate call.now.setting.now call.now.line call.now.given.now machine.old)
+        result machine.new }
 {
-    let (value, start) = machine.one_or_two(line, machine.positional(line, given)?)?;
-    let count = machine.count_of(setting, line, value)?;
-    let start = want_start(machine, setting, line, start)?;
-    let items = machine.take_items(setting, line, value, count)?;
-    let pairs = numbered(machine, line, start, items.as_slice())?;
-    machine.new_list(line, pairs)
+    let (value, start) = call.one_or_two(machine)?;
+    let count = machine.count_of(call.setting, call.line, value)?;
+    let start = match start {
+        Some(start) => machine.want_int(call.setting, call.line, start)?,
+        None => 0,
+    };
+    let items = machine.take_items(call.setting, call.line, value, count)?;
+    let pairs = numbered(machine, call.line, start, items.as_slice())?;
+    machine.new_list(call.line, pairs)
 }
 
 /// `zip(*it)`: as many new tuples as the shortest value has items, each of one item of each, in a new list. `Args` for
 /// a keyword argument, `BadType` if a value is not iterable.
-pub fn call_zip(
-    machine: &mut Machine,
-    setting: &Setting,
-    line: usize,
-    given: &Arguments,
-) -> Result<Value, Stop>
-    ensures { Refines (spec.call_zip setting.now line given.now machine.old) result machine.new }
+pub fn call_zip(machine: &mut Machine, call: &Call) -> Result<Value, EvalError>
+    ensures { Refines (spec.call_zip call.now.setting.now call.now.line call.now.given.now machine.old)
+        result machine.new }
 {
-    let values = machine.positional(line, given)?;
-    zipped(machine, setting, line, values)
+    let values = machine.positional(call.line, call.given)?;
+    let counts = counts(machine, call.setting, call.line, values)?;
+    let rows = rows(machine, call.setting, call.line, values, least(&counts))?;
+    machine.new_list(call.line, rows)
 }

@@ -12,11 +12,11 @@ ghost use Rattle.star_meaning.specs.Values.{content};
 ghost use Rattle.star_builtin.specs.Orders.{by_contents, int_in};
 
 use star_machine::content::Content;
-use star_machine::fault::{Stop, faulted};
+use star_machine::fault::{EvalError, fault_at};
 use star_machine::machine::Machine;
 use star_machine::setting::Setting;
 use star_meaning::fault::FaultCode;
-use star_meaning::given::Arguments;
+use star_method::call::Call;
 use star_store::values::{Cell, Value, Values};
 use std::alloc::AllocError;
 use std::cmp::Ordering;
@@ -119,46 +119,36 @@ fn sort(
     line: usize,
     backwards: bool,
     values: &[Value],
-) -> Result<Value, Stop>
+) -> Result<Value, EvalError>
     ensures { Refines (spec.sort setting.now line backwards values.now machine.old) result machine.new }
 {
     if !can_sort(machine, setting, values) {
-        return Err(faulted(FaultCode::BadType, line));
+        return Err(fault_at(FaultCode::BadType, line));
     }
     let items = in_order(machine, setting, values)?;
     machine.new_list(line, turned(backwards, items))
 }
 
-/// Whether the order is turned: it is not without the argument. `BadType` if the argument is not a bool.
-fn want_reverse(
-    machine: &Machine,
-    setting: &Setting,
-    line: usize,
-    reverse: Option<Value>,
-) -> Result<bool, Stop>
-    ensures { Refines (spec.want_reverse setting.now line reverse machine.now) result machine.now }
-{
-    match reverse {
-        Some(value) => machine.want_bool(setting, line, value),
-        None => Ok(false),
-    }
-}
-
 /// `sorted(it, reverse=False)`: all items in order, in a new list. `Args` for another number of values and for a
 /// keyword argument but `reverse`, `BadType` if `it` is not iterable, if `reverse` is not a bool, and unless all items
 /// are ints, or all are strings.
-pub fn call_sorted(
-    machine: &mut Machine,
-    setting: &Setting,
-    line: usize,
-    given: &Arguments,
-) -> Result<Value, Stop>
-    ensures { Refines (spec.call_sorted setting.now line given.now machine.old) result machine.new }
+pub fn call_sorted(machine: &mut Machine, call: &Call) -> Result<Value, EvalError>
+    ensures { Refines (spec.call_sorted call.now.setting.now call.now.line call.now.given.now machine.old)
+        result machine.new }
 {
-    let (values, reverse) = machine.with_name(line, "reverse", given)?;
-    let value = machine.only_one(line, values)?;
-    let count = machine.count_of(setting, line, value)?;
-    let backwards = want_reverse(machine, setting, line, reverse)?;
-    let items = machine.take_items(setting, line, value, count)?;
-    sort(machine, setting, line, backwards, items.as_slice())
+    let (values, reverse) = machine.with_name(call.line, "reverse", call.given)?;
+    let value = machine.only_one(call.line, values)?;
+    let count = machine.count_of(call.setting, call.line, value)?;
+    let backwards = match reverse {
+        Some(reverse) => machine.want_bool(call.setting, call.line, reverse)?,
+        None => false,
+    };
+    let items = machine.take_items(call.setting, call.line, value, count)?;
+    sort(
+        machine,
+        call.setting,
+        call.line,
+        backwards,
+        items.as_slice(),
+    )
 }

@@ -5,25 +5,25 @@ ghost use Rattle.star_meaning.specs.BuiltIns as spec;
 ghost use Rattle.star_machine.specs.Refines.{Refines};
 ghost use Rattle.star_meaning.specs.Run.{Done, until};
 
-use star_machine::fault::Stop;
+use star_machine::fault::EvalError;
 use star_machine::machine::Machine;
 use star_machine::setting::Setting;
-use star_meaning::given::Arguments;
+use star_method::call::Call;
 use star_store::values::Value;
 
 /// Takes an item: whether its truth is the one looked for.
 fn is_decided(
     machine: &mut Machine,
-    setting: &Setting,
-    line: usize,
     wanted: bool,
     value: Value,
     at: usize,
-) -> Result<bool, Stop>
-    ensures { Refines (spec.is_decided setting.now line wanted value at machine.old) result machine.new }
+    call: &Call,
+) -> Result<bool, EvalError>
+    ensures { Refines (spec.is_decided call.now.setting.now call.now.line wanted value at machine.old)
+        result machine.new }
 {
-    let item = machine.take_item(setting, line, value, at)?;
-    let truth = machine.is_true(setting, item);
+    let item = machine.take_item(call.setting, call.line, value, at)?;
+    let truth = machine.is_true(call.setting, item);
     Ok(if truth { wanted } else { !wanted })
 }
 
@@ -31,16 +31,16 @@ fn is_decided(
 #[tactic(auto, using(star_machine::proofs::Turns::until_next))]
 fn some_of(
     machine: &mut Machine,
-    setting: &Setting,
-    line: usize,
     wanted: bool,
     value: Value,
     count: usize,
-) -> Result<bool, Stop>
-    ensures { Refines (until (spec.is_decided setting.now line wanted value) count 0 machine.old) result machine.new }
+    call: &Call,
+) -> Result<bool, EvalError>
+    ensures { Refines (until (spec.is_decided call.now.setting.now call.now.line wanted value) count 0 machine.old)
+        result machine.new }
 {
     for i in 0..count {
-        if is_decided(machine, setting, line, wanted, value, i)? {
+        if is_decided(machine, wanted, value, i, call)? {
             return Ok(true);
         }
     }
@@ -59,57 +59,40 @@ fn truth_of(machine: &Machine, setting: &Setting, value: Option<Value>) -> Value
 
 /// Whether one of the items of the one value has the truth `wanted`. `Args` for another number of values and for a
 /// keyword argument, `BadType` if the value is not iterable.
-fn some_item(
-    machine: &mut Machine,
-    setting: &Setting,
-    line: usize,
-    wanted: bool,
-    given: &Arguments,
-) -> Result<bool, Stop>
-    ensures { Refines (spec.some_item setting.now line wanted given.now machine.old) result machine.new }
+fn some_item(machine: &mut Machine, wanted: bool, call: &Call) -> Result<bool, EvalError>
+    ensures { Refines (spec.some_item call.now.setting.now call.now.line wanted call.now.given.now machine.old)
+        result machine.new }
 {
-    let value = machine.only_one(line, machine.positional(line, given)?)?;
-    let count = machine.count_of(setting, line, value)?;
-    some_of(machine, setting, line, wanted, value, count)
+    let value = call.only_one(machine)?;
+    let count = machine.count_of(call.setting, call.line, value)?;
+    some_of(machine, wanted, value, count, call)
 }
 
 /// `all(it)`: whether all items count as true; items are taken up to the first that does not. `Args` for another number
 /// of values and for a keyword argument, `BadType` if `it` is not iterable.
-pub fn call_all(
-    machine: &mut Machine,
-    setting: &Setting,
-    line: usize,
-    given: &Arguments,
-) -> Result<Value, Stop>
-    ensures { Refines (spec.call_all setting.now line given.now machine.old) result machine.new }
+pub fn call_all(machine: &mut Machine, call: &Call) -> Result<Value, EvalError>
+    ensures { Refines (spec.call_all call.now.setting.now call.now.line call.now.given.now machine.old)
+        result machine.new }
 {
-    let some = some_item(machine, setting, line, false, given)?;
+    let some = some_item(machine, false, call)?;
     Ok(Value::Bool(!some))
 }
 
 /// `any(it)`: whether an item counts as true; items are taken up to the first that does. `Args` for another number of
 /// values and for a keyword argument, `BadType` if `it` is not iterable.
-pub fn call_any(
-    machine: &mut Machine,
-    setting: &Setting,
-    line: usize,
-    given: &Arguments,
-) -> Result<Value, Stop>
-    ensures { Refines (spec.call_any setting.now line given.now machine.old) result machine.new }
+pub fn call_any(machine: &mut Machine, call: &Call) -> Result<Value, EvalError>
+    ensures { Refines (spec.call_any call.now.setting.now call.now.line call.now.given.now machine.old)
+        result machine.new }
 {
-    let some = some_item(machine, setting, line, true, given)?;
+    let some = some_item(machine, true, call)?;
     Ok(Value::Bool(some))
 }
 
 /// `bool([x])`: whether a value counts as true, and False without one. `Args` for more values and for a name.
-pub fn call_bool(
-    machine: &Machine,
-    setting: &Setting,
-    line: usize,
-    given: &Arguments,
-) -> Result<Value, Stop>
-    ensures { Refines (spec.call_bool setting.now line given.now machine.now) result machine.now }
+pub fn call_bool(machine: &Machine, call: &Call) -> Result<Value, EvalError>
+    ensures { Refines (spec.call_bool call.now.setting.now call.now.line call.now.given.now machine.now)
+        result machine.now }
 {
-    let value = machine.none_or_one(line, machine.positional(line, given)?)?;
-    Ok(truth_of(machine, setting, value))
+    let value = call.none_or_one(machine)?;
+    Ok(truth_of(machine, call.setting, value))
 }

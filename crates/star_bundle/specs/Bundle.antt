@@ -9,13 +9,10 @@ use Rattle.std.specs.Str.{is_utf8, bytes_eq}
 use Rattle.serde_json.specs.Data.{Data, Members, no_members, member}
 use Rattle.serde_json.specs.Read.{read}
 use Rattle.serde_json.specs.Find.{as_str, as_object}
-use Rattle.serde_json.specs.View.{view}
-use Rattle.serde_json.specs.declared.value.Value.{Value}
 use Rattle.star_label.specs.declared.error.LabelError.{LabelError}
 use Rattle.star_label.specs.declared.error.LabelError.TheVariants as limit
 use Rattle.star_label.specs.Files.{File, limit_passed}
 use Rattle.star_label.specs.Label.{is_package, is_segment, label_text, name_of, package_of}
-use Rattle.star_bundle.specs.Refusal.{Gives}
 use Rattle.star_bundle.specs.declared.error.ServeError.{ServeError}
 use Rattle.star_bundle.specs.declared.error.ServeError.TheVariants.{BadBundle, BadKey, TooMany, TooLong, BadRoot, NoRoot, BadPrelude, NoPrelude}
 
@@ -33,10 +30,6 @@ there_or e (Some x) = Ok x
 -- the JSON value of the bytes, as `serde_json` reads them
 unfoldable pub json_of : List ℕ → Option Data
 json_of bytes = if is_utf8 bytes then read bytes else None
-
--- the value read, unless memory ran out
-abbrev pub GivesJson : Result Value ServeError → Option Data → Type 0
-GivesJson r found = Gives view r (there_or BadBundle found)
 
 -- the members of an object, if each is a text
 unfoldable pub texts_of : Members → Option (List File)

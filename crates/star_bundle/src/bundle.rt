@@ -5,7 +5,7 @@ ghost use Rattle.serde_json.specs.Find.{as_object, as_str};
 ghost use Rattle.serde_json.specs.View.{view, members_view};
 ghost use Rattle.star_label.specs.View.{text_of};
 ghost use Rattle.star_bundle.specs.Bundle as bundle;
-ghost use Rattle.star_bundle.specs.Bundle.{GivesJson, json_of, there_or};
+ghost use Rattle.star_bundle.specs.Bundle.{json_of, there_or};
 ghost use Rattle.star_label.specs.Files.{file_of};
 ghost use Rattle.star_bundle.specs.Refusal.{Gives, IsNamed};
 ghost use Rattle.star_bundle.specs.declared.error.ServeError.TheVariants.{BadBundle};
@@ -28,7 +28,8 @@ fn into_text(value: Value) -> Option<String>
     }
 }
 
-fn into_members(value: Value) -> Option<Map<String, Value>>
+/// The members of an object; `None` for another value.
+pub fn into_members(value: Value) -> Option<Map<String, Value>>
     ensures { option_map (λ m. members_view m.entries) result ≡ as_object (view value) }
 {
     match value {
@@ -37,17 +38,17 @@ fn into_members(value: Value) -> Option<Map<String, Value>>
     }
 }
 
-/// The JSON value of the bytes.
-fn json_in(alloc: Global, bytes: &[u8]) -> Result<Value, ServeError>
-    ensures { GivesJson result (json_of bytes.now) }
+/// The JSON value of the bytes; `None` if they are no JSON.
+pub fn json_in(alloc: Global, bytes: &[u8]) -> Result<Option<Value>, AllocError>
+    ensures { IfOk result (λ value. option_map view value ≡ json_of bytes.now) }
 {
     match Value::from_slice(alloc, bytes) {
-        Ok(value) => Ok(value),
+        Ok(value) => Ok(Some(value)),
         Err(error) => {
             if error.is_memory() {
-                Err(ServeError::Memory)
+                Err(AllocError)
             } else {
-                Err(ServeError::BadBundle)
+                Ok(None)
             }
         }
     }
@@ -113,7 +114,10 @@ fn labelled(
 pub fn files_in(alloc: Global, bytes: &[u8]) -> Result<Files, ServeError>
     ensures { Gives (λ files. files) result (bundle.files_of bytes.now) }
 {
-    let Some(members) = into_members(json_in(alloc, bytes)?) else {
+    let Some(value) = json_in(alloc, bytes)? else {
+        return Err(ServeError::BadBundle);
+    };
+    let Some(members) = into_members(value) else {
         return Err(ServeError::BadBundle);
     };
     let texts = texts_in(alloc, members)?;

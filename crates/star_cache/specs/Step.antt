@@ -6,8 +6,8 @@ use Rattle.star_cache.specs.declared.reply.Reply.{Reply}
 use Rattle.star_cache.specs.declared.reply.Reply.TheVariants.{Begun, Ready, Failed, Spoiled, Cycle, Wait}
 use Rattle.star_cache.specs.declared.reply.BookError.{BookError}
 use Rattle.star_cache.specs.declared.reply.BookError.TheVariants.{NotTop, Waiting, NoSuch, NotWaiting, Memory}
-use Rattle.star_cache.specs.declared.entry.Standing.{Standing}
-use Rattle.star_cache.specs.declared.entry.Standing.TheVariants.{Fresh as StandsFresh, Running as StandsRunning, Ended}
+use Rattle.star_cache.specs.declared.entry.EntryState.{EntryState}
+use Rattle.star_cache.specs.declared.entry.EntryState.TheVariants.{Fresh as StandsFresh, Running as StandsRunning, Ended}
 use Rattle.star_cache.specs.Walk.{LeadsTo}
 use Rattle.star_cache.specs.State.{BookState, LoaderState, IsLawful, Links, IsIn, top_of, idle, entry_at, loader_at, stack_of, awaited_by}
 
@@ -108,7 +108,7 @@ module _ {P : Type 0} where
   IsEndReply good entry Wait = ⊥
 
   -- the state of an entry for the seat that asks
-  abbrev pub IsStanding : (P → Bool) → Entry P → Standing P → Type 0
+  abbrev pub IsStanding : (P → Bool) → Entry P → EntryState P → Type 0
   IsStanding good entry StandsFresh = entry ≡ Fresh
   IsStanding good entry StandsRunning = entry ≡ Running
   IsStanding good entry (Ended reply) = IsEndReply good entry reply

@@ -6,7 +6,7 @@
 ghost use Rattle.std.specs.Prelude.{◌≡◌, ◌≢◌, ℕ, true, false, ◌<◌, ◌≤◌, ◌↔◌, All, length, vec_len, IfOk, MatchResult, MatchOption, IsTrue, Option, Some, None};
 ghost use Rattle.star_cache.specs.Tells.{Tells, IsCyclic};
 
-use crate::entry::{Entry, Standing, standing_of};
+use crate::entry::{Entry, EntryState, state_of};
 use crate::product::Product;
 use crate::reply::{BookError, Reply};
 use std::alloc::{AllocError, Global};
@@ -118,13 +118,13 @@ impl<P: Product> Book<P> {
     }
 
     // The state of the entry of a file.
-    fn standing(&mut self, n: usize) -> Result<Standing<P>, BookError>
+    fn standing(&mut self, n: usize) -> Result<EntryState<P>, BookError>
         requires { n < length self.old.entries }
         ensures standing { MatchResult result (λ it. IsStanding P.is_good (entry_at self.old n) it)
             (λ e. IsUnshared P.always_shares (entry_at self.old n) e) }
         ensures same { self.new ≡ self.old }
     {
-        standing_of(&mut self.entries[n])
+        state_of(&mut self.entries[n])
     }
 
     // Whether the loader that runs the target is the seat, or walks to it.
@@ -214,12 +214,12 @@ impl<P: Product> Book<P> {
     {
         self.check_turn(seat, parent)?;
         match self.standing(target)? {
-            Standing::Ended(reply) => Ok(reply),
-            Standing::Fresh => {
+            EntryState::Ended(reply) => Ok(reply),
+            EntryState::Fresh => {
                 self.begin(seat, target);
                 Ok(Reply::Begun)
             }
-            Standing::Running => {
+            EntryState::Running => {
                 if self.meets(target, seat) {
                     Ok(Reply::Cycle)
                 } else {
@@ -270,12 +270,12 @@ impl<P: Product> Book<P> {
     {
         let awaited = self.waiting(seat)?;
         match self.standing(awaited)? {
-            Standing::Ended(reply) => {
+            EntryState::Ended(reply) => {
                 self.stop_waiting(seat);
                 Ok(reply)
             }
-            Standing::Running => Ok(Reply::Wait),
-            Standing::Fresh => unreachable!(),
+            EntryState::Running => Ok(Reply::Wait),
+            EntryState::Fresh => unreachable!(),
         }
     }
 

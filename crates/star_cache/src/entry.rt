@@ -21,29 +21,29 @@ pub enum Entry<P> {
 
 // The state of an entry for the seat that asks, with the reply if it has ended.
 #[derive(Drop)]
-pub enum Standing<P> {
+pub enum EntryState<P> {
     Fresh,
     Running,
     Ended(Reply<P>),
 }
 
 // The state of an entry, with a share of its product if it is done.
-pub fn standing_of<P: Product>(entry: &mut Entry<P>) -> Result<Standing<P>, BookError>
+pub fn state_of<P: Product>(entry: &mut Entry<P>) -> Result<EntryState<P>, BookError>
     ensures standing { MatchResult result (λ it. IsStanding P.is_good entry.old it)
         (λ e. IsUnshared P.always_shares entry.old e) }
     ensures same { entry.new ≡ entry.old }
 {
     match entry {
-        Entry::Fresh => Ok(Standing::Fresh),
-        Entry::Running => Ok(Standing::Running),
-        Entry::Spoiled => Ok(Standing::Ended(Reply::Spoiled)),
+        Entry::Fresh => Ok(EntryState::Fresh),
+        Entry::Running => Ok(EntryState::Running),
+        Entry::Spoiled => Ok(EntryState::Ended(Reply::Spoiled)),
         Entry::Done(product) => match product.share() {
             Err(_) => Err(BookError::Memory),
             Ok(shared) => {
                 if shared.good() {
-                    Ok(Standing::Ended(Reply::Ready(shared)))
+                    Ok(EntryState::Ended(Reply::Ready(shared)))
                 } else {
-                    Ok(Standing::Ended(Reply::Failed(shared)))
+                    Ok(EntryState::Ended(Reply::Failed(shared)))
                 }
             }
         },

@@ -13,7 +13,7 @@ use Rattle.std.proofs.lemmas.Slice.Eq.{bytes_eq-Decides}
 use Rattle.std.proofs.lemmas.List.{map-append}
 use Rattle.star_store.specs.declared.values.Value.{Value}
 use Rattle.star_tree.specs.declared.tree.Parameter.{Parameter}
-use Rattle.star_scope.specs.Names.{same_name}
+use Rattle.star_outline.specs.Names.{same_name}
 use Rattle.star_meaning.specs.declared.given.KeywordArgument.{KeywordArgument}
 use Rattle.star_meaning.specs.Arguments.{is_given}
 use Rattle.star_meaning.specs.Binding.{before_names, else_default, keywords_of, extra_keywords, value_named}

@@ -6,7 +6,7 @@ use Rattle.std.proofs.lemmas.List.{map-append}
 use Rattle.std.specs.Option.{option_and_then}
 use Rattle.star_tree.specs.declared.tree.Name.{Name}
 use Rattle.star_tree.specs.declared.tree.Parameter.{Parameter}
-use Rattle.star_scope.specs.Syntax.{parameter}
+use Rattle.star_outline.specs.Syntax.{parameter}
 use Rattle.star_meaning.specs.declared.given.KeywordArgument.{KeywordArgument}
 use Rattle.star_meaning.specs.Binding.{BoundArgument, BindingState, also, shares, step}
 use Rattle.star_call.specs.declared.shares.BoundArgument.{BoundArgument as HeldShare}

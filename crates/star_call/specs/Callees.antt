@@ -4,11 +4,11 @@ use Rattle.std.specs.Option.{option_and_then, option_map}
 use Rattle.star_store.specs.declared.values.Value.{Value}
 use Rattle.star_store.specs.declared.values.Cell.TheVariants as cell
 use Rattle.star_store.specs.declared.values.Function.{Function}
-use Rattle.star_scope.specs.Definitions.{Definition, definition_of}
-use Rattle.star_scope.specs.declared.outline.Definition.{Definition as HeldDefinition}
+use Rattle.star_outline.specs.Definitions.{Definition, definition_of}
+use Rattle.star_outline.specs.declared.outline.Definition.{Definition as HeldDefinition}
 use Rattle.star_tree.specs.declared.tree.Name.{Name}
 use Rattle.star_meaning.specs.declared.fault.FaultCode.TheVariants as code
-use Rattle.star_machine.specs.declared.fault.Stop.{Stop}
+use Rattle.star_machine.specs.declared.fault.EvalError.{EvalError}
 use Rattle.star_machine.specs.Refines.{RefinesBy}
 use Rattle.star_meaning.specs.Run.{State, Outcome, Action, ◌>>=◌, give, fail, check, found, seeing}
 use Rattle.star_meaning.specs.Program.{Setting, definition_of as in_setting}
@@ -48,7 +48,7 @@ with_definition line f d = do
   give (AFunction f e)
 
 -- The answer of a function is this one in each state in which its value leads to it.
-abbrev pub GivesCallee : Value → Function → Outcome Callee → Result HeldCallee Stop → State → Type 0
+abbrev pub GivesCallee : Value → Function → Outcome Callee → Result HeldCallee EvalError → State → Type 0
 GivesCallee v f o result new =
     (read : Value → Content) → read v ≡ Held (cell.Func f) → RefinesBy (shown read) o result new
 
@@ -84,7 +84,7 @@ callee_in line d (Held (cell.Bound m x)) = give (AMethod m x)
 callee_in line d _ = fail code.BadType line
 
 -- The answer is this callee, and the state stays.
-abbrev pub FindsCallee : Setting → Action Callee → Result HeldCallee Stop → State → Type 0
+abbrev pub FindsCallee : Setting → Action Callee → Result HeldCallee EvalError → State → Type 0
 FindsCallee w callee result s = RefinesBy (shown (content w s)) (callee s) result s
 
 -- the code has the definition of a value, if it is a function and has one

@@ -5,7 +5,7 @@
 
 ghost use Rattle.std.specs.Prelude.{◌≡◌, IfOk};
 ghost use Rattle.std.specs.Option.{option_map};
-ghost use Rattle.star_scope.specs.Definitions.{definition_of};
+ghost use Rattle.star_outline.specs.Definitions.{definition_of};
 ghost use Rattle.star_meaning.specs.Calls as spec;
 ghost use Rattle.star_machine.specs.Refines.{Refines};
 ghost use Rattle.star_meaning.specs.Values.{content};
@@ -14,12 +14,12 @@ ghost use Rattle.star_call.specs.Callees.{FindsCallee, GivesCallee, HasDefinitio
 use crate::binding::bound_to;
 use crate::shares::BoundArguments;
 use star_machine::content::Content;
-use star_machine::fault::{Stop, faulted};
+use star_machine::fault::{EvalError, fault_at};
 use star_machine::machine::Machine;
 use star_machine::setting::Setting;
 use star_meaning::fault::FaultCode;
 use star_meaning::given::Arguments;
-use star_scope::outline::Definition;
+use star_outline::outline::Definition;
 use star_store::names::{BuiltIn, Method};
 use star_store::values::{Cell, Function, Value};
 
@@ -62,14 +62,14 @@ impl<'t> Called<'t> {
         setting: &Setting,
         line: usize,
         given: &'g Arguments,
-    ) -> Result<BoundArguments<'t, 'g>, Stop>
+    ) -> Result<BoundArguments<'t, 'g>, EvalError>
         ensures { Refines (bound_arguments setting.now line self.now given.now machine.now) result machine.now }
     {
         let defaults = defaults_of(machine, setting, self.value);
         let parameters = self.definition.parameters;
         match bound_to(machine.alloc(), parameters, defaults, given)? {
             Some(shares) => Ok(shares),
-            None => Err(faulted(FaultCode::Args, line)),
+            None => Err(fault_at(FaultCode::Args, line)),
         }
     }
 }
@@ -82,13 +82,13 @@ fn function_callee<'t>(
     value: Value,
     function: &Function,
     definition: Option<Definition<'t>>,
-) -> Result<Callee<'t>, Stop>
+) -> Result<Callee<'t>, EvalError>
     ensures answer { GivesCallee value function.now
         (with_definition line function.now (option_map definition_of definition.entry) machine.now) result machine.now }
     ensures has { IfOk result (HasDefinition function.now (option_map definition_of definition.entry)) }
 {
     if machine.is_active(function) {
-        return Err(faulted(FaultCode::Recursion, line));
+        return Err(fault_at(FaultCode::Recursion, line));
     }
     match definition {
         Some(definition) => Ok(Callee::AFunction(Called {
@@ -98,7 +98,7 @@ fn function_callee<'t>(
             frame: function.frame,
             definition,
         })),
-        None => Err(faulted(FaultCode::BadType, line)),
+        None => Err(fault_at(FaultCode::BadType, line)),
     }
 }
 
@@ -125,7 +125,7 @@ impl<'t> Callee<'t> {
         line: usize,
         value: Value,
         definition: Option<Definition<'t>>,
-    ) -> Result<Callee<'t>, Stop>
+    ) -> Result<Callee<'t>, EvalError>
         ensures answer { FindsCallee setting.now
             (callee_in line (option_map definition_of definition.entry) (content setting.now machine.now value)) result
             machine.now }
@@ -144,7 +144,7 @@ impl<'t> Callee<'t> {
                 definition,
             ),
             Content::Held(Cell::Bound(method, receiver)) => Ok(Callee::AMethod(*method, *receiver)),
-            _ => Err(faulted(FaultCode::BadType, line)),
+            _ => Err(fault_at(FaultCode::BadType, line)),
         }
     }
 }

@@ -13,7 +13,7 @@ ghost use Rattle.star_call.specs.EvaluatedArgument.{all_shown};
 use crate::names::comes_twice;
 use sqlite_items::Items;
 use star_machine::content::Content;
-use star_machine::fault::{Stop, faulted};
+use star_machine::fault::{EvalError, fault_at};
 use star_machine::machine::Machine;
 use star_machine::setting::Setting;
 use star_meaning::fault::FaultCode;
@@ -94,7 +94,7 @@ fn star_count(
     setting: &Setting,
     line: usize,
     star: Option<Value>,
-) -> Result<usize, Stop>
+) -> Result<usize, EvalError>
     ensures { Refines (spec.star_count setting.now line star machine.now) result machine.now }
 {
     match star {
@@ -110,7 +110,7 @@ fn take_star(
     line: usize,
     star: Option<Value>,
     count: usize,
-) -> Result<Values, Stop>
+) -> Result<Values, EvalError>
     ensures { Refines (spec.take_star setting.now line star count machine.old) result machine.new }
 {
     match star {
@@ -181,7 +181,7 @@ fn star_star_names(
     setting: &Setting,
     line: usize,
     value: Option<Value>,
-) -> Result<Vec<KeywordArgument>, Stop>
+) -> Result<Vec<KeywordArgument>, EvalError>
     ensures { RefinesBy (λ v. v.items) (spec.star_star_names setting.now line value machine.now) result machine.now }
 {
     let Some(value) = value else {
@@ -189,7 +189,7 @@ fn star_star_names(
     };
     match names_in(machine, setting, value)? {
         Some(names) => Ok(names),
-        None => Err(faulted(FaultCode::BadType, line)),
+        None => Err(fault_at(FaultCode::BadType, line)),
     }
 }
 
@@ -198,7 +198,7 @@ fn take_names(
     machine: &mut Machine,
     line: usize,
     names: Vec<KeywordArgument>,
-) -> Result<Vec<KeywordArgument>, Stop>
+) -> Result<Vec<KeywordArgument>, EvalError>
     ensures { RefinesBy (λ v. v.items) (spec.take_names line names.items machine.old) result machine.new }
 {
     for _name in &names {
@@ -243,7 +243,7 @@ pub fn given(
     setting: &Setting,
     line: usize,
     passed: &[EvaluatedArgument],
-) -> Result<Arguments, Stop>
+) -> Result<Arguments, EvalError>
     ensures answer { Refines (spec.given setting.now line (all_shown passed.now) machine.old) result machine.new }
     ensures kept { OnOk result (machine.new.store ≡ machine.old.store) }
 {
@@ -255,7 +255,7 @@ pub fn given(
     let positional = with_plain(machine.alloc(), passed, &items)?;
     let named = with_named(machine.alloc(), passed, names)?;
     if comes_twice(machine.alloc(), named.as_slice())? {
-        return Err(faulted(FaultCode::Args, line));
+        return Err(fault_at(FaultCode::Args, line));
     }
     Ok(Arguments { positional, named })
 }

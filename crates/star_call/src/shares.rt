@@ -9,7 +9,7 @@ ghost use Rattle.star_machine.specs.Refines.{Refines, RefinesBy};
 ghost use Rattle.star_meaning.specs.Run.{each};
 ghost use Rattle.star_call.specs.BoundArguments.{all_named, all_shown, bound_value, argument_of};
 
-use star_machine::fault::Stop;
+use star_machine::fault::EvalError;
 use star_machine::machine::Machine;
 use star_meaning::given::KeywordArgument;
 use star_store::values::{Entries, Value, Values};
@@ -62,7 +62,7 @@ fn keys_and_values(
     machine: &mut Machine,
     line: usize,
     named: &[&KeywordArgument],
-) -> Result<Entries, Stop>
+) -> Result<Entries, EvalError>
     ensures { Refines (each (spec.key_and_value line) (all_named named.now) machine.old) result machine.new }
 {
     let mut entries = Entries::with_capacity(machine.alloc(), named.len())?;
@@ -80,7 +80,7 @@ pub fn build_argument(
     line: usize,
     share: BoundArgument<'_>,
     left: &[&KeywordArgument],
-) -> Result<Value, Stop>
+) -> Result<Value, EvalError>
     ensures { Refines (spec.build_argument line (argument_of (all_named left.now) share.entry) machine.old)
         result machine.new }
 {
@@ -104,7 +104,7 @@ fn build_each<'t>(
     line: usize,
     shares: &[(&'t Name, BoundArgument<'_>)],
     left: &[&KeywordArgument],
-) -> Result<Vec<(&'t Name, Value)>, Stop>
+) -> Result<Vec<(&'t Name, Value)>, EvalError>
     ensures { RefinesBy (λ v. map bound_value v.items)
         (spec.build_arguments line (all_shown (all_named left.now) shares.now) machine.old) result machine.new }
 {
@@ -122,7 +122,7 @@ pub fn build_arguments<'t>(
     machine: &mut Machine,
     line: usize,
     shares: &BoundArguments<'t, '_>,
-) -> Result<Vec<(&'t Name, Value)>, Stop>
+) -> Result<Vec<(&'t Name, Value)>, EvalError>
     ensures { RefinesBy (λ v. map bound_value v.items) (spec.build_arguments line shares.now machine.old)
         result machine.new }
 {

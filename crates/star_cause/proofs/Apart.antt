@@ -6,8 +6,8 @@ use Rattle.std.proofs.lemmas.Bool.{eqb-true, or_cases}
 use Rattle.std.proofs.lemmas.Bool.Decides.{nat_tests}
 use Rattle.std.proofs.lemmas.List.Elements.{All-contains, Contains-append_cases}
 use Rattle.std.proofs.lemmas.Map.Steps.{length-le_from_distinct_below}
-use Rattle.star_scope.specs.Definitions.{AllDiffer}
-use Rattle.star_scope.proofs.Differ.{differ_pushed}
+use Rattle.star_outline.specs.Definitions.{AllDiffer}
+use Rattle.star_outline.proofs.Differ.{differ_pushed}
 use Rattle.star_plan.proofs.Causes.{here, there}
 
 pub differ_back : (xs ys : List ℕ) → AllDiffer (xs ++ ys) → AllDiffer ys

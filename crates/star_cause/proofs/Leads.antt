@@ -10,6 +10,7 @@ use Rattle.star_plan.specs.Plan.{Plan, loaded}
 use Rattle.star_plan.specs.Reached.{IsReached, load}
 use Rattle.star_plan.specs.Reading.{IsPlanOf}
 use Rattle.star_plan.specs.Results.{IsGood, IsOutcome, Outcome, Ran, Static, Unloaded, if_good}
+use Rattle.star_plan.proofs.Causes.{lead_end}
 use Rattle.star_plan.proofs.Seen.{contained}
 use Rattle.star_plan.proofs.Settled.{has_outcome}
 use Rattle.star_cause.specs.Causes.{AreNextsOf, IsBelow}
@@ -34,12 +35,10 @@ fails_bad plan n k (i, bad, at) good =
     bad.bad (subst (IsGood plan) (sym same) good)
 
 end_reached : (plan : Plan) (n m : ℕ) (xs : List ℕ) → Lead plan n xs m → IsReached plan n → IsReached plan m
-end_reached plan n m [] lead reached = subst (IsReached plan) lead reached
-end_reached plan n m (x ∷ xs) lead reached = end_reached plan lead.1.0 m xs lead.1.2 (fails_reached plan n lead.1.0 lead.1.1 reached)
+end_reached plan = lead_end (FailsBy plan) (IsReached plan) (fails_reached plan)
 
 end_bad : (plan : Plan) (n m : ℕ) (xs : List ℕ) → Lead plan n xs m → (IsGood plan n → ⊥) → IsGood plan m → ⊥
-end_bad plan n m [] lead bad good = bad (subst (IsGood plan) (sym lead) good)
-end_bad plan n m (x ∷ xs) lead bad good = end_bad plan lead.1.0 m xs lead.1.2 (fails_bad plan n lead.1.0 lead.1.1) good
+end_bad plan = lead_end (FailsBy plan) (λ x. IsGood plan x → ⊥) (λ j k fails bad. fails_bad plan j k fails)
 
 -- a reached file that is not good and fails by no load has a fault of its own
 own_fault : (plan : Plan) (m : ℕ) → (IsGood plan m → ⊥) → ((k : ℕ) → FailsBy plan m k → ⊥) → (o : Outcome) → IsOutcome plan m o → HasFault plan m

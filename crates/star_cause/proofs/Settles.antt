@@ -1,8 +1,8 @@
 -- The ends of the files on a way become known.
-use Rattle.std.proofs.Common.{arith, ◌≡◌, ◌<◌, ◌≤◌, ◌+◌, ◌⊎◌, inl, inr, ℕ, zero, suc, List, length, replicate, get_or, Option, Some, None, refl, ap, sym, subst, ◌∙◌, length-set}
+use Rattle.std.proofs.Common.{arith, ◌≡◌, ◌<◌, ◌≤◌, ◌+◌, ◌⊎◌, inl, inr, ℕ, zero, suc, List, length, replicate, get_or, Option, Some, None, ap, sym, subst, ◌∙◌, length-set}
 use Rattle.std.specs.Prelude.{Contains, slice_get, slice_set}
 use Rattle.std.proofs.lemmas.Bool.{cases_eq, cases_lt}
-use Rattle.std.proofs.lemmas.List.{get_or_default, length-replicate}
+use Rattle.std.proofs.lemmas.List.{get_or_default}
 use Rattle.star_plan.proofs.Rows.{get_set_other, get_set_same}
 use Rattle.star_cause.specs.declared.ends.End.{End}
 use Rattle.star_cause.specs.declared.ends.WalkEnd.{WalkEnd}
@@ -16,22 +16,7 @@ none_there zero n e is = let no : ⊥ = cc in no
 none_there (suc count) zero e is = let no : ⊥ = cc in no
 none_there (suc count) (suc n) e is = none_there count n e is
 
-pub none_known : (nexts : Nexts) → AreEnds nexts (replicate (length nexts) None)
-none_known nexts = record {
-  size = length-replicate (length nexts) None;
-  right = λ n e is. absurd (none_there (length nexts) n e is);
-  closed = λ n m known goes. absurd (none_there (length nexts) n known.0 known.1);
-}
-
 -- ---- one end more
-
-pub settled_none : (before : Ends) (files : List ℕ) (stop : WalkEnd) → AreSettled before files stop 0 before
-settled_none before files stop = record {
-  size = refl;
-  kept = λ x h. h;
-  known = λ i less. absurd (let no : ⊥ = omega (arith, less) in no);
-  added = λ x e is. inl is;
-}
 
 pub settled_more : (before : Ends) (files : List ℕ) (stop : WalkEnd) (i : ℕ) (now : Ends) (x : ℕ) (e : End) → get_or files i 0 ≡ x → end_on files stop i ≡ e → x < length now → AreSettled before files stop i now
     → AreSettled before files stop (i + 1) (slice_set now x (Some e))

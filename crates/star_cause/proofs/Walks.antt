@@ -2,10 +2,10 @@
 use Rattle.std.proofs.Common.{arith, ◌≡◌, ◌≢◌, ◌<◌, ◌≤◌, ◌+◌, ◌⊎◌, inl, inr, ℕ, List, [], ◌∷◌, ◌++◌, length, get_or, Some, None, refl, ap, sym, subst, ◌∙◌}
 use Rattle.std.specs.Prelude.{All, Contains, slice_get, slice_set}
 use Rattle.std.proofs.lemmas.Bool.{cases_lt}
-use Rattle.std.proofs.lemmas.List.{get_or_append_left, get_or_default, get_or_push, get_or-set_other, get_or-set_same, length-set, length_push}
-use Rattle.std.proofs.lemmas.List.Elements.{All-nil, All-push, Contains-append_left, Contains-get_or, Contains-push, Contains-push_cases}
-use Rattle.star_scope.specs.Definitions.{AllDiffer}
-use Rattle.star_scope.proofs.Differ.{differ_pushed}
+use Rattle.std.proofs.lemmas.List.{get_or_append_left, get_or_push, get_or-set_other, get_or-set_same, length-set, length_push}
+use Rattle.std.proofs.lemmas.List.Elements.{All-push, Contains-append_left, Contains-get_or, Contains-push, Contains-push_cases}
+use Rattle.star_outline.specs.Definitions.{AllDiffer}
+use Rattle.star_outline.proofs.Differ.{differ_pushed}
 use Rattle.star_plan.proofs.Causes.{here}
 use Rattle.star_cause.specs.declared.ends.End.{End}
 use Rattle.star_cause.specs.declared.ends.End.TheVariants.{Last}
@@ -25,25 +25,6 @@ pub record OnWay (nexts : Nexts) (ends : Ends) (n : ℕ) (files places : List �
   pub inside : All (λ x. x < length nexts) files
   pub file : at < length nexts
   pub long : length places ≡ length nexts
-
-pub set_off : (nexts : Nexts) (ends : Ends) (n : ℕ) (places : List ℕ) → n < length nexts → length places ≡ length nexts → OnWay nexts ends n [] places n
-set_off nexts ends n places less long = record {
-  way = refl;
-  differ = tt;
-  noted = λ k h. absurd (let no : ⊥ = omega (arith, h) in no);
-  fresh = All-nil (IsFresh ends);
-  inside = All-nil (λ x. x < length nexts);
-  file = less;
-  long = long;
-}
-
--- ---- whether a file is on the way
-
-pub not_met : (files places : List ℕ) (n place : ℕ) → AreNoted files places → get_or places n 0 ≡ place → ((place < length files) → get_or files place 0 ≡ n → ⊥) → Contains files n → ⊥
-not_met files places n place noted at none (k, less, is) =
-    let there : get_or files k 0 ≡ n = get_or_default files k 0 n less ∙ is in
-    let same : place ≡ k = sym at ∙ (ap (λ z. get_or places z 0) (sym there) ∙ noted k less) in
-    none (subst (λ z. z < length files) (sym same) less) (subst (λ z. get_or files z 0 ≡ n) (sym same) there)
 
 -- ---- one file more
 

@@ -1,6 +1,6 @@
 -- Paths over files that each have at most one next file.
 use Rattle.std.specs.Prelude.{◌≡◌, ℕ, List, [], ◌∷◌, ◌++◌, length, Option, Some, slice_get}
-use Rattle.star_scope.specs.Definitions.{AllDiffer}
+use Rattle.star_outline.specs.Definitions.{AllDiffer}
 use Rattle.star_plan.specs.Causes.{Cause, Culprit, Cycle}
 
 -- for each file its next one, if it has one

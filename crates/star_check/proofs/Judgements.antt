@@ -10,6 +10,7 @@ use Rattle.star_plan.specs.Plan.{Faulty, Plan, Reading, Sound, StaticFault, load
 use Rattle.star_plan.specs.Reached.{IsReached, load}
 use Rattle.star_plan.specs.Reading.{IsPlanOf}
 use Rattle.star_plan.specs.Results.{IsGoodAt, result}
+use Rattle.star_plan.proofs.Causes.{lead_end}
 use Rattle.star_plan.proofs.Outcomes.{below, never}
 use Rattle.star_plan.proofs.Seen.{result-sound}
 use Rattle.star_plan.proofs.Stay.{good_is}
@@ -93,12 +94,10 @@ fails_reached : (plan : Plan) (n k : ℕ) → FailsBy plan n k → IsReached pla
 fails_reached plan n k (i, lack, at) reached = load reached (contained (loaded plan n) i k at)
 
 end_reached : (plan : Plan) (n m : ℕ) (xs : List ℕ) → Lead plan n xs m → IsReached plan n → IsReached plan m
-end_reached plan n m [] lead reached = subst (IsReached plan) lead reached
-end_reached plan n m (x ∷ xs) lead reached = end_reached plan lead.1.0 m xs lead.1.2 (fails_reached plan n lead.1.0 lead.1.1 reached)
+end_reached plan = lead_end (FailsBy plan) (IsReached plan) (fails_reached plan)
 
 end_unsound : (plan : Plan) (n m : ℕ) (xs : List ℕ) → Lead plan n xs m → (IsSound plan n → ⊥) → IsSound plan m → ⊥
-end_unsound plan n m [] lead bad is = bad (subst (IsSound plan) (sym lead) is)
-end_unsound plan n m (x ∷ xs) lead bad is = end_unsound plan lead.1.0 m xs lead.1.2 (fails_unsound plan n lead.1.0 lead.1.1) is
+end_unsound plan = lead_end (FailsBy plan) (λ x. IsSound plan x → ⊥) (λ j k fails bad. fails_unsound plan j k fails)
 
 -- ---- causes
 

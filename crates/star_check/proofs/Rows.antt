@@ -10,20 +10,19 @@ use Rattle.std.proofs.lemmas.List.Elements.{All-map, All-push}
 use Rattle.std.proofs.lemmas.Option.{get_or_from_slice_get, slice_get-get_or, slice_get-map, slice_get_within}
 use Rattle.star_label.specs.Files.{File}
 use Rattle.star_scope.specs.declared.loads.Load.{Load}
-use Rattle.star_plan.specs.Plan.{Faulty, Plan, Reading, loaded, loads_of, read_of}
+use Rattle.star_plan.specs.Plan.{Plan, Reading, loaded, loads_of, read_of}
 use Rattle.star_plan.specs.Reached.{IsReached}
 use Rattle.star_plan.specs.Reading.{IsPlanOf}
 use Rattle.star_cause.specs.declared.cause.Cause.{Cause}
 use Rattle.star_cause.specs.Causes.{cause_of}
 use Rattle.star_cause.specs.Ways.{EndsIn, Goes, Nexts}
-use Rattle.star_reading.specs.Codes.{fault_of}
 use Rattle.star_reading.specs.Readings.{InReadPlans, LeadWithin, Row, loads_at, read_at, reading_of, readings}
 use Rattle.star_reading.specs.declared.code.StaticFault.{StaticFault as Fault}
 use Rattle.star_reading.specs.declared.reading.Read.{Read}
 use Rattle.star_reading.specs.declared.reading.Read.TheVariants as read
 use Rattle.star_reading.proofs.Finds.{by_cases}
 use Rattle.star_reading.specs.Listed.{AreListed}
-use Rattle.star_reading.proofs.Listed.{listed_more, listed_on, none_listed}
+use Rattle.star_reading.proofs.Listed.{listed_more, listed_on}
 use Rattle.star_reading.proofs.Rows.{loads_are, read_is}
 use Rattle.star_sound.specs.Sound as sound
 use Rattle.star_sound.specs.declared.sound.Prospect.{Prospect}
@@ -37,16 +36,6 @@ use Rattle.star_check.proofs.Judgements.{cause_is, lack_unsound, needs_loaded, u
 
 abbrev pub IsAt : List Load → ℕ → Option (Bor Load) → Type 0
 IsAt ls place r = MatchOption r (length ls ≤ place) (λ y. (place < length ls) × HoldsAt (λ z. y.now ≡ z) ls place)
-
-pub at_some : (ls : List Load) (place : ℕ) (r : Option (Bor Load)) → IsAt ls place r → IfSome r (λ l. (i : ℕ) × (slice_get ls i ≡ Some l.now))
-at_some ls place (Some y) is = (place, slice_get-get_or ls place y.now is.0 ∙ ap Some (sym (is.1 y.now)))
-at_some ls place None is = tt
-
-pub load_is : (row : Row) (n place : ℕ) (r : Option (Bor Load)) → IsAt (loads_at row n) place r
-    → IfSome r (λ l. InReadPlans row (λ plan. sound.IsProspect (needs plan) n (prospect.Lacks place) → (i : ℕ) × IsFirstLack plan n i × (slice_get (loads_of plan n) i ≡ Some l.now)))
-load_is row n place (Some y) is = λ plan read lack.
-    (place, lack, subst (λ ls. slice_get ls place ≡ Some y.now) (sym (loads_are plan row n read)) (slice_get-get_or (loads_at row n) place y.now is.0 ∙ ap Some (sym (is.1 y.now))))
-load_is row n place None is = tt
 
 pub load_none : (row : Row) (n place : ℕ) (r : Option (Bor Load)) → IsAt (loads_at row n) place r → r ≡ None → InReadPlans row (λ plan. sound.IsProspect (needs plan) n (prospect.Lacks place) → ⊥)
 load_none row n place (Some y) is e = absurd (let no : ⊥ = cc in no)
@@ -63,9 +52,6 @@ load_none row n place None is e = λ plan read lack.
 -- the file of that load
 pub next_fails : (plan : Plan) (n : ℕ) (l : Load) → (i : ℕ) × IsFirstLack plan n i × (slice_get (loads_of plan n) i ≡ Some l) → FailsBy plan n l.file
 next_fails plan n l (i, lack, at) = (i, lack, slice_get-map (λ (x : Load). x.file) (loads_of plan n) i ∙ ap (option_map (λ (x : Load). x.file)) at)
-
-pub next_within : (ls : List Load) (count i : ℕ) (l : Load) → All (λ x. x.file < count) ls → slice_get ls i ≡ Some l → l.file < count
-next_within ls count i l all at = subst (λ (x : Load). x.file < count) (get_or_from_slice_get ls i l l at) (all i l (slice_get_within ls i l at))
 
 -- ---- the next files of a row
 
@@ -95,14 +81,6 @@ pub record AreNextsBelow (row : Row) (ps : List Prospect) (count : ℕ) (nexts :
   pub within : (n m : ℕ) → Goes nexts n m → m < length row
   pub right : InReadPlans row (λ plan. AreProspects row ps → (n m : ℕ) → Goes nexts n m → FailsBy plan n m)
   pub all : InReadPlans row (λ plan. AreProspects row ps → (n i : ℕ) → n < count → slice_get ps n ≡ Some (prospect.Lacks i) → (m : ℕ) × Goes nexts n m)
-
-pub nexts_none : (row : Row) (ps : List Prospect) → AreNextsBelow row ps 0 []
-nexts_none row ps = record {
-  size = refl;
-  within = λ n m at. let no : ⊥ = cc in absurd no;
-  right = λ plan read are n m at. let no : ⊥ = cc in absurd no;
-  all = λ plan read are n i less at. let no : ⊥ = omega (arith, less) in absurd no;
-}
 
 pub nexts_more : (row : Row) (ps : List Prospect) (count : ℕ) (nexts later : Nexts) (p : Prospect) (o : Option ℕ) → AreNextsBelow row ps count nexts → slice_get ps count ≡ Some p → later ≡ nexts ++ o ∷ []
     → IfSome o (λ m. m < length row) → IfSome o (λ m. InReadPlans row (λ plan. sound.IsProspect (needs plan) count p → FailsBy plan count m))
@@ -147,9 +125,6 @@ nexts_all row ps count nexts end were = record {
 
 -- ---- verdicts
 
-pub verdict_fault : (row : Row) (plan : Plan) (n : ℕ) (f : Fault) → readings row ≡ plan.reads → read_at row n ≡ Some (read.Fault f) → read_of plan n ≡ Some (Faulty (fault_of f))
-verdict_fault row plan n f is at = read_is plan row n is ∙ ap (option_map reading_of) at
-
 -- a program against which nothing is known is sound
 pub verdict_unrun : (row : Row) (plan : Plan) (n : ℕ) (r : Read) (p : Prospect) → readings row ≡ plan.reads → read_at row n ≡ Some r → ((f : Fault) → r ≡ read.Fault f → ⊥) → sound.IsProspect (needs plan) n p
     → ((i : ℕ) → p ≡ prospect.Lacks i → ⊥) → IsSound plan n
@@ -172,12 +147,6 @@ verdict_fails files row plan ps nexts n p c l planned is size reached are nexts_
 
 abbrev files_of : List check.Module → List ℕ
 files_of ms = map (λ (m : check.Module). m.file) ms
-
-pub check_none : (plan : Plan) → IsCheckBelow plan 0 []
-check_none plan = record {
-  listed = none_listed plan;
-  each = λ k d lt. absurd (let no : ⊥ = omega (arith, lt) in no);
-}
 
 -- a file that is not reached is passed by
 pub check_on : (plan : Plan) (n : ℕ) (ms : List check.Module) → (IsReached plan n → ⊥) → IsCheckBelow plan n ms → IsCheckBelow plan (n + 1) ms

@@ -1,8 +1,8 @@
 -- The text of a check, and its answer.
 use Rattle.std.proofs.Common.{arith, ◌≡◌, ◌<◌, ◌+◌, ℕ, List, [], ◌∷◌, ◌++◌, Bool, true, false, length, map, take, get_or, refl, ap, sym, subst, ◌∙◌}
-use Rattle.std.specs.Prelude.{All, Contains, codes, cond, filter}
-use Rattle.std.proofs.lemmas.List.{get_or-map, length-map, map_push, take_more}
-use Rattle.std.proofs.lemmas.List.Elements.{All-contains, All-map, Contains-get_or, filter-append}
+use Rattle.std.specs.Prelude.{All, Contains, codes, filter}
+use Rattle.std.proofs.lemmas.List.{get_or-map, length-map}
+use Rattle.std.proofs.lemmas.List.Elements.{All-contains, All-map, Contains-get_or}
 use Rattle.serde_json.specs.Data.{Data, array, member, no_members, number, object, string, unsigned}
 use Rattle.serde_json.specs.View.{items_of}
 use Rattle.serde_json.specs.Written.{compact_text, has_float, items_have_float}
@@ -15,40 +15,6 @@ use Rattle.star_check.specs.Judged.{judged_view, shown_of, verdict_view}
 use Rattle.star_check.specs.Text.{IsCheckAnswer, check_text, is_shown, is_unrun, module_data, verdict_data}
 use Rattle.star_check.specs.declared.verdict.Judged.{Judged}
 use Rattle.star_check.proofs.Judgements.{fault_unsound, lack_unsound}
-
--- ---- the modules that are shown
-
-shown_push : (files : List File) (only : Bool) (roots : List ℕ) (js : List Judged) (j : Judged) → shown_of files only roots (js ++ j ∷ []) ≡ shown_of files only roots js ++ map (module_data files) (cond (is_shown only roots (judged_view j)) (judged_view j ∷ []) [])
-shown_push files only roots js j =
-    let p = is_shown only roots in
-    ap (λ ms. map (module_data files) (filter p ms)) (map_push judged_view js j)
-    ∙ (ap (map (module_data files)) (filter-append p (map judged_view js) (judged_view j ∷ []))
-    ∙ map-append (filter p (map judged_view js)) (filter p (judged_view j ∷ [])))
-  where
-    map-append : (xs ys : List Module) → map (module_data files) (xs ++ ys) ≡ map (module_data files) xs ++ map (module_data files) ys
-    map-append [] ys = refl
-    map-append (x ∷ xs) ys = ap (λ t. module_data files x ∷ t) (map-append xs ys)
-
-taken : (js : List Judged) (i : ℕ) (j : Judged) → i < length js → get_or js i j ≡ j → take (i + 1) js ≡ take i js ++ j ∷ []
-taken js i j less at = take_more js i j less ∙ ap (λ x. take i js ++ x ∷ []) at
-
-pub shown_yes : (files : List File) (only : Bool) (roots : List ℕ) (js : List Judged) (i : ℕ) (j : Judged) (ds later : List Data) (d : Data) → i < length js → get_or js i j ≡ j → ds ≡ shown_of files only roots (take i js) → is_shown only roots (judged_view j) ≡ true
-    → d ≡ module_data files (judged_view j) → later ≡ ds ++ d ∷ [] → later ≡ shown_of files only roots (take (i + 1) js)
-shown_yes files only roots js i j ds later d less at were shows is more =
-    let push : shown_of files only roots (take i js ++ j ∷ []) ≡ shown_of files only roots (take i js) ++ module_data files (judged_view j) ∷ [] =
-    shown_push files only roots (take i js) j ∙ ap (λ b. shown_of files only roots (take i js) ++ map (module_data files) (cond b (judged_view j ∷ []) [])) shows in
-    more ∙ (ap (λ ds. ds ++ d ∷ []) were ∙ (ap (λ x. shown_of files only roots (take i js) ++ x ∷ []) is ∙ (sym push ∙ sym (ap (shown_of files only roots) (taken js i j less at)))))
-
-pub shown_no : (files : List File) (only : Bool) (roots : List ℕ) (js : List Judged) (i : ℕ) (j : Judged) (ds : List Data) → i < length js → get_or js i j ≡ j → ds ≡ shown_of files only roots (take i js) → is_shown only roots (judged_view j) ≡ false
-    → ds ≡ shown_of files only roots (take (i + 1) js)
-shown_no files only roots js i j ds less at were hides =
-    let push : shown_of files only roots (take i js ++ j ∷ []) ≡ shown_of files only roots (take i js) ++ [] =
-    shown_push files only roots (take i js) j ∙ ap (λ b. shown_of files only roots (take i js) ++ map (module_data files) (cond b (judged_view j ∷ []) [])) hides in
-    were ∙ (sym (append-nil (shown_of files only roots (take i js))) ∙ (sym push ∙ sym (ap (shown_of files only roots) (taken js i j less at))))
-  where
-    append-nil : (xs : List Data) → xs ++ [] ≡ xs
-    append-nil [] = refl
-    append-nil (x ∷ xs) = ap (λ t. x ∷ t) (append-nil xs)
 
 -- ---- no float stands in it
 

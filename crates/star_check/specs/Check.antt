@@ -1,10 +1,9 @@
 -- What is told of the files of a plan before any of them runs.
-use Rattle.std.specs.Prelude.{◌≡◌, ◌↔◌, ℕ, List, [], ◌∷◌, ◌++◌, Option, Some, None, Contains, map, slice_get}
+use Rattle.std.specs.Prelude.{◌≡◌, ◌↔◌, ℕ, List, Option, Some, None, Contains, map, slice_get}
 use Rattle.std.specs.List.{All}
 use Rattle.std.specs.List.Sorted.{IsStrictlyIncreasing}
-use Rattle.star_scope.specs.Definitions.{AllDiffer}
 use Rattle.star_scope.specs.declared.loads.Load.{Load}
-use Rattle.star_plan.specs.Causes.{Cause, Culprit, Cycle}
+use Rattle.star_plan.specs.Causes.{Cause, IsCauseBy, LeadBy}
 use Rattle.star_plan.specs.Plan.{Faulty, Plan, Reading, Sound, StaticFault, loaded, loads_of, read_of}
 use Rattle.star_plan.specs.Reached.{IsReached}
 use Rattle.star_plan.specs.Results.{IsGood}
@@ -35,17 +34,16 @@ FailsBy plan n m = (i : ℕ) × IsFirstLack plan n i × (slice_get (loaded plan 
 -- these files, the first of which is a file, lead from it to another: each fails by the next, and the last by that
 -- other one
 abbrev pub Lead : Plan → ℕ → List ℕ → ℕ → Type 0
-Lead plan n [] m = n ≡ m
-Lead plan n (x ∷ xs) m = (n ≡ x) × ((k : ℕ) × FailsBy plan n k × Lead plan k xs m)
+Lead plan = LeadBy (FailsBy plan)
+
+-- a file with a static fault
+abbrev pub IsBarred : Plan → ℕ → Type 0
+IsBarred plan n = (f : StaticFault) × (read_of plan n ≡ Some (Faulty f))
 
 -- first loads that are not sound lead from a file to its cause: a file with a static fault, or a cycle of loads, listed
 -- from its first file that is met; no file occurs twice on the path
 abbrev pub IsCause : Plan → ℕ → Cause → Type 0
-IsCause plan n (Culprit m) =
-    (way : List ℕ) × Lead plan n way m × ((f : StaticFault) × (read_of plan m ≡ Some (Faulty f)))
-IsCause plan n (Cycle []) = ⊥
-IsCause plan n (Cycle (m ∷ ms)) =
-    (way : List ℕ) × Lead plan n way m × Lead plan m (m ∷ ms) m × AllDiffer (way ++ m ∷ ms)
+IsCause plan = IsCauseBy (FailsBy plan) (IsBarred plan)
 
 -- what is told of a file: its static fault, or the cause and the line of its first load that is not sound, or that
 -- nothing is known against it

@@ -19,10 +19,11 @@ use Rattle.star_store.specs.declared.values.Cell.TheVariants as cell
 use Rattle.star_store.specs.Equal.{same, same_cells, same_entries, same_found, same_items, same_pairs, same_pair, same_place, same_entry, same_values}
 use Rattle.star_store.specs.Key.{key_levels, place_of, same_key, same_key_cell, value_of}
 use Rattle.star_store.specs.Spend.{Enough, Lacks, Spend, Spent, all_places, answer, spend_then, visited}
+use Rattle.star_data.specs.Counts.{member_count}
 use Rattle.star_data.specs.Data.{cell_data, cell_of, data_of, entries_data, items_data, key_in, text_in, value_data}
 use Rattle.star_data.specs.Laws.{EqualAreSame, KeysStandOnce}
 use Rattle.star_data.proofs.Ints.{int_is}
-use Rattle.star_data.proofs.Rising.{Rises, count, count_new, count_put, equal_bytes, rises_put, same_members}
+use Rattle.star_data.proofs.Rising.{Rises, count_new, count_put, equal_bytes, rises_put, same_members}
 use Rattle.serde_json.proofs.Views.{get_member-put, get_member-put_other}
 use Rattle.star_data.proofs.Options.{chained, mapped}
 use Rattle.star_data.proofs.Parts.{entry-data, is_text}
@@ -128,13 +129,13 @@ sorted_entries look a (x ∷ xs) ms f =
     let it = entered_by look a x xs ms f in
     subst Rises it.all (rises_put it.key it.value it.others (sorted_entries look a xs it.others it.rest))
 
-at_most : (look : Value → Option Cell) (a : Value → Option Data) (xs : List (Value × Value)) (ms : Members) → entries_data look a xs ≡ Some ms → count ms ≤ length xs
-at_most look a [] ms f = let e : no_members ≡ ms = cc in subst (λ z. count z ≤ 0) e (omega arith)
+at_most : (look : Value → Option Cell) (a : Value → Option Data) (xs : List (Value × Value)) (ms : Members) → entries_data look a xs ≡ Some ms → member_count ms ≤ length xs
+at_most look a [] ms f = let e : no_members ≡ ms = cc in subst (λ z. member_count z ≤ 0) e (omega arith)
 at_most look a (x ∷ xs) ms f =
     let it = entered_by look a x xs ms f in
     let less = at_most look a xs it.others it.rest in
     let one = count_put it.key it.value it.others in
-    subst (λ z. count z ≤ suc (length xs)) it.all (omega (arith, less, one))
+    subst (λ z. member_count z ≤ suc (length xs)) it.all (omega (arith, less, one))
 
 -- no later entry has the key: it is no member of theirs
 absent : (look : Value → Option Cell) (a : Value → Option Data) (xs : List (Value × Value)) (ms : Members) (t : List ℕ) → entries_data look a xs ≡ Some ms → ((j : ℕ) (y : Value × Value) → slice_get xs j ≡ Some y → text_in (cell_of look y.0) ≡ Some t → ⊥) → get_member t ms ≡ None
@@ -151,12 +152,12 @@ Once look es = (i j : ℕ) (x y : Value × Value) (t : List ℕ) → slice_get e
 once_rest : (look : Value → Option Cell) (x : Value × Value) (xs : List (Value × Value)) → Once look (x ∷ xs) → Once look xs
 once_rest look x xs once i j y z t p q e g = let both : suc i ≡ suc j = once (suc i) (suc j) y z t p q e g in omega (arith, both)
 
-counted : (look : Value → Option Cell) (a : Value → Option Data) (xs : List (Value × Value)) (ms : Members) → Once look xs → entries_data look a xs ≡ Some ms → count ms ≡ length xs
-counted look a [] ms once f = let e : no_members ≡ ms = cc in subst (λ z. count z ≡ 0) e refl
+counted : (look : Value → Option Cell) (a : Value → Option Data) (xs : List (Value × Value)) (ms : Members) → Once look xs → entries_data look a xs ≡ Some ms → member_count ms ≡ length xs
+counted look a [] ms once f = let e : no_members ≡ ms = cc in subst (λ z. member_count z ≡ 0) e refl
 counted look a (x ∷ xs) ms once f =
     let it = entered_by look a x xs ms f in
     let none = absent look a xs it.others it.key it.rest (λ j y at is. (let both : zero ≡ suc j = once zero (suc j) x y it.key refl at it.text is in let no : ⊥ = omega (arith, both) in no)) in
-    ap count (sym it.all) ∙ (count_new it.key it.value it.others none ∙ ap suc (counted look a xs it.others (once_rest look x xs once) it.rest))
+    ap member_count (sym it.all) ∙ (count_new it.key it.value it.others none ∙ ap suc (counted look a xs it.others (once_rest look x xs once) it.rest))
 
 -- each member is that of an entry
 members_in : (look : Value → Option Cell) (a : Value → Option Data) (xs : List (Value × Value)) (ms ns : Members) → entries_data look a xs ≡ Some ms

@@ -1,5 +1,5 @@
 -- Ints that are data.
-use Rattle.std.proofs.Common.{◌≡◌, Bool, true, false, ℤ, Some, None, if◌then◌else◌, refl, ap}
+use Rattle.std.proofs.Common.{◌≡◌, Bool, true, false, ℤ, Some, None, if◌then◌else◌, refl}
 use Rattle.serde_json.specs.Data.{Data, number}
 use Rattle.serde_json.specs.Find.{of_integer}
 use Rattle.star_store.specs.Arithmetic.{fits}
@@ -12,6 +12,3 @@ int_is n d e = by (fits n) refl e
     by : (b : Bool) → fits n ≡ b → (if b then Some (number (of_integer n)) else None) ≡ Some d → (fits n ≡ true) × (number (of_integer n) ≡ d)
     by true is e = (is, let same : number (of_integer n) ≡ d = cc in same)
     by false is e = absurd (let no : ⊥ = cc in no)
-
-pub fitting : (n : ℤ) → fits n ≡ true → int_data n ≡ Some (number (of_integer n))
-fitting n h = ap (λ b. if b then Some (number (of_integer n)) else None) h

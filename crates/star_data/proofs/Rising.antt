@@ -1,5 +1,5 @@
 -- Members in the order of their keys.
-use Rattle.std.proofs.Common.{arith, ◌≡◌, ◌≤◌, ℕ, zero, suc, List, Option, Some, None, refl, ap, sym, subst, ◌∙◌}
+use Rattle.std.proofs.Common.{arith, ◌≡◌, ◌≤◌, ℕ, suc, List, Option, Some, None, refl, ap, sym, subst, ◌∙◌}
 use Rattle.std.specs.Cmp.{IsTotalOrder}
 use Rattle.std.specs.Cmp.Lexicographic.{slice_cmp}
 use Rattle.std.specs.Ordering.{match_ordering, nat_cmp, ordering_reverse}
@@ -9,10 +9,7 @@ use Rattle.std.proofs.lemmas.Cmp.{nat_list_cmp_total}
 use Rattle.std.proofs.lemmas.Map.Lookups.{exact_bytes}
 use Rattle.serde_json.specs.Data.{Data, Members, member, no_members, put}
 use Rattle.serde_json.specs.Find.{get_member}
-
-abbrev pub count : Members → ℕ
-count no_members = zero
-count (member k d ms) = suc (count ms)
+use Rattle.star_data.specs.Counts.{member_count}
 
 -- a key is below all keys
 abbrev pub IsBelow : List ℕ → Members → Type 0
@@ -65,20 +62,20 @@ rises_put k d (member l e ms) h = turn (slice_cmp nat_cmp k l) refl (rises_put k
     turn Equal is rest = h
     turn Greater is rest = (below_put l k d ms (turned k l is) h.0, rest)
 
-pub count_put : (k : List ℕ) (d : Data) (ms : Members) → count (put k d ms) ≤ suc (count ms)
+pub count_put : (k : List ℕ) (d : Data) (ms : Members) → member_count (put k d ms) ≤ suc (member_count ms)
 count_put k d no_members = omega arith
 count_put k d (member l e ms) = turn (slice_cmp nat_cmp k l) (count_put k d ms)
   where
-    turn : (o : Ordering) → count (put k d ms) ≤ suc (count ms) → count (match_ordering o (member k d (member l e ms)) (member l d ms) (member l e (put k d ms))) ≤ suc (suc (count ms))
+    turn : (o : Ordering) → member_count (put k d ms) ≤ suc (member_count ms) → member_count (match_ordering o (member k d (member l e ms)) (member l d ms) (member l e (put k d ms))) ≤ suc (suc (member_count ms))
     turn Less more = omega arith
     turn Equal more = omega arith
     turn Greater more = omega (arith, more)
 
-pub count_new : (k : List ℕ) (d : Data) (ms : Members) → get_member k ms ≡ None → count (put k d ms) ≡ suc (count ms)
+pub count_new : (k : List ℕ) (d : Data) (ms : Members) → get_member k ms ≡ None → member_count (put k d ms) ≡ suc (member_count ms)
 count_new k d no_members none = refl
 count_new k d (member l e ms) none = turn (slice_cmp nat_cmp k l) none (count_new k d ms)
   where
-    turn : (o : Ordering) → match_ordering o (get_member k ms) (Some e) (get_member k ms) ≡ None → (get_member k ms ≡ None → count (put k d ms) ≡ suc (count ms)) → count (match_ordering o (member k d (member l e ms)) (member l d ms) (member l e (put k d ms))) ≡ suc (suc (count ms))
+    turn : (o : Ordering) → match_ordering o (get_member k ms) (Some e) (get_member k ms) ≡ None → (get_member k ms ≡ None → member_count (put k d ms) ≡ suc (member_count ms)) → member_count (match_ordering o (member k d (member l e ms)) (member l d ms) (member l e (put k d ms))) ≡ suc (suc (member_count ms))
     turn Less is rest = refl
     turn Equal is rest = absurd (let no : ⊥ = cc in no)
     turn Greater is rest = ap suc (rest is)
@@ -128,12 +125,12 @@ not_less : (k l : List ℕ) (d e : Data) (ms ns : Members) → Rises (member l e
 not_less k l d e ms ns rises all less =
     none_some (get_member k (member l e ns)) d (not_below k (member l e ns) (less, below_all k l ns less rises.0)) (all k d (first_member k d ms))
 
-fewer : (ms ns : Members) → Rises ms → Rises ns → StandsToo ms ns → count ms ≤ count ns
+fewer : (ms ns : Members) → Rises ms → Rises ns → StandsToo ms ns → member_count ms ≤ member_count ns
 fewer no_members ns p q all = omega arith
 fewer (member k d ms) no_members p q all = absurd (let h : None ≡ Some d = all k d (first_member k d ms) in let no : ⊥ = cc in no)
 fewer (member k d ms) (member l e ns) p q all = turn (slice_cmp nat_cmp k l) refl (fewer ms ns p.1 q.1) (fewer (member k d ms) ns p q.1)
   where
-    turn : (o : Ordering) → slice_cmp nat_cmp k l ≡ o → (StandsToo ms ns → count ms ≤ count ns) → (StandsToo (member k d ms) ns → suc (count ms) ≤ count ns) → suc (count ms) ≤ suc (count ns)
+    turn : (o : Ordering) → slice_cmp nat_cmp k l ≡ o → (StandsToo ms ns → member_count ms ≤ member_count ns) → (StandsToo (member k d ms) ns → suc (member_count ms) ≤ member_count ns) → suc (member_count ms) ≤ suc (member_count ns)
     turn Less is both one = absurd (not_less k l d e ms ns q all is)
     turn Equal is both one =
         let same : k ≡ l = exact_bytes k l is in
@@ -145,13 +142,13 @@ fewer (member k d ms) (member l e ns) p q all = turn (slice_cmp nat_cmp k l) ref
         omega (arith, less)
 
 -- rising members that stand among no more others are those
-pub same_members : (ms ns : Members) → Rises ms → Rises ns → StandsToo ms ns → count ns ≤ count ms → ms ≡ ns
+pub same_members : (ms ns : Members) → Rises ms → Rises ns → StandsToo ms ns → member_count ns ≤ member_count ms → ms ≡ ns
 same_members no_members no_members p q all no_more = refl
 same_members no_members (member l e ns) p q all no_more = absurd (let no : ⊥ = omega (arith, no_more) in no)
 same_members (member k d ms) no_members p q all no_more = absurd (let h : None ≡ Some d = all k d (first_member k d ms) in let no : ⊥ = cc in no)
 same_members (member k d ms) (member l e ns) p q all no_more = turn (slice_cmp nat_cmp k l) refl (same_members ms ns p.1 q.1)
   where
-    turn : (o : Ordering) → slice_cmp nat_cmp k l ≡ o → (StandsToo ms ns → count ns ≤ count ms → ms ≡ ns) → member k d ms ≡ member l e ns
+    turn : (o : Ordering) → slice_cmp nat_cmp k l ≡ o → (StandsToo ms ns → member_count ns ≤ member_count ms → ms ≡ ns) → member k d ms ≡ member l e ns
     turn Less is rest = absurd (not_less k l d e ms ns q all is)
     turn Equal is rest_same =
         let same : k ≡ l = exact_bytes k l is in

@@ -99,9 +99,6 @@ module _ (k : Bor (List ℕ)) (v : Value) where
 
 -- ---- the row of some entries
 
-pub no_row : (look : Value → Option Cell) → IsRowOf look [] []
-no_row look = record { data_as = λ f. refl; stand = λ path all. all }
-
 pub row_more : (look : Value → Option Cell) (es left : List (Value × Value)) (e : Value × Value) (k : Bor (List ℕ)) (row new : Row) → es ≡ e ∷ left → key_in (cell_of look e.0) ≡ Some k.now
     → IsRowOf look left row → put_new row k e.1 ≡ Some new → IsRowOf look es new
 row_more look es left e k row new at text was is = record {

@@ -238,10 +238,6 @@ sends_some o d old new e h = subst (λ p. Sends p true old new) (sym e) (refl, h
 pub sent_as : (o p : Option Data) (b : Bool) (old new : List Token) → o ≡ p → Sends o b old new → Sends p b old new
 sent_as o p b old new e h = subst (λ q. Sends q b old new) e h
 
-pub said_so : (o : Option Data) (b : Bool) (old new : List Token) → Sends o b old new → Says o b
-said_so None b old new h = h
-said_so (Some d) b old new h = h.0
-
 pub says_none : (o : Option Data) (b : Bool) → Says o b → b ≡ false → o ≡ None
 says_none None b h e = refl
 says_none (Some d) b h e = absurd (let no : true ≡ false = sym h ∙ e in let none : ⊥ = cc in none)

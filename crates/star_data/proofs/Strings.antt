@@ -36,7 +36,3 @@ key_is o k e =
 
 pub text_key : (o : Option Cell) (k : List ℕ) → text_in o ≡ Some k → IsUtf8 k → key_in o ≡ Some k
 text_key o k e h = ap (option_and_then utf8_of) e ∙ its_own k h
-
--- what is no text is no key
-pub no_key : (o : Option Cell) → text_in o ≡ None → key_in o ≡ None
-no_key o e = ap (option_and_then utf8_of) e

@@ -1,5 +1,6 @@
 -- The JSON of values, and laws of it. Begin at Data.
 pub mod Data
+pub mod Counts
 pub mod Parts
 pub mod Paths
 pub mod Texts

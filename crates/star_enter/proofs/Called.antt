@@ -10,7 +10,7 @@ use Rattle.star_call.specs.declared.callee.Callee.{Callee as HeldCallee}
 use Rattle.star_call.specs.declared.callee.Callee.TheVariants as callable
 use Rattle.star_call.specs.Callees.{shown, function_of}
 use Rattle.star_meaning.specs.Calls.{AFunction}
-use Rattle.star_scope.specs.Definitions.{definition_of}
+use Rattle.star_outline.specs.Definitions.{definition_of}
 
 pub content_kept : (w : Setting) (s t : State) (v : Value) → t.store ≡ s.store → content w t v ≡ content w s v
 content_kept w s t value.NoneValue h = refl

@@ -4,7 +4,7 @@ use Rattle.star_store.specs.declared.values.Value.{Value}
 use Rattle.star_store.specs.declared.values.Function.{Function}
 use Rattle.star_tree.specs.declared.tree.Name.{Name}
 use Rattle.std.specs.Prelude.{◌+◌, Some}
-use Rattle.star_scope.specs.Definitions.{Definition}
+use Rattle.star_outline.specs.Definitions.{Definition}
 use Rattle.star_meaning.specs.declared.site.Site.{Site}
 use Rattle.star_meaning.specs.Binding.{BoundArgument, build_arguments}
 use Rattle.star_meaning.specs.Calls.{activate, run}

@@ -16,9 +16,9 @@ use Rattle.star_tree.specs.declared.tree.Expression.{Expression}
 use Rattle.star_tree.specs.declared.tree.Name.{Name}
 use Rattle.star_tree.specs.declared.tree.Parameter.{Parameter}
 use Rattle.star_tree.specs.declared.tree.Argument.TheOpen as tree
-use Rattle.star_scope.specs.Definitions.{Definition}
-use Rattle.star_scope.specs.Names.{Names, slot_of}
-use Rattle.star_scope.specs.Syntax.{ParameterForm, parameter}
+use Rattle.star_outline.specs.Definitions.{Definition}
+use Rattle.star_outline.specs.Names.{Names, slot_of}
+use Rattle.star_outline.specs.Syntax.{ParameterForm, parameter}
 use Rattle.star_meaning.specs.declared.given.Arguments.{Arguments}
 use Rattle.star_meaning.specs.declared.site.Site.{Site}
 use Rattle.star_meaning.specs.declared.given.KeywordArgument.{KeywordArgument}

@@ -6,9 +6,9 @@ use Rattle.star_tree.specs.declared.tree.Expression.{Expression}
 use Rattle.star_tree.specs.declared.tree.Name.{Name}
 use Rattle.star_tree.specs.declared.tree.Parameter.{Parameter}
 use Rattle.star_tree.specs.declared.tree.Argument.TheOpen as tree
-use Rattle.star_scope.specs.Names.{Names}
+use Rattle.star_outline.specs.Names.{Names}
 use Rattle.star_scope.specs.Places.{Spots}
-use Rattle.star_scope.specs.Syntax.{ParameterForm, parameter}
+use Rattle.star_outline.specs.Syntax.{ParameterForm, parameter}
 use Rattle.star_meaning.specs.declared.given.KeywordArgument.{KeywordArgument}
 use Rattle.star_meaning.specs.Binding.{BoundArgument, build_argument, build_arguments}
 use Rattle.star_meaning.specs.Binding as share

@@ -6,7 +6,7 @@ use Rattle.std.specs.Option.{option_map, option_or}
 use Rattle.star_store.specs.declared.values.Value.{Value}
 use Rattle.star_store.specs.Slots.{default_at, row}
 use Rattle.star_store.proofs.Rows.{row_at, row_past, row_same, row_set}
-use Rattle.star_scope.specs.Names.{Names}
+use Rattle.star_outline.specs.Names.{Names}
 use Rattle.star_meaning.specs.declared.given.Arguments.{Arguments}
 use Rattle.star_meaning.specs.declared.given.KeywordArgument.{KeywordArgument}
 use Rattle.star_meaning.specs.Places.{joined}

@@ -12,10 +12,10 @@ use Rattle.star_tree.specs.declared.tree.Expression.{Expression}
 use Rattle.star_tree.specs.declared.tree.Name.{Name}
 use Rattle.star_tree.specs.declared.tree.Parameter.{Parameter}
 use Rattle.star_tree.specs.declared.tree.Argument.TheOpen as tree
-use Rattle.star_scope.specs.Names.{Names, same_name, slot_of}
+use Rattle.star_outline.specs.Names.{Names, same_name, slot_of}
 use Rattle.star_scope.specs.Places.{Spots}
-use Rattle.star_scope.specs.Syntax.{ParameterForm, parameter}
-use Rattle.star_scope.proofs.Numbers.{position_next}
+use Rattle.star_outline.specs.Syntax.{ParameterForm, parameter}
+use Rattle.star_outline.proofs.Numbers.{position_next}
 use Rattle.star_meaning.specs.declared.given.Arguments.{Arguments}
 use Rattle.star_meaning.specs.declared.given.KeywordArgument.{KeywordArgument}
 use Rattle.star_meaning.specs.Arguments.{is_given}

@@ -9,8 +9,8 @@ use Rattle.star_tree.specs.declared.tree.Argument.TheOpen as tree
 use Rattle.star_tree.specs.declared.tree.Expression.{Expression}
 use Rattle.star_tree.specs.declared.tree.Name.{Name}
 use Rattle.star_tree.specs.declared.tree.Parameter.{Parameter}
-use Rattle.star_scope.specs.Definitions.{Definition}
-use Rattle.star_scope.specs.Syntax.{ArgumentForm, ParameterForm, argument, parameter}
+use Rattle.star_outline.specs.Definitions.{Definition}
+use Rattle.star_outline.specs.Syntax.{ArgumentForm, ParameterForm, argument, parameter}
 use Rattle.star_meaning.specs.declared.given.Arguments.{Arguments}
 use Rattle.star_meaning.specs.declared.given.KeywordArgument.{KeywordArgument}
 use Rattle.star_meaning.specs.declared.site.Site.{Site}
@@ -20,7 +20,7 @@ use Rattle.star_meaning.specs.Calls.{Callee, call_node, callee, called, pass, pa
 use Rattle.star_meaning.specs.Semantics.{Semantics}
 use Rattle.star_meaning.specs.Program.{Setting}
 use Rattle.star_meaning.specs.Run.{Action, Done, Failed, Outcome, State, and_then, each, give}
-use Rattle.star_machine.specs.declared.fault.Stop.{Stop}
+use Rattle.star_machine.specs.declared.fault.EvalError.{EvalError}
 use Rattle.star_machine.specs.Refines.{Refines}
 use Rattle.star_enter.specs.Positional.{FitPositionally, positional, called_positional, called_with, expression_in, expression_of, is_plain, is_plain_form, is_positional, is_positional_form, named_by, positional_arguments}
 use Rattle.star_enter.specs.Entering.{entering, framed, left}
@@ -100,7 +100,7 @@ positional_is w levels p v es s h =
     ∙ by_values (each (value m p) es s) w.setting levels m p v)
 
 -- the arguments of a positional call
-pub call_gives : (w : World) (levels : ℕ) (p : Site) (f : Expression) (es : List Argument) (v : Value) (s u : State) (r : Result Value Stop) (t : State) → list_all is_positional es ≡ true → (semantics w levels).expr p f s ≡ Done v u
+pub call_gives : (w : World) (levels : ℕ) (p : Site) (f : Expression) (es : List Argument) (v : Value) (s u : State) (r : Result Value EvalError) (t : State) → list_all is_positional es ≡ true → (semantics w levels).expr p f s ≡ Done v u
     → Refines (called_positional w levels p v es u) r t → Refines (call_node w.setting levels (semantics w levels) p f es s) r t
 call_gives w levels p f es v s u r t h run g =
     let e = ap (λ (o : Outcome Value). and_then o (λ x. called_with w levels p x es)) run in
@@ -133,7 +133,7 @@ bound_of ps ds vs [] h k l = shares_are ps vs ds h k
 bound_of ps ds vs (n ∷ ns) h k l = absurd (omega arith)
 
 pub bound_positional : (ps : List Parameter) (ds : List Value) (g : Arguments) → FitPositionally ps g → bound_to ps ds g ≡ Some (positional_arguments ps g.positional)
-bound_positional ps ds g h = bound_of ps ds g.positional g.named h.positional h.as_many h.unnamed
+bound_positional ps ds g h = bound_of ps ds g.positional g.named h.plain h.as_many h.unnamed
 
 -- such shares are the values themselves
 pub made_positional : (line : ℕ) (xs : List (Name × Value)) (s : State) → build_arguments line (map (λ x. (x.0, One x.1)) xs) s ≡ Done xs s

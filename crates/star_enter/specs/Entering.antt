@@ -5,7 +5,7 @@ use Rattle.star_tree.specs.declared.tree.Name.{Name}
 use Rattle.star_meaning.specs.declared.site.Site.{Site}
 use Rattle.star_meaning.specs.Places.{bind_spot}
 use Rattle.star_meaning.specs.Programs.{tables_of}
-use Rattle.star_scope.specs.Definitions.{Definition}
+use Rattle.star_outline.specs.Definitions.{Definition}
 use Rattle.star_meaning.specs.Binding.{BoundArgument, build_arguments}
 use Rattle.star_meaning.specs.Calls.{deactivate, run_body}
 use Rattle.star_meaning.specs.Run.{Action, Done, ◌>>=◌, all_of, give, pay}
@@ -39,6 +39,13 @@ abbrev pub entering : {A : Type 0} → World → ℕ → ℕ → ℕ → Value �
     (Site → Action A) → Action A
 entering w line file number parent shares k =
     build_arguments line shares >>= λ values. framed w line file number parent values k
+
+-- the place of the body of a call, with its frame, which pays 1
+abbrev pub paid_site : World → ℕ → Called → Action Site
+paid_site w line f = do
+  _ ← pay line 1
+  frame ← (variables w).frame f.file (1 + f.number) (Some f.frame)
+  give (record { file = f.file; frame = frame; line = line })
 
 -- a call of this function is entered: with these values of its parameters, or with these shares
 abbrev pub entered_with : World → ℕ → Called → List (Name × Value) → Action Site

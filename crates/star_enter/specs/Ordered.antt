@@ -8,7 +8,7 @@ use Rattle.star_store.specs.declared.values.Cell.TheVariants as cell
 use Rattle.star_store.specs.Slots.{default_at, row}
 use Rattle.star_tree.specs.declared.tree.Name.{Name}
 use Rattle.star_tree.specs.declared.tree.Parameter.{Parameter}
-use Rattle.star_scope.specs.Names.{Names, slot_of}
+use Rattle.star_outline.specs.Names.{Names, slot_of}
 use Rattle.star_meaning.specs.declared.given.Arguments.{Arguments}
 use Rattle.star_meaning.specs.declared.given.KeywordArgument.{KeywordArgument}
 use Rattle.star_meaning.specs.declared.site.Site.{Site}

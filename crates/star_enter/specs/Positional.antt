@@ -7,7 +7,7 @@ use Rattle.star_tree.specs.declared.tree.Argument.TheOpen as tree
 use Rattle.star_tree.specs.declared.tree.Expression.{Expression}
 use Rattle.star_tree.specs.declared.tree.Name.{Name}
 use Rattle.star_tree.specs.declared.tree.Parameter.{Parameter}
-use Rattle.star_scope.specs.Syntax.{ArgumentForm, ParameterForm, argument, parameter}
+use Rattle.star_outline.specs.Syntax.{ArgumentForm, ParameterForm, argument, parameter}
 use Rattle.star_meaning.specs.declared.given.Arguments.{Arguments}
 use Rattle.star_meaning.specs.declared.site.Site.{Site}
 use Rattle.star_meaning.specs.Arguments.{given}
@@ -58,7 +58,7 @@ is_plain p = is_plain_form (parameter p)
 
 -- parameters with names alone, a positional value for each, and no keyword value
 pub record FitPositionally (ps : List Parameter) (g : Arguments) : Type 0 where
-  pub positional : list_all is_plain ps ≡ true
+  pub plain : list_all is_plain ps ≡ true
   pub as_many : length ps ≡ length g.positional
   pub unnamed : length g.named ≡ 0
 

@@ -2,7 +2,7 @@
 
 ghost use Rattle.std.specs.Prelude.{◌≡◌, map, true, IfOk};
 ghost use Rattle.std.specs.Option.{option_map};
-ghost use Rattle.star_scope.specs.Definitions.{definition_of};
+ghost use Rattle.star_outline.specs.Definitions.{definition_of};
 ghost use Rattle.star_meaning.specs.Calls as spec;
 ghost use Rattle.star_machine.specs.Refines.{Refines, RefinesBy};
 ghost use Rattle.star_meaning.specs.Values.{content};
@@ -10,15 +10,15 @@ ghost use Rattle.star_call.specs.Callees.{IsFound, definition_for, shown};
 ghost use Rattle.star_call.specs.BoundArguments.{bound_value};
 ghost use Rattle.std.specs.List.{list_all};
 ghost use Rattle.star_enter.specs.Positional.{FitPositionally, positional, expression_of, is_plain, is_positional};
-ghost use Rattle.star_enter.specs.Entering.{bind_all, entered, entered_with};
+ghost use Rattle.star_enter.specs.Entering.{bind_all, entered, entered_with, paid_site};
 
 use star_call::callee::{Called, Callee, definition_number};
 use star_call::shares::{BoundArguments, build_arguments};
-use star_machine::fault::Stop;
+use star_machine::fault::EvalError;
 use star_machine::machine::Machine;
 use star_meaning::given::Arguments;
 use star_meaning::site::Site;
-use star_scope::outline::Definition;
+use star_outline::outline::Definition;
 use star_store::values::Value;
 use star_tree::tree::{Argument, Expression, Name, Parameter};
 use star_world::variables::{bind, paid_frame};
@@ -45,7 +45,7 @@ pub fn callee_of<'t>(
     world: &World<'_, 't>,
     line: usize,
     value: Value,
-) -> Result<Callee<'t>, Stop>
+) -> Result<Callee<'t>, EvalError>
     ensures answer { RefinesBy (shown (content world.now.setting machine.now))
         (spec.callee world.now.setting line value machine.now) result machine.now }
     ensures found { IfOk result (IsFound world.now.setting) }
@@ -60,7 +60,7 @@ pub fn bind_all(
     world: &World,
     site: &Site,
     values: &[(&Name, Value)],
-) -> Result<(), Stop>
+) -> Result<(), EvalError>
     ensures { Refines (bind_all world.now site.now (map bound_value values.now) machine.old) result machine.new }
 {
     for (name, value) in values {
@@ -117,7 +117,7 @@ fn bind_positional(
     site: &Site,
     parameters: &[Parameter],
     values: &[Value],
-) -> Result<(), Stop>
+) -> Result<(), EvalError>
     ensures { Refines (bind_all world.now site.now (positional parameters.now values.now) machine.old)
         result machine.new }
 {
@@ -134,6 +134,24 @@ fn bind_positional(
     Ok(())
 }
 
+/// The place of the body of a call, with a new frame, which pays 1.
+fn paid_site(
+    machine: &mut Machine,
+    world: &World,
+    line: usize,
+    called: Called<'_>,
+) -> Result<Site, EvalError>
+    ensures { Refines (paid_site world.now line called.entry machine.old) result machine.new }
+{
+    let block = 1 + called.number as usize;
+    let frame = paid_frame(machine, world, line, called.file, block, Some(called.frame))?;
+    Ok(Site {
+        file: called.file,
+        frame,
+        line,
+    })
+}
+
 /// Enters a call whose parameters each get the argument at their own position: makes the frame, which pays 1, with the
 /// parameters in it; then the definition is active. Returns the place of the body.
 #[tactic(auto, unfolding(crate::specs::Entering::begin))]
@@ -143,17 +161,11 @@ pub fn enter_positional(
     line: usize,
     called: Called<'_>,
     values: &[Value],
-) -> Result<Site, Stop>
+) -> Result<Site, EvalError>
     ensures { Refines (entered_with world.now line called.entry
         (positional called.entry.definition.parameters.now values.now) machine.old) result machine.new }
 {
-    let block = 1 + called.number as usize;
-    let frame = paid_frame(machine, world, line, called.file, block, Some(called.frame))?;
-    let site = Site {
-        file: called.file,
-        frame,
-        line,
-    };
+    let site = paid_site(machine, world, line, called)?;
     bind_positional(machine, world, &site, called.definition.parameters, values)?;
     machine.activate(site.file, called.number)?;
     Ok(site)
@@ -168,17 +180,11 @@ fn enter_with(
     line: usize,
     called: Called<'_>,
     values: &[(&Name, Value)],
-) -> Result<Site, Stop>
+) -> Result<Site, EvalError>
     ensures { Refines (entered_with world.now line called.entry (map bound_value values.now) machine.old)
         result machine.new }
 {
-    let block = 1 + called.number as usize;
-    let frame = paid_frame(machine, world, line, called.file, block, Some(called.frame))?;
-    let site = Site {
-        file: called.file,
-        frame,
-        line,
-    };
+    let site = paid_site(machine, world, line, called)?;
     bind_all(machine, world, &site, values)?;
     machine.activate(called.file, called.number)?;
     Ok(site)
@@ -192,7 +198,7 @@ pub fn enter_call(
     line: usize,
     called: Called<'_>,
     shares: &BoundArguments<'_, '_>,
-) -> Result<Site, Stop>
+) -> Result<Site, EvalError>
     ensures { Refines (entered world.now line called.entry shares.now machine.old) result machine.new }
 {
     let values = build_arguments(machine, line, shares)?;

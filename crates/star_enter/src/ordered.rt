@@ -13,7 +13,7 @@ ghost use Rattle.star_enter.specs.Ordered.{AreBoundFor, AreTaken, AreExtraInOrde
 use star_call::callee::Called;
 use star_call::shares::{BoundArgument, build_argument};
 use star_machine::content::Content;
-use star_machine::fault::Stop;
+use star_machine::fault::EvalError;
 use star_machine::machine::Machine;
 use star_meaning::given::{Arguments, KeywordArgument};
 use star_meaning::site::Site;
@@ -234,7 +234,7 @@ fn with_share(
     share: BoundArgument<'_>,
     left: &[&KeywordArgument],
     slots: Slots,
-) -> Result<Slots, Stop>
+) -> Result<Slots, EvalError>
     ensures { Refines (with_share line slot (argument_of (all_named left.now) share.entry) slots machine.old)
         result machine.new }
 {
@@ -255,7 +255,7 @@ pub fn enter_bound(
     line: usize,
     called: Called<'_>,
     bound: Bound<'_>,
-) -> Result<Site, Stop>
+) -> Result<Site, EvalError>
     ensures { Refines (entering_bound line called.entry.file called.entry.number called.entry.frame bound.entry give
         machine.old) result machine.new }
 {

@@ -3,8 +3,8 @@ use Rattle.std.proofs.Common.{◌≡◌, ℕ, List, ◌∷◌, Option, Some, Non
 use Rattle.std.specs.Bool.{OnTrue}
 use Rattle.std.proofs.lemmas.Bool.{OnTrue_at}
 use Rattle.star_store.specs.declared.values.Value.{Value}
-use Rattle.star_machine.specs.declared.fault.Stop.{Stop}
-use Rattle.star_machine.specs.declared.fault.Stop.TheVariants.{Memory, Faulted}
+use Rattle.star_machine.specs.declared.fault.EvalError.{EvalError}
+use Rattle.star_machine.specs.declared.fault.EvalError.TheVariants.{Memory, Faulted}
 use Rattle.star_machine.specs.Refines.{Ends}
 use Rattle.star_meaning.specs.declared.fault.FaultCode.TheVariants.{Key}
 use Rattle.star_meaning.specs.Expressions.{fresh_entries, fresh_entry}
@@ -29,7 +29,7 @@ fresh_put w v levels line es fs e s t new q h k b m = fresh_made w v levels line
     absent false i = refl
 
 -- an entry whose key is there already
-pub fresh_there : (w v : Setting) (levels line : ℕ) (es : List (Value × Value)) (e : Value × Value) (s t : State) (new : Bool) (stop : Stop) → v ≡ w → check_key v levels line e.0 s ≡ Done tt t → new ≡ not (is_some (place_in v t e.0 es)) → new ≡ false → stop ≡ Faulted Key line → Ends (fresh_entry w levels line es e s) stop t
+pub fresh_there : (w v : Setting) (levels line : ℕ) (es : List (Value × Value)) (e : Value × Value) (s t : State) (new : Bool) (stop : EvalError) → v ≡ w → check_key v levels line e.0 s ≡ Done tt t → new ≡ not (is_some (place_in v t e.0 es)) → new ≡ false → stop ≡ Faulted Key line → Ends (fresh_entry w levels line es e s) stop t
 fresh_there w v levels line es e s t new stop q h k b j =
     subst (λ u. Ends (fresh_entry u levels line es e s) stop t) q (rw (j, h) (stays (place_in v t e.0 es) (sym k ∙ b)))
   where
@@ -38,7 +38,7 @@ fresh_there w v levels line es e s t new stop q h k b j =
     stays (Some n) i = refl
 
 -- an entry that stops the making of a display
-pub fresh_ends : (w : Setting) (levels line : ℕ) (es found rest : List (Value × Value)) (e : Value × Value) (s new : State) (whole : Outcome (List (Value × Value))) (stop : Stop) → found ≡ e ∷ rest → fresh_entries w levels line es found s ≡ whole → Ends (fresh_entry w levels line es e s) stop new → Ends whole stop new
+pub fresh_ends : (w : Setting) (levels line : ℕ) (es found rest : List (Value × Value)) (e : Value × Value) (s new : State) (whole : Outcome (List (Value × Value))) (stop : EvalError) → found ≡ e ∷ rest → fresh_entries w levels line es found s ≡ whole → Ends (fresh_entry w levels line es e s) stop new → Ends whole stop new
 fresh_ends w levels line es found rest e s new whole Memory next told h = tt
 fresh_ends w levels line es found rest e s new whole (Faulted c n) next told h =
     sym told ∙ (ap (λ xs. fresh_entries w levels line es xs s) next ∙ ap (λ o. and_then o (λ fs. fresh_entries w levels line fs rest)) h)

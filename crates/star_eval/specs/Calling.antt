@@ -2,14 +2,14 @@
 use Rattle.std.specs.Prelude.{ℕ, List, Result}
 use Rattle.star_store.specs.declared.values.Value.{Value}
 use Rattle.star_tree.specs.declared.tree.Name.{Name}
-use Rattle.star_scope.specs.Definitions.{definition_of}
+use Rattle.star_outline.specs.Definitions.{definition_of}
 use Rattle.star_meaning.specs.declared.given.Arguments.{Arguments}
 use Rattle.star_meaning.specs.declared.site.Site.{Site}
 use Rattle.star_meaning.specs.Binding.{BoundArgument}
 use Rattle.star_meaning.specs.Calls.{called}
 use Rattle.star_meaning.specs.Run.{State, Action}
 use Rattle.star_meaning.specs.Values.{content}
-use Rattle.star_machine.specs.declared.fault.Stop.{Stop}
+use Rattle.star_machine.specs.declared.fault.EvalError.{EvalError}
 use Rattle.star_machine.specs.Refines.{Refines}
 use Rattle.star_call.specs.declared.callee.Called.{Called}
 use Rattle.star_call.specs.declared.callee.Callee.{Callee}
@@ -33,7 +33,7 @@ abbrev pub calling_with : World → ℕ → Site → Callee → Arguments → Ac
 calling_with w levels p c g = λ s. called w.setting levels (semantics w levels) p (shown (content w.setting s) c) g s
 
 -- The answer is that of the call, whichever shares are bound so.
-abbrev pub GivesBound : World → ℕ → Site → Called → Bound → State → Result Value Stop → State → Type 0
+abbrev pub GivesBound : World → ℕ → Site → Called → Bound → State → Result Value EvalError → State → Type 0
 GivesBound w levels p f b old result new =
     (shares : List (Name × BoundArgument)) → HasBound w f.file f.number f.frame shares b
     → Refines (calling w levels p f shares old) result new

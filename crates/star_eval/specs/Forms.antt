@@ -10,7 +10,7 @@ use Rattle.star_tree.specs.declared.tree.Parameter.{Parameter}
 use Rattle.star_tree.specs.declared.tree.Position.{Position}
 use Rattle.star_tree.specs.declared.tree.Statement.{Statement}
 use Rattle.star_tree.specs.declared.tree.Target.{Target}
-use Rattle.star_scope.specs.Syntax.{ExpressionForm, form_of, position_of, target}
+use Rattle.star_outline.specs.Syntax.{ExpressionForm, form_of, position_of, target}
 use Rattle.star_meaning.specs.declared.site.Flow.{Flow}
 use Rattle.star_meaning.specs.declared.site.Flow.TheVariants as flow
 use Rattle.star_meaning.specs.declared.site.Site.{Site}

@@ -3,7 +3,7 @@ use Rattle.std.specs.Prelude.{◌≡◌, ℕ, ◌-◌, ◌+◌, List, [], ◌∷
 use Rattle.star_store.specs.declared.values.Value.{Value}
 use Rattle.star_tree.specs.declared.tree.Argument.TheOpen as tree
 use Rattle.star_tree.specs.declared.tree.Clause.{Clause}
-use Rattle.star_scope.specs.Syntax.{ExpressionForm}
+use Rattle.star_outline.specs.Syntax.{ExpressionForm}
 use Rattle.star_meaning.specs.declared.site.Flow.{Flow}
 use Rattle.star_meaning.specs.declared.site.Site.{Site}
 use Rattle.star_tree.specs.declared.tree.Clauses.{Clauses}
@@ -14,7 +14,7 @@ use Rattle.star_meaning.specs.Values.{leave}
 use Rattle.star_meaning.specs.Semantics.{Read, repeat}
 use Rattle.star_meaning.specs.Statements.{loop, loop_turn}
 use Rattle.star_meaning.specs.Comprehensions.{clause_turn, clauses, all_clauses, add_element, add_entry, dict_comprehension, list_comprehension}
-use Rattle.star_machine.specs.declared.fault.Stop.{Stop}
+use Rattle.star_machine.specs.declared.fault.EvalError.{EvalError}
 use Rattle.star_machine.specs.Refines.{Ends}
 use Rattle.star_eval.specs.declared.execute.ForLoop.{ForLoop}
 use Rattle.star_eval.specs.declared.nodes.SliceParts.{SliceParts}
@@ -39,25 +39,25 @@ turn_of c levels p o f i =
     clause_turn (variables c) c.setting (semantics c levels) p f.target.now f.value (after c levels p f.more.now o) i
 
 -- the rest of an open clause: its turns from the next item on, and then its iteration ends
-abbrev pub turns_left : World → ℕ → Site → Output → OpenClause → Action (Unit {0})
-turns_left c levels p o f = repeat (turn_of c levels p o f) (f.count - f.next) f.next >>= λ _. leave f.value
+abbrev pub remaining_turns : World → ℕ → Site → Output → OpenClause → Action (Unit {0})
+remaining_turns c levels p o f = repeat (turn_of c levels p o f) (f.count - f.next) f.next >>= λ _. leave f.value
 
 -- the rest of a clause that may have been opened
 abbrev pub opened_left : World → ℕ → Site → Output → Option OpenClause → Action (Unit {0})
 opened_left c levels p o None = give tt
-opened_left c levels p o (Some f) = turns_left c levels p o f
+opened_left c levels p o (Some f) = remaining_turns c levels p o f
 
 -- the rest of open clauses, each opened in a turn of the one before it: the innermost ends first
 abbrev pub all_left : World → ℕ → Site → Output → List OpenClause → Action (Unit {0})
 all_left c levels p o [] = give tt
-all_left c levels p o (f ∷ fs) = all_left c levels p o fs >>= λ _. turns_left c levels p o f
+all_left c levels p o (f ∷ fs) = all_left c levels p o fs >>= λ _. remaining_turns c levels p o f
 
 -- the next turn of an open clause
 abbrev pub next_turn : World → ℕ → Site → Output → OpenClause → Action (Unit {0})
 next_turn c levels p o f = turn_of c levels p o f f.next
 
 -- The rest before the call is that of the clause that it opened, if it did. If it stopped: the end of such a run.
-abbrev pub Opens : World → ℕ → Site → Output → Outcome (Unit {0}) → Result (Option OpenClause) Stop → State → Type 0
+abbrev pub Opens : World → ℕ → Site → Output → Outcome (Unit {0}) → Result (Option OpenClause) EvalError → State → Type 0
 Opens c levels p o rest (Ok x) new = rest ≡ opened_left c levels p o x new
 Opens c levels p o rest (Err e) new = Ends rest e new
 

@@ -5,13 +5,13 @@
 
 ghost use Rattle.std.specs.Prelude.{◌+◌, ◌<◌, ◌≤◌, OnOk};
 ghost use Rattle.star_machine.specs.Refines.{Refines};
-ghost use Rattle.star_eval.specs.Steps.{Opens, after, filled, last, making_dict, making_list, next_turn, turns_left};
+ghost use Rattle.star_eval.specs.Steps.{Opens, after, filled, last, making_dict, making_list, next_turn, remaining_turns};
 
 use crate::evaluate::{evaluate, evaluate_entry};
 use crate::execute::assign_to;
 use crate::open_clause::OpenClause;
 use crate::output::Output;
-use star_machine::fault::Stop;
+use star_machine::fault::EvalError;
 use star_machine::machine::Machine;
 use star_machine::subscript::put_entry;
 use star_meaning::site::Site;
@@ -31,7 +31,7 @@ pub(crate) fn make_list(
     token: usize,
     element: &Expression,
     clauses: &Clauses,
-) -> Result<Value, Stop>
+) -> Result<Value, EvalError>
     ensures { Refines (making_list world.now levels site.now token element.now clauses.now machine.old)
         result machine.new }
 {
@@ -52,7 +52,7 @@ pub(crate) fn make_dict(
     token: usize,
     entry: &Entry,
     clauses: &Clauses,
-) -> Result<Value, Stop>
+) -> Result<Value, EvalError>
     ensures { Refines (making_dict world.now levels site.now token entry.now clauses.now machine.old)
         result machine.new }
 {
@@ -74,7 +74,7 @@ fn fill(
     clauses: &Clauses,
     value: Value,
     output: Output<'_>,
-) -> Result<Value, Stop>
+) -> Result<Value, EvalError>
     ensures { Refines (filled world.now levels site.now clauses.now value output.entry machine.old) result machine.new }
 {
     let count = machine.iterate(world.setting(), site.line, value)?;
@@ -99,8 +99,8 @@ fn run_turns<'t>(
     site: &Site,
     first: OpenClause<'t>,
     output: Output<'_>,
-) -> Result<(), Stop>
-    ensures { Refines (turns_left world.now levels site.now output.entry first.entry machine.old) result machine.new }
+) -> Result<(), EvalError>
+    ensures { Refines (remaining_turns world.now levels site.now output.entry first.entry machine.old) result machine.new }
 {
     let mut outer = Vec::new(machine.alloc());
     let mut clause = first;
@@ -133,7 +133,7 @@ fn run_turn<'t>(
     site: &Site,
     clause: OpenClause<'t>,
     output: Output<'_>,
-) -> Result<Option<OpenClause<'t>>, Stop>
+) -> Result<Option<OpenClause<'t>>, EvalError>
     ensures turn { Opens world.now levels site.now output.entry
         (next_turn world.now levels site.now output.entry clause.entry machine.old) result machine.new }
     ensures paid { OnOk result (machine.new.steps < machine.old.steps) }
@@ -156,7 +156,7 @@ fn run_clauses<'t>(
     site: &Site,
     clauses: &'t [Clause],
     output: Output<'_>,
-) -> Result<Option<OpenClause<'t>>, Stop>
+) -> Result<Option<OpenClause<'t>>, EvalError>
     ensures run { Opens world.now levels site.now output.entry
         (after world.now levels site.now clauses.now output.entry machine.old) result machine.new }
     ensures spent { OnOk result (machine.new.steps ≤ machine.old.steps) }
@@ -196,7 +196,7 @@ fn add(
     levels: u32,
     site: &Site,
     output: Output<'_>,
-) -> Result<(), Stop>
+) -> Result<(), EvalError>
     ensures { Refines (last world.now levels site.now output.entry machine.old) result machine.new }
 {
     let line = site.line;

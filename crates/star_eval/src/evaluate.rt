@@ -10,8 +10,8 @@ ghost use Rattle.star_machine.specs.Refines.{Refines, RefinesBy};
 ghost use Rattle.star_meaning.specs.Calls as calls;
 ghost use Rattle.star_meaning.specs.Expressions.{defaults, entry_of, maybe, new_function};
 ghost use Rattle.star_meaning.specs.Run.{each};
-ghost use Rattle.star_scope.specs.Definitions.{body_of, definition_of};
-ghost use Rattle.star_scope.specs.Syntax as form;
+ghost use Rattle.star_outline.specs.Definitions.{body_of, definition_of};
+ghost use Rattle.star_outline.specs.Syntax as form;
 ghost use Rattle.star_enter.specs.Positional.{called_positional, called_with, expression_of};
 ghost use Rattle.star_enter.specs.Entering.{left};
 ghost use Rattle.star_world.specs.World.{semantics};
@@ -37,12 +37,12 @@ use star_enter::calls::{
     are_positional, callee_of, enter_call, enter_positional, expression_of, fit_positionally,
 };
 use star_enter::ordered::{Bound, bound_of, enter_bound};
-use star_machine::fault::{Stop, faulted};
+use star_machine::fault::{EvalError, fault_at};
 use star_machine::machine::Machine;
 use star_meaning::fault::FaultCode;
 use star_meaning::given::Arguments;
 use star_meaning::site::Site;
-use star_scope::outline::{Body, Definition};
+use star_outline::outline::{Body, Definition};
 use star_store::defaults::Defaults;
 use star_store::values::{Entries, Value, Values};
 use star_tree::tree::{Argument, Entry, Expression, Parameter};
@@ -61,11 +61,11 @@ pub fn evaluate(
     levels: u32,
     site: &Site,
     expression: &Expression,
-) -> Result<Value, Stop>
+) -> Result<Value, EvalError>
     ensures { Refines ((semantics world.now levels).expr site.now expression.now machine.old) result machine.new }
 {
     if levels == 0 {
-        return Err(faulted(FaultCode::Deep, site.line));
+        return Err(fault_at(FaultCode::Deep, site.line));
     }
     machine.pay_one(site.line)?;
     evaluate_node(machine, world, levels - 1, site, expression)
@@ -80,7 +80,7 @@ fn evaluate_node(
     levels: u32,
     site: &Site,
     expression: &Expression,
-) -> Result<Value, Stop>
+) -> Result<Value, EvalError>
     ensures { Refines (evaluating world.now levels site.now (form.expression expression.now) machine.old)
         result machine.new }
 {
@@ -100,7 +100,7 @@ fn evaluate_any(
     levels: u32,
     site: &Site,
     expression: &Expression,
-) -> Result<Value, Stop>
+) -> Result<Value, EvalError>
     ensures { Refines (evaluating world.now levels site.now (form.expression expression.now) machine.old)
         result machine.new }
 {
@@ -249,7 +249,7 @@ pub(crate) fn evaluate_each(
     levels: u32,
     site: &Site,
     expressions: &[Expression],
-) -> Result<Values, Stop>
+) -> Result<Values, EvalError>
     ensures { Refines (each ((semantics world.now levels).expr site.now) expressions.now machine.old)
         result machine.new }
 {
@@ -269,7 +269,7 @@ pub(crate) fn evaluate_maybe(
     levels: u32,
     site: &Site,
     expression: &Option<Boxed<Expression>>,
-) -> Result<Option<Value>, Stop>
+) -> Result<Option<Value>, EvalError>
     ensures { Refines (maybe (semantics world.now levels) site.now expression.now machine.old) result machine.new }
 {
     match expression {
@@ -289,7 +289,7 @@ pub(crate) fn evaluate_entry(
     levels: u32,
     site: &Site,
     entry: &Entry,
-) -> Result<(Value, Value), Stop>
+) -> Result<(Value, Value), EvalError>
     ensures { Refines (entry_of (semantics world.now levels) site.now entry.now machine.old) result machine.new }
 {
     let key = evaluate(machine, world, levels, site, &entry.key)?;
@@ -305,7 +305,7 @@ pub(crate) fn evaluate_entries(
     levels: u32,
     site: &Site,
     entries: &[Entry],
-) -> Result<Entries, Stop>
+) -> Result<Entries, EvalError>
     ensures { Refines (each (entry_of (semantics world.now levels) site.now) entries.now machine.old)
         result machine.new }
 {
@@ -325,7 +325,7 @@ fn evaluate_defaults(
     levels: u32,
     site: &Site,
     parameters: &[Parameter],
-) -> Result<Defaults, Stop>
+) -> Result<Defaults, EvalError>
     ensures { Refines (defaults (semantics world.now levels) site.now parameters.now machine.old) result machine.new }
 {
     let mut values = Vec::new(machine.alloc());
@@ -348,7 +348,7 @@ pub(crate) fn make_function(
     token: usize,
     name: &str,
     parameters: &[Parameter],
-) -> Result<Value, Stop>
+) -> Result<Value, EvalError>
     ensures { Refines (new_function (semantics world.now levels) site.now token name.now parameters.now machine.old)
         result machine.new }
 {
@@ -364,7 +364,7 @@ fn pass<'t>(
     levels: u32,
     site: &Site,
     argument: &'t Argument,
-) -> Result<EvaluatedArgument<'t>, Stop>
+) -> Result<EvaluatedArgument<'t>, EvalError>
     ensures { RefinesBy passing.shown (calls.pass (semantics world.now levels) site.now argument.now machine.old)
         result machine.new }
 {
@@ -393,7 +393,7 @@ fn evaluate_arguments(
     levels: u32,
     site: &Site,
     arguments: &[Argument],
-) -> Result<Values, Stop>
+) -> Result<Values, EvalError>
     ensures { Refines (each (λ a. (semantics world.now levels).expr site.now
         (expression_of a)) arguments.now machine.old)
         result machine.new }
@@ -414,7 +414,7 @@ fn pass_each<'t>(
     levels: u32,
     site: &Site,
     arguments: &'t [Argument],
-) -> Result<Vec<EvaluatedArgument<'t>>, Stop>
+) -> Result<Vec<EvaluatedArgument<'t>>, EvalError>
     ensures { RefinesBy (λ ps. passing.all_shown ps.items)
         (each (calls.pass (semantics world.now levels) site.now) arguments.now machine.old) result machine.new }
 {
@@ -445,7 +445,7 @@ fn call(
     site: &Site,
     function: &Expression,
     arguments: &[Argument],
-) -> Result<Value, Stop>
+) -> Result<Value, EvalError>
     ensures { Refines (calls.call_node world.now.setting levels (semantics world.now levels) site.now function.now
         arguments.now machine.old) result machine.new }
 {
@@ -466,7 +466,7 @@ fn call_positional(
     function: &Expression,
     value: Value,
     arguments: &[Argument],
-) -> Result<Value, Stop>
+) -> Result<Value, EvalError>
     ensures { Refines (called_positional world.now levels site.now value arguments.now machine.old) result machine.new }
 {
     let positional = evaluate_arguments(machine, world, levels, site, arguments)?;
@@ -493,7 +493,7 @@ fn call_with(
     function: &Expression,
     value: Value,
     arguments: &[Argument],
-) -> Result<Value, Stop>
+) -> Result<Value, EvalError>
     ensures { Refines (called_with world.now levels site.now value arguments.now machine.old) result machine.new }
 {
     let line = site.line;
@@ -516,7 +516,7 @@ fn call_on(
     site: &Site,
     callee: Callee<'_>,
     given: &Arguments,
-) -> Result<Value, Stop>
+) -> Result<Value, EvalError>
     requires { IsFound world.now.setting callee }
     ensures { Refines (calling_with world.now levels site.now callee.entry given.now machine.old) result machine.new }
 {
@@ -551,7 +551,7 @@ fn call_function(
     site: &Site,
     called: Called<'_>,
     given: &Arguments,
-) -> Result<Value, Stop>
+) -> Result<Value, EvalError>
     requires { IsDefined world.now.setting called }
     ensures { Refines (calling_with world.now levels site.now (Callee.AFunction called.entry) given.now machine.old)
         result machine.new }
@@ -583,15 +583,15 @@ fn run_positional(
     site: &Site,
     called: Called<'_>,
     values: &[Value],
-) -> Result<Value, Stop>
+) -> Result<Value, EvalError>
     ensures { Refines (calling_positional world.now levels site.now called.entry values.now machine.old)
         result machine.new }
 {
     if levels == 0 {
-        return Err(faulted(FaultCode::Deep, site.line));
+        return Err(fault_at(FaultCode::Deep, site.line));
     }
     let site = enter_positional(machine, world, site.line, called, values)?;
-    run_left(machine, world, levels - 1, &site, called.definition)
+    finish_call(machine, world, levels - 1, &site, called.definition)
 }
 
 /// The run of a function whose parameters are bound to these arguments. `Deep` if no level is left.
@@ -604,14 +604,14 @@ fn run_bound(
     site: &Site,
     called: Called<'_>,
     bound: Bound<'_>,
-) -> Result<Value, Stop>
+) -> Result<Value, EvalError>
     ensures { GivesBound world.now levels site.now called.entry bound.entry machine.old result machine.new }
 {
     if levels == 0 {
-        return Err(faulted(FaultCode::Deep, site.line));
+        return Err(fault_at(FaultCode::Deep, site.line));
     }
     let site = enter_bound(machine, site.line, called, bound)?;
-    run_left(machine, world, levels - 1, &site, called.definition)
+    finish_call(machine, world, levels - 1, &site, called.definition)
 }
 
 /// The run of a function: the values of its parameters, its frame, the parameters in it, its body. `Deep` if no level
@@ -625,25 +625,25 @@ fn run_function(
     site: &Site,
     called: Called<'_>,
     shares: &BoundArguments<'_, '_>,
-) -> Result<Value, Stop>
+) -> Result<Value, EvalError>
     ensures { Refines (calling world.now levels site.now called.entry shares.now machine.old) result machine.new }
 {
     if levels == 0 {
-        return Err(faulted(FaultCode::Deep, site.line));
+        return Err(fault_at(FaultCode::Deep, site.line));
     }
     let site = enter_call(machine, world, site.line, called, shares)?;
-    run_left(machine, world, levels - 1, &site, called.definition)
+    finish_call(machine, world, levels - 1, &site, called.definition)
 }
 
 /// The rest of a call: the body runs, and its definition ceases to be active; or a fault leaves it.
 #[cycle(run)]
-fn run_left(
+fn finish_call(
     machine: &mut Machine,
     world: &World,
     levels: u32,
     site: &Site,
     definition: Definition<'_>,
-) -> Result<Value, Stop>
+) -> Result<Value, EvalError>
     ensures { Refines (left (semantics world.now levels) (definition_of definition.entry) site.now machine.old)
         result machine.new }
 {
@@ -664,7 +664,7 @@ fn run_body(
     levels: u32,
     site: &Site,
     body: Body<'_>,
-) -> Result<Value, Stop>
+) -> Result<Value, EvalError>
     ensures { Refines (calls.run_body (semantics world.now levels) site.now (body_of body.entry) machine.old)
         result machine.new }
 {

@@ -12,7 +12,7 @@ ghost use Rattle.star_eval.specs.Steps.{looping, shown_parts, turn_in};
 use crate::evaluate::{evaluate, make_function};
 use crate::parts::augmented;
 use crate::targets::TargetParts;
-use star_machine::fault::{Stop, faulted};
+use star_machine::fault::{EvalError, fault_at};
 use star_machine::machine::Machine;
 use star_meaning::fault::FaultCode;
 use star_meaning::site::{Flow, Site};
@@ -44,12 +44,12 @@ pub fn execute(
     levels: u32,
     site: &Site,
     statement: &Statement,
-) -> Result<Flow, Stop>
+) -> Result<Flow, EvalError>
     ensures { Refines ((semantics world.now levels).stmt site.now statement.now machine.old) result machine.new }
 {
     let site = site_of(world, site, statement);
     if levels == 0 {
-        return Err(faulted(FaultCode::Deep, site.line));
+        return Err(fault_at(FaultCode::Deep, site.line));
     }
     machine.pay(site.line, 1)?;
     execute_form(machine, world, levels - 1, &site, statement)
@@ -65,7 +65,7 @@ fn execute_form(
     levels: u32,
     site: &Site,
     statement: &Statement,
-) -> Result<Flow, Stop>
+) -> Result<Flow, EvalError>
     ensures { Refines (executing world.now levels site.now statement.now machine.old) result machine.new }
 {
     match &statement.form {
@@ -86,7 +86,7 @@ fn execute_any(
     levels: u32,
     site: &Site,
     statement: &Statement,
-) -> Result<Flow, Stop>
+) -> Result<Flow, EvalError>
     ensures { Refines (executing world.now levels site.now statement.now machine.old) result machine.new }
 {
     match &statement.form {
@@ -158,7 +158,7 @@ fn execute_expression(
     levels: u32,
     site: &Site,
     value: &Expression,
-) -> Result<Flow, Stop>
+) -> Result<Flow, EvalError>
     ensures { Refines (alone world.now levels site.now value.now machine.old) result machine.new }
 {
     let _value = evaluate(machine, world, levels, site, value)?;
@@ -175,7 +175,7 @@ fn execute_assign(
     site: &Site,
     target: &Target,
     value: &Expression,
-) -> Result<Flow, Stop>
+) -> Result<Flow, EvalError>
     ensures { Refines (assigned world.now levels site.now target.now value.now machine.old) result machine.new }
 {
     let value = evaluate(machine, world, levels, site, value)?;
@@ -193,7 +193,7 @@ fn execute_augment(
     operator: BinaryOperator,
     value: &Expression,
     target: &Target,
-) -> Result<Flow, Stop>
+) -> Result<Flow, EvalError>
     ensures { Refines (augmented_by world.now levels site.now operator value.now target.now machine.old)
         result machine.new }
 {
@@ -209,7 +209,7 @@ fn execute_return(
     levels: u32,
     site: &Site,
     value: &Expression,
-) -> Result<Flow, Stop>
+) -> Result<Flow, EvalError>
     ensures { Refines (spec.returned (semantics world.now levels) site.now (Some value.now) machine.old)
         result machine.new }
 {
@@ -224,7 +224,7 @@ fn execute_load(
     site: &Site,
     position: Position,
     names: &[LoadedName],
-) -> Result<Flow, Stop>
+) -> Result<Flow, EvalError>
     ensures { Refines (loaded world.now site.now position names.now machine.old) result machine.new }
 {
     load_names(machine, world, site, position, names)?;
@@ -241,7 +241,7 @@ fn execute_for(
     target: &Target,
     iterable: &Expression,
     body: &[Statement],
-) -> Result<Flow, Stop>
+) -> Result<Flow, EvalError>
     ensures { Refines (looped world.now levels site.now target.now iterable.now body.now machine.old)
         result machine.new }
 {
@@ -264,7 +264,7 @@ fn execute_def(
     token: usize,
     name: &Name,
     parameters: &[Parameter],
-) -> Result<Flow, Stop>
+) -> Result<Flow, EvalError>
     ensures { Refines (defined world.now levels site.now token name.now parameters.now machine.old) result machine.new }
 {
     let text = name.text.as_str();
@@ -281,7 +281,7 @@ pub fn execute_each(
     levels: u32,
     site: &Site,
     statements: &[Statement],
-) -> Result<Flow, Stop>
+) -> Result<Flow, EvalError>
     ensures { Refines (block ((semantics world.now levels).stmt site.now) statements.now machine.old)
         result machine.new }
 {
@@ -308,7 +308,7 @@ fn execute_arms(
     site: &Site,
     arms: &[Arm],
     otherwise: &[Statement],
-) -> Result<Flow, Stop>
+) -> Result<Flow, EvalError>
     ensures { Refines (choosing world.now levels site.now arms.now otherwise.now machine.old) result machine.new }
 {
     for arm in arms {
@@ -328,7 +328,7 @@ fn execute_loop(
     levels: u32,
     site: &Site,
     for_loop: ForLoop<'_>,
-) -> Result<Flow, Stop>
+) -> Result<Flow, EvalError>
     ensures { Refines (looping world.now levels site.now for_loop.entry machine.old) result machine.new }
 {
     let count = machine.iterate(world.setting(), site.line, for_loop.value)?;
@@ -347,7 +347,7 @@ fn execute_turns(
     site: &Site,
     for_loop: ForLoop<'_>,
     count: usize,
-) -> Result<Flow, Stop>
+) -> Result<Flow, EvalError>
     ensures { Refines (turns (turn_in world.now levels site.now for_loop.entry) count 0 machine.old)
         result machine.new }
 {
@@ -371,7 +371,7 @@ fn execute_turn(
     site: &Site,
     for_loop: ForLoop<'_>,
     i: usize,
-) -> Result<Flow, Stop>
+) -> Result<Flow, EvalError>
     ensures { Refines (turn_in world.now levels site.now for_loop.entry i machine.old) result machine.new }
 {
     let item = machine.take_item(world.setting(), site.line, for_loop.value, i)?;
@@ -390,7 +390,7 @@ fn augment_target(
     operator: BinaryOperator,
     value: &Expression,
     target: &Target,
-) -> Result<(), Stop>
+) -> Result<(), EvalError>
     ensures { Refines (augmenting world.now levels site.now operator value.now target.now machine.old)
         result machine.new }
 {
@@ -416,7 +416,7 @@ fn augment_target(
                 new,
             )
         }
-        _ => Err(faulted(FaultCode::BadType, site.line)),
+        _ => Err(fault_at(FaultCode::BadType, site.line)),
     }
 }
 
@@ -430,7 +430,7 @@ pub(crate) fn assign_to(
     site: &Site,
     target: &Target,
     value: Value,
-) -> Result<(), Stop>
+) -> Result<(), EvalError>
     ensures { Refines (to_target (variables world.now) (semantics world.now levels) site.now target.now value
         machine.old)
         result machine.new }
@@ -451,11 +451,11 @@ fn assign(
     site: &Site,
     target: &Target,
     value: Value,
-) -> Result<(), Stop>
+) -> Result<(), EvalError>
     ensures { Refines ((semantics world.now levels).assign site.now target.now value machine.old) result machine.new }
 {
     if levels == 0 {
-        return Err(faulted(FaultCode::Deep, site.line));
+        return Err(fault_at(FaultCode::Deep, site.line));
     }
     machine.pay(site.line, 1)?;
     assign_node(machine, world, levels - 1, site, target, value)
@@ -470,7 +470,7 @@ fn assign_node(
     site: &Site,
     target: &Target,
     value: Value,
-) -> Result<(), Stop>
+) -> Result<(), EvalError>
     ensures { Refines (assigning world.now levels site.now target.now value machine.old) result machine.new }
 {
     match target {
@@ -496,14 +496,14 @@ fn unpack_to(
     site: &Site,
     targets: &[Target],
     value: Value,
-) -> Result<(), Stop>
+) -> Result<(), EvalError>
     ensures { Refines (unpack (variables world.now) world.now.setting
         (semantics world.now levels) site.now targets.now value
         machine.old) result machine.new }
 {
     let items = machine.take_all(world.setting(), site.line, value)?;
     if items.len() != targets.len() {
-        return Err(faulted(FaultCode::BadValue, site.line));
+        return Err(fault_at(FaultCode::BadValue, site.line));
     }
     assign_each(machine, world, levels, site, targets, items.as_slice())
 }
@@ -517,20 +517,20 @@ fn assign_each(
     site: &Site,
     targets: &[Target],
     values: &[Value],
-) -> Result<(), Stop>
+) -> Result<(), EvalError>
     ensures { Refines (to_each (variables world.now) (semantics world.now levels) site.now targets.now values.now
         machine.old) result machine.new }
 {
     let mut rest = values;
     for target in targets {
         let Some((value, more)) = rest.split_first() else {
-            return Err(faulted(FaultCode::BadValue, site.line));
+            return Err(fault_at(FaultCode::BadValue, site.line));
         };
         assign_to(machine, world, levels, site, target, *value)?;
         rest = more;
     }
     if !rest.is_empty() {
-        return Err(faulted(FaultCode::BadValue, site.line));
+        return Err(fault_at(FaultCode::BadValue, site.line));
     }
     Ok(())
 }
@@ -545,12 +545,12 @@ fn read_target(
     site: &Site,
     base: &Expression,
     at: &Expression,
-) -> Result<TargetParts, Stop>
+) -> Result<TargetParts, EvalError>
     ensures { RefinesBy shown_parts ((semantics world.now levels).parts site.now base.now at.now machine.old)
         result machine.new }
 {
     if levels == 0 {
-        return Err(faulted(FaultCode::Deep, site.line));
+        return Err(fault_at(FaultCode::Deep, site.line));
     }
     machine.pay(site.line, 1)?;
     let levels = levels - 1;

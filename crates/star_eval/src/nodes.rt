@@ -9,7 +9,7 @@ use crate::evaluate::{evaluate, evaluate_each, evaluate_entries, evaluate_maybe}
 use crate::parts::fresh_entries;
 use sqlite_items::Boxed;
 use star_attribute::methods::attribute;
-use star_machine::fault::Stop;
+use star_machine::fault::EvalError;
 use star_machine::machine::Machine;
 use star_meaning::site::Site;
 use star_operators::comparisons::compared;
@@ -36,7 +36,7 @@ pub(crate) fn evaluate_tuple(
     levels: u32,
     site: &Site,
     items: &[Expression],
-) -> Result<Value, Stop>
+) -> Result<Value, EvalError>
     ensures { Refines (evaluating world.now levels site.now (tree.Expression-F.Expression::Tuple items.now) machine.old)
         result machine.new }
 {
@@ -52,7 +52,7 @@ pub(crate) fn evaluate_list(
     levels: u32,
     site: &Site,
     items: &[Expression],
-) -> Result<Value, Stop>
+) -> Result<Value, EvalError>
     ensures { Refines (evaluating world.now levels site.now (tree.Expression-F.Expression::List items.now) machine.old)
         result machine.new }
 {
@@ -68,7 +68,7 @@ pub(crate) fn evaluate_dict(
     levels: u32,
     site: &Site,
     entries: &[Entry],
-) -> Result<Value, Stop>
+) -> Result<Value, EvalError>
     ensures { Refines (evaluating world.now levels site.now (tree.Dict entries.now) machine.old)
         result machine.new }
 {
@@ -86,7 +86,7 @@ pub(crate) fn evaluate_unary(
     site: &Site,
     operator: UnaryOperator,
     operand: &Expression,
-) -> Result<Value, Stop>
+) -> Result<Value, EvalError>
     ensures { Refines (evaluating world.now levels site.now (tree.Unary operator operand.now) machine.old)
         result machine.new }
 {
@@ -104,7 +104,7 @@ pub(crate) fn evaluate_binary(
     operator: BinaryOperator,
     left: &Expression,
     right: &Expression,
-) -> Result<Value, Stop>
+) -> Result<Value, EvalError>
     ensures { Refines (evaluating world.now levels site.now (tree.Binary operator left.now right.now) machine.old)
         result machine.new }
 {
@@ -124,7 +124,7 @@ pub(crate) fn evaluate_comparison(
     comparator: Comparator,
     left: &Expression,
     right: &Expression,
-) -> Result<Value, Stop>
+) -> Result<Value, EvalError>
     ensures { Refines (evaluating world.now levels site.now (tree.Compare comparator left.now right.now) machine.old)
         result machine.new }
 {
@@ -143,7 +143,7 @@ pub(crate) fn evaluate_and(
     site: &Site,
     left: &Expression,
     right: &Expression,
-) -> Result<Value, Stop>
+) -> Result<Value, EvalError>
     ensures { Refines (evaluating world.now levels site.now (tree.And left.now right.now) machine.old)
         result machine.new }
 {
@@ -163,7 +163,7 @@ pub(crate) fn evaluate_or(
     site: &Site,
     left: &Expression,
     right: &Expression,
-) -> Result<Value, Stop>
+) -> Result<Value, EvalError>
     ensures { Refines (evaluating world.now levels site.now (tree.Or left.now right.now) machine.old)
         result machine.new }
 {
@@ -184,7 +184,7 @@ pub(crate) fn evaluate_choice(
     condition: &Expression,
     chosen: &Expression,
     otherwise: &Expression,
-) -> Result<Value, Stop>
+) -> Result<Value, EvalError>
     ensures { Refines (evaluating world.now levels site.now (tree.Conditional condition.now chosen.now otherwise.now)
         machine.old) result machine.new }
 {
@@ -204,7 +204,7 @@ pub(crate) fn evaluate_index(
     site: &Site,
     value: &Expression,
     at: &Expression,
-) -> Result<Value, Stop>
+) -> Result<Value, EvalError>
     ensures { Refines (evaluating world.now levels site.now (tree.Expression-F.Expression::Index value.now at.now)
         machine.old) result machine.new }
 {
@@ -222,7 +222,7 @@ pub(crate) fn evaluate_slice(
     site: &Site,
     value: &Expression,
     parts: SliceParts<'_>,
-) -> Result<Value, Stop>
+) -> Result<Value, EvalError>
     ensures { Refines (evaluating world.now levels site.now (slice_of value.now parts.entry) machine.old)
         result machine.new }
 {
@@ -243,7 +243,7 @@ pub(crate) fn evaluate_attribute(
     site: &Site,
     value: &Expression,
     name: &Name,
-) -> Result<Value, Stop>
+) -> Result<Value, EvalError>
     ensures { Refines (evaluating world.now levels site.now (tree.Attribute value.now name.now) machine.old)
         result machine.new }
 {

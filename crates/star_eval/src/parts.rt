@@ -8,7 +8,7 @@ ghost use Rattle.star_meaning.specs.Expressions.{fresh_entries, fresh_entry};
 ghost use Rattle.star_meaning.specs.Statements as spec;
 
 use star_machine::content::Kind;
-use star_machine::fault::{Stop, faulted};
+use star_machine::fault::{EvalError, fault_at};
 use star_machine::gathered::DictBuilder;
 use star_machine::machine::Machine;
 use star_meaning::fault::FaultCode;
@@ -27,7 +27,7 @@ fn put_fresh(
     line: usize,
     gathered: &mut DictBuilder,
     entry: (Value, Value),
-) -> Result<(), Stop>
+) -> Result<(), EvalError>
     requires { IsGathered world.now.setting machine.old.store gathered.old }
     ensures put { Puts (fresh_entry world.now.setting levels line gathered.old.entries entry machine.old)
         result gathered.new.entries machine.new }
@@ -39,7 +39,7 @@ fn put_fresh(
     if new {
         Ok(())
     } else {
-        Err(faulted(FaultCode::Key, line))
+        Err(fault_at(FaultCode::Key, line))
     }
 }
 
@@ -50,7 +50,7 @@ pub(crate) fn fresh_entries(
     levels: u32,
     line: usize,
     found: &Entries,
-) -> Result<Entries, Stop>
+) -> Result<Entries, EvalError>
     ensures { Refines (fresh_entries world.now.setting levels line [] found.now machine.old) result machine.new }
 {
     let mut gathered = DictBuilder::with_capacity(machine.alloc(), found.len())?;
@@ -70,7 +70,7 @@ pub(crate) fn augmented(
     operator: BinaryOperator,
     x: Value,
     y: Value,
-) -> Result<Value, Stop>
+) -> Result<Value, EvalError>
     ensures { Refines (spec.augmented world.now.setting levels line operator x y machine.old) result machine.new }
 {
     let setting = world.setting();

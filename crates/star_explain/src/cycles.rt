@@ -5,7 +5,7 @@ use crate::entry::Entry;
 use crate::trail::mark_of_line;
 use star_label::files::Files;
 use star_mistakes::message::{Part, message, push_message};
-use star_mistakes::place::{Naming, label_of, push_short_place};
+use star_mistakes::place::{Naming, label_of, push_place};
 use std::alloc::{AllocError, Global};
 
 /// How many loads of a cycle are listed.
@@ -180,7 +180,7 @@ fn notes_of(
     for file in cycle.iter().take(LISTED) {
         if let End::Load { next, line } = ends.end(*file) {
             notes.push_str("  ")?;
-            push_short_place(&mut notes, files, mark_of_line(files, *file, line), naming)?;
+            push_place(&mut notes, files, mark_of_line(files, *file, line), naming)?;
             let loads = [
                 Part::Plain(": loads "),
                 Part::Plain(label_of(files, next)),

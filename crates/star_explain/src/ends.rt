@@ -36,7 +36,7 @@ pub(crate) enum End {
 
 /// The remains of a run that stopped.
 #[derive(Drop)]
-pub(crate) struct Stop {
+pub(crate) struct EvalError {
     /// The words of `fail`, if that was the fault.
     pub said: Option<String>,
     /// The trail of its fault.
@@ -47,10 +47,10 @@ pub(crate) struct Stop {
     pub told: Option<Said>,
 }
 
-impl Stop {
+impl EvalError {
     /// Nothing.
-    fn new() -> Stop {
-        Stop {
+    fn new() -> EvalError {
+        EvalError {
             said: None,
             trail: None,
             mark: None,
@@ -105,7 +105,7 @@ pub(crate) struct Ends {
     /// The numbers of the files that were reached, in order.
     pub reached: Vec<usize>,
     /// The remains of the run of each one, if it stopped.
-    pub stops: Vec<Stop>,
+    pub stops: Vec<EvalError>,
     /// Whether files were run.
     pub are_run: bool,
 }
@@ -144,8 +144,8 @@ fn stop_of(
     files: &Files,
     reads: &Reads,
     module: &Module,
-) -> Result<Stop, AllocError> {
-    let mut stop = Stop::new();
+) -> Result<EvalError, AllocError> {
+    let mut stop = EvalError::new();
     let Ended::Stopped {
         code,
         line,
@@ -175,7 +175,7 @@ impl Ends {
         let mut stops = Vec::with_capacity(alloc, files)?;
         for _ in 0..files {
             loads.push(Vec::new(alloc))?;
-            stops.push(Stop::new())?;
+            stops.push(EvalError::new())?;
         }
         Ok(Ends {
             ends: vec![in alloc; End::Unknown; files]?,

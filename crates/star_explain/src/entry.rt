@@ -5,7 +5,7 @@ use crate::paint::{Color, push_colored, push_lines};
 use star_label::files::Files;
 use star_mistakes::message::{Part, push_message};
 use star_mistakes::mistake::Mistake;
-use star_mistakes::place::{Mark, label_of, push_place, push_source};
+use star_mistakes::place::{Mark, label_of, push_column, push_place, push_source};
 use std::alloc::{AllocError, Global};
 
 /// How many of some files are named.
@@ -56,6 +56,7 @@ impl Entry {
         failing: &[usize],
     ) -> Result<(), AllocError> {
         push_place(all, files, self.mark, form.naming)?;
+        push_column(all, files, self.mark)?;
         all.push_str(": ")?;
         push_colored(all, "error", Color::Red, form.is_colored)?;
         let told = [

@@ -1,7 +1,7 @@
 //! The whole text for a person: an entry for each cause, and a count of the files that fail by it.
 
 use crate::cycles::Cycles;
-use crate::ends::{End, Ends, Stop};
+use crate::ends::{End, Ends, EvalError};
 use crate::entry::{Entry, owned};
 use crate::pages::page_of;
 use crate::trail::{callers, mark_of_line};
@@ -12,7 +12,7 @@ use star_mistakes::message::{Part, message, push_message};
 use star_mistakes::place::{Mark, Naming};
 use star_mistakes::statics::Sources;
 use star_outcome::outcome::Run;
-use star_reading::code::{StaticCode, StaticFault, code_text};
+use star_reading::code::{StaticFault, StaticFaultCode, code_text};
 use star_reading::reading::Reads;
 use std::alloc::{AllocError, Global};
 
@@ -84,7 +84,7 @@ fn by_code(code: &'static str) -> Message<'static> {
 }
 
 /// What is told of a run that stopped, and the cure.
-fn told_of<'s>(code: FaultCode, stop: &'s Stop) -> Message<'s> {
+fn told_of<'s>(code: FaultCode, stop: &'s EvalError) -> Message<'s> {
     match (&stop.told, &stop.said) {
         (Some(told), _) => Message {
             front: "",
@@ -130,7 +130,7 @@ impl<'a> Telling<'a> {
         n: usize,
         code: FaultCode,
         line: usize,
-        stop: &Stop,
+        stop: &EvalError,
     ) -> Result<(), AllocError> {
         let (alloc, files) = (self.sources.alloc, self.sources.files);
         let place = match &stop.trail {
@@ -183,7 +183,7 @@ impl<'a> Telling<'a> {
 
     /// Whether an undefined name of this file may come from a prelude that does not parse.
     fn may_lack(&self, n: usize, fault: StaticFault) -> bool {
-        self.is_blind && self.sources.prelude != Some(n) && fault.code == StaticCode::Undefined
+        self.is_blind && self.sources.prelude != Some(n) && fault.code == StaticFaultCode::Undefined
     }
 
     /// Tells how a file ended. If it has no fault of its own, it fails by the prelude.
@@ -346,11 +346,7 @@ pub fn explain(
     prelude: Option<usize>,
     form: Form,
 ) -> Result<String, AllocError> {
-    let sources = Sources {
-        alloc,
-        files,
-        prelude,
-    };
+    let sources = Sources::new(alloc, files, prelude);
     told(sources, Ends::of(alloc, files, reads, run)?, roots, form)
 }
 
@@ -364,13 +360,8 @@ pub fn explain_check(
     prelude: Option<usize>,
     form: Form,
 ) -> Result<String, AllocError> {
-    let sources = Sources {
-        alloc,
-        files,
-        prelude,
-    };
     let ends = Ends::of_check(alloc, files, reads, judged)?;
-    told(sources, ends, roots, form)
+    told(Sources::new(alloc, files, prelude), ends, roots, form)
 }
 
 /// The text for a person on files with these ends.

@@ -28,6 +28,16 @@ pub(crate) struct Saying<'a> {
     pub module: &'a str,
 }
 
+/// A call of a built-in function, or of a method: the values that were found, and how many arguments are given.
+#[derive(Clone, Copy)]
+struct BuiltInCall<'x> {
+    name: &'x str,
+    receiver: Option<&'x Shown>,
+    first: Option<&'x Shown>,
+    second: Option<&'x Shown>,
+    given: usize,
+}
+
 /// The name of the type of a value, with its article.
 fn with_article(value: &Shown) -> &'static str {
     match value.of {
@@ -273,6 +283,24 @@ impl<'a> Saying<'a> {
         self.with_both(&[Part::Plain(text)], sign, left, right)
     }
 
+    /// A sign between two texts, and a value with its type.
+    fn before_typed<'x>(
+        self,
+        front: &'x str,
+        sign: &'x str,
+        text: &'x str,
+        value: &'x Shown,
+    ) -> Result<Option<String>, AllocError> {
+        self.text_of(&[
+            Part::Plain(front),
+            Part::Plain(sign),
+            Part::Plain(text),
+            Part::Plain(with_article(value)),
+            Part::Plain(colon(value)),
+            Part::Shown(told_text(value)),
+        ])
+    }
+
     /// `sign value`
     fn operand<'x>(self, sign: &'x str, value: &'x Shown) -> Result<Option<String>, AllocError> {
         match (self.code, sign) {
@@ -283,37 +311,27 @@ impl<'a> Saying<'a> {
                 "what stands after `**` has to be a dict whose keys are strings, not ",
                 value,
             ),
-            (FaultCode::BadType, _) => self.text_of(&[
-                Part::Plain("`"),
-                Part::Plain(sign),
-                Part::Plain("` has no meaning before "),
-                Part::Plain(with_article(value)),
-                Part::Plain(colon(value)),
-                Part::Shown(told_text(value)),
-            ]),
-            (FaultCode::Overflow, _) => self.text_of(&[
-                Part::Plain("an int outside of 64 bits: "),
-                Part::Plain(sign),
-                Part::Plain(" before "),
-                Part::Plain(with_article(value)),
-                Part::Plain(colon(value)),
-                Part::Shown(told_text(value)),
-            ]),
+            (FaultCode::BadType, _) => {
+                self.before_typed("`", sign, "` has no meaning before ", value)
+            }
+            (FaultCode::Overflow, _) => {
+                self.before_typed("an int outside of 64 bits: ", sign, " before ", value)
+            }
             _ => Ok(None),
         }
     }
 
-    /// A callee, a text, and a word that does not fit, in quotes.
+    /// What a word in quotes names, a text, and a word that does not fit.
     fn misfit_of<'x>(
         self,
-        callee: &'x Shown,
+        owner: &'x str,
         text: &'x str,
         word: &'x str,
         end: &'x str,
     ) -> Result<Option<String>, AllocError> {
         self.text_of(&[
             Part::Plain("`"),
-            Part::Shown(callee.text.as_str()),
+            Part::Shown(owner),
             Part::Plain(text),
             Part::Shown(word),
             Part::Plain(end),
@@ -322,24 +340,20 @@ impl<'a> Saying<'a> {
 
     /// A call of what a program defines, or of what may not be called.
     fn call(self, callee: &Shown, misfit: &Option<Misfit>) -> Result<Option<String>, AllocError> {
+        let name = callee.text.as_str();
         match misfit {
             Some(Misfit::Unknown(word)) => {
-                self.misfit_of(callee, "` has no parameter `", word.as_str(), "`")
+                self.misfit_of(name, "` has no parameter `", word.as_str(), "`")
             }
             Some(Misfit::Twice(word)) => {
-                self.misfit_of(
-                    callee,
-                    "` is given its parameter `",
-                    word.as_str(),
-                    "` twice",
-                )
+                self.misfit_of(name, "` is given its parameter `", word.as_str(), "` twice")
             }
             Some(Misfit::Missing(word)) => {
-                self.misfit_of(callee, "` is not given its parameter `", word.as_str(), "`")
+                self.misfit_of(name, "` is not given its parameter `", word.as_str(), "`")
             }
             Some(Misfit::TooMany { given, most }) => self.text_of(&[
                 Part::Plain("`"),
-                Part::Shown(callee.text.as_str()),
+                Part::Shown(name),
                 Part::Plain("` takes at most "),
                 Part::Number(*most),
                 Part::Plain(" by place, and is given "),
@@ -347,7 +361,7 @@ impl<'a> Saying<'a> {
             ]),
             None if self.code == FaultCode::Recursion => self.with_word(
                 "the function `",
-                callee.text.as_str(),
+                name,
                 "` is called while it runs: there is no recursion",
             ),
             None => self.of_kind(callee, " cannot be called"),
@@ -380,44 +394,34 @@ impl<'a> Saying<'a> {
         text: &'x str,
         value: Option<&'x Shown>,
     ) -> Result<Option<String>, AllocError> {
-        let (colon, told) = match value {
-            Some(value) => (colon(value), told_text(value)),
-            None => ("", ""),
-        };
-        self.text_of(&[
-            Part::Plain("`"),
-            Part::Plain(name),
-            Part::Plain(text),
-            Part::Plain(colon),
-            Part::Shown(told),
-        ])
+        let front = [Part::Plain("`"), Part::Plain(name), Part::Plain(text)];
+        let mut all = message(self.alloc, &front)?;
+        if let Some(value) = value {
+            let told = [Part::Plain(colon(value)), Part::Shown(told_text(value))];
+            push_message(&mut all, &told)?;
+        }
+        Ok(Some(all))
     }
 
     /// A wrong type in a call of a built-in function or of a method.
-    fn built_in_type(
-        self,
-        name: &str,
-        receiver: Option<&Shown>,
-        first: Option<&Shown>,
-        second: Option<&Shown>,
-    ) -> Result<Option<String>, AllocError> {
-        let (one, two) = wanted_by(name, type_of(receiver));
-        if let Some(value) = unmet(one, first) {
-            return self.argument(name, one, value);
+    fn built_in_type(self, call: BuiltInCall) -> Result<Option<String>, AllocError> {
+        let (one, two) = wanted_by(call.name, type_of(call.receiver));
+        if let Some(value) = unmet(one, call.first) {
+            return self.argument(call.name, one, value);
         }
-        if let Some(value) = unmet(two, second) {
-            return self.argument(name, two, value);
+        if let Some(value) = unmet(two, call.second) {
+            return self.argument(call.name, two, value);
         }
-        if first.is_none() {
+        if call.first.is_none() {
             return Ok(None);
         }
-        let text = match name {
+        let text = match call.name {
             "join" => "` takes strings alone",
             "dict" | "update" => "` takes a dict, or an iterable of pairs",
             "sorted" | "max" | "min" => "` takes ints alone or strings alone",
             _ => "` does not take this",
         };
-        self.of_built_in(name, text, first)
+        self.of_built_in(call.name, text, call.first)
     }
 
     /// A text, and after a colon the text of a value if there is one.
@@ -429,22 +433,18 @@ impl<'a> Saying<'a> {
     }
 
     /// A value in a call of a built-in function or of a method that does not suit.
-    fn built_in_value(
-        self,
-        name: &str,
-        receiver: Option<&Shown>,
-        first: Option<&Shown>,
-    ) -> Result<Option<String>, AllocError> {
-        match name {
+    fn built_in_value(self, call: BuiltInCall) -> Result<Option<String>, AllocError> {
+        let first = call.first;
+        match call.name {
             "int" => self.with_first("`int` reads no number here", first),
             "range" => self.with_first("the step of a `range` cannot be 0", None),
-            "max" | "min" => self.of_built_in(name, "` of nothing", first),
+            "max" | "min" => self.of_built_in(call.name, "` of nothing", first),
             "index" | "remove" => self.with_first("no item of the list is equal", first),
             "split" => self.with_first("`split` by an empty string", None),
             "replace" => self.with_first("`replace` of an empty string", None),
             "dict" | "update" => self.with_first("each item has to be a pair", first),
-            "format" if receiver.is_some() => {
-                self.with_first("a field of the format is wrong", receiver)
+            "format" if call.receiver.is_some() => {
+                self.with_first("a field of the format is wrong", call.receiver)
             }
             _ => Ok(None),
         }
@@ -478,43 +478,31 @@ impl<'a> Saying<'a> {
     }
 
     /// A wrong number of arguments in a call of a built-in function, or of a method.
-    fn built_in_count(
-        self,
-        name: &str,
-        receiver: Option<&Shown>,
-        given: usize,
-    ) -> Result<Option<String>, AllocError> {
-        let count = count(name, type_of(receiver));
+    fn built_in_count(self, call: BuiltInCall) -> Result<Option<String>, AllocError> {
+        let count = count(call.name, type_of(call.receiver));
         self.text_of(&[
             Part::Plain("`"),
-            Part::Plain(name),
+            Part::Plain(call.name),
             Part::Plain("` takes "),
             Part::Plain(count),
             Part::Plain(", and is given "),
-            Part::Number(given),
+            Part::Number(call.given),
         ])
     }
 
     /// A call of a built-in function, or of a method.
-    fn built_in(
-        self,
-        name: &str,
-        receiver: Option<&Shown>,
-        first: Option<&Shown>,
-        second: Option<&Shown>,
-        given: usize,
-    ) -> Result<Option<String>, AllocError> {
-        match (self.code, receiver, first) {
-            (FaultCode::Args, _, _) => self.built_in_count(name, receiver, given),
-            (FaultCode::BadType, _, _) => self.built_in_type(name, receiver, first, second),
-            (FaultCode::BadValue, _, _) => self.built_in_value(name, receiver, first),
+    fn built_in(self, call: BuiltInCall) -> Result<Option<String>, AllocError> {
+        match (self.code, call.receiver, call.first) {
+            (FaultCode::Args, _, _) => self.built_in_count(call),
+            (FaultCode::BadType, _, _) => self.built_in_type(call),
+            (FaultCode::BadValue, _, _) => self.built_in_value(call),
             (FaultCode::Overflow, _, Some(first)) => self.with_value(
                 "an int outside of 64 bits",
                 first,
             ),
             (FaultCode::Overflow, _, None) => Ok(None),
             (FaultCode::Index | FaultCode::Key, Some(receiver), _) => {
-                self.built_in_lack(name, receiver, first)
+                self.built_in_lack(call.name, receiver, call.first)
             }
             (FaultCode::Index | FaultCode::Key, None, _) => Ok(None),
             (_, Some(receiver), _) => self.written(receiver),
@@ -553,13 +541,7 @@ impl<'a> Saying<'a> {
 
     /// The text on a name that the file of a load statement does not have.
     fn no_global(self, name: &'a str) -> Result<Option<String>, AllocError> {
-        self.text_of(&[
-            Part::Plain("`"),
-            Part::Shown(self.module),
-            Part::Plain("` has no global `"),
-            Part::Shown(name),
-            Part::Plain("`"),
-        ])
+        self.misfit_of(self.module, "` has no global `", name, "`")
     }
 
     /// The text on a fault.
@@ -591,13 +573,13 @@ impl<'a> Saying<'a> {
                 first,
                 second,
                 given,
-            } => self.built_in(
-                name.as_str(),
-                receiver.as_ref(),
-                first.as_ref(),
-                second.as_ref(),
-                *given,
-            ),
+            } => self.built_in(BuiltInCall {
+                name: name.as_str(),
+                receiver: receiver.as_ref(),
+                first: first.as_ref(),
+                second: second.as_ref(),
+                given: *given,
+            }),
         }
     }
 

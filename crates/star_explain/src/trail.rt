@@ -6,7 +6,7 @@ ghost use Rattle.star_explain.specs.Trail as spec;
 
 use star_label::files::Files;
 use star_meaning::story::Step;
-use star_mistakes::place::{Line, Mark, Naming, push_short_place, text_of};
+use star_mistakes::place::{Line, Mark, Naming, push_place, text_of};
 use std::alloc::{AllocError, Global};
 
 /// How many calls are listed.
@@ -121,7 +121,7 @@ pub(crate) fn callers(
             break;
         }
         notes.push_str("  called from ")?;
-        push_short_place(&mut notes, files, mark_of_line(files, file, line), naming)?;
+        push_place(&mut notes, files, mark_of_line(files, file, line), naming)?;
         notes.push('\n')?;
     }
     Ok(notes)

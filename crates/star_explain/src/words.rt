@@ -110,33 +110,17 @@ impl<'a> Words<'a> {
         found
     }
 
-    /// The token before which the part ends that begins at a token.
-    fn end_of(self, from: usize) -> usize {
+    /// The token before which the brackets close that are open at a token, or if `is_part`, the part ends that begins
+    /// there.
+    fn end_of(self, from: usize, is_part: bool) -> usize {
         let mut depth: usize = 0;
         for at in from..self.tokens.len() {
             let kind = self.kind(at);
             if opens(kind) {
                 depth = depth.saturating_add(1);
-            } else if depth == 0 && (closes(kind) || ends_part(kind)) {
+            } else if depth == 0 && (closes(kind) || (is_part && ends_part(kind))) {
                 return at;
             } else if closes(kind) {
-                depth = depth.saturating_sub(1);
-            }
-        }
-        from
-    }
-
-    /// The token before which the brackets close that are open at a token.
-    fn bracket_end(self, from: usize) -> usize {
-        let mut depth: usize = 0;
-        for at in from..self.tokens.len() {
-            let kind = self.kind(at);
-            if opens(kind) {
-                depth = depth.saturating_add(1);
-            } else if closes(kind) {
-                if depth == 0 {
-                    return at;
-                }
                 depth = depth.saturating_sub(1);
             }
         }
@@ -154,7 +138,7 @@ impl<'a> Words<'a> {
         for at in from..self.tokens.len() {
             if self.is_index(at) {
                 let first = at.saturating_add(1);
-                return self.marks(first, self.bracket_end(first));
+                return self.marks(first, self.end_of(first, false));
             }
         }
         None
@@ -176,7 +160,7 @@ impl<'a> Words<'a> {
             None => self.find(from, "=")?,
         };
         let first = sign.saturating_add(1);
-        self.marks(first, self.end_of(first))
+        self.marks(first, self.end_of(first, true))
     }
 
     /// The targets of an assignment or of a loop.

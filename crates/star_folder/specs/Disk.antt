@@ -1,7 +1,10 @@
--- The paths of the files of a folder on the disk, and the kinds of its entries.
-use Rattle.std.specs.Prelude.{ℕ, List, [], ◌∷◌, ◌++◌, if◌then◌else◌, ◌==◌}
+-- The paths of the files of a folder on the disk, the kinds of its entries, and its errors.
+use Rattle.std.specs.Prelude.{◌≡◌, ℕ, List, [], ◌∷◌, ◌++◌, if◌then◌else◌, ◌==◌}
+use Rattle.std.specs.IoError.{error_kind}
 use Rattle.std.specs.Str.{bytes_eq}
 use Rattle.std.specs.declared.fs.attrs.FileType.{FileType}
+use Rattle.std.specs.declared.io.Error.{Error}
+use Rattle.std.specs.declared.io.ErrorKind.TheVariants.{OutOfMemory}
 use Rattle.star_label.specs.Label.{name_of, package_of}
 use Rattle.star_folder.specs.declared.folder.Kind.{Kind}
 use Rattle.star_folder.specs.declared.folder.Kind.TheVariants as kind
@@ -17,3 +20,7 @@ file_at top label = folder_at top (package_of label) ++ 47 ∷ name_of label
 -- the kind of an entry, by the type that the disk gives it: a regular file, a directory, or something else
 abbrev pub kind_of : FileType → Kind
 kind_of t = if t.bits == 0o100000 then kind.File else (if t.bits == 0o040000 then kind.Folder else kind.Other)
+
+-- an error says that an allocation failed
+abbrev pub IsOfMemory : Error → Type 0
+IsOfMemory e = error_kind e ≡ OutOfMemory

@@ -45,14 +45,18 @@ Stops held visits (place ∷ left) e =
 abbrev pub IsStopped : Contents → ServeError → Type 0
 IsStopped held e = (visits : List Visit) × (left : List Place) × IsWalk held visits left × Stops held visits left e
 
+-- how many calls failed, by the error of an answer
+abbrev pub failed_by : {T E : Type 0} → (E → ℕ) → Result T E → ℕ
+failed_by failed (Ok x) = 0
+failed_by failed (Err e) = failed e
+
 -- one listing failed if a walk stops so, else none
 abbrev pub failed_listing : ServeError → ℕ
 failed_listing BadDir = 1
 failed_listing e = 0
 
 abbrev pub listings_failed : {T : Type 0} → Result T ServeError → ℕ
-listings_failed (Ok x) = 0
-listings_failed (Err e) = failed_listing e
+listings_failed r = failed_by failed_listing r
 
 -- one read of a file failed if a walk stops so, else none
 abbrev pub failed_read : ServeError → ℕ
@@ -60,5 +64,4 @@ failed_read BadFile = 1
 failed_read e = 0
 
 abbrev pub files_failed : {T : Type 0} → Result T ServeError → ℕ
-files_failed (Ok x) = 0
-files_failed (Err e) = failed_read e
+files_failed r = failed_by failed_read r

@@ -3,12 +3,12 @@
 //! It is a thin wrapper of `fs::read_dir`, `file_type` and `File::open` with `take`, whose clauses are about its
 //! counts.
 
-ghost use Rattle.std.specs.Prelude.{◌≡◌, ◌≤◌, IfOk, string_bytes, vec_len};
+ghost use Rattle.std.specs.Prelude.{◌≡◌, ◌+◌, ◌^◌, ◌<◌, ◌≤◌, IfOk, string_bytes, vec_len};
 ghost use Rattle.std.specs.Fs.{dir_entry_name};
 ghost use Rattle.star_label.specs.Label.{name_of};
 ghost use Rattle.star_label.specs.View.{text_of};
-ghost use Rattle.star_folder.specs.Disk.{file_at, folder_at, kind_of};
-ghost use Rattle.star_folder.specs.Folder.{unsaid};
+ghost use Rattle.star_folder.specs.Disk.{IsOfMemory, file_at, folder_at, kind_of};
+ghost use Rattle.star_folder.specs.Folder.{has_failed, unsaid};
 
 use crate::folder::{FRONT, Folder, FolderError, Kind};
 use crate::path::inside;
@@ -59,13 +59,7 @@ impl<'a, R: Files + AllocGlobal + Clone + Drop> Folder for DiskFolder<'a, R> {
         }
         match entries_of(self.rt, self.top, path) {
             Ok(listing) => Ok(listing.entries),
-            Err(error) => {
-                if error.kind() == ErrorKind::OutOfMemory {
-                    return Err(FolderError::Memory);
-                }
-                self.failed_listings += 1;
-                Err(FolderError::Failed)
-            }
+            Err(error) => counted(error, &mut self.failed_listings),
         }
     }
 
@@ -75,19 +69,39 @@ impl<'a, R: Files + AllocGlobal + Clone + Drop> Folder for DiskFolder<'a, R> {
         }
         match front_of(self.rt, self.top, label) {
             Ok(front) => Ok(front.bytes),
-            Err(error) => {
-                if error.kind() == ErrorKind::OutOfMemory {
-                    return Err(FolderError::Memory);
-                }
-                self.failed_reads += 1;
-                Err(FolderError::Failed)
-            }
+            Err(error) => counted(error, &mut self.failed_reads),
         }
     }
 }
 
+/// The error of a call that the disk refused: `Memory` if an allocation failed, else `Failed`.
+pub fn refused(error: io::Error) -> FolderError
+    ensures memory { result ≡ FolderError.Memory → IsOfMemory error }
+    ensures failed { result ≡ FolderError.Failed → IsOfMemory error → ⊥ }
+{
+    if error.kind() == ErrorKind::OutOfMemory {
+        FolderError::Memory
+    } else {
+        FolderError::Failed
+    }
+}
+
+/// The result of a call that the disk refused, for a caller that counts its failures: `Memory` if an allocation failed,
+/// which is not counted, else `Failed`, which is.
+pub fn counted<T>(error: io::Error, failures: &mut u64) -> Result<T, FolderError>
+    requires { failures.old + 1 < 2 ^ 64 }
+    ensures none { IfOk result (λ _. ⊥) }
+    ensures failures { failures.new ≡ failures.old + has_failed result }
+{
+    let why = refused(error);
+    if why == FolderError::Failed {
+        *failures += 1;
+    }
+    Err(why)
+}
+
 /// The kind of an entry, by its type.
-fn kind_of(found: FileType) -> Kind
+pub fn kind_of(found: FileType) -> Kind
     ensures { result ≡ kind_of found }
 {
     if found.is_file() {

@@ -27,7 +27,8 @@ use Rattle.star_plan.specs.Runs.{ArePlaced, MayRun, given, given_over, run_by_na
 use Rattle.star_plan.specs.Shelves.{HoldsNeeds, IsTight}
 use Rattle.star_plan.proofs.Needs.{good_files_have_outcomes, the_one_shelf}
 use Rattle.star_plan.proofs.Ready.{files_may_run}
-use Rattle.star_host.specs.Bodies.{IsOwnIn, IsPaidIn, IsRan, world_over}
+use Rattle.star_world.specs.World.{world_of}
+use Rattle.star_host.specs.Bodies.{IsOwnIn, IsPaidIn, IsRan}
 use Rattle.star_outcome.specs.Paid.{HasPaid}
 use Rattle.star_outcome.specs.Reaches.{row_of}
 use Rattle.star_reading.specs.Readings.{Row, read_at, reading_of, readings}
@@ -52,11 +53,11 @@ pub body_may_run : (files : List File) (plan : Plan) (table : Files) (row : Row)
 body_may_run files plan table row n p shelf ms planned placed is e loads tight holds =
     files_may_run files plan table planned placed n p.statements.now shelf (ap tree_in (read_is plan row n is ∙ ap (option_map reading_of) e)) (loads_good plan n ms loads) tight holds
 
-same_setting : (plan : Plan) (table : Files) (n home : ℕ) (shelf : Shelf) (ls : List Load) (prelude : Option ℕ) → home ≡ n → ls ≡ loads_of plan n → prelude ≡ plan.prelude → (world_over home shelf table ls prelude).setting ≡ given_over table plan n shelf
+same_setting : (plan : Plan) (table : Files) (n home : ℕ) (shelf : Shelf) (ls : List Load) (prelude : Option ℕ) → home ≡ n → ls ≡ loads_of plan n → prelude ≡ plan.prelude → (world_of home shelf table ls prelude).setting ≡ given_over table plan n shelf
 same_setting plan table n home shelf ls prelude e f g =
-    ap (λ h. (world_over h shelf table ls prelude).setting) e
-    ∙ ap (λ xs. (world_over n shelf table xs prelude).setting) f
-    ∙ ap (λ o. (world_over n shelf table (loads_of plan n) o).setting) g
+    ap (λ h. (world_of h shelf table ls prelude).setting) e
+    ∙ ap (λ xs. (world_of n shelf table xs prelude).setting) f
+    ∙ ap (λ o. (world_of n shelf table (loads_of plan n) o).setting) g
 
 own_in : (plan : Plan) (table : Files) (n : ℕ) (ss : List Statement) (shelf : Shelf) (o : Outcome) → MayRun plan table n ss shelf → semantics (given_over table plan n shelf) o ≡ local (given_over table plan n shelf) plan.steps ss → IsOwnIn plan n o
 own_in plan table n ss shelf (outcome.Good frozen texts lines left) may e = may.own frozen frozen.globals (owned texts.items) lines.items (sym e)
@@ -106,17 +107,17 @@ ran_is plan table n ss shelf w steps o may pays same count e named =
 -- the outcome of the run of a body is the file's outcome
 pub ran_so : (plan : Plan) (table : Files) (n home : ℕ) (ss : List Statement) (shelf : Shelf) (ls : List Load) (prelude : Option ℕ) (steps : ℕ) (r : Result Outcome AllocError) → MayRun plan table n ss shelf → Pays plan table n ss shelf
     → home ≡ n → ls ≡ loads_of plan n → prelude ≡ plan.prelude → steps ≡ plan.steps
-    → (AreReady (world_over home shelf table ls prelude) steps → IfOk r (λ o. semantics (world_over home shelf table ls prelude).setting o ≡ local (world_over home shelf table ls prelude).setting steps ss))
-    → (AreReady (world_over home shelf table ls prelude) steps → IfOk r (λ o. IsRun (run_by_names (world_over home shelf table ls prelude).setting steps ss) o)) → IfOk r (IsRan plan n)
+    → (AreReady (world_of home shelf table ls prelude) steps → IfOk r (λ o. semantics (world_of home shelf table ls prelude).setting o ≡ local (world_of home shelf table ls prelude).setting steps ss))
+    → (AreReady (world_of home shelf table ls prelude) steps → IfOk r (λ o. IsRun (run_by_names (world_of home shelf table ls prelude).setting steps ss) o)) → IfOk r (IsRan plan n)
 ran_so plan table n home ss shelf ls prelude steps r may pays at loads is count names named = by_result r (names ready) (named ready)
   where
     w : Setting
-    w = (world_over home shelf table ls prelude).setting
+    w = (world_of home shelf table ls prelude).setting
 
     same : w ≡ given_over table plan n shelf
     same = same_setting plan table n home shelf ls prelude at loads is
 
-    ready : AreReady (world_over home shelf table ls prelude) steps
+    ready : AreReady (world_of home shelf table ls prelude) steps
     ready = record {
       programs = subst (ArePrograms table) (sym is) may.programs;
       functions = subst (λ k. AllFit (trees_of table) w (start w k)) (sym count) (subst (λ (v : Setting). AllFit (trees_of table) v (start v plan.steps)) (sym same) may.functions);

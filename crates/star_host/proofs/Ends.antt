@@ -9,16 +9,14 @@ use Rattle.star_meaning.specs.Places.{Stands}
 use Rattle.star_meaning.specs.Programs.{Files, PlacedFile, file_in, placed_file, trees_of}
 use Rattle.star_scope.specs.declared.loads.Load.{Load}
 use Rattle.star_scope.specs.declared.program.Program.{Program}
-use Rattle.star_plan.specs.Plan.{Faulty, Plan, Reading, loaded, loads_of, read_of}
+use Rattle.star_plan.specs.Plan.{Plan, Reading, loaded, loads_of, read_of}
 use Rattle.star_plan.specs.Results.{IsFirstBad}
-use Rattle.star_reading.specs.Codes.{fault_of}
 use Rattle.star_reading.specs.declared.code.StaticFault.{StaticFault}
-use Rattle.star_outcome.specs.declared.module.Ended.TheVariants.{Load as Unloaded}
 use Rattle.star_reading.specs.declared.reading.Read.{Read}
 use Rattle.star_reading.specs.declared.reading.Read.TheVariants as read
 use Rattle.star_outcome.specs.Fits.{IsAsked}
-use Rattle.star_reading.specs.Readings.{Row, loads_at, placed_in, read_at, reading_of, readings, table_of}
-use Rattle.star_outcome.specs.Views.{IsEnd, IsModule, IsTold, ToldView, ended_well}
+use Rattle.star_reading.specs.Readings.{Row, loads_at, read_at, reading_of, readings}
+use Rattle.star_outcome.specs.Views.{IsModule, IsTold, ToldView, ended_well}
 use Rattle.star_outcome.specs.declared.module.Module.{Module}
 use Rattle.star_reading.proofs.Rows.{loads_are, read_is}
 
@@ -37,19 +35,10 @@ never_unread files plan row n is a no_program no_fault = split (read_at row n) r
         let no : ⊥ = cc in
         no
 
-pub static_is : (plan : Plan) (row : Row) (n : ℕ) (f : StaticFault) → readings row ≡ plan.reads → read_at row n ≡ Some (read.Fault f) → read_of plan n ≡ Some (Faulty (fault_of f))
-static_is plan row n f is e = read_is plan row n is ∙ ap (option_map reading_of) e
-
 flat_some : {X : Type 0} (o : Option (Option X)) (x : X) → option_flatten o ≡ Some x → o ≡ Some (Some x)
 flat_some None x e = absurd (let no : ⊥ = cc in no)
 flat_some (Some None) x e = absurd (let no : ⊥ = cc in no)
 flat_some (Some (Some y)) x e = let same : y ≡ x = cc in ap (λ z. Some (Some z)) same
-
-pub stands_read : (row : Row) (table : Files) (n : ℕ) (p : Program) → table ≡ table_of row → read_at row n ≡ Some (read.Program p) → file_in table n ≡ Some (placed_file p)
-stands_read row table n p is e =
-    ap (λ t. file_in t n) is
-    ∙ ap option_flatten (slice_get-map placed_in row n)
-    ∙ ap (λ o. option_flatten (option_map placed_in o)) (flat_some (slice_get row n) (read.Program p) e)
 
 -- the statements of a placed file are among the trees
 pub stands_tree : (table : Files) (n : ℕ) (p : Program) → file_in table n ≡ Some (placed_file p) → Stands (trees_of table) n p.statements.now
@@ -69,10 +58,6 @@ load_there plan row n index failed is same fits none =
     let both : None ≡ Some (get_or (loads_at row n) index d) = sym none ∙ there in
     let no : ⊥ = cc in
     no
-
-pub unloaded_at : (plan : Plan) (row : Row) (n index : ℕ) (failed : Option ℕ) (l : Load) → readings row ≡ plan.reads → failed ≡ Some index → IfSome failed (IsFirstBad plan (loaded plan n)) → Some l ≡ slice_get (loads_at row n) index → IsEnd plan n (Unloaded index l.line)
-unloaded_at plan row n index failed l is same fits e =
-    (subst (λ o. IfSome o (IsFirstBad plan (loaded plan n))) same fits, (l, subst (λ ls. slice_get ls index ≡ Some l) (sym (loads_are plan row n is)) (sym e), refl))
 
 pub told_is : (files : List File) (plan : Plan) (n : ℕ) (m : Module) (t : ToldView) → t.number ≡ n → IsAsked files plan n → t.known ≡ Some m → IsModule plan n m → t.good ≡ ended_well m.ended → IsTold files plan n t
 told_is files plan n m t number asked known right good = record { number = number; asked = asked; found = m; known = known; right = right; good = good }

@@ -1,6 +1,6 @@
 -- The counts of fewer loaders are also counts of more loaders: the further loaders have begun nothing.
 use Rattle.std.proofs.Common.{◌≡◌, ◌+◌, ◌-◌, ◌*◌, ◌≤◌, ◌++◌, ℕ, List, length, length-append, replicate, ap, sym, ◌∙◌, arith}
-use Rattle.std.specs.Prelude.{IfOk, Result, Ok, Err, sum}
+use Rattle.std.specs.Prelude.{sum}
 use Rattle.std.proofs.lemmas.List.{append_assoc, length-replicate, replicate-append-replicate}
 use Rattle.std.proofs.lemmas.List.Folds.{sum_by-replicate}
 use Rattle.std.proofs.lemmas.List.Sums.{sum_by-append}
@@ -21,7 +21,3 @@ counts_of_more few many begun counts within most a =
       then_none = a.then_none ∙ ap (λ z. a.each ++ z) zeros ∙ sym (append_assoc a.each more (replicate (64 - many) 0));
       all_begun = omega (arith, both, none, a.all_begun);
     }
-
-pub if_more : {R E : Type 0} (few many : ℕ) (begun : R → ℕ) (counts : R → List ℕ) (r : Result R E) → few ≤ many → many ≤ 64 → IfOk r (λ x. AreCounts few (begun x) (counts x)) → IfOk r (λ x. AreCounts many (begun x) (counts x))
-if_more few many begun counts (Ok x) within most h = counts_of_more few many (begun x) (counts x) within most h
-if_more few many begun counts (Err e) within most h = tt

@@ -3,6 +3,7 @@ pub mod Worlds
 pub mod Ends
 pub mod Bodies
 pub mod NextLoads
+pub mod Turns
 pub mod Settled
 pub mod Sharing
 pub mod Fewer

@@ -1,14 +1,14 @@
 -- The modules of all reached files, as they are kept in order.
-use Rattle.std.proofs.Common.{◌≡◌, ◌+◌, ◌<◌, ℕ, zero, suc, List, [], ◌∷◌, ◌++◌, ◌-◌, map, length, replicate, get_or, take, Option, Some, None, Result, Ok, Err, IfOk, refl, ap, sym, ◌∙◌, subst, arith}
+use Rattle.std.proofs.Common.{◌≡◌, ◌+◌, ◌<◌, ℕ, zero, suc, List, [], ◌∷◌, ◌++◌, ◌-◌, map, length, get_or, take, Option, Some, None, Result, Ok, Err, IfOk, refl, ap, sym, ◌∙◌, subst, arith}
 use Rattle.std.specs.Prelude.{All, Contains, IsSome, cond}
-use Rattle.std.specs.List.{count_by, sum_by}
+use Rattle.std.specs.List.{count_by}
 use Rattle.std.specs.Option.{option_map}
 use Rattle.std.specs.List.Sorted.{IsStrictlyIncreasing}
-use Rattle.std.proofs.lemmas.List.{length-map, map-append, map-id}
+use Rattle.std.proofs.lemmas.List.{map-append, map-id}
 use Rattle.std.proofs.lemmas.List.Elements.{All-append, Contains-append_left, Contains-append_right}
-use Rattle.std.proofs.lemmas.List.Sums.{sum-map, sum_by_more}
-use Rattle.star_cache.specs.Seats.{AreAll, AreNew, SeatState, counts_of}
-use Rattle.star_cache.specs.State.{BookState, LoaderState, begun_count, is_begun}
+use Rattle.std.proofs.lemmas.List.Sums.{sum_by_more}
+use Rattle.star_cache.specs.Seats.{AreAll, AreNew, SeatState}
+use Rattle.star_cache.specs.State.{is_begun}
 use Rattle.star_cache.specs.declared.entry.Entry.{Entry}
 use Rattle.star_label.specs.Files.{File}
 use Rattle.star_plan.specs.Plan.{Plan}
@@ -23,7 +23,6 @@ use Rattle.star_outcome.specs.Views.{IsModule, IsTold, ToldView}
 use Rattle.star_reading.proofs.Finds.{all_one, by_cases, contains_here, same_or_not}
 use Rattle.star_reading.proofs.PlacesRead.{some_of}
 use Rattle.star_reading.proofs.Rows.{read_is}
-use Rattle.star_host.specs.Counts.{AreCounts}
 use Rattle.star_host.proofs.SeatsBack.{all_back}
 
 abbrev numbers : List KeptView → List ℕ
@@ -31,23 +30,6 @@ numbers ks = map (λ (k : KeptView). k.number) ks
 
 numbers_push : (ks : List KeptView) (k : KeptView) → numbers (ks ++ k ∷ []) ≡ numbers ks ++ k.number ∷ []
 numbers_push ks k = map-append (λ (x : KeptView). x.number) ks (k ∷ [])
-
-pub none_kept : (plan : Plan) → AreModulesBelow plan 0 []
-none_kept plan = record {
-  in_order = λ k h. absurd (omega (arith, h));
-  below = λ k d lt. absurd (omega (arith, lt));
-  all = λ n r h. absurd (omega (arith, h));
-  each = λ k d lt. absurd (omega (arith, lt));
-}
-
--- a file that is not reached is passed by
-pub kept_on : (plan : Plan) (n : ℕ) (ks : List KeptView) → (IsReached plan n → ⊥) → AreModulesBelow plan n ks → AreModulesBelow plan (n + 1) ks
-kept_on plan n ks never is = record {
-  in_order = is.in_order;
-  below = λ k d lt. let b = is.below k d lt in omega (arith, b);
-  all = λ m r h. by_cases (same_or_not m n) (λ e. absurd (never (subst (IsReached plan) e r))) (λ ne. is.all m r (omega (arith, h, ne)));
-  each = is.each;
-}
 
 -- a reached file's module is kept
 pub kept_more : (plan : Plan) (n : ℕ) (ks : List KeptView) (k : KeptView) → k.number ≡ n → IsModuleKept plan k → AreModulesBelow plan n ks → AreModulesBelow plan (n + 1) (ks ++ k ∷ [])
@@ -75,10 +57,6 @@ all_kept files plan n ks within end is = record {
   reached = λ m. (λ r. is.all m r (let b = reached_below files plan m within r in omega (arith, b, end)), number_at (IsReached plan) ks (λ i d lt. (is.each i d lt).0) m);
   each = λ i d lt. (is.each i d lt).1;
 }
-
--- the row has an entry for each file
-pub row_long : (files : List File) (plan : Plan) (row : Row) → readings row ≡ plan.reads → IsPlanOf files plan → length row ≡ length files
-row_long files plan row is planned = sym (length-map row (option_map reading_of)) ∙ (ap length is ∙ planned.size)
 
 -- a file that was read is reached
 pub read_reached : (files : List File) (plan : Plan) (row : Row) (n : ℕ) → readings row ≡ plan.reads → IsPlanOf files plan → IsSome (read_at row n) → IsReached plan n
@@ -138,17 +116,6 @@ numbers_of (w ∷ ws) f = ap (λ ns. (f w).number ∷ ns) (numbers_of ws f)
 pub seats_all : {W : Type 0} (n : ℕ) (before seats : List SeatState) (ws : List W) (f : W → SeatState) → AreNew n before → seats ≡ map f ws → map (λ w. (f w).number) ws ≡ map (λ (s : SeatState). s.number) before → AreAll n seats
 seats_all n before seats ws f new are back =
     subst (AreAll n) (map-id seats) (all_back n before seats (λ s. s) (record { number = 0; begun = 0 }) new (ap (map (λ (s : SeatState). s.number)) are ∙ (numbers_of ws f ∙ back)))
-
--- the counts of a closed book
-pub counts_so : {P : Type 0} (b : BookState P) (counts : List ℕ) (n begun : ℕ) → length b.loaders ≡ n → counts ≡ counts_of b → sum_by (λ (l : LoaderState). l.count) b.loaders ≡ begun_count b → begun ≡ begun_count b → AreCounts n begun counts
-counts_so b counts n begun size are counted is =
-    let f : LoaderState → ℕ = λ l. l.count in
-    record {
-      each = map f b.loaders;
-      one_each = length-map b.loaders f ∙ size;
-      then_none = are ∙ ap (λ k. map f b.loaders ++ replicate (64 - k) 0) size;
-      all_begun = sum-map f b.loaders ∙ (counted ∙ sym is);
-    }
 
 pub if_ok : {T E : Type 0} {A B : T → Type 0} (r : Result T E) → ((x : T) → A x → B x) → IfOk r A → IfOk r B
 if_ok (Ok x) f a = f x a

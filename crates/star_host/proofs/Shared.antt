@@ -12,15 +12,15 @@ use Rattle.star_outcome.specs.GoodEnds.{AreGoodEndsOf}
 use Rattle.star_outcome.specs.Views.{IsBody, IsEnd}
 use Rattle.star_outcome.specs.declared.module.Body.{Body}
 use Rattle.star_outcome.specs.declared.module.Ended.TheVariants.{Good}
-use Rattle.star_host.specs.Worlds.{HasBody, IsWorld}
-use Rattle.star_host.specs.declared.common.Common.{Common}
+use Rattle.star_host.specs.Worlds.{HasBody, IsContext}
+use Rattle.star_host.specs.declared.common.LoadContext.{LoadContext}
 
 -- none is known
 pub no_ends : (files : List File) (roots : List ℕ) (prelude : Option ℕ) (steps : ℕ) → AreGoodEndsOf files roots prelude steps []
 no_ends files roots prelude steps plan planned of_roots of_prelude of_steps n e at reached = absurd (let no : ⊥ = cc in no)
 
 -- a body that is known is the end of its file
-pub known_end : (files : List File) (plan : Plan) (shelf : List ℕ) (c : Common) (n : ℕ) (o : Option (Arc Body Global)) (b : Arc Body Global) → IsWorld files plan shelf c → IsReached plan n → o ≡ Some b → IfSome o (HasBody c n) → IsEnd plan n (Good b)
+pub known_end : (files : List File) (plan : Plan) (shelf : List ℕ) (c : LoadContext) (n : ℕ) (o : Option (Arc Body Global)) (b : Arc Body Global) → IsContext files plan shelf c → IsReached plan n → o ≡ Some b → IfSome o (HasBody c n) → IsEnd plan n (Good b)
 known_end files plan shelf c n o b world reached is known =
     let has : HasBody c n b = subst (λ x. IfSome x (HasBody c n)) is known in
     subst (IsBody plan n) (sym has.2) (world.ends_are n has.0 has.1 reached).body

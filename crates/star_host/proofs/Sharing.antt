@@ -15,14 +15,14 @@ use Rattle.star_world.specs.contracts.files.Files as files
 use Rattle.star_flow.specs.contracts.flow.Flow as flow
 use Rattle.star_flow.proofs.flow.Flow.TheSendSync as of_flow
 use Rattle.star_label.proofs.files.Files.TheSendSync as of_labels
-use Rattle.star_world.specs.contracts.placed.Placed as placed
+use Rattle.star_world.specs.contracts.placed.IndexedProgram as placed
 use Rattle.star_world.specs.contracts.programs.Programs as programs
 use Rattle.star_reading.specs.contracts.reading.Read as read
 use Rattle.star_outcome.specs.contracts.told.Told as told
 use Rattle.star_outcome.specs.contracts.told.ToldProduct.TheImpl as product
 use Rattle.star_outcome.specs.contracts.trace.Trace as trace
-use Rattle.star_host.specs.contracts.common.Common as common
-use Rattle.star_outcome.specs.declared.naming.Naming
+use Rattle.star_host.specs.contracts.common.LoadContext as common
+use Rattle.star_outcome.specs.declared.naming.RunId
 use Rattle.star_reading.proofs.Closures.{tuple_sync}
 use Rattle.star_reading.proofs.Crossing.{program_sync, statement_sync}
 use Rattle.star_reading.proofs.code.StaticFault.TheSendSync as of_fault
@@ -55,7 +55,7 @@ common_sync κ ν μ ξ =
 
 -- a loader's closure: it captures the runtime R, the data that all loaders share, the gate G, the cache, the trace and
 -- the flow
-module _ (J : RattleType) (n : Naming.Ghosts J.Denot) (l : Ledger.Ghosts J.Denot) (R G : RattleType) (α β γ δ ε ζ η θ ι κ : NamedLft) where
+module _ (J : RattleType) (n : RunId.Ghosts J.Denot) (l : Ledger.Ghosts J.Denot) (R G : RattleType) (α β γ δ ε ζ η θ ι κ : NamedLft) where
   abbrev the_cache : RattleType
   the_cache = cache.the_row (told.the_row J n l) J (product.ghosts J n product.no_dict l product.no_dict) l
 

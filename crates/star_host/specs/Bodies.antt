@@ -1,12 +1,8 @@
--- The world of a body, and the outcome of its run.
-use Rattle.std.specs.Prelude.{◌≡◌, ◌-◌, ℕ, IfOk, List, Option, Result}
+-- The outcome of the run of a body, and what it means in its world.
+use Rattle.std.specs.Prelude.{◌≡◌, ◌-◌, ℕ, IfOk, List, Result}
 use Rattle.star_tree.specs.declared.tree.Statement.{Statement}
-use Rattle.star_scope.specs.declared.loads.Load.{Load}
-use Rattle.star_store.specs.Store.{Shelf}
-use Rattle.star_meaning.specs.Local.{outlines}
 use Rattle.star_meaning.specs.Module.{local}
 use Rattle.star_meaning.specs.Program.{Setting}
-use Rattle.star_meaning.specs.Programs.{Files, load_files, trees_of}
 use Rattle.star_world.specs.World.{World}
 use Rattle.star_module.specs.declared.module.Outcome.{Outcome}
 use Rattle.star_module.specs.declared.module.Outcome.TheVariants as outcome
@@ -15,20 +11,6 @@ use Rattle.star_outcome.specs.Paid.{HasPaid}
 use Rattle.star_plan.specs.Plan.{Plan}
 use Rattle.star_plan.specs.Results.{IsOutcome, Ran}
 use Rattle.star_plan.specs.Shelves.{IsOwn}
-
--- the world of a body, over a shelf
-abbrev pub world_over : ℕ → Shelf → Files → List Load → Option ℕ → World
-world_over home shelf files loads prelude =
-    record {
-      setting = record {
-        home = home;
-        outlines = outlines (trees_of files);
-        shelf = shelf;
-        loads = load_files loads;
-        prelude = prelude;
-      };
-      files = files;
-    }
 
 -- where the world is ready, this is what a file of these statements means
 abbrev pub MeansLocal : {E : Type 0} → World → ℕ → List Statement → Result Outcome E → Type 0

@@ -1,4 +1,4 @@
--- The data that loaders share: `IsWorld` says that it is right for a plan; and the facts at a turn of a file whose
+-- The data that loaders share: `IsContext` says that it is right for a plan; and the facts at a turn of a file whose
 -- loads are being asked for.
 use Rattle.std.specs.Arc.{arc_value}
 use Rattle.std.specs.Prelude.{◌≡◌, ◌+◌, ◌^◌, ◌<◌, ◌≤◌, ℕ, List, IfSome, Some, length, slice_get}
@@ -16,13 +16,13 @@ use Rattle.star_outcome.specs.GoodEnds.{AreGoodEnds}
 use Rattle.star_outcome.specs.Refusals.{IsRefusal}
 use Rattle.star_outcome.specs.declared.good_end.GoodEnd.{GoodEnd}
 use Rattle.star_outcome.specs.declared.module.Body.{Body}
-use Rattle.star_host.specs.declared.common.Common.{Common}
+use Rattle.star_host.specs.declared.common.LoadContext.{LoadContext}
 use Rattle.star_host.specs.declared.loading.Turn.{Turn}
 use Rattle.star_host.specs.declared.loading.Turn.TheVariants.{Again, Enter, Ended}
 
 -- the data that loaders share is right for the cache: its files, the read files, their programs, its shelf, the
 -- prelude's file and the steps; the read files are the plan of the files, and the ends that are known are good there
-pub record IsWorld (files : List File) (plan : Plan) (shelf : List ℕ) (c : Common) : Type 0 where
+pub record IsContext (files : List File) (plan : Plan) (shelf : List ℕ) (c : LoadContext) : Type 0 where
   pub files_are : c.files.now ≡ files
   pub row_is : readings c.reads.now ≡ plan.reads
   pub table_is : c.programs.now ≡ table_of c.reads.now
@@ -37,17 +37,17 @@ pub record IsWorld (files : List File) (plan : Plan) (shelf : List ℕ) (c : Com
   pub ends_are : AreGoodEnds plan c.ends.now
 
 -- so it is, and the loaders may work for the roots of the plan
-abbrev pub MayWork : List File → Plan → List ℕ → Common → Type 0
+abbrev pub MayWork : List File → Plan → List ℕ → LoadContext → Type 0
 MayWork files plan shelf c =
-    IsWorld files plan shelf c × IsWithin files plan × (c.roots.now ≡ plan.roots)
+    IsContext files plan shelf c × IsWithin files plan × (c.roots.now ≡ plan.roots)
     × ((1 ≤ c.loaders) × (c.loaders ≤ 64))
 
 -- the plan of loaders that share this data
-abbrev pub plan_in : Common → Plan
+abbrev pub plan_in : LoadContext → Plan
 plan_in c = record { roots = c.roots.now; prelude = c.prelude; steps = c.steps; reads = readings c.reads.now }
 
 -- the end of the file n is known, and has this body
-abbrev pub HasBody : {Z : Type 0} → Common → ℕ → Arc Body Z → Type 0
+abbrev pub HasBody : {Z : Type 0} → LoadContext → ℕ → Arc Body Z → Type 0
 HasBody c n b = (e : GoodEnd) × (slice_get c.ends.now n ≡ Some (Some e)) × (arc_value b ≡ arc_value e.body)
 
 abbrev pub IsTurn : List File → Plan → Turn → Type 0

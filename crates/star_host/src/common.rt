@@ -3,7 +3,7 @@
 ghost use Rattle.std.specs.Prelude.{◌≡◌, ◌+◌, ◌^◌, ◌<◌, ◌≤◌, All, IfOk, IfSome, length, slice_get};
 ghost use Rattle.star_outcome.specs.Fits.{IsAsked, IsWithin};
 ghost use Rattle.star_outcome.specs.GoodEnds.{AreGoodEndsOf};
-ghost use Rattle.star_host.specs.Worlds.{HasBody, IsWorld, plan_in};
+ghost use Rattle.star_host.specs.Worlds.{HasBody, IsContext, plan_in};
 ghost use Rattle.star_reading.specs.Found.{IsReadOf};
 ghost use Rattle.star_reading.specs.Readings.{loads_at, table_of};
 
@@ -22,7 +22,7 @@ use std::sync::Arc;
 /// good ends that are known before the run, by the numbers of their files, the roots, the prelude's file, the number of
 /// loaders, the steps that a body may take, which are 1 to 100,000,000, and the seed for the hashes of keys.
 #[derive(Drop)]
-pub struct Common<'s, 'r, 'p, 't> {
+pub struct LoadContext<'s, 'r, 'p, 't> {
     pub alloc: Global,
     pub files: &'s Labels,
     pub reads: &'r [Option<Read<'t>>],
@@ -45,7 +45,7 @@ pub(crate) fn file_number(files: &Labels, n: usize) -> u32
     n.min(count) as u32
 }
 
-impl<'s, 'r, 'p, 't> Common<'s, 'r, 'p, 't> {
+impl<'s, 'r, 'p, 't> LoadContext<'s, 'r, 'p, 't> {
     /// The shared data of a run: all that `load` needs. A file whose good end is among `ends` is not run.
     pub fn new(
         alloc: Global,
@@ -55,14 +55,14 @@ impl<'s, 'r, 'p, 't> Common<'s, 'r, 'p, 't> {
         modules: &'s Shelf<Module>,
         ends: &'s [Option<GoodEnd>],
         options: RunOptions<'s>,
-    ) -> Common<'s, 'r, 'p, 't>
+    ) -> LoadContext<'s, 'r, 'p, 't>
         requires read { IsReadOf files.now options.roots.now options.prelude reads.now.all.items }
         requires programs { programs.now ≡ table_of reads.now.all.items }
         requires cells { length modules.now ≡ length files.now }
         requires prelude { IfSome options.prelude (λ p. p < length files.now) }
         requires steps { (1 ≤ options.steps) × (options.steps ≤ 100000000) }
         requires ends { AreGoodEndsOf files.now options.roots.now options.prelude options.steps ends.now }
-        ensures world { IsWorld result.files.now (plan_in result) result.modules.now result }
+        ensures world { IsContext result.files.now (plan_in result) result.modules.now result }
         ensures within { IsWithin result.files.now (plan_in result) }
         ensures asked { All (IsAsked result.files.now (plan_in result)) options.entry.roots.now }
         ensures files { result.files.now ≡ files.now }
@@ -72,7 +72,7 @@ impl<'s, 'r, 'p, 't> Common<'s, 'r, 'p, 't> {
         ensures loaders { result.loaders ≡ options.entry.loaders }
         ensures steps { result.steps ≡ options.entry.steps }
     {
-        Common {
+        LoadContext {
             alloc,
             files,
             reads: reads.all.as_slice(),

@@ -1,7 +1,7 @@
 //! The host: it loads and runs many files with several loaders (threads), and returns the modules of all files that the
 //! roots reach.
 //!
-//! - `read_files` (of `star_reading`) reads the reached files before anything runs; `Common` is the data that all
+//! - `read_files` (of `star_reading`) reads the reached files before anything runs; `LoadContext` is the data that all
 //!   loaders share: the read files, their programs, the shelf for modules, the roots, the steps.
 //! - `running::run` starts a thread for each loader. A loader first takes files all of whose loads have ended
 //!   (`star_flow`); then it asks for the roots, one after another, since the files that are left are on a cycle or lead
@@ -30,12 +30,12 @@ pub mod settle;
 mod table;
 mod work;
 
-pub use common::Common;
+pub use common::LoadContext;
 pub use loading::{LoadError, load};
 pub use options::{Known, RunOptions};
 pub use running::{RunError, run, run_in};
 pub use star_outcome::good_end::GoodEnd;
-pub use star_outcome::naming::Naming;
+pub use star_outcome::naming::RunId;
 pub use star_outcome::outcome::Run;
 pub use star_outcome::shelf::Shelf;
 pub use star_outcome::told::Told;

@@ -3,17 +3,17 @@
 ghost use Rattle.std.specs.Prelude.{◌≡◌, ◌<◌, IfOk, IfSome, MatchOption, length};
 ghost use Rattle.star_plan.specs.Plan.{loads_of};
 ghost use Rattle.star_outcome.specs.Fits.{IsAsked};
-ghost use Rattle.star_host.specs.Worlds.{IsNextLoad, IsTurn, IsWorld};
+ghost use Rattle.star_host.specs.Worlds.{IsNextLoad, IsTurn, IsContext};
 ghost use Rattle.star_reading.specs.Readings.{readings};
 ghost use Rattle.star_outcome.specs.Views.{IsEnd, IsModule, IsTold};
 
-use crate::common::Common;
+use crate::common::LoadContext;
 use crate::gate::Gate;
 use crate::table::{fault_at, program_at};
 use crate::work::body_end;
 use star_cache::{LoadCache, Reply, Seat};
 use star_outcome::module::{Ended, Module};
-use star_outcome::naming::Naming;
+use star_outcome::naming::RunId;
 use star_outcome::open_file::OpenFile;
 use star_outcome::told::Told;
 use star_outcome::trace::{CyclicLoad, Trace};
@@ -47,13 +47,13 @@ pub enum Turn {
 }
 
 /// The result of a file after all its loads have been answered.
-fn ended<'s, 'r, 'p, 't, J: Naming, G: Gate>(
-    common: &Common<'s, 'r, 'p, 't>,
+fn ended<'s, 'r, 'p, 't, J: RunId, G: Gate>(
+    common: &LoadContext<'s, 'r, 'p, 't>,
     gate: &G,
     loader: usize,
     frame: &OpenFile<'s, J>,
 ) -> Result<Ended, AllocError>
-    requires world { IsWorld J.files J.plan J.shelf common.now }
+    requires world { IsContext J.files J.plan J.shelf common.now }
     requires told { frame.now.told ≡ length (loads_of J.plan frame.now.n) }
     ensures { IfOk result (IsEnd J.plan frame.now.n) }
 {
@@ -79,8 +79,8 @@ fn ended<'s, 'r, 'p, 't, J: Naming, G: Gate>(
 }
 
 /// The module of a file with this end.
-fn module_of<'s, 'r, 'p, 't, J: Naming>(
-    common: &Common<'s, 'r, 'p, 't>,
+fn module_of<'s, 'r, 'p, 't, J: RunId>(
+    common: &LoadContext<'s, 'r, 'p, 't>,
     n: usize,
     ended: Ended,
 ) -> Result<Module, AllocError>
@@ -104,13 +104,13 @@ fn boxed(alloc: Global, made: Module) -> Result<Box<Module>, AllocError>
 }
 
 /// Publishes the module of a file, all of whose loads have been answered: what the cache is told of it.
-pub fn published<'s, 'r, 'p, 't, J: Naming, G: Gate>(
-    common: &Common<'s, 'r, 'p, 't>,
+pub fn published<'s, 'r, 'p, 't, J: RunId, G: Gate>(
+    common: &LoadContext<'s, 'r, 'p, 't>,
     gate: &G,
     loader: usize,
     frame: &OpenFile<'s, J>,
 ) -> Result<Told<J>, LoadError>
-    requires world { IsWorld J.files J.plan J.shelf common.now }
+    requires world { IsContext J.files J.plan J.shelf common.now }
     requires told { frame.now.told ≡ length (loads_of J.plan frame.now.n) }
     ensures { IfOk result (IsTold J.files J.plan frame.now.n) }
 {
@@ -126,15 +126,15 @@ pub fn published<'s, 'r, 'p, 't, J: Naming, G: Gate>(
 }
 
 /// Publishes the module of a file, and then tells the cache that the file has ended.
-fn end<'s, 'r, 'p, 't, J: Naming, R: Wait, G: Gate>(
+fn end<'s, 'r, 'p, 't, J: RunId, R: Wait, G: Gate>(
     rt: &R,
-    common: &Common<'s, 'r, 'p, 't>,
+    common: &LoadContext<'s, 'r, 'p, 't>,
     gate: &G,
     cache: &LoadCache<Told<J>>,
     seat: &mut Seat<Told<J>>,
     frame: &OpenFile<'s, J>,
 ) -> Result<(), LoadError>
-    requires world { IsWorld J.files J.plan J.shelf common.now }
+    requires world { IsContext J.files J.plan J.shelf common.now }
     requires told { frame.now.told ≡ length (loads_of J.plan frame.now.n) }
     ensures { seat.new ≡ seat.old }
 {
@@ -147,11 +147,11 @@ fn end<'s, 'r, 'p, 't, J: Naming, R: Wait, G: Gate>(
 }
 
 /// The next load of a file to ask for; `None` if all were answered.
-pub fn next_load<'s, 'r, 'p, 't, J: Naming>(
-    common: &Common<'s, 'r, 'p, 't>,
+pub fn next_load<'s, 'r, 'p, 't, J: RunId>(
+    common: &LoadContext<'s, 'r, 'p, 't>,
     frame: &OpenFile<'s, J>,
 ) -> Option<Load>
-    requires world { IsWorld J.files J.plan J.shelf common.now }
+    requires world { IsContext J.files J.plan J.shelf common.now }
     ensures { MatchOption result
         (frame.now.told ≡ length (loads_of J.plan frame.now.n))
         (IsNextLoad J.files J.plan frame.now.n frame.now.told) }
@@ -160,12 +160,12 @@ pub fn next_load<'s, 'r, 'p, 't, J: Naming>(
 }
 
 /// The module that an answer is about.
-pub fn told_module<'s, 'r, 'p, 't, J: Naming>(
-    common: &Common<'s, 'r, 'p, 't>,
+pub fn told_module<'s, 'r, 'p, 't, J: RunId>(
+    common: &LoadContext<'s, 'r, 'p, 't>,
     n: usize,
     told: Told<J>,
 ) -> &'s Module
-    requires world { IsWorld J.files J.plan J.shelf common.now }
+    requires world { IsContext J.files J.plan J.shelf common.now }
     requires told { IsTold J.files J.plan n told }
     ensures { IsModule J.plan n result.now }
 {
@@ -175,16 +175,16 @@ pub fn told_module<'s, 'r, 'p, 't, J: Naming>(
 }
 
 /// One turn of the file on top.
-fn take_turn<'s, 'r, 'p, 't, J: Naming, R: Wait, G: Gate>(
+fn take_turn<'s, 'r, 'p, 't, J: RunId, R: Wait, G: Gate>(
     rt: &R,
-    common: &Common<'s, 'r, 'p, 't>,
+    common: &LoadContext<'s, 'r, 'p, 't>,
     gate: &G,
     cache: &LoadCache<Told<J>>,
     seat: &mut Seat<Told<J>>,
     top: &mut OpenFile<'s, J>,
     trace: &Trace<J>,
 ) -> Result<Turn, LoadError>
-    requires world { IsWorld J.files J.plan J.shelf common.now }
+    requires world { IsContext J.files J.plan J.shelf common.now }
     ensures turn { IfOk result (IsTurn J.files J.plan) }
     ensures number { seat.new.number ≡ seat.old.number }
 {
@@ -219,7 +219,7 @@ fn take_turn<'s, 'r, 'p, 't, J: Naming, R: Wait, G: Gate>(
 }
 
 /// Asks for a root: the answer, or `None` if the root was begun.
-fn ask_root<J: Naming, R: Wait>(
+fn ask_root<J: RunId, R: Wait>(
     rt: &R,
     cache: &LoadCache<Told<J>>,
     seat: &mut Seat<Told<J>>,
@@ -241,16 +241,16 @@ fn ask_root<J: Naming, R: Wait>(
 }
 
 /// The turns of a load, until its root is told. A file whose load was begun asks for it again once it has ended.
-fn turns<'s, 'r, 'p, 't, J: Naming, R: Wait, G: Gate>(
+fn turns<'s, 'r, 'p, 't, J: RunId, R: Wait, G: Gate>(
     rt: &R,
-    common: &Common<'s, 'r, 'p, 't>,
+    common: &LoadContext<'s, 'r, 'p, 't>,
     gate: &G,
     cache: &LoadCache<Told<J>>,
     seat: &mut Seat<Told<J>>,
     root: usize,
     trace: &Trace<J>,
 ) -> Result<Told<J>, LoadError>
-    requires world { IsWorld J.files J.plan J.shelf common.now }
+    requires world { IsContext J.files J.plan J.shelf common.now }
     requires root { IsAsked J.files J.plan root }
     ensures told { IfOk result (IsTold J.files J.plan root) }
     ensures number { seat.new.number ≡ seat.old.number }
@@ -283,16 +283,16 @@ fn turns<'s, 'r, 'p, 't, J: Naming, R: Wait, G: Gate>(
 /// file are asked for, also after one that is not good. `Memory` if an allocation failed, `Spoiled` if an entry that
 /// was met is spoiled, `Unpublished` if a cell of the shelf was set already. After an `Err` the loader's stack is
 /// abandoned.
-pub fn load<'s, 'r, 'p, 't, J: Naming, R: Wait, G: Gate>(
+pub fn load<'s, 'r, 'p, 't, J: RunId, R: Wait, G: Gate>(
     rt: &R,
-    common: &Common<'s, 'r, 'p, 't>,
+    common: &LoadContext<'s, 'r, 'p, 't>,
     gate: &G,
     cache: &LoadCache<Told<J>>,
     seat: &mut Seat<Told<J>>,
     root: usize,
     trace: &Trace<J>,
 ) -> Result<Told<J>, LoadError>
-    requires world { IsWorld J.files J.plan J.shelf common.now }
+    requires world { IsContext J.files J.plan J.shelf common.now }
     requires root { IsAsked J.files J.plan root }
     ensures told { IfOk result (IsTold J.files J.plan root) }
     ensures number { seat.new.number ≡ seat.old.number }

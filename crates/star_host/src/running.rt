@@ -5,7 +5,7 @@ ghost use Rattle.star_outcome.specs.Fits.{IsAsked, IsWithin};
 ghost use Rattle.star_outcome.specs.GoodEnds.{AreGoodEndsOf};
 ghost use Rattle.star_reading.specs.Found.{IsReadOf, Within};
 ghost use Rattle.star_host.specs.Counts.{AreCounts};
-ghost use Rattle.star_host.specs.Worlds.{IsWorld, MayWork, plan_in};
+ghost use Rattle.star_host.specs.Worlds.{IsContext, MayWork, plan_in};
 ghost use Rattle.star_outcome.specs.Kept.{AllKept, AreModules, AreModulesOf};
 ghost use Rattle.star_reading.specs.Parsed.{AreParsesOf};
 ghost use Rattle.star_outcome.specs.Refusals.{AreRefusals, AreRefusalsOf};
@@ -13,17 +13,18 @@ ghost use Rattle.star_cache.specs.Seats.{counts_of};
 ghost use Rattle.star_cache.specs.State.{HasEnded, begun_count};
 ghost use Rattle.star_plan.specs.Reached.{IsReached};
 
-use crate::common::Common;
+use crate::common::LoadContext;
 use crate::gate::Gate;
 use crate::loading::{LoadError, load};
 use crate::options::{Known, RunOptions};
 use crate::order::{first_place, place};
 use crate::settle::{closed, kept_of, settle_one};
-use crate::table::{is_read, programs, read_count};
+use crate::table::{is_read, known_count, programs, read_count};
 use star_cache::{Book, LoadCache, Seat};
 use star_flow::{Flow, Graph};
 use star_label::files::Files as Labels;
-use star_outcome::naming::Naming;
+use star_outcome::good_end::GoodEnd;
+use star_outcome::naming::RunId;
 use star_outcome::outcome::{Kept, Run};
 use star_outcome::shelf::Shelf;
 use star_outcome::told::Told;
@@ -65,13 +66,13 @@ impl From<LoadError> for RunError {
 
 /// The result of a loader: its seat, and the first of its errors that is a cause, if it met an error.
 #[derive(Drop)]
-pub(crate) struct LoaderResult<J: Naming> {
+pub(crate) struct LoaderResult<J: RunId> {
     seat: Seat<Told<J>>,
     error: Option<LoadError>,
 }
 
 /// The root at an index, which may be asked for.
-pub fn root_at<J: Naming>(roots: &[usize], i: usize) -> usize
+pub fn root_at<J: RunId>(roots: &[usize], i: usize) -> usize
     requires i { i < length roots.now }
     requires roots { roots.now ≡ J.plan.roots }
     requires within { IsWithin J.files J.plan }
@@ -81,7 +82,7 @@ pub fn root_at<J: Naming>(roots: &[usize], i: usize) -> usize
 }
 
 /// The flow of the reached files, by their loads.
-fn flow_of<'s, 'r, 'p, 't>(common: &Common<'s, 'r, 'p, 't>) -> Result<Flow, AllocError> {
+fn flow_of<'s, 'r, 'p, 't>(common: &LoadContext<'s, 'r, 'p, 't>) -> Result<Flow, AllocError> {
     let count = common.reads.len();
     let mut graph = Graph::new(common.alloc, count)?;
     for n in 0..count {
@@ -93,7 +94,7 @@ fn flow_of<'s, 'r, 'p, 't>(common: &Common<'s, 'r, 'p, 't>) -> Result<Flow, Allo
 /// A file of the graph with its loads, if it is reached.
 fn add_file<'s, 'r, 'p, 't>(
     graph: &mut Graph,
-    common: &Common<'s, 'r, 'p, 't>,
+    common: &LoadContext<'s, 'r, 'p, 't>,
     n: usize,
 ) -> Result<(), AllocError> {
     if !is_read(common.reads, n) {
@@ -108,16 +109,16 @@ fn add_file<'s, 'r, 'p, 't>(
 
 /// One loader takes files all of whose loads have ended, as long as there are some. After an error it goes on with the
 /// next file. It answers the first error that is a cause, if there was an error.
-fn take_ready<'s, 'r, 'p, 't, J: Naming, R: Wait, G: Gate>(
+fn take_ready<'s, 'r, 'p, 't, J: RunId, R: Wait, G: Gate>(
     rt: &R,
-    common: &Common<'s, 'r, 'p, 't>,
+    common: &LoadContext<'s, 'r, 'p, 't>,
     gate: &G,
     cache: &LoadCache<Told<J>>,
     seat: &mut Seat<Told<J>>,
     flow: &Flow,
     trace: &Trace<J>,
 ) -> Option<LoadError>
-    requires world { IsWorld J.files J.plan J.shelf common.now }
+    requires world { IsContext J.files J.plan J.shelf common.now }
     requires within { IsWithin J.files J.plan }
     ensures number { seat.new.number ≡ seat.old.number }
 {
@@ -136,16 +137,16 @@ fn take_ready<'s, 'r, 'p, 't, J: Naming, R: Wait, G: Gate>(
 
 /// The work of one loader. If there are other loaders, it first takes files all of whose loads have ended. Then it asks
 /// for each root, since the files that are left are on a cycle of loads or lead to one.
-fn work<'s, 'r, 'p, 't, J: Naming, R: Wait, G: Gate>(
+fn work<'s, 'r, 'p, 't, J: RunId, R: Wait, G: Gate>(
     rt: &R,
-    common: &Common<'s, 'r, 'p, 't>,
+    common: &LoadContext<'s, 'r, 'p, 't>,
     gate: &G,
     cache: &LoadCache<Told<J>>,
     seat: Seat<Told<J>>,
     trace: &Trace<J>,
     flow: &Flow,
 ) -> LoaderResult<J>
-    requires world { IsWorld J.files J.plan J.shelf common.now }
+    requires world { IsContext J.files J.plan J.shelf common.now }
     requires within { IsWithin J.files J.plan }
     requires roots { common.now.roots.now ≡ J.plan.roots }
     requires loaders { (1 ≤ common.now.loaders) × (common.now.loaders ≤ 64) }
@@ -172,16 +173,16 @@ fn work<'s, 'r, 'p, 't, J: Naming, R: Wait, G: Gate>(
 
 /// Starts a loader in its own thread for each seat: the results of all loaders, in the order of the seats.
 #[tactic(auto, using(crate::proofs::SeatsBack::numbers_back))]
-fn spawn_loaders<'s, 'r, 'p, 't, J: Naming + Send + Sync, R: Threads + Wait + Sync, G: Gate + Sync>(
+fn spawn_loaders<'s, 'r, 'p, 't, J: RunId + Send + Sync, R: Threads + Wait + Sync, G: Gate + Sync>(
     rt: &R,
-    common: &Common<'s, 'r, 'p, 't>,
+    common: &LoadContext<'s, 'r, 'p, 't>,
     gate: &G,
     cache: &LoadCache<Told<J>>,
     seats: Vec<Seat<Told<J>>>,
     trace: &Trace<J>,
     flow: &Flow,
 ) -> Result<Vec<LoaderResult<J>>, AllocError>
-    requires world { IsWorld J.files J.plan J.shelf common.now }
+    requires world { IsContext J.files J.plan J.shelf common.now }
     requires within { IsWithin J.files J.plan }
     requires roots { common.now.roots.now ≡ J.plan.roots }
     requires loaders { (1 ≤ common.now.loaders) × (common.now.loaders ≤ 64) }
@@ -212,7 +213,7 @@ fn reason(first: Option<LoadError>, next: Option<LoadError>) -> Option<LoadError
 }
 
 /// The seats of the loaders, in order, and the first of their errors that is a cause, if they met an error.
-fn taken<J: Naming>(
+fn taken<J: RunId>(
     alloc: Global,
     worked: Vec<LoaderResult<J>>,
 ) -> Result<(Vec<Seat<Told<J>>>, Option<LoadError>), AllocError>
@@ -237,16 +238,16 @@ pub(crate) struct Closed {
     refused: Vec<CyclicLoad>,
 }
 
-fn run_named<'s, 'r, 'p, 't, J: Naming + Send + Sync, R: Threads + Wait + Sync, G: Gate + Sync>(
+fn run_named<'s, 'r, 'p, 't, J: RunId + Send + Sync, R: Threads + Wait + Sync, G: Gate + Sync>(
     rt: &R,
-    common: &Common<'s, 'r, 'p, 't>,
+    common: &LoadContext<'s, 'r, 'p, 't>,
     gate: &G,
     blank: Blank,
 ) -> Result<Closed, RunError>
     requires name { blank.name ≡ J.name }
     requires parts { (blank.parts ≡ J.parts) × (blank.parts ≡ common.now.loaders) }
     requires loaders { (1 ≤ common.now.loaders) × (common.now.loaders ≤ 64) }
-    requires world { IsWorld J.files J.plan J.shelf common.now }
+    requires world { IsContext J.files J.plan J.shelf common.now }
     requires within { IsWithin J.files J.plan }
     requires roots { common.now.roots.now ≡ J.plan.roots }
     ensures kept { IfOk result (λ c. AllKept common.now.modules.now c.kept.items) }
@@ -271,7 +272,7 @@ fn run_named<'s, 'r, 'p, 't, J: Naming + Send + Sync, R: Threads + Wait + Sync, 
 }
 
 /// The results in a cache that is closed after all reached files have ended.
-fn closed_of<J: Naming>(
+fn closed_of<J: RunId>(
     alloc: Global,
     closed: (Book<Told<J>>, [u32; 64]),
     trace: &Trace<J>,
@@ -303,11 +304,11 @@ fn closed_of<J: Naming>(
 /// The run of a naming that is new: of the files, the plan and the shelf of this data.
 fn run_over<'s, 'r, 'p, 't, R: Threads + Wait + Sync, G: Gate + Sync>(
     rt: &R,
-    common: &Common<'s, 'r, 'p, 't>,
+    common: &LoadContext<'s, 'r, 'p, 't>,
     gate: &G,
 ) -> Result<Closed, RunError>
     requires loaders { (1 ≤ common.now.loaders) × (common.now.loaders ≤ 64) }
-    requires world { let c = common.now in IsWorld c.files.now (plan_in c) c.modules.now c }
+    requires world { let c = common.now in IsContext c.files.now (plan_in c) c.modules.now c }
     requires within { IsWithin common.now.files.now (plan_in common.now) }
     ensures kept { IfOk result (λ c. AllKept common.now.modules.now c.kept.items) }
     ensures modules { IfOk result (λ c. AreModules (plan_in common.now) c.kept.items) }
@@ -354,14 +355,16 @@ pub fn run<R: Threads + Wait + Sync, G: Gate + Sync>(
 }
 
 /// The number of loaders to start: no more than there are files to run, since a further loader would find no file to
-/// begin.
-fn enough(loaders: usize, reads: &Reads) -> usize
+/// begin. A file whose end is known does not run: 64 of these count as one.
+fn enough(loaders: usize, reads: &Reads, ends: &[Option<GoodEnd>]) -> usize
     requires { (1 ≤ loaders) × (loaders ≤ 64) }
     ensures some { 1 ≤ result }
     ensures given { result ≤ loaders }
     ensures files { result ≤ max (count_by is_some reads.now.all.items) 1 }
 {
-    loaders.min(read_count(reads)).max(1)
+    let known = known_count(reads, ends);
+    let idle = known.saturating_sub(known / 64);
+    loaders.min(read_count(reads).saturating_sub(idle)).max(1)
 }
 
 /// As `run`, with what is known of the files before it. The trees and the read files stay with the caller, who may leave
@@ -407,11 +410,11 @@ pub fn run_in<'t, R: Threads + Wait + Sync, G: Gate + Sync>(
     *reads = read_parsed(rt, alloc, texts, roots, prelude, loaders)?;
     gate.before_bodies(read_count(reads));
     let options = RunOptions {
-        loaders: enough(loaders, reads),
+        loaders: enough(loaders, reads, known.ends),
         ..options
     };
     let programs = programs(alloc, reads)?;
-    let common = Common::new(
+    let common = LoadContext::new(
         alloc, files, reads, &programs, &modules, known.ends, options,
     );
     let Closed {

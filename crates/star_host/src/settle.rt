@@ -3,20 +3,20 @@
 ghost use Rattle.std.specs.Prelude.{◌≡◌, ◌≢◌, ◌+◌, ◌<◌, ℕ, Contains, IfOk, IsSome, OnOk, cond, length, map, sum, vec_len};
 ghost use Rattle.star_cache.specs.Seats.{AreAll, counts_of};
 ghost use Rattle.star_cache.specs.State.{HasEnded, begun_count, is_begun};
-ghost use Rattle.star_plan.specs.Reached.{IsReached};
+ghost use Rattle.star_host.specs.Worlds.{IsContext};
 ghost use Rattle.star_outcome.specs.Fits.{IsWithin};
-ghost use Rattle.star_host.specs.Worlds.{IsWorld};
 ghost use Rattle.star_outcome.specs.Kept.{AllKept, AreModules, AreModulesBelow};
-ghost use Rattle.star_reading.specs.Readings.{read_at};
 ghost use Rattle.star_outcome.specs.Views.{IsTold, ToldView};
+ghost use Rattle.star_plan.specs.Reached.{IsReached};
+ghost use Rattle.star_reading.specs.Readings.{read_at};
 
-use crate::common::Common;
+use crate::common::LoadContext;
 use crate::gate::Gate;
 use crate::loading::{LoadError, load};
 use crate::running::RunError;
 use crate::table::is_read;
 use star_cache::{Book, Entry, LoadCache, Seat};
-use star_outcome::naming::Naming;
+use star_outcome::naming::RunId;
 use star_outcome::outcome::Kept;
 use star_outcome::told::Told;
 use star_outcome::trace::Trace;
@@ -39,16 +39,16 @@ pub fn reached(alloc: Global, reads: &[Option<Read>]) -> Result<Vec<usize>, Allo
 }
 
 /// Asks for a file, if it is reached.
-pub(crate) fn settle_one<'s, 'r, 'p, 't, J: Naming, R: Wait, G: Gate>(
+pub(crate) fn settle_one<'s, 'r, 'p, 't, J: RunId, R: Wait, G: Gate>(
     rt: &R,
-    common: &Common<'s, 'r, 'p, 't>,
+    common: &LoadContext<'s, 'r, 'p, 't>,
     gate: &G,
     cache: &LoadCache<Told<J>>,
     seat: &mut Seat<Told<J>>,
     n: usize,
     trace: &Trace<J>,
 ) -> Result<(), LoadError>
-    requires world { IsWorld J.files J.plan J.shelf common.now }
+    requires world { IsContext J.files J.plan J.shelf common.now }
     requires within { IsWithin J.files J.plan }
     ensures number { seat.new.number ≡ seat.old.number }
 {
@@ -60,15 +60,15 @@ pub(crate) fn settle_one<'s, 'r, 'p, 't, J: Naming, R: Wait, G: Gate>(
 }
 
 /// Asks for each reached file once more, in order.
-fn settle<'s, 'r, 'p, 't, J: Naming, R: Wait, G: Gate>(
+fn settle<'s, 'r, 'p, 't, J: RunId, R: Wait, G: Gate>(
     rt: &R,
-    common: &Common<'s, 'r, 'p, 't>,
+    common: &LoadContext<'s, 'r, 'p, 't>,
     gate: &G,
     cache: &LoadCache<Told<J>>,
     seat: &mut Seat<Told<J>>,
     trace: &Trace<J>,
 ) -> Result<(), LoadError>
-    requires world { IsWorld J.files J.plan J.shelf common.now }
+    requires world { IsContext J.files J.plan J.shelf common.now }
     requires within { IsWithin J.files J.plan }
     ensures number { seat.new.number ≡ seat.old.number }
 {
@@ -79,15 +79,15 @@ fn settle<'s, 'r, 'p, 't, J: Naming, R: Wait, G: Gate>(
 }
 
 /// As `settle`, by the first of the loaders' seats.
-fn settle_first<'s, 'r, 'p, 't, J: Naming, R: Wait, G: Gate>(
+fn settle_first<'s, 'r, 'p, 't, J: RunId, R: Wait, G: Gate>(
     rt: &R,
-    common: &Common<'s, 'r, 'p, 't>,
+    common: &LoadContext<'s, 'r, 'p, 't>,
     gate: &G,
     cache: &LoadCache<Told<J>>,
     seats: &mut Vec<Seat<Told<J>>>,
     trace: &Trace<J>,
 ) -> Result<(), LoadError>
-    requires world { IsWorld J.files J.plan J.shelf common.now }
+    requires world { IsContext J.files J.plan J.shelf common.now }
     requires within { IsWithin J.files J.plan }
     requires seat { 0 < vec_len seats.old }
     ensures numbers { map (λ s. s.number) seats.new.items ≡ map (λ s. s.number) seats.old.items }
@@ -98,15 +98,15 @@ fn settle_first<'s, 'r, 'p, 't, J: Naming, R: Wait, G: Gate>(
 /// Closes the cache if all reached files have ended: its book, and the loaders' counts. They should have ended when the
 /// loaders have; if one has not, each is asked for once more. The error: the first that these requests meet,
 /// `Unpublished` if a file has still not ended, `Memory` if an allocation failed.
-pub(crate) fn closed<'s, 'r, 'p, 't, J: Naming, R: Wait, G: Gate>(
+pub(crate) fn closed<'s, 'r, 'p, 't, J: RunId, R: Wait, G: Gate>(
     rt: &R,
-    common: &Common<'s, 'r, 'p, 't>,
+    common: &LoadContext<'s, 'r, 'p, 't>,
     gate: &G,
     cache: LoadCache<Told<J>>,
     seats: Vec<Seat<Told<J>>>,
     trace: &Trace<J>,
 ) -> Result<(Book<Told<J>>, [u32; 64]), RunError>
-    requires world { IsWorld J.files J.plan J.shelf common.now }
+    requires world { IsContext J.files J.plan J.shelf common.now }
     requires within { IsWithin J.files J.plan }
     requires seats { AreAll J.parts seats.items }
     requires some { 0 < J.parts }
@@ -128,7 +128,7 @@ pub(crate) fn closed<'s, 'r, 'p, 't, J: Naming, R: Wait, G: Gate>(
 }
 
 /// Adds the module of a file, as told in its entry of a closed book, after the modules of all reached files below it.
-fn keep<J: Naming>(
+fn keep<J: RunId>(
     kept: &mut Vec<Kept>,
     n: usize,
     entry: &mut Entry<Told<J>>,
@@ -153,7 +153,7 @@ fn keep<J: Naming>(
 }
 
 /// The modules of all reached files, in order, from a book where each of them has ended.
-pub fn kept_of<J: Naming>(alloc: Global, book: Book<Told<J>>) -> Result<Vec<Kept>, AllocError>
+pub fn kept_of<J: RunId>(alloc: Global, book: Book<Told<J>>) -> Result<Vec<Kept>, AllocError>
     requires cells { length J.shelf ≡ length J.files }
     requires within { IsWithin J.files J.plan }
     requires ended { (n : ℕ) → IsReached J.plan n → HasEnded book n }

@@ -8,6 +8,7 @@ ghost use Rattle.star_reading.specs.declared.code.StaticFault.{StaticFault as Fa
 ghost use Rattle.star_reading.specs.declared.reading.Read.TheVariants as read;
 ghost use Rattle.star_reading.specs.Readings.{IsPlaceable, placed_in, read_at, table_of};
 
+use star_outcome::good_end::GoodEnd;
 use star_reading::code::StaticFault;
 use star_reading::reading::{Read, Reads};
 use star_scope::program::Program;
@@ -80,4 +81,14 @@ pub(crate) fn read_count(reads: &Reads) -> usize
     ensures { result ≡ count_by is_some reads.now.all.items }
 {
     reads.all.iter().filter(|read| read.is_some()).count()
+}
+
+/// The number of files that were read and whose ends are known.
+pub(crate) fn known_count(reads: &Reads, ends: &[Option<GoodEnd>]) -> usize {
+    reads
+        .all
+        .iter()
+        .zip(ends.iter())
+        .filter(|(read, end)| read.is_some() && end.is_some())
+        .count()
 }

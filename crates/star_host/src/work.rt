@@ -1,25 +1,26 @@
 //! The run of one file: its body, over the stores of all files that it needs; or its end, if that is known already.
 
 ghost use Rattle.std.specs.Prelude.{◌≡◌, ◌<◌, ◌≤◌, Some, IfOk, ℕ, Contains, length, map};
+ghost use Rattle.star_host.specs.Bodies.{IsRan, IsRunOf, MeansLocal};
+ghost use Rattle.star_host.specs.Worlds.{IsContext};
 ghost use Rattle.star_meaning.specs.Programs.{file_in, placed_file};
-ghost use Rattle.star_plan.specs.Plan.{loads_of};
-ghost use Rattle.star_plan.specs.Shelves.{Needs};
-ghost use Rattle.star_host.specs.Worlds.{IsWorld};
 ghost use Rattle.star_outcome.specs.Fits.{IsAsked};
 ghost use Rattle.star_outcome.specs.Gathered.{AreNeeded};
-ghost use Rattle.star_host.specs.Bodies.{IsRan, IsRunOf, MeansLocal, world_over};
 ghost use Rattle.star_outcome.specs.Reaches.{row_of};
-ghost use Rattle.star_reading.specs.Readings.{read_at};
 ghost use Rattle.star_outcome.specs.Views.{AreGoodLoads, IsEnd};
+ghost use Rattle.star_plan.specs.Plan.{loads_of};
+ghost use Rattle.star_plan.specs.Shelves.{Needs};
+ghost use Rattle.star_reading.specs.Readings.{read_at};
 ghost use Rattle.star_reading.specs.declared.reading.Read.TheVariants as read;
+ghost use Rattle.star_world.specs.World.{world_of};
 
-use crate::common::{Common, file_number};
+use crate::common::{LoadContext, file_number};
 use crate::gate::Gate;
 use star_about::look::{Fault, seek};
 use star_found::about::Found;
 use star_module::{Outcome, Remains, run_body};
 use star_outcome::module::{Body, Ended, Left, Module};
-use star_outcome::naming::Naming;
+use star_outcome::naming::RunId;
 use star_outcome::reachable::{gathered, stores_of};
 use star_outcome::store_row::StoreRow;
 use star_scope::loads::Load;
@@ -32,7 +33,7 @@ use std::sync::Arc;
 
 /// Runs the body of a file over these stores.
 fn outcome_in<'s, 'r, 'p, 't>(
-    common: &Common<'s, 'r, 'p, 't>,
+    common: &LoadContext<'s, 'r, 'p, 't>,
     home: u32,
     homes: &Homes,
     program: &Program,
@@ -40,9 +41,9 @@ fn outcome_in<'s, 'r, 'p, 't>(
 ) -> Result<Outcome, AllocError>
     requires stands { file_in common.now.programs.now home ≡ Some (placed_file program.now) }
     requires steps { (1 ≤ common.now.steps) × (common.now.steps ≤ 100000000) }
-    ensures names { MeansLocal (world_over home homes.now common.now.programs.now program.now.loads.items prelude)
+    ensures names { MeansLocal (world_of home homes.now common.now.programs.now program.now.loads.items prelude)
         common.now.steps program.now.statements.now result }
-    ensures named { IsRunOf (world_over home homes.now common.now.programs.now program.now.loads.items prelude)
+    ensures named { IsRunOf (world_of home homes.now common.now.programs.now program.now.loads.items prelude)
         common.now.steps program.now.statements.now result }
 {
     let world = World::new(home, homes, common.programs, program.loads(), prelude);
@@ -98,7 +99,7 @@ fn found_of(
 }
 
 /// The end of a file whose run has this outcome.
-fn ended_of<J: Naming>(
+fn ended_of<J: RunId>(
     alloc: Global,
     home: u32,
     outcome: Outcome,
@@ -148,15 +149,15 @@ fn ended_of<J: Naming>(
 
 /// Runs the body of a file over the modules of its loads, which are all good, between the two hooks of the gate. Answers
 /// the end of the file.
-fn run<'s, 'r, 'p, 't, J: Naming, G: Gate>(
-    common: &Common<'s, 'r, 'p, 't>,
+fn run<'s, 'r, 'p, 't, J: RunId, G: Gate>(
+    common: &LoadContext<'s, 'r, 'p, 't>,
     gate: &G,
     loader: usize,
     n: usize,
     program: &'r Program<'t>,
     modules: &[&'s Module],
 ) -> Result<Ended, AllocError>
-    requires world { IsWorld J.files J.plan J.shelf common.now }
+    requires world { IsContext J.files J.plan J.shelf common.now }
     requires file { n < length J.files }
     requires read { read_at common.now.reads.now n ≡ Some (read.Program program.now) }
     requires loads { AreGoodLoads J.plan n (length (loads_of J.plan n)) (map (λ m. m.now) modules.now) }
@@ -184,15 +185,15 @@ fn run<'s, 'r, 'p, 't, J: Naming, G: Gate>(
 
 /// The end of a file whose loads are all good: the one that is known already, or else that of its run. The gate is called
 /// only for a run.
-pub(crate) fn body_end<'s, 'r, 'p, 't, J: Naming, G: Gate>(
-    common: &Common<'s, 'r, 'p, 't>,
+pub(crate) fn body_end<'s, 'r, 'p, 't, J: RunId, G: Gate>(
+    common: &LoadContext<'s, 'r, 'p, 't>,
     gate: &G,
     loader: usize,
     n: usize,
     program: &'r Program<'t>,
     modules: &[&'s Module],
 ) -> Result<Ended, AllocError>
-    requires world { IsWorld J.files J.plan J.shelf common.now }
+    requires world { IsContext J.files J.plan J.shelf common.now }
     requires asked { IsAsked J.files J.plan n }
     requires read { read_at common.now.reads.now n ≡ Some (read.Program program.now) }
     requires loads { AreGoodLoads J.plan n (length (loads_of J.plan n)) (map (λ m. m.now) modules.now) }

@@ -82,23 +82,9 @@ key_is Q g ht hx None e = absurd cc
 cells : (P : Spend Bool → Bool → Type 0) → Passes P → (look : Value → Option Cell) (f : Value → Value → Spend Bool) (s : Value → Value → Bool) (g : Value → Bool) → Below P f s g → (one : Bool) (c d : Option Cell) → Either (key_cell g c) (key_cell g d) → P (same_cells look f one c d) (same_key_cell s c d)
 unfolding Either
 cells P k look f s g h one (Some (cell.Text t)) (Some (cell.Text u)) e = k.answers (pointwise nat_eq t u)
-cells P k look f s g h one (Some (cell.Text t)) (Some (cell.Tuple ys)) e = k.answers false
-cells P k look f s g h one (Some (cell.Text t)) (Some (cell.Range r)) e = k.answers false
-cells P k look f s g h one (Some (cell.Text t)) (Some (cell.List ys)) e = k.answers false
-cells P k look f s g h one (Some (cell.Text t)) (Some (cell.Dict es)) e = k.answers false
-cells P k look f s g h one (Some (cell.Text t)) (Some (cell.Func d)) e = k.answers false
-cells P k look f s g h one (Some (cell.Text t)) (Some (cell.Frame d)) e = k.answers false
-cells P k look f s g h one (Some (cell.Text t)) (Some (cell.Bound m v)) e = k.answers false
-cells P k look f s g h one (Some (cell.Text t)) None e = k.answers false
+cells P k look f s g h one (Some (cell.Text t)) _ e = k.answers false
 cells P k look f s g h one (Some (cell.Tuple xs)) (Some (cell.Tuple ys)) e = items P k f s g h xs ys e
-cells P k look f s g h one (Some (cell.Tuple xs)) (Some (cell.Text t)) e = k.answers false
-cells P k look f s g h one (Some (cell.Tuple xs)) (Some (cell.Range r)) e = k.answers false
-cells P k look f s g h one (Some (cell.Tuple xs)) (Some (cell.List ys)) e = k.answers false
-cells P k look f s g h one (Some (cell.Tuple xs)) (Some (cell.Dict es)) e = k.answers false
-cells P k look f s g h one (Some (cell.Tuple xs)) (Some (cell.Func d)) e = k.answers false
-cells P k look f s g h one (Some (cell.Tuple xs)) (Some (cell.Frame d)) e = k.answers false
-cells P k look f s g h one (Some (cell.Tuple xs)) (Some (cell.Bound m v)) e = k.answers false
-cells P k look f s g h one (Some (cell.Tuple xs)) None e = k.answers false
+cells P k look f s g h one (Some (cell.Tuple xs)) _ e = k.answers false
 cells P k look f s g h one c d (inl e) = absurd cc
 cells P k look f s g h one (Some (cell.Range r)) d (inr e) = key_is (λ d. P (same_cells look f one (Some (cell.Range r)) d) (same_key_cell s (Some (cell.Range r)) d)) g (λ t. k.answers false) (λ xs. k.answers false) d e
 cells P k look f s g h one (Some (cell.List zs)) d (inr e) = key_is (λ d. P (same_cells look f one (Some (cell.List zs)) d) (same_key_cell s (Some (cell.List zs)) d)) g (λ t. k.answers false) (λ xs. k.answers false) d e

@@ -6,7 +6,7 @@ use Rattle.star_store.specs.declared.values.Value.{Value}
 use Rattle.star_tree.specs.declared.tree.Name.{Name}
 use Rattle.star_tree.specs.declared.tree.Parameter.{Parameter}
 use Rattle.star_tree.specs.declared.tree.Argument.TheOpen as tree
-use Rattle.star_scope.specs.Syntax.{ParameterForm, parameter}
+use Rattle.star_outline.specs.Syntax.{ParameterForm, parameter}
 use Rattle.star_meaning.specs.declared.given.Arguments.{Arguments}
 use Rattle.star_meaning.specs.Binding.{Names, One, Rest, BoundArgument, bound_to, else_default, keywords_of, extra_keywords, value_named}
 use Rattle.star_laws.specs.Calls.{IsPositional, before_star, has_default, parameter_at}

@@ -19,34 +19,6 @@ short_or_long : (p : Bool) (short long : Punctuator) → longer true (short, 1) 
 short_or_long true short long = refl
 short_or_long false short long = refl
 
-plus : (z : Text) → sign (43 ∷ z) ≡ operator 43 z
-unfolding sign operator
-plus z = short_or_long (begins (61 ∷ []) z) s.Plus s.PlusAssign
-
-minus : (z : Text) → sign (45 ∷ z) ≡ operator 45 z
-unfolding sign operator
-minus z = short_or_long (begins (61 ∷ []) z) s.Minus s.MinusAssign
-
-percent : (z : Text) → sign (37 ∷ z) ≡ operator 37 z
-unfolding sign operator
-percent z = short_or_long (begins (61 ∷ []) z) s.Percent s.PercentAssign
-
-ampersand : (z : Text) → sign (38 ∷ z) ≡ operator 38 z
-unfolding sign operator
-ampersand z = short_or_long (begins (61 ∷ []) z) s.Ampersand s.AmpersandAssign
-
-bar : (z : Text) → sign (124 ∷ z) ≡ operator 124 z
-unfolding sign operator
-bar z = short_or_long (begins (61 ∷ []) z) s.Bar s.BarAssign
-
-caret : (z : Text) → sign (94 ∷ z) ≡ operator 94 z
-unfolding sign operator
-caret z = short_or_long (begins (61 ∷ []) z) s.Caret s.CaretAssign
-
-equals : (z : Text) → sign (61 ∷ z) ≡ operator 61 z
-unfolding sign operator
-equals z = short_or_long (begins (61 ∷ []) z) s.Assign s.EqualEqual
-
 bang_only : (p : Bool) → longer p (s.NotEqual, 2) None ≡ either (cond p (Some (s.NotEqual, 2)) None) None
 bang_only true = refl
 bang_only false = refl
@@ -64,23 +36,19 @@ unfolding sign operator
 slashes [] = refl
 slashes (c ∷ z) = at_or 47 c (λ c. sign (47 ∷ c ∷ z) ≡ operator 47 (c ∷ z)) (slashes_then (begins (61 ∷ []) z)) (λ n. rw n refl)
 
-shift_left_then : (q : Bool) → longer true (s.ShiftLeft, 2) (longer true (s.Less, 1) (longer q (s.ShiftLeftAssign, 3) None)) ≡ Some (cond q (s.ShiftLeftAssign, 3) (s.ShiftLeft, 2))
-shift_left_then true = refl
-shift_left_then false = refl
+shift_then : (q : Bool) (short shift assigned : Punctuator) → longer true (shift, 2) (longer true (short, 1) (longer q (assigned, 3) None)) ≡ Some (cond q (assigned, 3) (shift, 2))
+shift_then true short shift assigned = refl
+shift_then false short shift assigned = refl
 
 shift_left : (z : Text) → sign (60 ∷ z) ≡ operator 60 z
 unfolding sign operator
 shift_left [] = refl
-shift_left (c ∷ z) = at_or 60 c (λ c. sign (60 ∷ c ∷ z) ≡ operator 60 (c ∷ z)) (shift_left_then (begins (61 ∷ []) z)) (λ n. rw n (short_or_long (begins (61 ∷ []) (c ∷ z)) s.Less s.LessEqual))
-
-shift_right_then : (q : Bool) → longer true (s.ShiftRight, 2) (longer true (s.Greater, 1) (longer q (s.ShiftRightAssign, 3) None)) ≡ Some (cond q (s.ShiftRightAssign, 3) (s.ShiftRight, 2))
-shift_right_then true = refl
-shift_right_then false = refl
+shift_left (c ∷ z) = at_or 60 c (λ c. sign (60 ∷ c ∷ z) ≡ operator 60 (c ∷ z)) (shift_then (begins (61 ∷ []) z) s.Less s.ShiftLeft s.ShiftLeftAssign) (λ n. rw n (short_or_long (begins (61 ∷ []) (c ∷ z)) s.Less s.LessEqual))
 
 shift_right : (z : Text) → sign (62 ∷ z) ≡ operator 62 z
 unfolding sign operator
 shift_right [] = refl
-shift_right (c ∷ z) = at_or 62 c (λ c. sign (62 ∷ c ∷ z) ≡ operator 62 (c ∷ z)) (shift_right_then (begins (61 ∷ []) z)) (λ n. rw n (short_or_long (begins (61 ∷ []) (c ∷ z)) s.Greater s.GreaterEqual))
+shift_right (c ∷ z) = at_or 62 c (λ c. sign (62 ∷ c ∷ z) ≡ operator 62 (c ∷ z)) (shift_then (begins (61 ∷ []) z) s.Greater s.ShiftRight s.ShiftRightAssign) (λ n. rw n (short_or_long (begins (61 ∷ []) (c ∷ z)) s.Greater s.GreaterEqual))
 
 stars_then : (r : Bool) → r ≡ false → longer true (s.Star, 1) (longer true (s.StarStar, 2) (longer r (s.StarAssign, 2) None)) ≡ Some (s.StarStar, 2)
 stars_then true e = cc
@@ -102,9 +70,12 @@ other b z n42 n47 n60 n62 n33 n43 n45 n37 n38 n124 n94 n61 =
     simp (n42, n47, n60, n62, n33, n43, n45, n37, n38, n124, n94, n61, n126, n46, n44, n59, n58, n40, n41, n91, n93, n123, n125) refl)))))))))))
 
 pub by_first : (b : ℕ) (z : Text) → sign (b ∷ z) ≡ operator b z
+unfolding sign operator
 by_first b z =
     let P : ℕ → Type 0 = λ b. sign (b ∷ z) ≡ operator b z in
+    let q = begins (61 ∷ []) z in
     at_or 42 b P (stars z) (λ n42. at_or 47 b P (slashes z) (λ n47. at_or 60 b P (shift_left z) (λ n60. at_or 62 b P (shift_right z) (λ n62.
-    at_or 33 b P (not_equal z) (λ n33. at_or 43 b P (plus z) (λ n43. at_or 45 b P (minus z) (λ n45. at_or 37 b P (percent z) (λ n37.
-    at_or 38 b P (ampersand z) (λ n38. at_or 124 b P (bar z) (λ n124. at_or 94 b P (caret z) (λ n94. at_or 61 b P (equals z) (λ n61.
+    at_or 33 b P (not_equal z) (λ n33. at_or 43 b P (short_or_long q s.Plus s.PlusAssign) (λ n43. at_or 45 b P (short_or_long q s.Minus s.MinusAssign) (λ n45.
+    at_or 37 b P (short_or_long q s.Percent s.PercentAssign) (λ n37. at_or 38 b P (short_or_long q s.Ampersand s.AmpersandAssign) (λ n38.
+    at_or 124 b P (short_or_long q s.Bar s.BarAssign) (λ n124. at_or 94 b P (short_or_long q s.Caret s.CaretAssign) (λ n94. at_or 61 b P (short_or_long q s.Assign s.EqualEqual) (λ n61.
     other b z n42 n47 n60 n62 n33 n43 n45 n37 n38 n124 n94 n61))))))))))))

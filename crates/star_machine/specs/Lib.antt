@@ -4,4 +4,5 @@ pub mod DictBuilder
 pub mod Refines
 pub mod Kinds
 pub mod Search
+pub mod Settings
 pub mod Shown

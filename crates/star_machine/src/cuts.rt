@@ -1,8 +1,8 @@
 //! Cuts strings at ASCII bytes, so that no character is cut.
 
-ghost use Rattle.std.specs.Prelude.{◌≡◌, ◌<◌, ◌+◌, ◌++◌, ◌∷◌, length, take, drop, get_or, MatchOption, true, false};
+ghost use Rattle.std.specs.Prelude.{◌≡◌, ◌<◌, ◌+◌, ◌∷◌, length, take, drop, get_or, MatchOption, true, false};
 ghost use Rattle.std.specs.List.{list_all};
-ghost use Rattle.star_machine.specs.Cuts.{is_neither, begins_plainly};
+ghost use Rattle.star_machine.specs.Cuts.{IsCut, begins_plainly, is_neither};
 
 /// The text before the first of two ASCII bytes, which of them it is, and the text after it.
 #[tactic(auto, using(crate::proofs::Parts::cut_whole, crate::proofs::Parts::all_more))]
@@ -10,8 +10,7 @@ pub fn cut_at(text: &str, first: u8, second: u8) -> Option<(&str, u8, &str)>
     requires first { first < 128 }
     requires second { second < 128 }
     ensures { MatchOption result (list_all (is_neither first second) text.now ≡ true)
-        (λ x. (text.now ≡ x.0.now ++ x.1 ∷ x.2.now) × (list_all (is_neither first second) x.0.now ≡ true)
-        × (is_neither first second x.1 ≡ false) × (length x.2.now < length text.now)) }
+        (λ x. IsCut first second text.now x.0.now x.1 x.2.now) }
 {
     for at in 0..text.len() {
         let byte = text.as_bytes()[at];

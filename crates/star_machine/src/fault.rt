@@ -1,8 +1,8 @@
-//! `Stop`: why a run stops, by a fault of the language or for want of memory.
+//! `EvalError`: why a run stops, by a fault of the language or for want of memory.
 
 ghost use Rattle.std.specs.Prelude.{◌≡◌};
 ghost use Rattle.star_store.specs.declared.fault.StoreFault.TheVariants as refused;
-ghost use Rattle.star_machine.specs.declared.fault.Stop.TheVariants.{Memory};
+ghost use Rattle.star_machine.specs.declared.fault.EvalError.TheVariants.{Memory};
 ghost use Rattle.star_machine.specs.Refines.{stop_of};
 
 use star_meaning::fault::FaultCode;
@@ -11,7 +11,7 @@ use std::alloc::{AllocError, AllocFailed};
 
 /// Why an evaluation stops: the run has a fault, or a growth was refused.
 #[derive(Clone, Copy, Debug, PartialEq, Eq, Drop)]
-pub enum Stop {
+pub enum EvalError {
     /// A growth was refused.
     Memory,
     /// The run has a fault of this kind at this line.
@@ -19,14 +19,14 @@ pub enum Stop {
 }
 
 /// A fault at a line.
-pub fn faulted(code: FaultCode, line: usize) -> Stop
-    ensures { result ≡ Stop.Faulted code line }
+pub fn fault_at(code: FaultCode, line: usize) -> EvalError
+    ensures { result ≡ EvalError.Faulted code line }
 {
-    Stop::Faulted { code, line }
+    EvalError::Faulted { code, line }
 }
 
 /// Converts a refusal of the store into the reason why the evaluation stops.
-pub fn refused(fault: StoreFault, line: usize) -> Stop
+pub fn refused(fault: StoreFault, line: usize) -> EvalError
     ensures { result ≡ stop_of line fault }
 {
     let code = match fault {
@@ -38,23 +38,23 @@ pub fn refused(fault: StoreFault, line: usize) -> Stop
         StoreFault::Overflow => FaultCode::Overflow,
         StoreFault::Steps => FaultCode::Steps,
         StoreFault::Deep => FaultCode::Deep,
-        StoreFault::Memory => return Stop::Memory,
+        StoreFault::Memory => return EvalError::Memory,
     };
-    faulted(code, line)
+    fault_at(code, line)
 }
 
-impl From<AllocError> for Stop {
+impl From<AllocError> for EvalError {
     ghost from_gives = { λ _ e. e ≡ Memory };
 
-    fn from(_error: AllocError) -> Stop {
-        Stop::Memory
+    fn from(_error: AllocError) -> EvalError {
+        EvalError::Memory
     }
 }
 
-impl<T: Drop> From<AllocFailed<T>> for Stop {
+impl<T: Drop> From<AllocFailed<T>> for EvalError {
     ghost from_gives = { λ _ e. e ≡ Memory };
 
-    fn from(_error: AllocFailed<T>) -> Stop {
-        Stop::Memory
+    fn from(_error: AllocFailed<T>) -> EvalError {
+        EvalError::Memory
     }
 }

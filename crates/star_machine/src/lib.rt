@@ -4,10 +4,10 @@
 //!   are left, the lines that were printed. Nearly every operation is a method of it.
 //! - `Setting` is the part that stays: the running file, the published stores, the loads, the prelude's file.
 //! - `Content` is the heap object of a value, borrowed; `Kind` is copied, to match on.
-//! - `Stop` is why a run stops: a fault of the language with its line, or want of memory.
+//! - `EvalError` is why a run stops: a fault of the language with its line, or want of memory.
 //! - `DictBuilder` collects the entries of a new dictionary.
 //!
-//! Begin at `machine.rt`: payments, new cells, reading, iterating, equality, order, texts, writing. `given` unpacks the
+//! Begin at `machine.rt`: payments, new cells, reading, iterating, equality, order, texts, writing. `unpack` unpacks the
 //! arguments of a call, `search` finds an equal item, `subscript` and `slices` turn indices into places, `cuts` and
 //! `texts` work on the bytes of strings, `left` keeps the trail of a fault, which no contract knows.
 //!

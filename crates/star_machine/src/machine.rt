@@ -21,7 +21,7 @@ ghost use Rattle.star_meaning.specs.Subscript.{entries_in};
 ghost use Rattle.star_meaning.specs.Values.{int_of, place_in, value_in, text_of, change, check_key, compare, content, count_of, equal, guard, is_true, item_in, iterate, leave, new_dict, new_int, new_list, new_text, bare, new_tuple, repr, str, take_all, take_item, take_items, want_bool, want_int, want_text};
 
 use crate::content::{Content, Kind, item_of_cell};
-use crate::fault::{Stop, faulted, refused};
+use crate::fault::{EvalError, fault_at, refused};
 use crate::search::equal_place;
 use crate::setting::Setting;
 use star_meaning::fault::FaultCode;
@@ -30,14 +30,14 @@ use star_store::arena::Arena;
 use star_store::arena::write::Change;
 use star_store::budget::Budget;
 use star_store::content::{KeyContent, content};
-use star_store::equal::equal;
 use star_store::fault::StoreFault;
 use star_store::key::{check_key, place_of};
-use star_store::order::order;
-use star_store::text::repr;
-use star_store::truth::is_true;
 use star_store::values::{Cell, Entries, Function, Value, Values};
 use star_text::Text;
+use star_visit::equal::equal;
+use star_visit::order::order;
+use star_visit::text::repr;
+use star_visit::truth::is_true;
 use std::alloc::{AllocError, Global};
 use std::cmp::Ordering;
 use std::marker::Model;
@@ -105,12 +105,12 @@ impl Machine {
 
     /// Pays steps. `Steps` if they are more than are left.
     #[tactic(auto, unfolding(star_meaning::specs::Run::pay))]
-    pub fn pay(&mut self, line: usize, steps: u128) -> Result<(), Stop>
+    pub fn pay(&mut self, line: usize, steps: u128) -> Result<(), EvalError>
         ensures answer { Refines (pay line steps self.old) result self.new }
         ensures kept { self.new.store ≡ self.old.store }
     {
         if (self.steps as u128) < steps {
-            return Err(faulted(FaultCode::Steps, line));
+            return Err(fault_at(FaultCode::Steps, line));
         }
         self.steps -= steps as u64;
         Ok(())
@@ -119,12 +119,12 @@ impl Machine {
     /// Pays 1, as each node of a tree does. `Steps` if none is left.
     #[inline(always)]
     #[tactic(auto, unfolding(star_meaning::specs::Run::pay))]
-    pub fn pay_one(&mut self, line: usize) -> Result<(), Stop>
+    pub fn pay_one(&mut self, line: usize) -> Result<(), EvalError>
         ensures answer { Refines (pay line 1 self.old) result self.new }
         ensures kept { self.new.store ≡ self.old.store }
     {
         if self.steps == 0 {
-            return Err(faulted(FaultCode::Steps, line));
+            return Err(fault_at(FaultCode::Steps, line));
         }
         self.steps -= 1;
         Ok(())
@@ -177,40 +177,40 @@ impl Machine {
     /// A new cell that is paid for.
     #[inline(always)]
     #[tactic(auto, unfolding(star_meaning::specs::Run::build, star_meaning::specs::Run::make, star_meaning::specs::Run::pay))]
-    pub fn build(&mut self, line: usize, cost: u128, cell: Cell) -> Result<Value, Stop>
+    pub fn build(&mut self, line: usize, cost: u128, cell: Cell) -> Result<Value, EvalError>
         requires { 0 < cost }
         ensures { Refines (build line cost cell self.old) result self.new }
     {
         if (self.steps as u128) < cost {
-            return Err(faulted(FaultCode::Steps, line));
+            return Err(fault_at(FaultCode::Steps, line));
         }
         self.steps -= cost as u64;
         match self.arena.make(cell) {
             Ok(value) => Ok(value),
-            Err(_memory) => Err(Stop::Memory),
+            Err(_memory) => Err(EvalError::Memory),
         }
     }
 
     /// A new cell that is not paid for, as the frame of a file is.
     #[tactic(auto, unfolding(star_meaning::specs::Run::make))]
-    pub fn make(&mut self, cell: Cell) -> Result<Value, Stop>
+    pub fn make(&mut self, cell: Cell) -> Result<Value, EvalError>
         requires { length self.old.store.cells + self.old.steps + 1 < 2 ^ 32 }
         ensures { Refines (make cell self.old) result self.new }
     {
         match self.arena.make(cell) {
             Ok(value) => Ok(value),
-            Err(_memory) => Err(Stop::Memory),
+            Err(_memory) => Err(EvalError::Memory),
         }
     }
 
     /// Gives a slot of a frame of this module a value. If there is no such slot, nothing changes.
     #[tactic(auto, using(crate::proofs::Cells::length_bound))]
-    pub fn bind(&mut self, frame: Value, slot: usize, value: Value) -> Result<(), Stop>
+    pub fn bind(&mut self, frame: Value, slot: usize, value: Value) -> Result<(), EvalError>
         ensures { Refines (storing (bound frame slot value) self.old) result self.new }
     {
         match self.arena.bind(frame, slot, value) {
             Ok(()) => Ok(()),
-            Err(_memory) => Err(Stop::Memory),
+            Err(_memory) => Err(EvalError::Memory),
         }
     }
 
@@ -222,9 +222,9 @@ impl Machine {
     }
 
     /// The definition with this number in a file becomes active, as the innermost.
-    pub fn activate(&mut self, file: u32, definition: u32) -> Result<(), Stop>
+    pub fn activate(&mut self, file: u32, definition: u32) -> Result<(), EvalError>
         ensures active { OnOk result (self.new ≡ record self.old { active = (file, definition) ∷ self.old.active }) }
-        ensures memory { IfErr result (λ e. e ≡ Stop.Memory) }
+        ensures memory { IfErr result (λ e. e ≡ EvalError.Memory) }
     {
         self.active.insert(0, (file, definition))?;
         Ok(())
@@ -248,19 +248,19 @@ impl Machine {
     }
 
     /// Checks that these steps are left. `Steps` if they are not.
-    pub fn afford(&self, line: usize, steps: u128) -> Result<(), Stop>
+    pub fn afford(&self, line: usize, steps: u128) -> Result<(), EvalError>
         ensures enough { OnOk result (steps ≤ self.now.steps) }
-        ensures lacking { IfErr result (λ e. (e ≡ Stop.Faulted FaultCode.Steps line) × (self.now.steps < steps)) }
+        ensures lacking { IfErr result (λ e. (e ≡ EvalError.Faulted FaultCode.Steps line) × (self.now.steps < steps)) }
     {
         if (self.steps as u128) < steps {
-            return Err(faulted(FaultCode::Steps, line));
+            return Err(fault_at(FaultCode::Steps, line));
         }
         Ok(())
     }
 
     /// A new string: 1 and its bytes are paid.
     #[inline(always)]
-    pub fn new_text(&mut self, line: usize, text: Text) -> Result<Value, Stop>
+    pub fn new_text(&mut self, line: usize, text: Text) -> Result<Value, EvalError>
         ensures { Refines (new_text line text self.old) result self.new }
     {
         let cost = 1 + text.as_str().len() as u128;
@@ -268,7 +268,7 @@ impl Machine {
     }
 
     /// A new tuple: 1 and its items are paid.
-    pub fn new_tuple(&mut self, line: usize, items: Values) -> Result<Value, Stop>
+    pub fn new_tuple(&mut self, line: usize, items: Values) -> Result<Value, EvalError>
         ensures { Refines (new_tuple line items self.old) result self.new }
     {
         let cost = 1 + items.len() as u128;
@@ -276,7 +276,7 @@ impl Machine {
     }
 
     /// A new list: 1 and its items are paid.
-    pub fn new_list(&mut self, line: usize, items: Values) -> Result<Value, Stop>
+    pub fn new_list(&mut self, line: usize, items: Values) -> Result<Value, EvalError>
         ensures { Refines (new_list line items self.old) result self.new }
     {
         let cost = 1 + items.len() as u128;
@@ -284,7 +284,7 @@ impl Machine {
     }
 
     /// A new dictionary: 1 and its entries are paid.
-    pub fn new_dict(&mut self, line: usize, entries: Entries) -> Result<Value, Stop>
+    pub fn new_dict(&mut self, line: usize, entries: Entries) -> Result<Value, EvalError>
         ensures { Refines (new_dict line entries self.old) result self.new }
     {
         let cost = 1 + entries.len() as u128;
@@ -293,12 +293,12 @@ impl Machine {
 
     /// The number of items of an iterable. `BadType` for another value.
     #[tactic(auto, unfolding(star_meaning::specs::Values::count_of))]
-    pub fn count_of(&self, setting: &Setting, line: usize, value: Value) -> Result<usize, Stop>
+    pub fn count_of(&self, setting: &Setting, line: usize, value: Value) -> Result<usize, EvalError>
         ensures { Refines (count_of setting.now line value self.now) result self.now }
     {
         match self.content(setting, value).count() {
             Some(count) => Ok(count),
-            None => Err(faulted(FaultCode::BadType, line)),
+            None => Err(fault_at(FaultCode::BadType, line)),
         }
     }
 
@@ -310,14 +310,14 @@ impl Machine {
         line: usize,
         value: Value,
         at: usize,
-    ) -> Result<Value, Stop>
+    ) -> Result<Value, EvalError>
         ensures answer { Refines (take_item setting.now line value at self.old) result self.new }
         ensures kept { self.new.store ≡ self.old.store }
     {
         self.pay(line, 1)?;
         match self.item(setting, value, at) {
             Some(item) => Ok(item),
-            None => Err(faulted(FaultCode::BadType, line)),
+            None => Err(fault_at(FaultCode::BadType, line)),
         }
     }
 
@@ -355,7 +355,7 @@ impl Machine {
         line: usize,
         x: Value,
         y: Value,
-    ) -> Result<bool, Stop>
+    ) -> Result<bool, EvalError>
         ensures answer { Refines (equal setting.now levels line x y self.old) result self.new }
         ensures kept { self.new.store ≡ self.old.store }
     {
@@ -377,7 +377,7 @@ impl Machine {
         line: usize,
         x: Value,
         y: Value,
-    ) -> Result<Ordering, Stop>
+    ) -> Result<Ordering, EvalError>
         ensures answer { Refines (compare setting.now levels line x y self.old) result self.new }
         ensures kept { self.new.store ≡ self.old.store }
     {
@@ -399,7 +399,7 @@ impl Machine {
         levels: u32,
         line: usize,
         key: Value,
-    ) -> Result<(), Stop>
+    ) -> Result<(), EvalError>
         ensures answer { Refines (check_key setting.now levels line key self.old) result self.new }
         ensures kept { self.new.store ≡ self.old.store }
     {
@@ -420,7 +420,7 @@ impl Machine {
         levels: u32,
         line: usize,
         value: Value,
-    ) -> Result<Text, Stop>
+    ) -> Result<Text, EvalError>
         ensures answer { Refines (repr setting.now levels line value self.old) result self.new }
         ensures kept { self.new.store ≡ self.old.store }
     {
@@ -435,7 +435,7 @@ impl Machine {
 
     /// The write guard: `BadType` unless the value is a list or dictionary, then `Frozen`, then `Iterating`.
     #[tactic(auto, unfolding(star_meaning::specs::Values::guard))]
-    pub fn guard(&self, setting: &Setting, line: usize, value: Value) -> Result<(), Stop>
+    pub fn guard(&self, setting: &Setting, line: usize, value: Value) -> Result<(), EvalError>
         ensures { Refines (guard setting.now line value self.now) result self.now }
     {
         let answer = self.arena.may_write(setting.homes(), value);
@@ -450,7 +450,7 @@ impl Machine {
         line: usize,
         target: Value,
         by: Change,
-    ) -> Result<Option<Value>, Stop>
+    ) -> Result<Option<Value>, EvalError>
         ensures { Refines (change setting.now line target by self.old) result self.new }
     {
         let answer = self.arena.write(setting.homes(), target, by);
@@ -459,7 +459,7 @@ impl Machine {
 
     /// Prints a line.
     #[tactic(auto, unfolding(star_meaning::specs::Run::add_line))]
-    pub fn add_line(&mut self, text: Text) -> Result<(), Stop>
+    pub fn add_line(&mut self, text: Text) -> Result<(), EvalError>
         ensures { Refines (add_line text self.old) result self.new }
     {
         self.lines.push(text)?;
@@ -497,7 +497,7 @@ impl Machine {
 
     /// An int as a value, or the refusal of its arithmetic.
     #[inline(always)]
-    pub fn new_int(&self, line: usize, int: Result<i64, StoreFault>) -> Result<Value, Stop>
+    pub fn new_int(&self, line: usize, int: Result<i64, StoreFault>) -> Result<Value, EvalError>
         ensures { Refines (and_then (agreed line int self.now) (λ n. give (Value.Int n))) result self.now }
     {
         match int {
@@ -507,37 +507,37 @@ impl Machine {
     }
 
     /// A count as a value. `Overflow` if it is outside 64 bits.
-    pub fn new_count(&self, line: usize, count: usize) -> Result<Value, Stop>
+    pub fn new_count(&self, line: usize, count: usize) -> Result<Value, EvalError>
         ensures { Refines (new_int line (pos count) self.now) result self.now }
     {
         if count > i64::MAX as usize {
-            return Err(faulted(FaultCode::Overflow, line));
+            return Err(fault_at(FaultCode::Overflow, line));
         }
         Ok(Value::Int(count as i64))
     }
 
     /// An int is wanted: else `BadType`.
-    pub fn want_int(&self, setting: &Setting, line: usize, value: Value) -> Result<i64, Stop>
+    pub fn want_int(&self, setting: &Setting, line: usize, value: Value) -> Result<i64, EvalError>
         ensures { Refines (want_int setting.now line value self.now) result self.now }
     {
         match self.content(setting, value) {
             Content::Number(int) => Ok(int),
-            _ => Err(faulted(FaultCode::BadType, line)),
+            _ => Err(fault_at(FaultCode::BadType, line)),
         }
     }
 
     /// A bool is wanted: else `BadType`.
-    pub fn want_bool(&self, setting: &Setting, line: usize, value: Value) -> Result<bool, Stop>
+    pub fn want_bool(&self, setting: &Setting, line: usize, value: Value) -> Result<bool, EvalError>
         ensures { Refines (want_bool setting.now line value self.now) result self.now }
     {
         match self.content(setting, value) {
             Content::Truth(truth) => Ok(truth),
-            _ => Err(faulted(FaultCode::BadType, line)),
+            _ => Err(fault_at(FaultCode::BadType, line)),
         }
     }
 
     /// A string is wanted: else `BadType`.
-    pub fn check_text(&self, setting: &Setting, line: usize, value: Value) -> Result<(), Stop>
+    pub fn check_text(&self, setting: &Setting, line: usize, value: Value) -> Result<(), EvalError>
         ensures answer { Refines (and_then (want_text setting.now line value self.now) (λ t. give tt)) result self.now }
         ensures text { OnOk result (text_of (content setting.now self.now value)
             ≡ Some (bytes_of (content setting.now self.now value))) }
@@ -552,25 +552,25 @@ impl Machine {
         setting: &'a Setting<'a>,
         line: usize,
         value: Value,
-    ) -> Result<&'a Text, Stop>
+    ) -> Result<&'a Text, EvalError>
         ensures { RefinesBy (λ t. t.now) (want_text setting.now line value self.now) result self.now }
     {
         match self.content(setting, value) {
             Content::Held(Cell::Text(text)) => Ok(text),
-            _ => Err(faulted(FaultCode::BadType, line)),
+            _ => Err(fault_at(FaultCode::BadType, line)),
         }
     }
 
     /// A string as it is, with one visit.
-    fn bare(&mut self, levels: u32, line: usize, text: Text) -> Result<Text, Stop>
+    fn bare(&mut self, levels: u32, line: usize, text: Text) -> Result<Text, EvalError>
         ensures answer { Refines (visiting line (λ s. bare levels text) self.old) result self.new }
         ensures kept { self.new.store ≡ self.old.store }
     {
         if levels == 0 {
-            return Err(faulted(FaultCode::Deep, line));
+            return Err(fault_at(FaultCode::Deep, line));
         }
         if self.steps < 1 {
-            return Err(faulted(FaultCode::Steps, line));
+            return Err(fault_at(FaultCode::Steps, line));
         }
         self.steps -= 1;
         Ok(text)
@@ -584,7 +584,7 @@ impl Machine {
         levels: u32,
         line: usize,
         value: Value,
-    ) -> Result<Text, Stop>
+    ) -> Result<Text, EvalError>
         ensures answer { Refines (str setting.now levels line value self.old) result self.new }
         ensures kept { self.new.store ≡ self.old.store }
     {
@@ -622,7 +622,7 @@ impl Machine {
         line: usize,
         value: Value,
         count: usize,
-    ) -> Result<Values, Stop>
+    ) -> Result<Values, EvalError>
         ensures { Refines (take_items setting.now line value count self.old) result self.new }
     {
         let mut items = Vec::new(self.alloc);
@@ -633,7 +633,12 @@ impl Machine {
     }
 
     /// Takes all items of an iterable.
-    pub fn take_all(&mut self, setting: &Setting, line: usize, value: Value) -> Result<Values, Stop>
+    pub fn take_all(
+        &mut self,
+        setting: &Setting,
+        line: usize,
+        value: Value,
+    ) -> Result<Values, EvalError>
         ensures { Refines (take_all setting.now line value self.old) result self.new }
     {
         let count = self.count_of(setting, line, value)?;
@@ -642,12 +647,17 @@ impl Machine {
 
     /// Opens an iteration, and returns the number of items. `BadType` unless the value is iterable.
     #[tactic(auto, unfolding(star_meaning::specs::Values::iterate), using(crate::proofs::Cells::length_opened))]
-    pub fn iterate(&mut self, setting: &Setting, line: usize, value: Value) -> Result<usize, Stop>
+    pub fn iterate(
+        &mut self,
+        setting: &Setting,
+        line: usize,
+        value: Value,
+    ) -> Result<usize, EvalError>
         ensures { Refines (iterate setting.now line value self.old) result self.new }
     {
         let count = self.count_of(setting, line, value)?;
         if self.arena.open_iterations(value) >= u32::MAX - 1 {
-            return Err(Stop::Memory);
+            return Err(EvalError::Memory);
         }
         self.arena.open_iter(value);
         Ok(count)
@@ -662,7 +672,7 @@ impl Machine {
         line: usize,
         row: Value,
         value: Value,
-    ) -> Result<Option<usize>, Stop>
+    ) -> Result<Option<usize>, EvalError>
         ensures answer { Refines (found_place setting.now levels line value (row_in (seen setting.now self.old row))
             self.old) result self.new }
         ensures kept { self.new.store ≡ self.old.store }

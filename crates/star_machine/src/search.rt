@@ -1,17 +1,15 @@
 //! The first of some values that is equal to another one, for `in`, `index` and `remove`.
 
 ghost use Rattle.std.specs.Prelude.{◌≡◌, ◌≤◌};
-ghost use Rattle.star_store.specs.Equal.{same};
 ghost use Rattle.star_store.specs.Spend.{Spends};
 ghost use Rattle.star_store.specs.Store.{look};
-ghost use Rattle.star_machine.specs.Kinds.{row_in};
-ghost use Rattle.star_machine.specs.Search.{first_place_where};
+ghost use Rattle.star_machine.specs.Search.{place_among, place_in_row};
 
 use star_store::arena::{Arena, Homes};
 use star_store::budget::Budget;
-use star_store::equal::equal;
 use star_store::fault::StoreFault;
 use star_store::values::{Cell, Value};
+use star_visit::equal::equal;
 
 /// The place of the first item that is equal to a value, with a visit for each pair up to it.
 fn equal_item(
@@ -21,8 +19,8 @@ fn equal_item(
     items: &[Value],
     value: Value,
 ) -> Result<Option<usize>, StoreFault>
-    ensures answer { Spends (first_place_where (λ y. same (look arena.now homes.now) budget.old.levels y value) 0
-        items.now budget.old.steps) result budget.new.steps }
+    ensures answer { Spends (place_among (look arena.now homes.now) budget.old.levels value items.now budget.old.steps)
+        result budget.new.steps }
     ensures less { budget.new.steps ≤ budget.old.steps }
     ensures levels { budget.new.levels ≡ budget.old.levels }
 {
@@ -44,8 +42,8 @@ pub fn equal_place(
     row: Value,
     value: Value,
 ) -> Result<Option<usize>, StoreFault>
-    ensures answer { Spends (first_place_where (λ y. same (look arena.now homes.now) budget.old.levels y value) 0
-        (row_in (look arena.now homes.now row)) budget.old.steps) result budget.new.steps }
+    ensures answer { Spends (place_in_row (look arena.now homes.now) budget.old.levels value row budget.old.steps)
+        result budget.new.steps }
     ensures less { budget.new.steps ≤ budget.old.steps }
     ensures levels { budget.new.levels ≡ budget.old.levels }
 {

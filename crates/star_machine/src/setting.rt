@@ -5,12 +5,12 @@
 //! taken at a shorter lifetime. The programs are in `World` of `star_world`, whose invariant ties the two. `loaded`
 //! walks the loads of the file for the one at a token, so a load statement takes time in proportion to them.
 
-ghost use Rattle.std.specs.Prelude.{◌≡◌, [], None, Some, map, nat_eq};
+ghost use Rattle.std.specs.Prelude.{◌≡◌, [], None, Some, nat_eq};
 ghost use Rattle.std.specs.List.{find};
 ghost use Rattle.std.specs.Option.{option_copied, option_map};
-ghost use Rattle.star_meaning.specs.Local.{outlines};
 ghost use Rattle.star_meaning.specs.Program.{file_of, published_of};
 ghost use Rattle.star_meaning.specs.Programs.{load_files};
+ghost use Rattle.star_machine.specs.Settings.{setting_over};
 
 use star_scope::loads::Load;
 use star_store::arena::{Frozen, Homes};
@@ -70,13 +70,7 @@ impl<'a> Setting<'a> {
         loads: &'a [Load],
         prelude: Option<u32>,
     ) -> Setting<'a>
-        ensures { result ≡ record {
-          home = home;
-          outlines = outlines (map (option_map (λ ss. ss.now)) files.now);
-          shelf = homes.now;
-          loads = load_files loads.now;
-          prelude = prelude;
-        } }
+        ensures { result ≡ setting_over home homes.now files.now loads.now prelude }
     {
         Setting {
             home,

@@ -6,7 +6,7 @@ ghost use Rattle.star_machine.specs.Refines.{Refines};
 ghost use Rattle.star_meaning.specs.Subscript as spec;
 
 use crate::content::Content;
-use crate::fault::{Stop, faulted};
+use crate::fault::{EvalError, fault_at};
 use crate::machine::Machine;
 use crate::setting::Setting;
 use star_meaning::fault::FaultCode;
@@ -54,7 +54,7 @@ pub fn want_part(
     setting: &Setting,
     line: usize,
     part: Option<Value>,
-) -> Result<Option<i64>, Stop>
+) -> Result<Option<i64>, EvalError>
     ensures { Refines (spec.want_part setting.now line part machine.now) result machine.now }
 {
     let Some(value) = part else {
@@ -63,6 +63,6 @@ pub fn want_part(
     match machine.content(setting, value) {
         Content::Nothing => Ok(None),
         Content::Number(int) => Ok(Some(int)),
-        _ => Err(faulted(FaultCode::BadType, line)),
+        _ => Err(fault_at(FaultCode::BadType, line)),
     }
 }

@@ -4,7 +4,7 @@ ghost use Rattle.std.specs.Prelude.{◌≡◌};
 ghost use Rattle.star_machine.specs.Refines.{Refines};
 ghost use Rattle.star_meaning.specs.Subscript as spec;
 
-use crate::fault::Stop;
+use crate::fault::EvalError;
 use crate::machine::Machine;
 use crate::setting::Setting;
 use star_store::arena::write::Change;
@@ -31,7 +31,7 @@ pub fn put_entry(
     dict: Value,
     key: Value,
     value: Value,
-) -> Result<(), Stop>
+) -> Result<(), EvalError>
     ensures { Refines (spec.put_entry setting.now line dict key value machine.old) result machine.new }
 {
     if machine.place_in(setting, dict, key).is_none() {

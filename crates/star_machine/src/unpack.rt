@@ -6,11 +6,11 @@
 
 ghost use Rattle.std.specs.Prelude.{◌≡◌};
 ghost use Rattle.std.specs.List.{list_all};
-ghost use Rattle.star_scope.specs.Names.{same_name};
+ghost use Rattle.star_outline.specs.Names.{same_name};
 ghost use Rattle.star_meaning.specs.Arguments as spec;
 ghost use Rattle.star_machine.specs.Refines.{Refines, RefinesBy};
 
-use crate::fault::{Stop, faulted};
+use crate::fault::{EvalError, fault_at};
 use crate::machine::Machine;
 use star_meaning::fault::FaultCode;
 use star_meaning::given::{Arguments, KeywordArgument};
@@ -30,13 +30,17 @@ fn have_name(named: &[KeywordArgument], name: &str) -> bool
 
 impl Machine {
     /// Positional values alone. `Args` if there is a keyword one.
-    pub fn positional<'a>(&self, line: usize, given: &'a Arguments) -> Result<&'a [Value], Stop>
+    pub fn positional<'a>(
+        &self,
+        line: usize,
+        given: &'a Arguments,
+    ) -> Result<&'a [Value], EvalError>
         ensures { RefinesBy (λ xs. xs.now) (spec.positional line given.now self.now) result self.now }
     {
         if given.named.len() == 0 {
             return Ok(given.positional.as_slice());
         }
-        Err(faulted(FaultCode::Args, line))
+        Err(fault_at(FaultCode::Args, line))
     }
 
     /// Positional values, and the keyword value of this name, if there is one. `Args` if there is one of another name.
@@ -45,11 +49,11 @@ impl Machine {
         line: usize,
         name: &str,
         given: &'a Arguments,
-    ) -> Result<(&'a [Value], Option<Value>), Stop>
+    ) -> Result<(&'a [Value], Option<Value>), EvalError>
         ensures { RefinesBy (λ r. (r.0.now, r.1)) (spec.with_name line name.now given.now self.now) result self.now }
     {
         if !have_name(given.named.as_slice(), name) {
-            return Err(faulted(FaultCode::Args, line));
+            return Err(fault_at(FaultCode::Args, line));
         }
         let value = match given.named.get(0) {
             Some(named) => Some(named.value),
@@ -59,60 +63,64 @@ impl Machine {
     }
 
     /// The one value. `Args` for none or more.
-    pub fn only_one(&self, line: usize, values: &[Value]) -> Result<Value, Stop>
+    pub fn only_one(&self, line: usize, values: &[Value]) -> Result<Value, EvalError>
         ensures { Refines (spec.only_one line values.now self.now) result self.now }
     {
         match values {
             [value] => Ok(*value),
-            _ => Err(faulted(FaultCode::Args, line)),
+            _ => Err(fault_at(FaultCode::Args, line)),
         }
     }
 
     /// The one value, if there is one. `Args` for more.
-    pub fn none_or_one(&self, line: usize, values: &[Value]) -> Result<Option<Value>, Stop>
+    pub fn none_or_one(&self, line: usize, values: &[Value]) -> Result<Option<Value>, EvalError>
         ensures { Refines (spec.none_or_one line values.now self.now) result self.now }
     {
         match values {
             [] => Ok(None),
             [value] => Ok(Some(*value)),
-            _ => Err(faulted(FaultCode::Args, line)),
+            _ => Err(fault_at(FaultCode::Args, line)),
         }
     }
 
     /// One value, and the second, if there is one. `Args` for none or more.
-    pub fn one_or_two(&self, line: usize, values: &[Value]) -> Result<(Value, Option<Value>), Stop>
+    pub fn one_or_two(
+        &self,
+        line: usize,
+        values: &[Value],
+    ) -> Result<(Value, Option<Value>), EvalError>
         ensures { Refines (spec.one_or_two line values.now self.now) result self.now }
     {
         match values {
             [first] => Ok((*first, None)),
             [first, second] => Ok((*first, Some(*second))),
-            _ => Err(faulted(FaultCode::Args, line)),
+            _ => Err(fault_at(FaultCode::Args, line)),
         }
     }
 
     /// Two values. `Args` for fewer or more.
-    pub fn two(&self, line: usize, values: &[Value]) -> Result<(Value, Value), Stop>
+    pub fn two(&self, line: usize, values: &[Value]) -> Result<(Value, Value), EvalError>
         ensures { Refines (spec.two line values.now self.now) result self.now }
     {
         match values {
             [first, second] => Ok((*first, *second)),
-            _ => Err(faulted(FaultCode::Args, line)),
+            _ => Err(fault_at(FaultCode::Args, line)),
         }
     }
 
     /// No value. `Args` for any.
-    pub fn no_value(&self, line: usize, values: &[Value]) -> Result<(), Stop>
+    pub fn no_value(&self, line: usize, values: &[Value]) -> Result<(), EvalError>
         ensures { Refines (spec.no_value line values.now self.now) result self.now }
     {
         match values {
             [] => Ok(()),
-            _ => Err(faulted(FaultCode::Args, line)),
+            _ => Err(fault_at(FaultCode::Args, line)),
         }
     }
 
     /// The name of a value as a key: one that came by `**` is the key there, another one a new string, which is paid.
     #[tactic(auto, unfolding(star_meaning::specs::Arguments::name_key))]
-    pub fn key_for(&mut self, line: usize, named: &KeywordArgument) -> Result<Value, Stop>
+    pub fn key_for(&mut self, line: usize, named: &KeywordArgument) -> Result<Value, EvalError>
         ensures { Refines (spec.key_for line named.now self.old) result self.new }
     {
         match named.key {

@@ -10,8 +10,8 @@ use Rattle.star_store.specs.declared.values.HeapCell.{HeapCell}
 use Rattle.star_store.specs.declared.values.Function.{Function}
 use Rattle.star_store.specs.Store.{made, next_value, published_cells}
 use Rattle.star_store.specs.Write.{cell_at}
-use Rattle.star_scope.specs.Names.{Names}
-use Rattle.star_scope.specs.declared.blocks.Block.{Block}
+use Rattle.star_outline.specs.Names.{Names}
+use Rattle.star_outline.specs.declared.blocks.Block.{Block}
 use Rattle.star_scope.specs.Places.{Spots, AllPlaced, IsPlaced}
 use Rattle.star_scope.specs.Uses.{Use, Named, Defined, uses}
 use Rattle.star_tree.specs.declared.tree.Name.{Name}

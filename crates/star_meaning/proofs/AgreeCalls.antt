@@ -13,8 +13,8 @@ use Rattle.star_tree.specs.declared.tree.Name.{Name}
 use Rattle.star_tree.specs.declared.tree.Parameter.{Parameter}
 use Rattle.star_tree.specs.declared.tree.Statement.{Statement}
 use Rattle.star_tree.specs.declared.tree.Argument.TheOpen as tree
-use Rattle.star_scope.specs.Definitions.{Body, Statements, Answer, Definition}
-use Rattle.star_scope.specs.Syntax.{ArgumentForm, ParameterForm, argument, parameter}
+use Rattle.star_outline.specs.Definitions.{Body, Statements, Answer, Definition}
+use Rattle.star_outline.specs.Syntax.{ArgumentForm, ParameterForm, argument, parameter}
 use Rattle.star_scope.specs.Uses.{Defined, Named, Use, all_uses, in_argument, in_expression, in_parameters, in_statement, inner_of, uses}
 use Rattle.star_meaning.specs.declared.fault.FaultCode.TheVariants as code
 use Rattle.star_meaning.specs.declared.site.Site.{Site}
@@ -59,10 +59,10 @@ both : {A : Type 0} (P : A → Type 0) (xs ys : List A) → Every P xs → Every
 both P [] ys h k = k
 both P (x ∷ xs) ys h k = (h.0, both P xs ys h.1 k)
 
-abbrev InBlock : List Use → List ℕ → Name × BoundArgument → Type 0
+abbrev pub InBlock : List Use → List ℕ → Name × BoundArgument → Type 0
 InBlock us chain x = Contains us (Named x.0 chain)
 
-abbrev SharesIn : List Use → List ℕ → List (Name × BoundArgument) → Type 0
+abbrev pub SharesIn : List Use → List ℕ → List (Name × BoundArgument) → Type 0
 SharesIn us chain xs = Every (InBlock us chain) xs
 
 shared_in : (us : List Use) (chain : List ℕ) (x : Name) (q : BindingState) (o : Option Value) (r : List (Name × BoundArgument) × BindingState) → Contains us (Named x chain) → shared x q o ≡ Some r → SharesIn us chain r.0
@@ -112,7 +112,7 @@ if_shares : (b : Bool) (o : Option (List (Name × BoundArgument))) (xs : List (N
 if_shares true o xs e = e
 if_shares false o xs e = cc
 
-bound_in : (us : List Use) (chain : List ℕ) (ps : List Parameter) (ds : List Value) (g : Arguments) (xs : List (Name × BoundArgument)) → Sub (inner_of (in_parameters ps) chain) us → bound_to ps ds g ≡ Some xs → SharesIn us chain xs
+pub bound_in : (us : List Use) (chain : List ℕ) (ps : List Parameter) (ds : List Value) (g : Arguments) (xs : List (Name × BoundArgument)) → Sub (inner_of (in_parameters ps) chain) us → bound_to ps ds g ≡ Some xs → SharesIn us chain xs
 unfolding bound_to
 bound_in us chain ps ds g xs h e = shares_in us chain g.named (extra_keywords ps g.named) ps (record { by_name = false; positional = g.positional; defaults = ds }) xs h (if_shares _ _ xs e)
 
@@ -129,13 +129,13 @@ each_made P line (x ∷ xs) ys s t h e =
     let named : P (a.0).0 = subst (λ (z : Name × Value). P z.0) (done_is (x.0, c.0) a.0 c.1 a.1 c.3) h.0 in
     subst (λ z. Every (λ y. P y.0) z) (done_is (a.0 ∷ b.0) ys b.1 t b.3) (named, each_made P line xs b.0 a.1 b.1 h.1 b.2)
 
-made_in : (P : Name → Type 0) (line : ℕ) (xs : List (Name × BoundArgument)) (ys : List (Name × Value)) (s t : State) → Every (λ x. P x.0) xs → build_arguments line xs s ≡ Done ys t → Every (λ y. P y.0) ys
+pub made_in : (P : Name → Type 0) (line : ℕ) (xs : List (Name × BoundArgument)) (ys : List (Name × Value)) (s t : State) → Every (λ x. P x.0) xs → build_arguments line xs s ≡ Done ys t → Every (λ y. P y.0) ys
 unfolding build_arguments
 made_in P line xs ys s t h e = each_made P line xs ys s t h e
 
 -- ---- the callee
 
-abbrev Callable : Setting → State → Callee → Type 0
+abbrev pub Callable : Setting → State → Callee → Type 0
 Callable w s (AFunction f d) = ((v : Value) × (seen w s v ≡ Some (cell.Func f))) × (definition_of w f.file f.definition ≡ Some d)
 Callable w s _ = Unit {0}
 
@@ -152,7 +152,7 @@ held_is : (o : Option Cell) (c : Cell) → held o ≡ Held c → o ≡ Some c
 held_is None c e = cc
 held_is (Some x) c e = let h : x ≡ c = cc in ap Some h
 
-content_is : (w : Setting) (s : State) (v : Value) (c : Cell) → content w s v ≡ Held c → seen w s v ≡ Some c
+pub content_is : (w : Setting) (s : State) (v : Value) (c : Cell) → content w s v ≡ Held c → seen w s v ≡ Some c
 content_is w s value.NoneValue c e = cc
 content_is w s (value.Bool b) c e = cc
 content_is w s (value.Int n) c e = cc
@@ -165,7 +165,7 @@ content_callee w line s t v (BuiltInFunction b) c h e = subst (Callable w s) (do
 content_callee w line s t v (Held (cell.Bound m x)) c h e = subst (Callable w s) (done_is (AMethod m x) c s t e) tt
 content_callee w line s t v _ c h e = cc
 
-callable : (w : Setting) (line : ℕ) (s t : State) (v : Value) (c : Callee) → callee w line v s ≡ Done c t → Callable w s c
+pub callable : (w : Setting) (line : ℕ) (s t : State) (v : Value) (c : Callee) → callee w line v s ≡ Done c t → Callable w s c
 unfolding callee
 callable w line s t v c e = content_callee w line s t v (content w s v) c refl e
 
@@ -192,7 +192,7 @@ call_function : (tables : Tables) (trees : Trees) (w : Setting) (m n : Semantics
 call_function tables trees w m n p ss chain h levels f d ps us bs stands there known =
     agree_then trees w f.file bs (Some f.frame) _ _ _ _ (agree_kept trees w f.file bs (Some f.frame) _ (keeps-given w p.line ps)) (λ g. call_found tables trees w m n p ss chain h f d g us bs stands there known (bound_to d.parameters f.defaults g) refl)
 
-abbrev after : Setting → ℕ → Semantics → Site → List EvaluatedArgument → Callee → Action Value
+abbrev pub after : Setting → ℕ → Semantics → Site → List EvaluatedArgument → Callee → Action Value
 after w levels m p ps c = given w p.line ps >>= λ g. called w levels m p c g
 
 called_then : (tables : Tables) (trees : Trees) (w : Setting) (m n : Semantics) (p : Site) (ss : List Statement) (chain : List ℕ) → Scene tables trees w m n p ss chain → (levels : ℕ) (ps : List EvaluatedArgument) (s : State) (fit : AllFit trees w s) (fits : FitsChain w s p.file chain (Some p.frame)) (v : Value) (o : Outcome Callee) → callee w p.line v s ≡ o → quiet.Followed s o

@@ -14,9 +14,10 @@ use Rattle.star_tree.specs.declared.tree.Parameter.{Parameter}
 use Rattle.star_tree.specs.declared.tree.Statement.{Statement}
 use Rattle.star_tree.specs.declared.tree.Target.{Target}
 use Rattle.star_tree.specs.declared.tree.Argument.TheOpen as tree
-use Rattle.star_scope.specs.Definitions.{Body, Statements, Answer, Definition}
-use Rattle.star_scope.specs.Syntax.{ClauseForm, ParameterForm, TargetForm, clause, parameter, target}
+use Rattle.star_outline.specs.Definitions.{Body, Statements, Answer, Definition}
+use Rattle.star_outline.specs.Syntax.{ClauseForm, ParameterForm, TargetForm, clause, parameter, target}
 use Rattle.star_scope.specs.Uses.{Defined, Named, Within, all_uses, in_clause, in_clauses, in_entry, in_expression, in_parameters, in_statement, in_target, inner_of, maybe_use, outer_of, uses}
+use Rattle.star_scope.proofs.UseForms.{of_entry, of_first, of_rest}
 use Rattle.star_meaning.specs.declared.fault.FaultCode.TheVariants as code
 use Rattle.star_meaning.specs.declared.site.Site.{Site}
 use Rattle.star_meaning.specs.Run.{Outcome, Done, Failed, Action, and_then, ◌>>=◌, give, pay}
@@ -30,7 +31,7 @@ use Rattle.star_meaning.specs.Expressions.{defaults_after, defaults, new_functio
 use Rattle.star_meaning.specs.Local.{Trees}
 use Rattle.star_meaning.specs.Places.{Stands, Tables, by_places, new_slots}
 use Rattle.star_meaning.proofs.Agree.{Agree, Every, Good, Resolved, agree_bind, agree_fail, agree_frame, agree_function, agree_give, agree_if, agree_kept, agree_quiet, agree_repeat, agree_then}
-use Rattle.star_meaning.proofs.UsesOf.{Sub, by, first, left, of_clause, of_entry, of_first, of_outer, of_rest, of_target, outer_level, clause_level, target_level, right}
+use Rattle.star_meaning.proofs.UsesOf.{Sub, by, first, left, of_clause, of_outer, of_target, outer_level, clause_level, target_level, right}
 use Rattle.star_meaning.proofs.Quiet as quiet
 use Rattle.star_meaning.proofs.KeepsValues.{keeps-is_true, keeps-take_all, keeps-take_item, keeps-check_key}
 use Rattle.star_meaning.proofs.KeepsSubscript.{keeps-index, keeps-set_index, keeps-put_entry}
@@ -128,7 +129,7 @@ assoc (Done x s) f g = refl
 assoc (Failed e lines) f g = refl
 
 -- a place in another frame
-abbrev at_frame : Site → Value → Action Site
+abbrev pub at_frame : Site → Value → Action Site
 at_frame p v = give (record p { frame = v })
 
 -- the actions after those that follow

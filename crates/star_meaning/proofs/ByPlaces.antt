@@ -2,7 +2,7 @@
 use Rattle.std.proofs.Common.{◌≡◌, ℕ, zero, suc, List, [], ◌∷◌, Option, Some, None, refl, sym, subst, nat_eq, Bool, true, false, if◌then◌else◌}
 use Rattle.star_store.specs.declared.values.Value.{Value}
 use Rattle.star_tree.specs.declared.tree.Statement.{Statement}
-use Rattle.star_scope.specs.Syntax.{expression, form_of, position_of, target}
+use Rattle.star_outline.specs.Syntax.{expression, form_of, position_of, target}
 use Rattle.star_scope.specs.Uses.{in_statement, uses}
 use Rattle.star_meaning.specs.declared.site.Site.{Site}
 use Rattle.star_meaning.specs.Run.{Outcome, Done, Failed, Action, ◌>>=◌, pay}
@@ -22,15 +22,15 @@ use Rattle.star_meaning.proofs.Keeps.{Keeps, keeps, keeps_pay}
 use Rattle.star_meaning.proofs.KeepsModule.{keeps-global_text}
 
 -- a statement of the running file has a line of its own, and has the same place
-line_file : (b : Bool) (p : Site) (line : ℕ) → (if b then record p { line = line } else p).file ≡ p.file
+pub line_file : (b : Bool) (p : Site) (line : ℕ) → (if b then record p { line = line } else p).file ≡ p.file
 line_file true p line = refl
 line_file false p line = refl
 
-line_frame : (b : Bool) (p : Site) (line : ℕ) → (if b then record p { line = line } else p).frame ≡ p.frame
+pub line_frame : (b : Bool) (p : Site) (line : ℕ) → (if b then record p { line = line } else p).frame ≡ p.frame
 line_frame true p line = refl
 line_frame false p line = refl
 
-none_agree : (trees : Trees) (w : Setting) → AllAgree trees w (nothing_opens w) (nothing_opens w)
+pub none_agree : (trees : Trees) (w : Setting) → AllAgree trees w (nothing_opens w) (nothing_opens w)
 none_agree trees w = record {
   expr = λ p e ss chain h k. agree_fail _ trees w p.file chain (Some p.frame) _ _;
   stmt = λ p x ss chain h k. agree_fail _ trees w p.file chain (Some p.frame) _ _;
@@ -42,7 +42,7 @@ none_agree trees w = record {
 scene : (tables : Tables) (trees : Trees) (w : Setting) (m n : Semantics) (p : Site) (ss : List Statement) (chain : List ℕ) → Known tables trees w → AllAgree trees w m n → Stands trees p.file ss → Scene tables trees w m n p ss chain
 scene tables trees w m n p ss chain k a h = record { known = k; parts = a; stands = h }
 
-paying : {A : Type 0} (trees : Trees) (w : Setting) (file : ℕ) (chain : List ℕ) (frame : Option Value) (line : ℕ) (a b : Action A) → Agree trees w file chain frame a b → Agree trees w file chain frame (pay line 1 >>= λ _. a) (pay line 1 >>= λ _. b)
+pub paying : {A : Type 0} (trees : Trees) (w : Setting) (file : ℕ) (chain : List ℕ) (frame : Option Value) (line : ℕ) (a b : Action A) → Agree trees w file chain frame a b → Agree trees w file chain frame (pay line 1 >>= λ _. a) (pay line 1 >>= λ _. b)
 paying trees w file chain frame line a b h = agree_then trees w file chain frame _ _ _ _ (agree_kept trees w file chain frame _ (keeps_pay line 1)) (λ _. h)
 
 abbrev StatementAgrees : Tables → Trees → Setting → ℕ → Semantics → Semantics → Statement → List ℕ → Site → ℕ → Value → Type 0
@@ -73,7 +73,7 @@ unfolding meaning
 meaning_agrees tables trees w zero k = none_agree trees w
 meaning_agrees tables trees w (suc levels) k = more_agree tables trees w levels (meaning (by_places tables w) w levels) (meaning (by_names w) w levels) k (meaning_agrees tables trees w levels k)
 
-keeps-end : (w : Setting) (levels line : ℕ) (frame : Value) → Keeps true (end w levels line frame)
+pub keeps-end : (w : Setting) (levels line : ℕ) (frame : Value) → Keeps true (end w levels line frame)
 keeps-end w levels line frame = search (keeps, keeps-global_text) depth 14
 
 file_agrees : (tables : Tables) (trees : Trees) (w : Setting) (levels : ℕ) (ss : List Statement) → Known tables trees w → Stands trees w.home ss → Agree trees w w.home [] None (run_file (by_places tables w) w levels ss) (run_file (by_names w) w levels ss)

@@ -11,14 +11,14 @@ use Rattle.star_tree.specs.declared.tree.Arm.{Arm, roll-Arm, para-roll-Arm}
 use Rattle.star_tree.specs.declared.tree.Statement.{Statement, roll-Statement, para-roll-Statement, ind-Statement}
 use Rattle.star_tree.specs.declared.tree.Form.TheOpen as form
 use Rattle.star_tree.specs.declared.tree.Form.TheFolds as form_folds
-use Rattle.star_scope.specs.declared.outline.Found.{Found}
-use Rattle.star_scope.specs.Definitions.{Statements, Definition, definition_in}
-use Rattle.star_scope.specs.Outlines as found
-use Rattle.star_scope.specs.Outlines.{Outline, and, definition, outline}
+use Rattle.star_outline.specs.declared.outline.Found.{Found}
+use Rattle.star_outline.specs.Definitions.{Statements, Definition, definition_in}
+use Rattle.star_outline.specs.Outlines as found
+use Rattle.star_outline.specs.Outlines.{Outline, and, definition, outline}
 use Rattle.star_scope.specs.Uses.{Defined, OfForm, Use, Within, also, arm_uses, defined, each_use, form_uses, in_arm, in_expression, in_form, in_parameters, in_statement, in_target, inner_of, inside, loaded_uses, one_use, outer_of, statement_uses, uses}
 use Rattle.star_meaning.specs.Program.{Setting, definition_of}
 use Rattle.star_meaning.specs.Local.{Trees, outlines}
-use Rattle.star_scope.specs.Definitions.{AllDiffer}
+use Rattle.star_outline.specs.Definitions.{AllDiffer}
 use Rattle.star_meaning.specs.Places.{Stands}
 use Rattle.star_meaning.proofs.Agree.{Every}
 use Rattle.star_meaning.proofs.AgreeParts.{DefinitionsStand, body_uses}

@@ -12,10 +12,10 @@ use Rattle.star_tree.specs.declared.tree.Entry.{Entry, roll-Entry, para-roll-Ent
 use Rattle.star_tree.specs.declared.tree.Name.{Name}
 use Rattle.star_tree.specs.declared.tree.Argument.TheOpen as tree
 use Rattle.star_tree.specs.declared.tree.Argument.TheFolds as folds
-use Rattle.star_scope.specs.declared.outline.Found.{Found}
-use Rattle.star_scope.specs.Definitions.{Body, Answer, Definition}
-use Rattle.star_scope.specs.Outlines as found
-use Rattle.star_scope.specs.Outlines.{and, nothing, definition, comprehension, in_all, outline}
+use Rattle.star_outline.specs.declared.outline.Found.{Found}
+use Rattle.star_outline.specs.Definitions.{Body, Answer, Definition}
+use Rattle.star_outline.specs.Outlines as found
+use Rattle.star_outline.specs.Outlines.{and, nothing, definition, comprehension, in_all, outline}
 use Rattle.star_scope.specs.Uses.{ClauseUses, Defined, Named, ParameterUses, Use, Within, also, argument_uses, clause_uses, clauses_uses, defined, each_use, entry_uses, expression_uses, in_argument, in_clause, in_clauses, in_entry, in_expression, in_parameter, in_parameters, in_target, inner_of, inside, one_use, outer_of, parameter_uses, target_uses}
 use Rattle.star_meaning.proofs.Agree.{Every}
 use Rattle.star_meaning.proofs.AgreeParts.{body_uses}

@@ -1,5 +1,5 @@
 -- An action that does not fail for want of steps does the same with more steps.
-use Rattle.std.proofs.Common.{◌≡◌, ◌≢◌, ℕ, zero, suc, ◌+◌, ◌-◌, ◌<◌, ◌≤◌, List, [], ◌∷◌, ◌++◌, length, Option, Some, None, Bool, true, false, if◌then◌else◌, refl, ap, sym, ◌∙◌, arith, subst, nat_lt, nat_eq, Result, Ok, Err}
+use Rattle.std.proofs.Common.{◌≡◌, ◌≢◌, ℕ, ◌+◌, ◌-◌, ◌<◌, ◌≤◌, List, ◌++◌, length, Option, Some, None, Bool, true, false, if◌then◌else◌, refl, ap, sym, ◌∙◌, arith, subst, nat_lt, nat_eq, Result, Ok, Err}
 use Rattle.star_store.specs.declared.values.Value.{Value}
 use Rattle.star_store.specs.declared.values.Cell.{Cell}
 use Rattle.star_store.specs.declared.values.Function.{Function}
@@ -16,14 +16,11 @@ use Rattle.star_tree.specs.declared.tree.Name.{Name}
 use Rattle.star_meaning.specs.declared.fault.FaultCode.{FaultCode}
 use Rattle.star_meaning.specs.declared.fault.FaultCode.TheVariants as code
 use Rattle.star_meaning.specs.declared.site.Site.{Site}
-use Rattle.star_meaning.specs.declared.site.Flow.{Flow}
-use Rattle.star_meaning.specs.declared.site.Flow.TheVariants as flow
-use Rattle.star_meaning.specs.Run.{State, Outcome, Done, Failed, Action, and_then, ◌>>=◌, give, fail, pay, check, found, code_of, agreed, settled, visiting, seeing, storing, make, build, each, all_of, collect, until, add_line}
-use Rattle.star_scope.specs.Definitions.{Definition}
+use Rattle.star_meaning.specs.Run.{State, Outcome, Done, Failed, Action, and_then, ◌>>=◌, give, fail, pay, found, code_of, settled, visiting, seeing, storing, make, build, add_line}
+use Rattle.star_outline.specs.Definitions.{Definition}
 use Rattle.star_meaning.specs.Program.{Setting, Variables}
 use Rattle.star_meaning.specs.Values.{written, change}
 use Rattle.star_meaning.specs.Binding.{BoundArgument}
-use Rattle.star_meaning.specs.Semantics.{Semantics, then_go, block, then_turn, turns, repeat}
 use Rattle.star_meaning.specs.Calls.{activate, deactivate}
 use Rattle.std.proofs.lemmas.Bool.{ltb-false}
 use Rattle.star_meaning.proofs.Reaches.{NotForWant, further, Reaches}
@@ -58,10 +55,6 @@ extends_give x = record { holds = λ k s n. refl }
 pub extends_fail : (A : Type 0) (c : FaultCode) (line : ℕ) → Extends (fail {A = A} c line)
 extends_fail A c line = record { holds = λ k s n. refl }
 
-pub extends_if : {A : Type 0} (b : Bool) (m n : Action A) → Extends m → Extends n → Extends (if b then m else n)
-extends_if true m n k l = k
-extends_if false m n k l = l
-
 pub extends_found : {A : Type 0} (c : FaultCode) (line : ℕ) (o : Option A) → Extends (found c line o)
 extends_found {A = A} c line None = extends_fail A c line
 extends_found {A = A} c line (Some x) = extends_give x
@@ -81,9 +74,6 @@ extends_pay line n = record { holds = λ k s h. paid_more (nat_lt s.steps n) lin
 pub extends_seeing : {A : Type 0} (f : State → Action A) → ((k : ℕ) (s : State) → f (with_more k s) ≡ f s) → ((s : State) → Extends (f s)) → Extends (seeing f)
 extends_seeing f same g = record { holds = λ k s n. rw (same k s) ((g s).holds k s n) }
 
-pub extends_check : (c : FaultCode) (line : ℕ) (b : Bool) → Extends (check c line b)
-extends_check c line b = extends_if b _ _ (extends_give {A = Unit {0}} tt) (extends_fail (Unit {0}) c line)
-
 pub extends_make : (c : Cell) → Extends (make c)
 unfolding make
 extends_make c = record { holds = λ k s n. refl }
@@ -91,26 +81,6 @@ extends_make c = record { holds = λ k s n. refl }
 pub extends_build : (line cost : ℕ) (c : Cell) → Extends (build line cost c)
 unfolding build
 extends_build line cost c = extends_then _ _ (extends_pay line cost) (λ _. extends_make c)
-
-pub extends_each : {A B : Type 0} (f : A → Action B) (xs : List A) → ((x : A) → Extends (f x)) → Extends (each f xs)
-extends_each {B = B} f [] k = extends_give {A = List B} []
-extends_each {B = B} f (x ∷ xs) k = extends_then _ _ (k x) (λ y. extends_then _ _ (extends_each f xs k) (λ ys. extends_give (y ∷ ys)))
-
-pub extends_all_of : {A : Type 0} (f : A → Action (Unit {0})) (xs : List A) → ((x : A) → Extends (f x)) → Extends (all_of f xs)
-extends_all_of f [] k = extends_give {A = Unit {0}} tt
-extends_all_of f (x ∷ xs) k = extends_then _ _ (k x) (λ _. extends_all_of f xs k)
-
-pub extends_collect : {B : Type 0} (f : ℕ → Action B) (n i : ℕ) → ((i : ℕ) → Extends (f i)) → Extends (collect f n i)
-extends_collect {B = B} f zero i k = extends_give {A = List B} []
-extends_collect {B = B} f (suc n) i k = extends_then _ _ (k i) (λ y. extends_then _ _ (extends_collect f n (i + 1) k) (λ ys. extends_give (y ∷ ys)))
-
-pub extends_until : (f : ℕ → Action Bool) (n i : ℕ) → ((i : ℕ) → Extends (f i)) → Extends (until f n i)
-extends_until f zero i k = extends_give false
-extends_until f (suc n) i k = extends_then _ _ (k i) (λ stop. extends_if stop _ _ (extends_give true) (extends_until f n (i + 1) k))
-
-pub extends_agreed : {A : Type 0} (line : ℕ) (r : Result A StoreFault) → Extends (agreed line r)
-extends_agreed {A = A} line (Ok x) = extends_give x
-extends_agreed {A = A} line (Err f) = extends_fail A (code_of f) line
 
 -- a refusal that is not for want of steps is a fault of another code
 not_steps : (f : StoreFault) → (code_of f ≢ code.Steps) → f ≢ refused.Steps
@@ -145,27 +115,3 @@ extends_activate f = record { holds = λ k s n. refl }
 pub extends_deactivate : Extends deactivate
 unfolding deactivate
 extends_deactivate = record { holds = λ k s n. refl }
-
-pub extends_then_go : (rest : Action Flow) (f : Flow) → Extends rest → Extends (then_go rest f)
-extends_then_go rest flow.Next k = k
-extends_then_go rest flow.Break k = extends_give _
-extends_then_go rest flow.Continue k = extends_give _
-extends_then_go rest (flow.Return v) k = extends_give _
-
-pub extends_block : {A : Type 0} (f : A → Action Flow) (xs : List A) → ((x : A) → Extends (f x)) → Extends (block f xs)
-extends_block f [] k = extends_give _
-extends_block f (x ∷ xs) k = extends_then _ _ (k x) (λ y. extends_then_go _ y (extends_block f xs k))
-
-pub extends_then_turn : (rest : Action Flow) (f : Flow) → Extends rest → Extends (then_turn rest f)
-extends_then_turn rest flow.Next k = k
-extends_then_turn rest flow.Break k = extends_give _
-extends_then_turn rest flow.Continue k = k
-extends_then_turn rest (flow.Return v) k = extends_give _
-
-pub extends_turns : (f : ℕ → Action Flow) (n i : ℕ) → ((i : ℕ) → Extends (f i)) → Extends (turns f n i)
-extends_turns f zero i k = extends_give _
-extends_turns f (suc n) i k = extends_then _ _ (k i) (λ y. extends_then_turn _ y (extends_turns f n (i + 1) k))
-
-pub extends_repeat : (f : ℕ → Action (Unit {0})) (n i : ℕ) → ((i : ℕ) → Extends (f i)) → Extends (repeat f n i)
-extends_repeat f zero i k = extends_give {A = Unit {0}} tt
-extends_repeat f (suc n) i k = extends_then _ _ (k i) (λ _. extends_repeat f n (i + 1) k)

@@ -17,16 +17,13 @@ use Rattle.star_tree.specs.declared.tree.Name.{Name}
 use Rattle.star_meaning.specs.declared.fault.FaultCode.{FaultCode}
 use Rattle.star_meaning.specs.declared.fault.FaultCode.TheVariants as code
 use Rattle.star_meaning.specs.declared.site.Site.{Site}
-use Rattle.star_meaning.specs.declared.site.Flow.{Flow}
-use Rattle.star_meaning.specs.declared.site.Flow.TheVariants as flow
-use Rattle.star_meaning.specs.Run.{State, Outcome, Done, Failed, Action, and_then, ◌>>=◌, give, fail, pay, check, found, code_of, agreed, settled, visiting, seeing, storing, make, build, each, all_of, collect, until, add_line}
-use Rattle.star_scope.specs.Definitions.{Definition}
+use Rattle.star_meaning.specs.Run.{State, Outcome, Done, Failed, Action, and_then, ◌>>=◌, give, fail, pay, found, settled, visiting, seeing, storing, make, build, add_line}
+use Rattle.star_outline.specs.Definitions.{Definition}
 use Rattle.star_meaning.specs.Program.{Setting, Variables}
 use Rattle.star_meaning.specs.Values.{written, change}
 use Rattle.star_meaning.specs.Binding.{BoundArgument}
 use Rattle.star_meaning.specs.Laws.{Grows, Grown}
 use Rattle.star_meaning.proofs.Lowers.{Falls, Lowers}
-use Rattle.star_meaning.specs.Semantics.{Semantics, then_go, block, then_turn, turns, repeat}
 use Rattle.star_meaning.specs.Calls.{activate, deactivate, rest_of}
 
 -- whatever state an action begins in, it keeps this
@@ -65,10 +62,6 @@ keeps_give x = record { holds = λ s. same s }
 pub keeps_fail : (A : Type 0) (code : FaultCode) (line : ℕ) → Keeps (fail {A = A} code line)
 keeps_fail A code line = record { holds = λ s. ([], append_nil s.lines) }
 
-pub keeps_if : {A : Type 0} (b : Bool) (m n : Action A) → Keeps m → Keeps n → Keeps (if b then m else n)
-keeps_if true m n k l = k
-keeps_if false m n k l = l
-
 pub keeps_found : {A : Type 0} (code : FaultCode) (line : ℕ) (o : Option A) → Keeps (found code line o)
 keeps_found {A = A} code line None = keeps_fail A code line
 keeps_found {A = A} code line (Some x) = keeps_give x
@@ -84,9 +77,6 @@ keeps_pay line n = record { holds = λ s. paid (nat_lt s.steps n) line n s }
 pub keeps_seeing : {A : Type 0} (f : State → Action A) → ((s : State) → Keeps (f s)) → Keeps (seeing f)
 keeps_seeing f k = record { holds = λ s. (k s).holds s }
 
-pub keeps_check : (code : FaultCode) (line : ℕ) (b : Bool) → Keeps (check code line b)
-keeps_check code line b = keeps_if b _ _ (keeps_give {A = Unit {0}} tt) (keeps_fail (Unit {0}) code line)
-
 length_more : {A : Type 0} (xs ys : List A) → length xs ≤ length (xs ++ ys)
 length_more [] ys = omega arith
 length_more (x ∷ xs) ys = omega (arith, length_more xs ys)
@@ -98,26 +88,6 @@ keeps_make c = record { holds = λ s. less s (made c s.store) s.active s.steps r
 pub keeps_build : (line cost : ℕ) (c : Cell) → Keeps (build line cost c)
 unfolding build
 keeps_build line cost c = keeps_then _ _ (keeps_pay line cost) (λ _. keeps_make c)
-
-pub keeps_each : {A B : Type 0} (f : A → Action B) (xs : List A) → ((x : A) → Keeps (f x)) → Keeps (each f xs)
-keeps_each {B = B} f [] k = keeps_give {A = List B} []
-keeps_each {B = B} f (x ∷ xs) k = keeps_then _ _ (k x) (λ y. keeps_then _ _ (keeps_each f xs k) (λ ys. keeps_give (y ∷ ys)))
-
-pub keeps_all_of : {A : Type 0} (f : A → Action (Unit {0})) (xs : List A) → ((x : A) → Keeps (f x)) → Keeps (all_of f xs)
-keeps_all_of f [] k = keeps_give {A = Unit {0}} tt
-keeps_all_of f (x ∷ xs) k = keeps_then _ _ (k x) (λ _. keeps_all_of f xs k)
-
-pub keeps_collect : {B : Type 0} (f : ℕ → Action B) (n i : ℕ) → ((i : ℕ) → Keeps (f i)) → Keeps (collect f n i)
-keeps_collect {B = B} f zero i k = keeps_give {A = List B} []
-keeps_collect {B = B} f (suc n) i k = keeps_then _ _ (k i) (λ y. keeps_then _ _ (keeps_collect f n (i + 1) k) (λ ys. keeps_give (y ∷ ys)))
-
-pub keeps_until : (f : ℕ → Action Bool) (n i : ℕ) → ((i : ℕ) → Keeps (f i)) → Keeps (until f n i)
-keeps_until f zero i k = keeps_give false
-keeps_until f (suc n) i k = keeps_then _ _ (k i) (λ stop. keeps_if stop _ _ (keeps_give true) (keeps_until f n (i + 1) k))
-
-pub keeps_agreed : {A : Type 0} (line : ℕ) (r : Result A StoreFault) → Keeps (agreed line r)
-keeps_agreed {A = A} line (Ok x) = keeps_give x
-keeps_agreed {A = A} line (Err f) = keeps_fail A (code_of f) line
 
 settled_grown : {A : Type 0} (line : ℕ) (s : State) (o : Spent A) → Falls s.steps o → Grown s (settled line o s)
 settled_grown line s (Enough x left) h = less s s.store s.active left refl (omega arith) h
@@ -188,27 +158,3 @@ keeps_activate f = record { holds = λ s. less s s.store ((f.file, f.definition)
 pub keeps_deactivate : Keeps deactivate
 unfolding deactivate
 keeps_deactivate = record { holds = λ s. less s s.store (rest_of s.active) s.steps refl (omega arith) (omega arith) }
-
-pub keeps_then_go : (rest : Action Flow) (f : Flow) → Keeps rest → Keeps (then_go rest f)
-keeps_then_go rest flow.Next k = k
-keeps_then_go rest flow.Break k = keeps_give _
-keeps_then_go rest flow.Continue k = keeps_give _
-keeps_then_go rest (flow.Return v) k = keeps_give _
-
-pub keeps_block : {A : Type 0} (f : A → Action Flow) (xs : List A) → ((x : A) → Keeps (f x)) → Keeps (block f xs)
-keeps_block f [] k = keeps_give _
-keeps_block f (x ∷ xs) k = keeps_then _ _ (k x) (λ y. keeps_then_go _ y (keeps_block f xs k))
-
-pub keeps_then_turn : (rest : Action Flow) (f : Flow) → Keeps rest → Keeps (then_turn rest f)
-keeps_then_turn rest flow.Next k = k
-keeps_then_turn rest flow.Break k = keeps_give _
-keeps_then_turn rest flow.Continue k = k
-keeps_then_turn rest (flow.Return v) k = keeps_give _
-
-pub keeps_turns : (f : ℕ → Action Flow) (n i : ℕ) → ((i : ℕ) → Keeps (f i)) → Keeps (turns f n i)
-keeps_turns f zero i k = keeps_give _
-keeps_turns f (suc n) i k = keeps_then _ _ (k i) (λ y. keeps_then_turn _ y (keeps_turns f n (i + 1) k))
-
-pub keeps_repeat : (f : ℕ → Action (Unit {0})) (n i : ℕ) → ((i : ℕ) → Keeps (f i)) → Keeps (repeat f n i)
-keeps_repeat f zero i k = keeps_give {A = Unit {0}} tt
-keeps_repeat f (suc n) i k = keeps_then _ _ (k i) (λ _. keeps_repeat f n (i + 1) k)

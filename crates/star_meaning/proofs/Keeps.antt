@@ -1,7 +1,7 @@
 -- The invariants of every run, in one record: by any action the lines and the cells only grow in number and the steps
 -- only fall. If it ends well, the cells and the active definitions stay as they were. With more steps it does the same.
 -- If it is quiet, no function is new.
-use Rattle.std.proofs.Common.{◌≡◌, ℕ, List, Option, Bool, true, false, if◌then◌else◌, Result, refl}
+use Rattle.std.proofs.Common.{◌≡◌, ℕ, zero, suc, ◌+◌, List, [], ◌∷◌, Option, Some, None, Bool, true, false, if◌then◌else◌, Result, Ok, Err, refl}
 use Rattle.star_store.specs.declared.values.Value.{Value}
 use Rattle.star_store.specs.declared.values.Cell.{Cell}
 use Rattle.star_store.specs.declared.values.Cell.TheVariants as cell
@@ -17,15 +17,16 @@ use Rattle.star_tree.specs.declared.tree.Expression.{Expression}
 use Rattle.star_tree.specs.declared.tree.Statement.{Statement}
 use Rattle.star_tree.specs.declared.tree.Target.{Target}
 use Rattle.star_tree.specs.declared.tree.Name.{Name}
-use Rattle.star_scope.specs.Definitions.{Definition}
+use Rattle.star_outline.specs.Definitions.{Definition}
 use Rattle.star_meaning.specs.declared.fault.FaultCode.{FaultCode}
 use Rattle.star_meaning.specs.declared.site.Site.{Site}
 use Rattle.star_meaning.specs.declared.site.Flow.{Flow}
-use Rattle.star_meaning.specs.Run.{State, Action, ◌>>=◌, give, fail, pay, check, found, agreed, visiting, seeing, storing, make, build, each, all_of, collect, until, add_line}
+use Rattle.star_meaning.specs.declared.site.Flow.TheVariants as flow
+use Rattle.star_meaning.specs.Run.{State, Action, ◌>>=◌, give, fail, pay, check, found, code_of, agreed, visiting, seeing, storing, make, build, each, all_of, collect, until, add_line}
 use Rattle.star_meaning.specs.Program.{Setting, Variables}
 use Rattle.star_meaning.specs.Values.{change, count_of, iterate, leave}
 use Rattle.star_meaning.specs.Binding.{BoundArgument}
-use Rattle.star_meaning.specs.Semantics.{Semantics, block, turns, repeat}
+use Rattle.star_meaning.specs.Semantics.{Semantics, block, then_go, then_turn, turns, repeat}
 use Rattle.star_meaning.specs.Calls.{activate, deactivate}
 use Rattle.star_meaning.proofs.Spending.{Spends, spends-same, spends-order, spends-check, spends-text, spends-bare}
 use Rattle.star_meaning.proofs.Growth as growth
@@ -56,10 +57,12 @@ pub keeps_fail : {q : Bool} (A : Type 0) (code : FaultCode) (line : ℕ) → Kee
 keeps_fail A code line = record { grows = growth.keeps_fail A code line; stays = stays.keeps_fail A code line; extends = extends.extends_fail A code line; follows = λ h. quiet.keeps_fail A code line }
 
 pub keeps_if : {q : Bool} {A : Type 0} (b : Bool) (m n : Action A) → Keeps q m → Keeps q n → Keeps q (if b then m else n)
-keeps_if b m n k l = record { grows = growth.keeps_if b m n k.grows l.grows; stays = stays.keeps_if b m n k.stays l.stays; extends = extends.extends_if b m n k.extends l.extends; follows = λ h. quiet.keeps_if b m n (k.follows h) (l.follows h) }
+keeps_if true m n k l = k
+keeps_if false m n k l = l
 
 pub keeps_found : {q : Bool} {A : Type 0} (code : FaultCode) (line : ℕ) (o : Option A) → Keeps q (found code line o)
-keeps_found code line o = record { grows = growth.keeps_found code line o; stays = stays.keeps_found code line o; extends = extends.extends_found code line o; follows = λ h. quiet.keeps_found code line o }
+keeps_found {A = A} code line None = keeps_fail A code line
+keeps_found {A = A} code line (Some x) = keeps_give x
 
 pub keeps_pay : {q : Bool} (line n : ℕ) → Keeps q (pay line n)
 keeps_pay line n = record { grows = growth.keeps_pay line n; stays = stays.keeps_pay line n; extends = extends.extends_pay line n; follows = λ h. quiet.keeps_pay line n }
@@ -68,7 +71,7 @@ pub keeps_seeing : {q : Bool} {A : Type 0} (f : State → Action A) → ((k : �
 keeps_seeing f same k = record { grows = growth.keeps_seeing f (λ s. (k s).grows); stays = stays.keeps_seeing f (λ s. (k s).stays); extends = extends.extends_seeing f same (λ s. (k s).extends); follows = λ h. quiet.keeps_seeing f (λ s. (k s).follows h) }
 
 pub keeps_check : {q : Bool} (code : FaultCode) (line : ℕ) (b : Bool) → Keeps q (check code line b)
-keeps_check code line b = record { grows = growth.keeps_check code line b; stays = stays.keeps_check code line b; extends = extends.extends_check code line b; follows = λ h. quiet.keeps_check code line b }
+keeps_check code line b = keeps_if b _ _ (keeps_give {A = Unit {0}} tt) (keeps_fail (Unit {0}) code line)
 
 pub keeps_make : (c : Cell) → Keeps false (make c)
 keeps_make c = record { grows = growth.keeps_make c; stays = stays.keeps_make c; extends = extends.extends_make c; follows = λ h. never h }
@@ -116,19 +119,24 @@ pub keeps_build_bound : {q : Bool} (line cost : ℕ) (m : Method) (v : Value) �
 keeps_build_bound line cost m v = record { grows = growth.keeps_build line cost (cell.Bound m v); stays = stays.keeps_build line cost (cell.Bound m v); extends = extends.extends_build line cost (cell.Bound m v); follows = λ h. quiet.keeps_build_bound line cost m v }
 
 pub keeps_each : {q : Bool} {A B : Type 0} (f : A → Action B) (xs : List A) → ((x : A) → Keeps q (f x)) → Keeps q (each f xs)
-keeps_each f xs k = record { grows = growth.keeps_each f xs (λ x. (k x).grows); stays = stays.keeps_each f xs (λ x. (k x).stays); extends = extends.extends_each f xs (λ x. (k x).extends); follows = λ h. quiet.keeps_each f xs (λ x. (k x).follows h) }
+keeps_each {B = B} f [] k = keeps_give {A = List B} []
+keeps_each {B = B} f (x ∷ xs) k = keeps_then _ _ (k x) (λ y. keeps_then _ _ (keeps_each f xs k) (λ ys. keeps_give (y ∷ ys)))
 
 pub keeps_all_of : {q : Bool} {A : Type 0} (f : A → Action (Unit {0})) (xs : List A) → ((x : A) → Keeps q (f x)) → Keeps q (all_of f xs)
-keeps_all_of f xs k = record { grows = growth.keeps_all_of f xs (λ x. (k x).grows); stays = stays.keeps_all_of f xs (λ x. (k x).stays); extends = extends.extends_all_of f xs (λ x. (k x).extends); follows = λ h. quiet.keeps_all_of f xs (λ x. (k x).follows h) }
+keeps_all_of f [] k = keeps_give {A = Unit {0}} tt
+keeps_all_of f (x ∷ xs) k = keeps_then _ _ (k x) (λ _. keeps_all_of f xs k)
 
 pub keeps_collect : {q : Bool} {B : Type 0} (f : ℕ → Action B) (n i : ℕ) → ((i : ℕ) → Keeps q (f i)) → Keeps q (collect f n i)
-keeps_collect f n i k = record { grows = growth.keeps_collect f n i (λ j. (k j).grows); stays = stays.keeps_collect f n i (λ j. (k j).stays); extends = extends.extends_collect f n i (λ j. (k j).extends); follows = λ h. quiet.keeps_collect f n i (λ j. (k j).follows h) }
+keeps_collect {B = B} f zero i k = keeps_give {A = List B} []
+keeps_collect {B = B} f (suc n) i k = keeps_then _ _ (k i) (λ y. keeps_then _ _ (keeps_collect f n (i + 1) k) (λ ys. keeps_give (y ∷ ys)))
 
 pub keeps_until : {q : Bool} (f : ℕ → Action Bool) (n i : ℕ) → ((i : ℕ) → Keeps q (f i)) → Keeps q (until f n i)
-keeps_until f n i k = record { grows = growth.keeps_until f n i (λ j. (k j).grows); stays = stays.keeps_until f n i (λ j. (k j).stays); extends = extends.extends_until f n i (λ j. (k j).extends); follows = λ h. quiet.keeps_until f n i (λ j. (k j).follows h) }
+keeps_until f zero i k = keeps_give false
+keeps_until f (suc n) i k = keeps_then _ _ (k i) (λ stop. keeps_if stop _ _ (keeps_give true) (keeps_until f n (i + 1) k))
 
 pub keeps_agreed : {q : Bool} {A : Type 0} (line : ℕ) (r : Result A StoreFault) → Keeps q (agreed line r)
-keeps_agreed line r = record { grows = growth.keeps_agreed line r; stays = stays.keeps_agreed line r; extends = extends.extends_agreed line r; follows = λ h. quiet.keeps_agreed line r }
+keeps_agreed {A = A} line (Ok x) = keeps_give x
+keeps_agreed {A = A} line (Err f) = keeps_fail A (code_of f) line
 
 pub keeps_visiting : {q : Bool} {A : Type 0} (line : ℕ) (f : State → Spend A) → ((k : ℕ) (s : State) → f (with_more k s) ≡ f s) → ((s : State) → Spends (f s)) → Keeps q (visiting line f)
 keeps_visiting line f same k = record { grows = growth.keeps_visiting line f (λ s. (k s).lowers); stays = stays.keeps_visiting line f; extends = extends.extends_visiting line f same (λ s. (k s).reaches); follows = λ h. quiet.keeps_visiting line f }
@@ -169,14 +177,29 @@ keeps_looping w line v m k = record { grows = growth.keeps_then _ _ (grows_itera
 pub keeps_active : {q : Bool} {A : Type 0} (f : Function) (m : Action A) → Keeps q m → Keeps q (activate f >>= λ _. m >>= λ v. deactivate >>= λ _. give v)
 keeps_active f m k = record { grows = growth.keeps_then _ _ (growth.keeps_activate f) (λ _. growth.keeps_then _ _ k.grows (λ v. growth.keeps_then _ _ growth.keeps_deactivate (λ _. growth.keeps_give v))); stays = stays.keeps_active f m k.stays; extends = extends.extends_then _ _ (extends.extends_activate f) (λ _. extends.extends_then _ _ k.extends (λ v. extends.extends_then _ _ extends.extends_deactivate (λ _. extends.extends_give v))); follows = λ h. quiet.keeps_then _ _ (quiet.keeps_activate f) (λ _. quiet.keeps_then _ _ (k.follows h) (λ v. quiet.keeps_then _ _ quiet.keeps_deactivate (λ _. quiet.keeps_give v))) }
 
+keeps_then_go : (rest : Action Flow) (f : Flow) → Keeps false rest → Keeps false (then_go rest f)
+keeps_then_go rest flow.Next k = k
+keeps_then_go rest flow.Break k = keeps_give _
+keeps_then_go rest flow.Continue k = keeps_give _
+keeps_then_go rest (flow.Return v) k = keeps_give _
+
 pub keeps_block : {A : Type 0} (f : A → Action Flow) (xs : List A) → ((x : A) → Keeps false (f x)) → Keeps false (block f xs)
-keeps_block f xs k = record { grows = growth.keeps_block f xs (λ x. (k x).grows); stays = stays.keeps_block f xs (λ x. (k x).stays); extends = extends.extends_block f xs (λ x. (k x).extends); follows = λ h. never h }
+keeps_block f [] k = keeps_give _
+keeps_block f (x ∷ xs) k = keeps_then _ _ (k x) (λ y. keeps_then_go _ y (keeps_block f xs k))
+
+keeps_then_turn : (rest : Action Flow) (f : Flow) → Keeps false rest → Keeps false (then_turn rest f)
+keeps_then_turn rest flow.Next k = k
+keeps_then_turn rest flow.Break k = keeps_give _
+keeps_then_turn rest flow.Continue k = k
+keeps_then_turn rest (flow.Return v) k = keeps_give _
 
 pub keeps_turns : (f : ℕ → Action Flow) (n i : ℕ) → ((i : ℕ) → Keeps false (f i)) → Keeps false (turns f n i)
-keeps_turns f n i k = record { grows = growth.keeps_turns f n i (λ j. (k j).grows); stays = stays.keeps_turns f n i (λ j. (k j).stays); extends = extends.extends_turns f n i (λ j. (k j).extends); follows = λ h. never h }
+keeps_turns f zero i k = keeps_give _
+keeps_turns f (suc n) i k = keeps_then _ _ (k i) (λ y. keeps_then_turn _ y (keeps_turns f n (i + 1) k))
 
 pub keeps_repeat : (f : ℕ → Action (Unit {0})) (n i : ℕ) → ((i : ℕ) → Keeps false (f i)) → Keeps false (repeat f n i)
-keeps_repeat f n i k = record { grows = growth.keeps_repeat f n i (λ j. (k j).grows); stays = stays.keeps_repeat f n i (λ j. (k j).stays); extends = extends.extends_repeat f n i (λ j. (k j).extends); follows = λ h. never h }
+keeps_repeat f zero i k = keeps_give {A = Unit {0}} tt
+keeps_repeat f (suc n) i k = keeps_then _ _ (k i) (λ _. keeps_repeat f n (i + 1) k)
 
 -- the three actions on variables keep it
 pub record VariablesKeep (vs : Variables) : Type 0 where

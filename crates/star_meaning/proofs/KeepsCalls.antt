@@ -7,8 +7,8 @@ use Rattle.star_tree.specs.declared.tree.Expression.{Expression}
 use Rattle.star_tree.specs.declared.tree.Name.{Name}
 use Rattle.star_tree.specs.declared.tree.Argument.TheOpen as tree
 use Rattle.star_meaning.specs.declared.site.Site.{Site}
-use Rattle.star_scope.specs.Syntax.{ArgumentForm}
-use Rattle.star_scope.specs.Definitions.{Definition, Body, Statements, Answer}
+use Rattle.star_outline.specs.Syntax.{ArgumentForm}
+use Rattle.star_outline.specs.Definitions.{Definition, Body, Statements, Answer}
 use Rattle.star_meaning.specs.Program.{Setting, Variables}
 use Rattle.star_meaning.specs.Values.{Content, BuiltInFunction, Held}
 use Rattle.star_meaning.specs.declared.given.Arguments.{Arguments}

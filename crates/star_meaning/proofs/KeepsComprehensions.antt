@@ -7,7 +7,7 @@ use Rattle.star_tree.specs.declared.tree.Clauses.{Clauses}
 use Rattle.star_tree.specs.declared.tree.Entry.{Entry}
 use Rattle.star_tree.specs.declared.tree.Argument.TheOpen as tree
 use Rattle.star_meaning.specs.declared.site.Site.{Site}
-use Rattle.star_scope.specs.Syntax.{ClauseForm}
+use Rattle.star_outline.specs.Syntax.{ClauseForm}
 use Rattle.star_meaning.specs.Program.{Setting, Variables}
 use Rattle.star_meaning.specs.Semantics.{Semantics}
 use Rattle.std.proofs.Common.{ℕ, List, [], ◌∷◌, false}

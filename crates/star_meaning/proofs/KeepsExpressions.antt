@@ -5,7 +5,7 @@ use Rattle.star_tree.specs.declared.tree.Entry.{Entry}
 use Rattle.star_tree.specs.declared.tree.Parameter.{Parameter}
 use Rattle.star_tree.specs.declared.tree.Argument.TheOpen as tree
 use Rattle.star_meaning.specs.declared.site.Site.{Site}
-use Rattle.star_scope.specs.Syntax.{ExpressionForm, ParameterForm}
+use Rattle.star_outline.specs.Syntax.{ExpressionForm, ParameterForm}
 use Rattle.star_meaning.specs.Program.{Setting, Variables}
 use Rattle.star_meaning.specs.Semantics.{Semantics}
 use Rattle.std.proofs.Common.{ℕ, List, [], ◌∷◌, Option, Some, None, false}

@@ -4,7 +4,7 @@ use Rattle.star_tree.specs.declared.tree.Target.{Target}
 use Rattle.star_tree.specs.declared.tree.Expression.{Expression}
 use Rattle.star_tree.specs.declared.tree.Argument.TheOpen as tree
 use Rattle.star_meaning.specs.declared.site.Site.{Site}
-use Rattle.star_scope.specs.Syntax.{TargetForm}
+use Rattle.star_outline.specs.Syntax.{TargetForm}
 use Rattle.star_meaning.specs.Program.{Setting, Variables}
 use Rattle.star_meaning.specs.Semantics.{Semantics}
 use Rattle.std.proofs.Common.{ℕ, List, [], ◌∷◌, false}

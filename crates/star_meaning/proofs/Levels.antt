@@ -8,9 +8,9 @@ use Rattle.star_tree.specs.declared.tree.Target.{Target}
 use Rattle.star_tree.specs.declared.tree.Name.{Name}
 use Rattle.star_meaning.specs.declared.fault.FaultCode.TheVariants.{Deep}
 use Rattle.star_meaning.specs.declared.site.Site.{Site}
-use Rattle.star_scope.specs.Syntax.{expression, target, position_of, form_of}
+use Rattle.star_outline.specs.Syntax.{expression, target, position_of, form_of}
 use Rattle.star_meaning.specs.Run.{State, and_then, fail, pay}
-use Rattle.star_scope.specs.Definitions.{Definition}
+use Rattle.star_outline.specs.Definitions.{Definition}
 use Rattle.star_meaning.specs.Program.{Setting, Variables}
 use Rattle.star_meaning.specs.Binding.{BoundArgument}
 use Rattle.star_meaning.specs.Targets.{target_node, parts_node}

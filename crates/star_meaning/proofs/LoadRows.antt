@@ -2,63 +2,35 @@
 use Rattle.std.specs.Prelude.{◌≡◌, ℕ, List, Option, Some, None, [], ◌∷◌, pos}
 use Rattle.std.specs.Fmt.{digits}
 use Rattle.std.proofs.Common.{refl}
-use Rattle.star_tree.specs.declared.tree.Expression.{Expression, out-Expression}
+use Rattle.star_tree.specs.declared.tree.Expression.{out-Expression}
 use Rattle.star_tree.specs.declared.tree.Expression.TheVariants as e
-use Rattle.star_tree.specs.declared.tree.Target.{Target, out-Target}
+use Rattle.star_tree.specs.declared.tree.Target.{out-Target}
 use Rattle.star_tree.specs.declared.tree.Target.TheVariants as t
 use Rattle.star_tree.specs.declared.tree.Argument.{out-Argument}
-use Rattle.star_tree.specs.declared.tree.Argument.TheVariants as a
 use Rattle.star_tree.specs.declared.tree.Clause.{out-Clause}
 use Rattle.star_tree.specs.declared.tree.Parameter.{out-Parameter}
-use Rattle.star_tree.specs.declared.tree.Statement.{Statement, roll-Statement}
-use Rattle.star_tree.specs.declared.tree.Form.{Form, out-Form}
+use Rattle.star_tree.specs.declared.tree.Statement.{Statement}
+use Rattle.star_tree.specs.declared.tree.Form.{out-Form}
 use Rattle.star_tree.specs.declared.tree.Form.TheVariants as f
 use Rattle.star_tree.specs.declared.tree.Name.{Name}
-use Rattle.star_tree.specs.declared.tree.Position.{Position}
 use Rattle.star_store.specs.Store.{Shelf}
-use Rattle.star_scope.specs.declared.blocks.Block.{Block}
-use Rattle.star_scope.specs.Definitions.{Definition}
-use Rattle.star_scope.specs.Outlines.{Outline}
-use Rattle.star_meaning.specs.Program.{Setting}
+use Rattle.star_outline.specs.Outlines.{Outline}
 use Rattle.star_meaning.specs.Module.{union, local, Local, Good, Stopped}
 use Rattle.star_meaning.specs.declared.fault.FaultCode.TheVariants as code
-
-abbrev n : List ℕ → Name
-n t = record { text = t; position = record { line = 0; token = 0 } }
-
-abbrev v : List ℕ → Expression
-v t = e.Name (n t)
-
-abbrev to : List ℕ → Target
-to t' = t.Name (n t')
-
-abbrev at : ℕ → ℕ → Form → Statement
-at line token x = roll-Statement (record { position = record { line = line; token = token }; form = x })
-
-abbrev here : ℕ → Position
-here k = record { line = 0; token = k }
-
-abbrev one_file : List (List ℕ) → List Definition → List Block → Setting
-one_file names ds bs = record { home = 0; outlines = Some (record { definitions = ds; blocks = record { number = 0; names = names } ∷ bs; loaded = [] }) ∷ []; shelf = []; loads = []; prelude = None }
-
-abbrev i : ℕ → Expression
-i k = e.Int (pos k)
-
-abbrev s' : List ℕ → Expression
-s' k = e.Text k
-
-abbrev call : Expression → List Expression → Expression
-call g [] = e.Call g []
-call g (x ∷ []) = e.Call g (a.Positional x ∷ [])
-call g (x ∷ y ∷ more) = e.Call g (a.Positional x ∷ a.Positional y ∷ [])
-
-abbrev shown : Local → Local
-shown (Good shelf gs texts lines) = Good [] [] texts lines
-shown (Stopped f lines) = Stopped f lines
+use Rattle.star_meaning.proofs.Rows.{n, at, here, shown}
 
 abbrev reached : Local → Shelf
 reached (Good shelf gs ts ls) = shelf
 reached (Stopped f ls) = []
+
+-- a run of a file that loads nothing
+abbrev alone : List (Option Outline) → ℕ → ℕ → List Statement → Local
+alone outs home steps prog = local (record { home = home; outlines = outs; shelf = union []; loads = []; prelude = None }) steps prog
+
+-- a run of a file that has one load: the token of its label, and the file that it names
+abbrev over : Local → ℕ × ℕ → List (Option Outline) → ℕ → ℕ → List Statement → Local
+over below load outs home steps prog =
+    local (record { home = home; outlines = outs; shelf = union (reached below ∷ []); loads = load ∷ []; prelude = None }) steps prog
 
 abbrev absent_name_prog0 : List Statement
 absent_name_prog0 = ((at 1 101 (f.Load (record { text = (58 ∷ 98 ∷ 46 ∷ 115 ∷ 116 ∷ 97 ∷ 114 ∷ []); position = here 0 }) (record { local = n (113 ∷ []); loaded = record { text = (113 ∷ []); position = here 0 } } ∷ []))) ∷ [])
@@ -69,17 +41,11 @@ absent_name_prog1 = ((at 1 101 (f.Assign (t.Name (n (107 ∷ []))) (e.Int (pos 1
 abbrev absent_name_outs : List (Option Outline)
 absent_name_outs = Some (record { definitions = ([]); blocks = (record { number = 0; names = ((113 ∷ []) ∷ []) } ∷ []); loaded = ((113 ∷ []) ∷ []) }) ∷ Some (record { definitions = ([]); blocks = (record { number = 0; names = ((107 ∷ []) ∷ []) } ∷ []); loaded = ([]) }) ∷ []
 
-abbrev absent_name_w1 : Setting
-absent_name_w1 = record { home = 1; outlines = absent_name_outs; shelf = union ([]); loads = ([]); prelude = None }
-
 abbrev absent_name_m1 : Local
-absent_name_m1 = local absent_name_w1 1000000 absent_name_prog1
-
-abbrev absent_name_w0 : Setting
-absent_name_w0 = record { home = 0; outlines = absent_name_outs; shelf = union (reached absent_name_m1 ∷ []); loads = ((101, 1) ∷ []); prelude = None }
+absent_name_m1 = alone absent_name_outs 1 1000000 absent_name_prog1
 
 abbrev absent_name_m0 : Local
-absent_name_m0 = local absent_name_w0 1000000 absent_name_prog0
+absent_name_m0 = over absent_name_m1 (101, 1) absent_name_outs 0 1000000 absent_name_prog0
 
 -- a: load(":b.star", "q"); b: k = 1
 pub absent_name : (shown absent_name_m1 ≡ Good [] [] (((107 ∷ []), (49 ∷ [])) ∷ []) ([])) × (shown absent_name_m0 ≡ Stopped (record { code = code.NoName; line = 1 }) ([]))
@@ -98,23 +64,14 @@ loaded_there_prog2 = ((at 1 101 (f.Assign (t.Name (n (113 ∷ []))) (e.Int (pos 
 abbrev loaded_there_outs : List (Option Outline)
 loaded_there_outs = Some (record { definitions = ([]); blocks = (record { number = 0; names = ((113 ∷ []) ∷ []) } ∷ []); loaded = ((113 ∷ []) ∷ []) }) ∷ Some (record { definitions = ([]); blocks = (record { number = 0; names = ((113 ∷ []) ∷ []) } ∷ []); loaded = ((113 ∷ []) ∷ []) }) ∷ Some (record { definitions = ([]); blocks = (record { number = 0; names = ((113 ∷ []) ∷ []) } ∷ []); loaded = ([]) }) ∷ []
 
-abbrev loaded_there_w2 : Setting
-loaded_there_w2 = record { home = 2; outlines = loaded_there_outs; shelf = union ([]); loads = ([]); prelude = None }
-
 abbrev loaded_there_m2 : Local
-loaded_there_m2 = local loaded_there_w2 1000000 loaded_there_prog2
-
-abbrev loaded_there_w1 : Setting
-loaded_there_w1 = record { home = 1; outlines = loaded_there_outs; shelf = union (reached loaded_there_m2 ∷ []); loads = ((101, 2) ∷ []); prelude = None }
+loaded_there_m2 = alone loaded_there_outs 2 1000000 loaded_there_prog2
 
 abbrev loaded_there_m1 : Local
-loaded_there_m1 = local loaded_there_w1 1000000 loaded_there_prog1
-
-abbrev loaded_there_w0 : Setting
-loaded_there_w0 = record { home = 0; outlines = loaded_there_outs; shelf = union (reached loaded_there_m1 ∷ []); loads = ((101, 1) ∷ []); prelude = None }
+loaded_there_m1 = over loaded_there_m2 (101, 2) loaded_there_outs 1 1000000 loaded_there_prog1
 
 abbrev loaded_there_m0 : Local
-loaded_there_m0 = local loaded_there_w0 1000000 loaded_there_prog0
+loaded_there_m0 = over loaded_there_m1 (101, 1) loaded_there_outs 0 1000000 loaded_there_prog0
 
 -- a: load(":b.star", "q"); b: load(":c.star", "q"); c: q = 1
 pub loaded_there : (shown loaded_there_m2 ≡ Good [] [] (((113 ∷ []), (49 ∷ [])) ∷ []) ([])) × (shown loaded_there_m1 ≡ Good [] [] ([]) ([])) × (shown loaded_there_m0 ≡ Stopped (record { code = code.NoName; line = 1 }) ([]))
@@ -130,17 +87,11 @@ read_before_the_load_prog1 = ((at 1 101 (f.Assign (t.Name (n (107 ∷ []))) (e.I
 abbrev read_before_the_load_outs : List (Option Outline)
 read_before_the_load_outs = Some (record { definitions = ([]); blocks = (record { number = 0; names = ((120 ∷ []) ∷ (107 ∷ []) ∷ []) } ∷ []); loaded = ((107 ∷ []) ∷ []) }) ∷ Some (record { definitions = ([]); blocks = (record { number = 0; names = ((107 ∷ []) ∷ []) } ∷ []); loaded = ([]) }) ∷ []
 
-abbrev read_before_the_load_w1 : Setting
-read_before_the_load_w1 = record { home = 1; outlines = read_before_the_load_outs; shelf = union ([]); loads = ([]); prelude = None }
-
 abbrev read_before_the_load_m1 : Local
-read_before_the_load_m1 = local read_before_the_load_w1 1000000 read_before_the_load_prog1
-
-abbrev read_before_the_load_w0 : Setting
-read_before_the_load_w0 = record { home = 0; outlines = read_before_the_load_outs; shelf = union (reached read_before_the_load_m1 ∷ []); loads = ((102, 1) ∷ []); prelude = None }
+read_before_the_load_m1 = alone read_before_the_load_outs 1 1000000 read_before_the_load_prog1
 
 abbrev read_before_the_load_m0 : Local
-read_before_the_load_m0 = local read_before_the_load_w0 1000000 read_before_the_load_prog0
+read_before_the_load_m0 = over read_before_the_load_m1 (102, 1) read_before_the_load_outs 0 1000000 read_before_the_load_prog0
 
 -- a: x = k ⏎ load(":b.star", "k"); b: k = 1
 pub read_before_the_load : (shown read_before_the_load_m1 ≡ Good [] [] (((107 ∷ []), (49 ∷ [])) ∷ []) ([])) × (shown read_before_the_load_m0 ≡ Stopped (record { code = code.Unbound; line = 1 }) ([]))
@@ -156,17 +107,11 @@ two_names_prog1 = ((at 1 101 (f.Assign (t.Name (n (107 ∷ []))) (e.Int (pos 1))
 abbrev two_names_outs : List (Option Outline)
 two_names_outs = Some (record { definitions = ([]); blocks = (record { number = 0; names = ((107 ∷ []) ∷ (106 ∷ []) ∷ (120 ∷ []) ∷ []) } ∷ []); loaded = ((107 ∷ []) ∷ (106 ∷ []) ∷ []) }) ∷ Some (record { definitions = ([]); blocks = (record { number = 0; names = ((107 ∷ []) ∷ []) } ∷ []); loaded = ([]) }) ∷ []
 
-abbrev two_names_w1 : Setting
-two_names_w1 = record { home = 1; outlines = two_names_outs; shelf = union ([]); loads = ([]); prelude = None }
-
 abbrev two_names_m1 : Local
-two_names_m1 = local two_names_w1 6 two_names_prog1
-
-abbrev two_names_w0 : Setting
-two_names_w0 = record { home = 0; outlines = two_names_outs; shelf = union (reached two_names_m1 ∷ []); loads = ((101, 1) ∷ []); prelude = None }
+two_names_m1 = alone two_names_outs 1 6 two_names_prog1
 
 abbrev two_names_m0 : Local
-two_names_m0 = local two_names_w0 6 two_names_prog0
+two_names_m0 = over two_names_m1 (101, 1) two_names_outs 0 6 two_names_prog0
 
 -- a: load(":b.star", "k", j = "k") ⏎ x = j; b: k = 1
 pub two_names : (shown two_names_m1 ≡ Good [] [] (((107 ∷ []), (49 ∷ [])) ∷ []) ([])) × (shown two_names_m0 ≡ Good [] [] (((120 ∷ []), (49 ∷ [])) ∷ []) ([]))

@@ -33,16 +33,16 @@ function_too trees u w t s o k f h = record { statements = h.statements; chain =
 
 -- ---- the functions that a module sees which loads another
 
-abbrev cells_in : Option Published → List HeapCell
+abbrev pub cells_in : Option Published → List HeapCell
 cells_in None = []
 cells_in (Some p) = p.cells
 
-flat_cells : (o : Option (Option Published)) → published_cells o ≡ cells_in (option_flatten o)
+pub flat_cells : (o : Option (Option Published)) → published_cells o ≡ cells_in (option_flatten o)
 flat_cells None = refl
 flat_cells (Some None) = refl
 flat_cells (Some (Some p)) = refl
 
-equal_numbers : (m n : ℕ) → nat_eq m n ≡ true → m ≡ n
+pub equal_numbers : (m n : ℕ) → nat_eq m n ≡ true → m ≡ n
 equal_numbers m n e = grind (arith, e)
 
 other_number : (b : Bool) (m n : ℕ) → nat_eq m n ≡ b → (m ≡ n → ⊥) → b ≡ false

@@ -2,7 +2,7 @@
 use Rattle.std.proofs.Common.{◌≡◌, ℕ, zero, suc, ◌+◌, List, refl, false}
 use Rattle.star_store.specs.declared.values.Value.{Value}
 use Rattle.star_tree.specs.declared.tree.Statement.{Statement}
-use Rattle.star_scope.specs.Syntax.{expression, target, position_of, form_of}
+use Rattle.star_outline.specs.Syntax.{expression, target, position_of, form_of}
 use Rattle.star_meaning.specs.Run.{Outcome, Done, Failed}
 use Rattle.star_meaning.specs.Program.{Setting, Variables}
 use Rattle.star_meaning.specs.Variables.{by_names}

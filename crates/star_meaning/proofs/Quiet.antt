@@ -17,7 +17,7 @@ use Rattle.star_store.specs.Spend.{Spend, Spent, Enough, Lacks}
 use Rattle.star_store.specs.Write.{allowed, made_if, in_store, cell_at}
 use Rattle.star_meaning.specs.declared.fault.FaultCode.{FaultCode}
 use Rattle.star_meaning.specs.declared.fault.FaultCode.TheVariants as code
-use Rattle.star_meaning.specs.Run.{State, Outcome, Done, Failed, Action, and_then, ◌>>=◌, give, fail, pay, check, found, code_of, agreed, settled, visiting, seeing, storing, make, build, each, all_of, collect, until, add_line}
+use Rattle.star_meaning.specs.Run.{State, Outcome, Done, Failed, Action, and_then, ◌>>=◌, give, fail, pay, check, found, settled, visiting, seeing, storing, make, build, add_line}
 use Rattle.star_meaning.specs.Program.{Setting}
 use Rattle.star_meaning.specs.Values.{written, change, iterate, leave, count_of}
 use Rattle.star_meaning.specs.Laws.{KeepsFrame, KeepsKind}
@@ -167,26 +167,6 @@ keeps_build_bound line cost m v = built line cost (cell.Bound m v) (keeps_make_b
 
 -- ---- loops
 
-pub keeps_each : {A B : Type 0} (f : A → Action B) (xs : List A) → ((x : A) → Keeps (f x)) → Keeps (each f xs)
-keeps_each {B = B} f [] k = keeps_give {A = List B} []
-keeps_each {B = B} f (x ∷ xs) k = keeps_then _ _ (k x) (λ y. keeps_then _ _ (keeps_each f xs k) (λ ys. keeps_give (y ∷ ys)))
-
-pub keeps_all_of : {A : Type 0} (f : A → Action (Unit {0})) (xs : List A) → ((x : A) → Keeps (f x)) → Keeps (all_of f xs)
-keeps_all_of f [] k = keeps_give {A = Unit {0}} tt
-keeps_all_of f (x ∷ xs) k = keeps_then _ _ (k x) (λ _. keeps_all_of f xs k)
-
-pub keeps_collect : {B : Type 0} (f : ℕ → Action B) (n i : ℕ) → ((i : ℕ) → Keeps (f i)) → Keeps (collect f n i)
-keeps_collect {B = B} f zero i k = keeps_give {A = List B} []
-keeps_collect {B = B} f (suc n) i k = keeps_then _ _ (k i) (λ y. keeps_then _ _ (keeps_collect f n (i + 1) k) (λ ys. keeps_give (y ∷ ys)))
-
-pub keeps_until : (f : ℕ → Action Bool) (n i : ℕ) → ((i : ℕ) → Keeps (f i)) → Keeps (until f n i)
-keeps_until f zero i k = keeps_give false
-keeps_until f (suc n) i k = keeps_then _ _ (k i) (λ stop. keeps_if stop _ _ (keeps_give true) (keeps_until f n (i + 1) k))
-
-pub keeps_agreed : {A : Type 0} (line : ℕ) (r : Result A StoreFault) → Keeps (agreed line r)
-keeps_agreed {A = A} line (Ok x) = keeps_give x
-keeps_agreed {A = A} line (Err f) = keeps_fail A (code_of f) line
-
 settled_follows : {A : Type 0} (line : ℕ) (s : State) (o : Spent A) → Followed s (settled line o s)
 settled_follows line s (Enough x left) = follows_same s s.active left s.lines
 settled_follows line s (Lacks f left) = tt
@@ -287,7 +267,7 @@ pub keeps_bound : (frame : Value) (slot : ℕ) (v : Value) → Keeps (storing (b
 keeps_bound frame slot v = record { holds = λ s. follows_stays s _ ((stays.keeps_bound frame slot v).holds s) (not_longer _ _ (changed_length (λ e. record e { cell = bound_cell slot v e.cell }) frame s.store)) }
 
 -- a change that leaves the content of each cell
-same_cells : (f : HeapCell → HeapCell) → ((e : HeapCell) → (f e).cell ≡ e.cell) → (xs : List HeapCell) (i at : ℕ) → cell_at (changed_at f xs i) at ≡ cell_at xs at
+pub same_cells : (f : HeapCell → HeapCell) → ((e : HeapCell) → (f e).cell ≡ e.cell) → (xs : List HeapCell) (i at : ℕ) → cell_at (changed_at f xs i) at ≡ cell_at xs at
 same_cells f h [] i at = refl
 same_cells f h (x ∷ xs) zero zero = ap Some (h x)
 same_cells f h (x ∷ xs) zero (suc at) = refl
@@ -311,11 +291,11 @@ changing f h v = record {
   };
 }
 
-open_cell : (b : Bool) (e : HeapCell) → (if b then record e { iterations = e.iterations + 1 } else e).cell ≡ e.cell
+pub open_cell : (b : Bool) (e : HeapCell) → (if b then record e { iterations = e.iterations + 1 } else e).cell ≡ e.cell
 open_cell true e = refl
 open_cell false e = refl
 
-close_cell : (b : Bool) (e : HeapCell) → (if b then record e { iterations = e.iterations - 1 } else e).cell ≡ e.cell
+pub close_cell : (b : Bool) (e : HeapCell) → (if b then record e { iterations = e.iterations - 1 } else e).cell ≡ e.cell
 close_cell true e = refl
 close_cell false e = refl
 

@@ -10,9 +10,9 @@ use Rattle.star_store.specs.declared.values.Frame.{Frame}
 use Rattle.star_store.specs.Store.{global_of}
 use Rattle.star_scope.specs.declared.spot.Spot.{Spot}
 use Rattle.star_scope.specs.declared.spot.Spot.TheVariants as spot
-use Rattle.star_scope.specs.Names.{Names, same_name, slot_of, has_name}
-use Rattle.star_scope.specs.declared.blocks.Block.{Block}
-use Rattle.star_scope.specs.Outlines.{names_in}
+use Rattle.star_outline.specs.Names.{Names, same_name, slot_of, has_name}
+use Rattle.star_outline.specs.declared.blocks.Block.{Block}
+use Rattle.star_outline.specs.Outlines.{names_in}
 use Rattle.star_scope.specs.Places.{IsPlaced, chain_length, or_further, spot_in, outside_spot, outermost_names}
 use Rattle.star_scope.specs.Uses.{Named}
 use Rattle.star_tree.specs.declared.tree.Name.{Name}

@@ -6,10 +6,10 @@ use Rattle.star_tree.specs.declared.tree.Statement.{Statement}
 use Rattle.star_scope.specs.declared.program.Prelude.{Prelude}
 use Rattle.star_scope.specs.declared.program.Program.{Program}
 use Rattle.star_scope.specs.declared.spot.Spot.{Spot}
-use Rattle.star_scope.specs.declared.blocks.Block.{Block}
-use Rattle.star_scope.specs.Definitions.{AllDiffer, Definition}
-use Rattle.star_scope.specs.Names.{Names}
-use Rattle.star_scope.specs.Outlines.{Outline, names_in, outline, file_names}
+use Rattle.star_outline.specs.declared.blocks.Block.{Block}
+use Rattle.star_outline.specs.Definitions.{AllDiffer, Definition}
+use Rattle.star_outline.specs.Names.{Names}
+use Rattle.star_outline.specs.Outlines.{Outline, names_in, outline, file_names}
 use Rattle.star_scope.specs.Places.{AllPlaced, Spots}
 use Rattle.star_scope.specs.Resolve.{IsProgram, prelude_names, seen_by}
 use Rattle.star_scope.specs.Spots.{spot_at}

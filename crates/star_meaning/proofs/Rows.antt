@@ -18,13 +18,13 @@ use Rattle.star_tree.specs.declared.tree.Form.TheVariants as f
 use Rattle.star_tree.specs.declared.tree.BinaryOperator.TheVariants as op
 use Rattle.star_tree.specs.declared.tree.Name.{Name}
 use Rattle.star_tree.specs.declared.tree.Position.{Position}
-use Rattle.star_scope.specs.declared.blocks.Block.{Block}
-use Rattle.star_scope.specs.Definitions.{Definition, Statements}
+use Rattle.star_outline.specs.declared.blocks.Block.{Block}
+use Rattle.star_outline.specs.Definitions.{Definition, Statements}
 use Rattle.star_meaning.specs.Program.{Setting}
 use Rattle.star_meaning.specs.Module.{local, Local, Good, Stopped}
 use Rattle.star_meaning.specs.declared.fault.FaultCode.TheVariants as code
 
-abbrev n : List ℕ → Name
+abbrev pub n : List ℕ → Name
 n t = record { text = t; position = record { line = 0; token = 0 } }
 
 abbrev v : List ℕ → Expression
@@ -33,10 +33,10 @@ v t = e.Name (n t)
 abbrev to : List ℕ → Target
 to t' = t.Name (n t')
 
-abbrev at : ℕ → ℕ → Form → Statement
+abbrev pub at : ℕ → ℕ → Form → Statement
 at line token x = roll-Statement (record { position = record { line = line; token = token }; form = x })
 
-abbrev here : ℕ → Position
+abbrev pub here : ℕ → Position
 here k = record { line = 0; token = k }
 
 abbrev one_file : List (List ℕ) → List Definition → List Block → Setting
@@ -53,7 +53,7 @@ call g [] = e.Call g []
 call g (x ∷ []) = e.Call g (a.Positional x ∷ [])
 call g (x ∷ y ∷ more) = e.Call g (a.Positional x ∷ a.Positional y ∷ [])
 
-abbrev shown : Local → Local
+abbrev pub shown : Local → Local
 shown (Good shelf gs texts lines) = Good [] [] texts lines
 shown (Stopped f lines) = Stopped f lines
 

@@ -1,6 +1,6 @@
 -- Every run keeps the invariants of its parts, by induction on the levels that may still be opened.
 use Rattle.std.proofs.Common.{ℕ, zero, suc}
-use Rattle.star_scope.specs.Syntax.{expression, target, position_of, form_of}
+use Rattle.star_outline.specs.Syntax.{expression, target, position_of, form_of}
 use Rattle.star_meaning.specs.Program.{Setting, Variables}
 use Rattle.star_meaning.specs.Variables.{by_names}
 use Rattle.star_meaning.specs.Semantics.{Semantics}

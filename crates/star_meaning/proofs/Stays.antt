@@ -20,17 +20,14 @@ use Rattle.star_tree.specs.declared.tree.Name.{Name}
 use Rattle.star_meaning.specs.declared.fault.FaultCode.{FaultCode}
 use Rattle.star_meaning.specs.declared.fault.FaultCode.TheVariants as code
 use Rattle.star_meaning.specs.declared.site.Site.{Site}
-use Rattle.star_meaning.specs.declared.site.Flow.{Flow}
-use Rattle.star_meaning.specs.declared.site.Flow.TheVariants as flow
-use Rattle.star_meaning.specs.Run.{State, Outcome, Done, Failed, Action, and_then, ◌>>=◌, give, fail, pay, check, found, code_of, agreed, settled, visiting, seeing, storing, make, build, each, all_of, collect, until, add_line}
-use Rattle.star_scope.specs.Definitions.{Definition}
+use Rattle.star_meaning.specs.Run.{State, Outcome, Done, Failed, Action, and_then, ◌>>=◌, give, fail, pay, found, settled, visiting, seeing, storing, make, build, add_line}
+use Rattle.star_outline.specs.Definitions.{Definition}
 use Rattle.star_meaning.specs.Program.{Setting, Variables}
 use Rattle.star_meaning.specs.Values.{written, change, iterate, leave, count_of, count_in, content}
-use Rattle.std.proofs.lemmas.Bool.{eqb-true}
+use Rattle.std.proofs.lemmas.Bool.{and_parts, eqb-true}
 use Rattle.star_store.specs.declared.fault.StoreFault.TheVariants as refused
 use Rattle.star_meaning.specs.Binding.{BoundArgument}
 use Rattle.star_meaning.specs.Laws.{KeepsFrame, KeepsKind, KeepsCell}
-use Rattle.star_meaning.specs.Semantics.{Semantics, then_go, block, then_turn, turns, repeat}
 use Rattle.star_meaning.specs.Calls.{activate, deactivate, rest_of}
 
 kind_same : (c : Cell) → KeepsKind c c
@@ -116,14 +113,6 @@ keeps_give x = record { holds = λ s. stays_same s s.steps s.lines }
 pub keeps_fail : (A : Type 0) (c : FaultCode) (line : ℕ) → Keeps (fail {A = A} c line)
 keeps_fail A c line = record { holds = λ s. tt }
 
-pub keeps_if : {A : Type 0} (b : Bool) (m n : Action A) → Keeps m → Keeps n → Keeps (if b then m else n)
-keeps_if true m n k l = k
-keeps_if false m n k l = l
-
-pub keeps_found : {A : Type 0} (c : FaultCode) (line : ℕ) (o : Option A) → Keeps (found c line o)
-keeps_found {A = A} c line None = keeps_fail A c line
-keeps_found {A = A} c line (Some x) = keeps_give x
-
 paid : (b : Bool) (line n : ℕ) (s : State) → Preserved {A = Unit {0}} s (if b then fail code.Steps line s else Done tt (record s { steps = s.steps - n }))
 paid true line n s = tt
 paid false line n s = stays_same s (s.steps - n) s.lines
@@ -134,9 +123,6 @@ keeps_pay line n = record { holds = λ s. paid (nat_lt s.steps n) line n s }
 
 pub keeps_seeing : {A : Type 0} (f : State → Action A) → ((s : State) → Keeps (f s)) → Keeps (seeing f)
 keeps_seeing f k = record { holds = λ s. (k s).holds s }
-
-pub keeps_check : (c : FaultCode) (line : ℕ) (b : Bool) → Keeps (check c line b)
-keeps_check c line b = keeps_if b _ _ (keeps_give {A = Unit {0}} tt) (keeps_fail (Unit {0}) c line)
 
 get_more : (xs ys : List HeapCell) (at : ℕ) (a : HeapCell) → slice_get xs at ≡ Some a → slice_get (xs ++ ys) at ≡ Some a
 get_more [] ys at a h = cc
@@ -163,26 +149,6 @@ keeps_make c = record {
 pub keeps_build : (line cost : ℕ) (c : Cell) → Keeps (build line cost c)
 unfolding build
 keeps_build line cost c = keeps_then _ _ (keeps_pay line cost) (λ _. keeps_make c)
-
-pub keeps_each : {A B : Type 0} (f : A → Action B) (xs : List A) → ((x : A) → Keeps (f x)) → Keeps (each f xs)
-keeps_each {B = B} f [] k = keeps_give {A = List B} []
-keeps_each {B = B} f (x ∷ xs) k = keeps_then _ _ (k x) (λ y. keeps_then _ _ (keeps_each f xs k) (λ ys. keeps_give (y ∷ ys)))
-
-pub keeps_all_of : {A : Type 0} (f : A → Action (Unit {0})) (xs : List A) → ((x : A) → Keeps (f x)) → Keeps (all_of f xs)
-keeps_all_of f [] k = keeps_give {A = Unit {0}} tt
-keeps_all_of f (x ∷ xs) k = keeps_then _ _ (k x) (λ _. keeps_all_of f xs k)
-
-pub keeps_collect : {B : Type 0} (f : ℕ → Action B) (n i : ℕ) → ((i : ℕ) → Keeps (f i)) → Keeps (collect f n i)
-keeps_collect {B = B} f zero i k = keeps_give {A = List B} []
-keeps_collect {B = B} f (suc n) i k = keeps_then _ _ (k i) (λ y. keeps_then _ _ (keeps_collect f n (i + 1) k) (λ ys. keeps_give (y ∷ ys)))
-
-pub keeps_until : (f : ℕ → Action Bool) (n i : ℕ) → ((i : ℕ) → Keeps (f i)) → Keeps (until f n i)
-keeps_until f zero i k = keeps_give false
-keeps_until f (suc n) i k = keeps_then _ _ (k i) (λ stop. keeps_if stop _ _ (keeps_give true) (keeps_until f n (i + 1) k))
-
-pub keeps_agreed : {A : Type 0} (line : ℕ) (r : Result A StoreFault) → Keeps (agreed line r)
-keeps_agreed {A = A} line (Ok x) = keeps_give x
-keeps_agreed {A = A} line (Err f) = keeps_fail A (code_of f) line
 
 settled_stays : {A : Type 0} (line : ℕ) (s : State) (o : Spent A) → Preserved s (settled line o s)
 settled_stays line s (Enough x left) = stays_same s left s.lines
@@ -309,18 +275,10 @@ same_place zero (suc n) h = cc
 same_place (suc m) zero h = cc
 same_place (suc m) (suc n) h = ap suc (same_place m n h)
 
-left_of : (a b : Bool) → (a && b) ≡ true → a ≡ true
-left_of true b h = refl
-left_of false b h = cc
-
-right_of : (a b : Bool) → (a && b) ≡ true → b ≡ true
-right_of true b h = h
-right_of false b h = cc
-
 looked : (s : Store) (shelf : Shelf) (v : Value) (at : ℕ) (a : HeapCell) → slice_get s.cells at ≡ Some a → is_at v s.home at ≡ true → (look s shelf v ≡ Some a.cell) × (iterations_of s v ≡ iterations_in (Some a))
 looked s shelf (value.Ref home i) at a h e =
-    let own : nat_eq home s.home ≡ true = left_of (nat_eq home s.home) (one_place i at) e in
-    let place : i ≡ at = same_place i at (right_of (nat_eq home s.home) (one_place i at) e) in
+    let own : nat_eq home s.home ≡ true = (and_parts (nat_eq home s.home) (one_place i at) e).0 in
+    let place : i ≡ at = same_place i at (and_parts (nat_eq home s.home) (one_place i at) e).1 in
     (rw own (rw place (rw h refl)), rw own (rw place (rw h refl)))
 looked s shelf _ at a h e = cc
 
@@ -424,27 +382,3 @@ active_stays f s (Failed e lines) h = tt
 pub keeps_active : {A : Type 0} (f : Function) (m : Action A) → Keeps m → Keeps (activate f >>= λ _. m >>= λ v. deactivate >>= λ _. give v)
 unfolding activate deactivate
 keeps_active f m k = record { holds = λ s. active_stays f s (m (record s { active = (f.file, f.definition) ∷ s.active })) (k.holds _) }
-
-pub keeps_then_go : (rest : Action Flow) (f : Flow) → Keeps rest → Keeps (then_go rest f)
-keeps_then_go rest flow.Next k = k
-keeps_then_go rest flow.Break k = keeps_give _
-keeps_then_go rest flow.Continue k = keeps_give _
-keeps_then_go rest (flow.Return v) k = keeps_give _
-
-pub keeps_block : {A : Type 0} (f : A → Action Flow) (xs : List A) → ((x : A) → Keeps (f x)) → Keeps (block f xs)
-keeps_block f [] k = keeps_give _
-keeps_block f (x ∷ xs) k = keeps_then _ _ (k x) (λ y. keeps_then_go _ y (keeps_block f xs k))
-
-pub keeps_then_turn : (rest : Action Flow) (f : Flow) → Keeps rest → Keeps (then_turn rest f)
-keeps_then_turn rest flow.Next k = k
-keeps_then_turn rest flow.Break k = keeps_give _
-keeps_then_turn rest flow.Continue k = k
-keeps_then_turn rest (flow.Return v) k = keeps_give _
-
-pub keeps_turns : (f : ℕ → Action Flow) (n i : ℕ) → ((i : ℕ) → Keeps (f i)) → Keeps (turns f n i)
-keeps_turns f zero i k = keeps_give _
-keeps_turns f (suc n) i k = keeps_then _ _ (k i) (λ y. keeps_then_turn _ y (keeps_turns f n (i + 1) k))
-
-pub keeps_repeat : (f : ℕ → Action (Unit {0})) (n i : ℕ) → ((i : ℕ) → Keeps (f i)) → Keeps (repeat f n i)
-keeps_repeat f zero i k = keeps_give {A = Unit {0}} tt
-keeps_repeat f (suc n) i k = keeps_then _ _ (k i) (λ _. keeps_repeat f n (i + 1) k)

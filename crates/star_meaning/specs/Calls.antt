@@ -15,9 +15,9 @@ use Rattle.star_meaning.specs.declared.fault.FaultCode.TheVariants as code
 use Rattle.star_meaning.specs.declared.site.Site.{Site}
 use Rattle.star_meaning.specs.declared.site.Flow.{Flow}
 use Rattle.star_meaning.specs.declared.site.Flow.TheVariants as flow
-use Rattle.star_scope.specs.Syntax.{ArgumentForm, argument}
+use Rattle.star_outline.specs.Syntax.{ArgumentForm, argument}
 use Rattle.star_meaning.specs.Run.{State, Action, Done, ◌>>=◌, give, fail, pay, check, found, each, all_of, seeing}
-use Rattle.star_scope.specs.Definitions.{Definition, Body, Statements, Answer}
+use Rattle.star_outline.specs.Definitions.{Definition, Body, Statements, Answer}
 use Rattle.star_meaning.specs.Program.{Setting, Variables, definition_of}
 use Rattle.star_meaning.specs.Values.{Content, BuiltInFunction, Held, with_content}
 use Rattle.star_meaning.specs.declared.given.Arguments.{Arguments}

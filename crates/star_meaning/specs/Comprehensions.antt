@@ -10,7 +10,7 @@ use Rattle.star_tree.specs.declared.tree.Clauses.{Clauses, out-Clauses}
 use Rattle.star_tree.specs.declared.tree.Entry.{Entry, out-Entry}
 use Rattle.star_tree.specs.declared.tree.Argument.TheOpen as tree
 use Rattle.star_meaning.specs.declared.site.Site.{Site}
-use Rattle.star_scope.specs.Syntax.{ClauseForm, clause}
+use Rattle.star_outline.specs.Syntax.{ClauseForm, clause}
 use Rattle.star_meaning.specs.Run.{Action, ◌>>=◌, give, pay, build}
 use Rattle.star_meaning.specs.Program.{Setting, Variables}
 use Rattle.star_meaning.specs.Values.{take_item, iterate, leave, is_true, check_key, change}

@@ -9,7 +9,7 @@ use Rattle.star_tree.specs.declared.tree.Parameter.{Parameter}
 use Rattle.star_tree.specs.declared.tree.Argument.TheOpen as tree
 use Rattle.star_meaning.specs.declared.fault.FaultCode.TheVariants as code
 use Rattle.star_meaning.specs.declared.site.Site.{Site}
-use Rattle.star_scope.specs.Syntax.{ExpressionForm, ParameterForm, parameter}
+use Rattle.star_outline.specs.Syntax.{ExpressionForm, ParameterForm, parameter}
 use Rattle.star_meaning.specs.Run.{Action, ◌>>=◌, give, check, each, build, seeing}
 use Rattle.star_meaning.specs.Program.{Setting, Variables}
 use Rattle.star_meaning.specs.Values.{is_true, check_key, new_text, new_tuple, new_list, new_dict, place_in}

@@ -5,7 +5,7 @@ use Rattle.std.specs.Option.{option_map}
 use Rattle.star_store.specs.declared.values.Value.{Value}
 use Rattle.star_meaning.specs.declared.fault.FaultCode.TheVariants as code
 use Rattle.star_meaning.specs.Run.{Action, ◌>>=◌, give, fail, found}
-use Rattle.star_scope.specs.Names.{same_name}
+use Rattle.star_outline.specs.Names.{same_name}
 use Rattle.star_meaning.specs.Program.{Setting}
 use Rattle.star_meaning.specs.Values.{str}
 use Rattle.star_meaning.specs.declared.given.Arguments.{Arguments}

@@ -3,9 +3,9 @@ use Rattle.std.specs.Prelude.{ℕ, List, [], map, Option, Some, None, slice_get}
 use Rattle.std.specs.Option.{option_map, option_flatten}
 use Rattle.star_store.specs.Store.{Shelf}
 use Rattle.star_tree.specs.declared.tree.Statement.{Statement}
-use Rattle.star_scope.specs.Outlines.{Outline}
+use Rattle.star_outline.specs.Outlines.{Outline}
 use Rattle.star_meaning.specs.Program.{Setting}
-use Rattle.star_scope.specs.Outlines.{outline}
+use Rattle.star_outline.specs.Outlines.{outline}
 use Rattle.star_meaning.specs.Module.{Local, Good, Stopped, local, union}
 
 -- the statements of files, by their numbers

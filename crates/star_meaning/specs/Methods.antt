@@ -8,7 +8,7 @@ use Rattle.star_store.specs.declared.names.Method.TheVariants as method
 use Rattle.star_store.specs.Names.{method_name, receiver_type}
 use Rattle.star_meaning.specs.declared.fault.FaultCode.TheVariants as code
 use Rattle.star_meaning.specs.Run.{Action, ◌>>=◌, fail, found, build}
-use Rattle.star_scope.specs.Names.{same_name}
+use Rattle.star_outline.specs.Names.{same_name}
 use Rattle.star_meaning.specs.Program.{Setting}
 use Rattle.star_meaning.specs.Values.{with_content, type_name, want_text}
 use Rattle.star_meaning.specs.declared.given.Arguments.{Arguments}

@@ -10,10 +10,10 @@ use Rattle.star_tree.specs.declared.tree.Statement.{Statement}
 use Rattle.star_meaning.specs.declared.fault.FaultCode.TheVariants as code
 use Rattle.star_meaning.specs.declared.fault.Fault.{Fault}
 use Rattle.star_meaning.specs.declared.site.Site.{Site}
-use Rattle.star_scope.specs.Syntax.{expression, target, position_of, form_of}
+use Rattle.star_outline.specs.Syntax.{expression, target, position_of, form_of}
 use Rattle.star_meaning.specs.Run.{State, Action, Outcome, Done, Failed, ◌>>=◌, give, fail, pay, each, seeing}
-use Rattle.star_scope.specs.Outlines.{Outline}
-use Rattle.star_scope.specs.Names.{same_name}
+use Rattle.star_outline.specs.Outlines.{Outline}
+use Rattle.star_outline.specs.Names.{same_name}
 use Rattle.star_meaning.specs.Program.{Setting, Variables, outline_of, names_of, seen}
 use Rattle.star_meaning.specs.Variables.{frame_of, by_names}
 use Rattle.star_meaning.specs.Values.{repr}

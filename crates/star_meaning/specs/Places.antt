@@ -14,13 +14,13 @@ use Rattle.star_meaning.specs.declared.site.Site.{Site}
 use Rattle.star_meaning.specs.Run.{State, Outcome, Done, Failed, Action, found, seeing, make}
 use Rattle.star_scope.specs.declared.spot.Spot.{Spot}
 use Rattle.star_scope.specs.declared.spot.Spot.TheVariants as spot
-use Rattle.star_scope.specs.Names.{Names}
-use Rattle.star_scope.specs.Definitions.{AllDiffer}
+use Rattle.star_outline.specs.Names.{Names}
+use Rattle.star_outline.specs.Definitions.{AllDiffer}
 use Rattle.star_scope.specs.Places.{Spots, AllPlaced, IsPlaced}
 use Rattle.star_meaning.specs.Program.{Setting, Variables, names_of, blocks_of, published_of, seen}
 use Rattle.star_meaning.specs.Variables.{frame_of, bind_at, bind_name, by_names, outermost, read_name}
 use Rattle.star_meaning.specs.Module.{Ended, run_file, most_levels, start}
-use Rattle.star_scope.specs.Outlines.{outline}
+use Rattle.star_outline.specs.Outlines.{outline}
 use Rattle.star_scope.specs.Uses.{Named, Defined, uses}
 use Rattle.star_meaning.specs.Local.{Trees, outlines}
 

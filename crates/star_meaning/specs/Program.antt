@@ -6,10 +6,10 @@ use Rattle.star_store.specs.declared.values.Value.{Value}
 use Rattle.star_store.specs.declared.values.Cell.{Cell}
 use Rattle.star_store.specs.Store.{Shelf, Published, look}
 use Rattle.star_tree.specs.declared.tree.Name.{Name}
-use Rattle.star_scope.specs.Names.{Names}
-use Rattle.star_scope.specs.declared.blocks.Block.{Block}
-use Rattle.star_scope.specs.Definitions.{Definition, definition_in}
-use Rattle.star_scope.specs.Outlines.{Outline, names_in}
+use Rattle.star_outline.specs.Names.{Names}
+use Rattle.star_outline.specs.declared.blocks.Block.{Block}
+use Rattle.star_outline.specs.Definitions.{Definition, definition_in}
+use Rattle.star_outline.specs.Outlines.{Outline, names_in}
 use Rattle.star_meaning.specs.declared.site.Site.{Site}
 use Rattle.star_meaning.specs.Run.{State, Action}
 

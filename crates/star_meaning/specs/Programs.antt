@@ -8,7 +8,7 @@ use Rattle.star_scope.specs.declared.program.Prelude.{Prelude}
 use Rattle.star_scope.specs.declared.program.Program.{Program}
 use Rattle.star_scope.specs.declared.spot.Spot.{Spot}
 use Rattle.star_scope.specs.Loads.{Read}
-use Rattle.star_scope.specs.Outlines.{Outline, names_in, outline}
+use Rattle.star_outline.specs.Outlines.{Outline, names_in, outline}
 use Rattle.star_scope.specs.Places.{Spots}
 use Rattle.star_scope.specs.Resolve.{IsProgram, prelude_names}
 use Rattle.star_scope.specs.Spots.{spot_at}

@@ -11,7 +11,7 @@ use Rattle.star_meaning.specs.declared.site.Site.{Site}
 use Rattle.star_meaning.specs.declared.site.Flow.{Flow}
 use Rattle.star_meaning.specs.declared.site.Flow.TheVariants as flow
 use Rattle.star_meaning.specs.Run.{Action, ◌>>=◌, give}
-use Rattle.star_scope.specs.Definitions.{Definition}
+use Rattle.star_outline.specs.Definitions.{Definition}
 use Rattle.star_meaning.specs.Binding.{BoundArgument}
 
 -- the value of an index target, and its old item: read before an augmented assignment

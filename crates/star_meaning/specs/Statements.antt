@@ -19,7 +19,7 @@ use Rattle.star_meaning.specs.declared.fault.FaultCode.TheVariants as code
 use Rattle.star_meaning.specs.declared.site.Site.{Site}
 use Rattle.star_meaning.specs.declared.site.Flow.{Flow}
 use Rattle.star_meaning.specs.declared.site.Flow.TheVariants as flow
-use Rattle.star_scope.specs.Syntax.{StatementForm, TargetForm, target}
+use Rattle.star_outline.specs.Syntax.{StatementForm, TargetForm, target}
 use Rattle.star_meaning.specs.Run.{Action, ◌>>=◌, give, fail, found, all_of}
 use Rattle.star_meaning.specs.Program.{Setting, Variables, file_of, published_of}
 use Rattle.star_meaning.specs.Values.{Content, Held, with_content, take_item, iterate, leave, is_true, guard}

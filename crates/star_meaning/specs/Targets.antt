@@ -6,7 +6,7 @@ use Rattle.star_tree.specs.declared.tree.Expression.{Expression}
 use Rattle.star_tree.specs.declared.tree.Argument.TheOpen as tree
 use Rattle.star_meaning.specs.declared.fault.FaultCode.TheVariants as code
 use Rattle.star_meaning.specs.declared.site.Site.{Site}
-use Rattle.star_scope.specs.Syntax.{TargetForm, target}
+use Rattle.star_outline.specs.Syntax.{TargetForm, target}
 use Rattle.star_meaning.specs.Run.{Action, ◌>>=◌, give, fail, check}
 use Rattle.star_meaning.specs.Program.{Setting, Variables}
 use Rattle.star_meaning.specs.Values.{take_all}

@@ -17,7 +17,7 @@ use Rattle.star_meaning.specs.declared.fault.FaultCode.TheVariants as code
 use Rattle.star_meaning.specs.declared.site.Site.{Site}
 use Rattle.star_meaning.specs.Run.{State, Action, give, found, seeing, storing, make}
 use Rattle.star_scope.specs.Loads.{is_private}
-use Rattle.star_scope.specs.Names.{same_name, slot_of}
+use Rattle.star_outline.specs.Names.{same_name, slot_of}
 use Rattle.star_scope.specs.Places.{chain_length}
 use Rattle.star_meaning.specs.Program.{Setting, Variables, names_of, published_of, seen}
 

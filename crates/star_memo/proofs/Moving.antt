@@ -1,11 +1,10 @@
 -- Several threads may parse texts: the data that they share, and the results that they hand back.
 use Rattle.std.proofs.Common.{ℕ, List, [], ◌∷◌}
 use denote.Builtin.{usize}
-use denote.Hole.{shared_at}
 use denote.RattleType.{RattleType}
 use denote.Ref.{NamedLft}
 use denote.Struct.Tuple.{Tuple, TupleAt}
-use denote.Param.Send.{AllSync, IsSend, IsSync, sendable}
+use denote.Param.Send.{IsSend, IsSync, sendable}
 use denote.Param.SendFields.{variants_send}
 use Rattle.std.proofs.Crossing.{crosses}
 use Rattle.std.specs.contracts.result.Result as result
@@ -17,7 +16,7 @@ use Rattle.star_flow.specs.contracts.search.Search as search_of
 use Rattle.star_flow.proofs.search.Search.TheSendSync as of_search
 use Rattle.star_label.proofs.files.Files.TheSendSync as of_labels
 use Rattle.star_lex.proofs.token.SyntaxFault.TheSendSync as of_syntax
-use Rattle.star_reading.proofs.Closures.{tuple_sync}
+use Rattle.star_reading.proofs.Closures.{captured, closure_sync}
 use Rattle.star_reading.proofs.Moving.{tree_send, tree_sync}
 use Rattle.star_memo.specs.contracts.parses.Parse as parse
 use Rattle.star_memo.specs.contracts.ahead.Parser as parser
@@ -44,12 +43,5 @@ parser_sync κ ν =
     search (sendable, crosses) depth 40
 
 -- a parser's closure: it captures the parser, the runtime R, and the search
-module _ (R : RattleType) (α β γ δ ε : NamedLft) where
-  abbrev captured : List RattleType
-  captured = shared_at α (parser.the_row β γ) ∷ shared_at δ R ∷ shared_at ε search_of.the_row ∷ []
-
-  captured_sync : IsSync R → AllSync captured
-  captured_sync r = search (parser_sync, of_search.the_sync, sendable) depth 20
-
-  pub parsers_sync : IsSync R → (ν : List ℕ) → IsSync (TupleAt ν captured)
-  parsers_sync r ν = tuple_sync ν captured (captured_sync r)
+pub parsers_sync : (R : RattleType) (α β γ δ ε : NamedLft) → IsSync R → (ν : List ℕ) → IsSync (TupleAt ν (captured (parser.the_row β γ) R search_of.the_row α δ ε))
+parsers_sync R α β γ δ ε r ν = closure_sync (parser.the_row β γ) R search_of.the_row α δ ε (parser_sync β γ) r of_search.the_sync ν

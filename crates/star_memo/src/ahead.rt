@@ -24,6 +24,22 @@ pub(crate) struct Parser<'s, 't> {
     pub parses: &'s [Option<Parsed<'t>>],
 }
 
+/// The results that one thread has made, by the numbers of their files. The error: an allocation failed.
+pub(crate) type Made = Result<Vec<(usize, Parse)>, AllocError>;
+
+/// The files that are reached first: the roots, and the prelude.
+pub(crate) fn first_files(
+    alloc: Global,
+    roots: &[usize],
+    prelude: Option<usize>,
+) -> Result<Vec<usize>, AllocError> {
+    let mut first: Vec<usize> = roots.iter().copied().collect(alloc)?;
+    if let Some(n) = prelude {
+        first.push(n)?;
+    }
+    Ok(first)
+}
+
 impl<'s, 't> Parser<'s, 't> {
     /// The numbers of the files that a file loads whose text came to this.
     fn loads_of(&self, n: usize, parsed: Parsed<'_>) -> Result<Vec<usize>, AllocError>
@@ -58,11 +74,7 @@ impl<'s, 't> Parser<'s, 't> {
     }
 
     /// Parses one text after another, as their files are handed out.
-    fn parse_found<R: Wait>(
-        &self,
-        rt: &R,
-        search: &Search,
-    ) -> Result<Vec<(usize, Parse)>, AllocError>
+    fn parse_found<R: Wait>(&self, rt: &R, search: &Search) -> Made
         ensures { IfOk result (λ made. AreMade self.now.files.now made.items) }
     {
         let mut made = Vec::new(self.alloc);
@@ -78,11 +90,7 @@ impl<'s, 't> Parser<'s, 't> {
 
     /// As `parse_found`, for one of several threads. If it fails, it leaves the search, so that no other thread waits for
     /// it.
-    fn parse_share<R: Wait>(
-        &self,
-        rt: &R,
-        search: &Search,
-    ) -> Result<Vec<(usize, Parse)>, AllocError>
+    fn parse_share<R: Wait>(&self, rt: &R, search: &Search) -> Made
         ensures { IfOk result (λ made. AreMade self.now.files.now made.items) }
     {
         let made = self.parse_found(rt, search);
@@ -104,16 +112,8 @@ impl<'s, 't> Parser<'s, 't> {
         Ok(sizes)
     }
 
-    /// The search for the files that roots and a prelude reach.
-    pub(crate) fn search(
-        &self,
-        roots: &[usize],
-        prelude: Option<usize>,
-    ) -> Result<Search, AllocError> {
-        let mut first: Vec<usize> = roots.iter().copied().collect(self.alloc)?;
-        if let Some(n) = prelude {
-            first.push(n)?;
-        }
+    /// The search for the files that some files reach.
+    pub(crate) fn search(&self, first: Vec<usize>) -> Result<Search, AllocError> {
         Search::new(self.alloc, self.sizes()?, first)
     }
 
@@ -123,7 +123,7 @@ impl<'s, 't> Parser<'s, 't> {
         rt: &R,
         search: &Search,
         threads: usize,
-    ) -> Result<Vec<Result<Vec<(usize, Parse)>, AllocError>>, AllocError>
+    ) -> Result<Vec<Made>, AllocError>
         ensures { IfOk result (λ shares. AreSharesMade self.now.files.now shares.items) }
     {
         thread::map_indices(

@@ -16,19 +16,19 @@ use std::alloc::{AllocError, Global};
 use std::sync::Wait;
 use std::thread::Threads;
 
+/// The outcomes of files that ended well, by the numbers of the files; none for a file that must run again.
+#[derive(Drop)]
+pub struct Outcomes {
+    pub all: Vec<Option<GoodEnd>>,
+    pub terms: Terms,
+}
+
 /// What the outcomes of files depend on, beside their texts: the number of the prelude, and the steps that each file may
 /// take.
 #[derive(Clone, Copy, Debug, PartialEq, Eq)]
 pub struct Terms {
     pub prelude: Option<usize>,
     pub steps: u32,
-}
-
-/// The outcomes of files that ended well, by the numbers of the files; none for a file that must run again.
-#[derive(Drop)]
-pub struct Outcomes {
-    pub all: Vec<Option<GoodEnd>>,
-    pub terms: Terms,
 }
 
 /// Whether two rows of files have the same labels.

@@ -6,7 +6,7 @@ ghost use Rattle.star_label.specs.Files.{File, label_at, text_at};
 ghost use Rattle.star_memo.specs.Parses.{AreKept, AreMade, AreSharesMade, Has, IsKept, IsParse, IsSameFile, IsTouched, kept_bytes};
 ghost use Rattle.star_reading.specs.Parsed.{AreParsesOf, IsParsed};
 
-use crate::ahead::Parser;
+use crate::ahead::{Made, Parser, first_files};
 use star_label::files::Files;
 use star_lex::token::SyntaxFault;
 use star_parser::parse;
@@ -180,11 +180,7 @@ impl Parses {
     }
 
     /// Keeps the results of several threads. The error: an allocation failed.
-    fn put_shares(
-        &mut self,
-        alloc: Global,
-        shares: Vec<Result<Vec<(usize, Parse)>, AllocError>>,
-    ) -> Result<(), AllocError>
+    fn put_shares(&mut self, alloc: Global, shares: Vec<Made>) -> Result<(), AllocError>
         ensures kept { OnOk result ((files : List File) → AreSharesMade files shares.items
             → AreKept files self.old.all.items → AreKept files self.new.all.items) }
         ensures stays { OnOk result ((m : ℕ) → Has self.old.all.items m → Has self.new.all.items m) }
@@ -218,17 +214,16 @@ impl Parses {
         Ok(())
     }
 
-    /// The results of parsing the texts of the files that roots and a prelude reach, unless they are kept, by `threads`
-    /// threads. The error: an allocation failed.
+    /// The results of parsing the texts of the files that some files reach, unless they are kept, by `threads` threads.
+    /// The error: an allocation failed.
     fn reached<R: Threads + Wait + Sync>(
         &self,
         rt: &R,
         alloc: Global,
         files: &Files,
-        roots: &[usize],
-        prelude: Option<usize>,
+        first: Vec<usize>,
         threads: usize,
-    ) -> Result<Vec<Result<Vec<(usize, Parse)>, AllocError>>, AllocError>
+    ) -> Result<Vec<Made>, AllocError>
         requires { AreKept files.now self.now.all.items }
         ensures { IfOk result (λ shares. AreSharesMade files.now shares.items) }
     {
@@ -238,7 +233,7 @@ impl Parses {
             files,
             parses: views.as_slice(),
         };
-        let search = parser.search(roots, prelude)?;
+        let search = parser.search(first)?;
         parser.parse_shares(rt, &search, threads)
     }
 
@@ -264,7 +259,8 @@ impl Parses {
             return self.parse_rest(alloc, files);
         }
         let threads = threads.min(missing / SHARE);
-        let shares = self.reached(rt, alloc, files, roots, prelude, threads)?;
+        let first = first_files(alloc, roots, prelude)?;
+        let shares = self.reached(rt, alloc, files, first, threads)?;
         self.put_shares(alloc, shares)
     }
 

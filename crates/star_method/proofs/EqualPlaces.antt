@@ -7,7 +7,7 @@ use Rattle.star_store.specs.Spend.{Spent, Enough, Lacks, Spend, answer, spend_th
 use Rattle.star_machine.specs.declared.content.Kind.TheVariants as kind
 use Rattle.star_meaning.specs.Run.{State, Done, and_then, give, settled}
 use Rattle.star_meaning.specs.Program.{Setting, seen}
-use Rattle.star_meaning.specs.Values.{Content, Nothing, Truth, Number, BuiltInFunction, Held, Nowhere, content, equal}
+use Rattle.star_meaning.specs.Values.{Content, Held, content, equal}
 use Rattle.star_machine.specs.Kinds.{kind_of, row_in}
 use Rattle.star_meaning.specs.ListMethods.{equal_place, items_of}
 use Rattle.star_machine.specs.Search.{first_place_where, found_place}
@@ -37,18 +37,7 @@ place_in_list w levels line l x s h = ap (λ c. equal_place w levels line x 0 (i
 
 no_items : (c : Content) → kind_of c ≢ kind.List → items_of c ≡ []
 no_items (Held (cell.List xs)) h = absurd (h refl)
-no_items Nothing h = refl
-no_items (Truth b) h = refl
-no_items (Number n) h = refl
-no_items (BuiltInFunction b) h = refl
-no_items (Held (cell.Text t)) h = refl
-no_items (Held (cell.Range r)) h = refl
-no_items (Held (cell.Tuple xs)) h = refl
-no_items (Held (cell.Dict es)) h = refl
-no_items (Held (cell.Func f)) h = refl
-no_items (Held (cell.Frame f)) h = refl
-no_items (Held (cell.Bound m v)) h = refl
-no_items Nowhere h = refl
+no_items _ h = refl
 
 -- a value that is not a list has no place
 pub place_in_none : (w : Setting) (levels line : ℕ) (l x : Value) (s : State) → kind_of (content w s l) ≢ kind.List → equal_place w levels line x 0 (items_of (content w s l)) s ≡ Done None s

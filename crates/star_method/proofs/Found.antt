@@ -9,7 +9,7 @@ use Rattle.std.specs.BTreeMap.{BTreeMap, Updates, get_by}
 use Rattle.std.specs.Str.{bytes_eq}
 use Rattle.std.proofs.lemmas.Map.Text.{btree_map_updates_str}
 use Rattle.std.proofs.lemmas.Slice.Eq.{bytes_eq-Decides}
-use Rattle.star_scope.specs.Names.{same_name}
+use Rattle.star_outline.specs.Names.{same_name}
 use Rattle.star_method.specs.Sets.{has}
 
 same : (m n : List ℕ) → bytes_eq m n ≡ bytes_eq n m

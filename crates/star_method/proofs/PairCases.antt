@@ -5,7 +5,7 @@ use Rattle.star_store.specs.declared.values.Cell.TheVariants as cell
 use Rattle.star_machine.specs.declared.content.Kind.TheVariants as kind
 use Rattle.star_meaning.specs.Run.{◌>>=◌, give, each}
 use Rattle.star_meaning.specs.Program.{Setting}
-use Rattle.star_meaning.specs.Values.{Content, Nothing, Truth, Number, BuiltInFunction, Held, Nowhere, take_items}
+use Rattle.star_meaning.specs.Values.{Content, Held, take_items}
 use Rattle.star_machine.specs.Kinds.{kind_of}
 use Rattle.star_meaning.specs.Pairs.{Pairs, pairs_in, pair_of, taken_entries}
 use Rattle.star_meaning.specs.Subscript.{entries_in}
@@ -16,15 +16,4 @@ pairs_dict w line x n c h = ap (pairs_in w line x n) (is_dict c h)
 
 pub pairs_other : (w : Setting) (line : ℕ) (x : Value) (n : ℕ) (c : Content) → kind_of c ≢ kind.Dict → pairs_in w line x n c ≡ (take_items w line x n >>= λ xs. each (pair_of w line) xs >>= λ ps. give {A = Pairs} (record { are_keys = false; pairs = ps }))
 pairs_other w line x n (Held (cell.Dict es)) h = absurd (h refl)
-pairs_other w line x n Nothing h = refl
-pairs_other w line x n (Truth b) h = refl
-pairs_other w line x n (Number b) h = refl
-pairs_other w line x n (BuiltInFunction b) h = refl
-pairs_other w line x n (Held (cell.Text t)) h = refl
-pairs_other w line x n (Held (cell.Range r)) h = refl
-pairs_other w line x n (Held (cell.Tuple xs)) h = refl
-pairs_other w line x n (Held (cell.List xs)) h = refl
-pairs_other w line x n (Held (cell.Func f)) h = refl
-pairs_other w line x n (Held (cell.Frame f)) h = refl
-pairs_other w line x n (Held (cell.Bound m v)) h = refl
-pairs_other w line x n Nowhere h = refl
+pairs_other w line x n _ h = refl

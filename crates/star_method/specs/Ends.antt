@@ -2,12 +2,13 @@
 use Rattle.std.specs.Prelude.{ℕ, nat_eq, Bool, List, [], ◌∷◌, ◌++◌, length, map, Option, ℤ, pos}
 use Rattle.std.specs.List.{ends_with, list_any, starts_with}
 use Rattle.star_store.specs.declared.values.Value.{Value}
+use Rattle.star_meaning.specs.BuiltIns.{joined}
 use Rattle.star_meaning.specs.declared.fault.FaultCode.TheVariants as code
 use Rattle.star_meaning.specs.Run.{State, Action, and_then, found, give}
 use Rattle.star_meaning.specs.Program.{Setting}
 use Rattle.star_machine.specs.Kinds.{bytes_of}
 use Rattle.star_meaning.specs.Operators.{place_between}
-use Rattle.star_meaning.specs.TextMethods.{end_of, place_or_none}
+use Rattle.star_meaning.specs.TextMethods.{end_of, place_or_none, texts_of}
 use Rattle.star_meaning.specs.Texts.{lower, upper}
 use Rattle.star_meaning.specs.Values.{content}
 use Rattle.star_method.specs.declared.texts.Case.{Case}
@@ -30,6 +31,10 @@ abbrev pub any_at_edge : Setting → ℕ → Edge → Value → (State → Optio
 any_at_edge w line edge text choice = λ s.
     and_then (found code.BadType line (choice s) s)
     (λ us. give (list_any (at_edge edge (bytes_of (content w s text))) us))
+
+-- the strings that values are, with another one between them, `type` if one is no string
+abbrev pub joined_by : Setting → ℕ → List ℕ → List Value → Action (List ℕ)
+joined_by w line by xs = λ s. and_then (found code.BadType line (texts_of w s xs) s) (λ us. give (joined by us))
 
 -- the answer of `find`: the least place between two ends, else -1
 abbrev pub found_between : List ℕ → List ℕ → Option ℤ → Option ℤ → ℤ

@@ -8,15 +8,16 @@ ghost use Rattle.star_machine.specs.Refines.{Refines};
 ghost use Rattle.star_meaning.specs.Run.{each};
 ghost use Rattle.star_meaning.specs.Subscript.{entries_in};
 ghost use Rattle.star_meaning.specs.Values.{content};
+ghost use Rattle.star_method.specs.Choices.{call_keyed, call_listed};
 
+use crate::call::Call;
 use crate::pairs::{entries_of, update_with};
 use star_machine::content::Content;
-use star_machine::fault::{Stop, faulted};
+use star_machine::fault::{EvalError, fault_at};
 use star_machine::machine::Machine;
 use star_machine::setting::Setting;
 use star_machine::subscript::put_entry;
 use star_meaning::fault::FaultCode;
-use star_meaning::given::Arguments;
 use star_store::arena::write::Change;
 use star_store::values::{Cell, Value, Values};
 use std::alloc::{AllocError, Global};
@@ -42,24 +43,18 @@ fn else_given(value: Option<Value>, given: Option<Value>) -> Value
 }
 
 /// `get(k, [d])`: the value under `k`, else `d`, else None. `BadType` if `k` is not hashable.
-pub fn call_get(
-    machine: &mut Machine,
-    setting: &Setting,
-    levels: u32,
-    line: usize,
-    dict: Value,
-    given: &Arguments,
-) -> Result<Value, Stop>
-    ensures { Refines (spec.call_get setting.now levels line dict given.now machine.old) result machine.new }
+pub fn call_get(machine: &mut Machine, dict: Value, call: &Call) -> Result<Value, EvalError>
+    ensures { Refines (spec.call_get call.now.setting.now call.now.levels call.now.line dict call.now.given.now
+        machine.old) result machine.new }
 {
-    let (key, default) = machine.one_or_two(line, machine.positional(line, given)?)?;
-    machine.check_key(setting, levels, line, key)?;
-    let value = machine.value_in(setting, dict, key);
+    let (key, default) = call.one_or_two(machine)?;
+    machine.check_key(call.setting, call.levels, call.line, key)?;
+    let value = machine.value_in(call.setting, dict, key);
     Ok(else_given(value, default))
 }
 
 /// A new tuple of a key and its value.
-fn pair_up(machine: &mut Machine, line: usize, entry: (Value, Value)) -> Result<Value, Stop>
+fn pair_up(machine: &mut Machine, line: usize, entry: (Value, Value)) -> Result<Value, EvalError>
     ensures { Refines (spec.pair_up line entry machine.old) result machine.new }
 {
     let (key, value) = entry;
@@ -68,7 +63,11 @@ fn pair_up(machine: &mut Machine, line: usize, entry: (Value, Value)) -> Result<
 }
 
 /// A new tuple for each entry.
-fn pairs_up(machine: &mut Machine, line: usize, entries: &[(Value, Value)]) -> Result<Values, Stop>
+fn pairs_up(
+    machine: &mut Machine,
+    line: usize,
+    entries: &[(Value, Value)],
+) -> Result<Values, EvalError>
     ensures { Refines (each (spec.pair_up line) entries.now machine.old) result machine.new }
 {
     let mut pairs = Vec::new(machine.alloc());
@@ -76,22 +75,6 @@ fn pairs_up(machine: &mut Machine, line: usize, entries: &[(Value, Value)]) -> R
         pairs.push(pair_up(machine, line, *entry)?)?;
     }
     Ok(Values::new(pairs))
-}
-
-/// `items()`: a new list of a new tuple for each entry.
-pub fn call_items(
-    machine: &mut Machine,
-    setting: &Setting,
-    line: usize,
-    dict: Value,
-    given: &Arguments,
-) -> Result<Value, Stop>
-    ensures { Refines (spec.call_items setting.now line dict given.now machine.old) result machine.new }
-{
-    machine.no_value(line, machine.positional(line, given)?)?;
-    let entries = entries_of(machine, setting, dict)?;
-    let pairs = pairs_up(machine, line, &entries)?;
-    machine.new_list(line, pairs)
 }
 
 /// The keys of entries.
@@ -108,160 +91,105 @@ fn values_of(alloc: Global, entries: &[(Value, Value)]) -> Result<Vec<Value>, Al
     entries.iter().map(|entry| entry.1).collect(alloc)
 }
 
-/// `keys()`: a new list of the keys.
-pub fn call_keys(
-    machine: &mut Machine,
-    setting: &Setting,
-    line: usize,
-    dict: Value,
-    given: &Arguments,
-) -> Result<Value, Stop>
-    ensures { Refines (spec.call_keys setting.now line dict given.now machine.old) result machine.new }
-{
-    machine.no_value(line, machine.positional(line, given)?)?;
-    let entries = entries_of(machine, setting, dict)?;
-    let keys = keys_of(machine.alloc(), &entries)?;
-    machine.new_list(line, Values::new(keys))
+/// What a method lists of the entries of a dictionary: the entries, their keys or their values.
+#[derive(Clone, Copy, Debug, PartialEq, Eq)]
+pub enum Listed {
+    Items,
+    Keys,
+    Values,
 }
 
-/// `values()`: a new list of the values.
-pub fn call_values(
+/// `items()`, `keys()` or `values()`: a new list of a new tuple for each entry, of the keys or of the values.
+pub fn call_listed(
     machine: &mut Machine,
-    setting: &Setting,
-    line: usize,
+    listed: Listed,
     dict: Value,
-    given: &Arguments,
-) -> Result<Value, Stop>
-    ensures { Refines (spec.call_values setting.now line dict given.now machine.old) result machine.new }
+    call: &Call,
+) -> Result<Value, EvalError>
+    ensures { Refines (call_listed call.now.setting.now call.now.line listed dict call.now.given.now machine.old)
+        result machine.new }
 {
-    machine.no_value(line, machine.positional(line, given)?)?;
-    let entries = entries_of(machine, setting, dict)?;
-    let values = values_of(machine.alloc(), &entries)?;
-    machine.new_list(line, Values::new(values))
-}
-
-/// Takes out the value under a key; if the key is absent, the default. `Key` if there is no default either.
-fn take_out(
-    machine: &mut Machine,
-    setting: &Setting,
-    line: usize,
-    dict: Value,
-    key: Value,
-    value: Option<Value>,
-    default: Option<Value>,
-) -> Result<Value, Stop>
-    ensures { Refines (spec.take_out setting.now line dict key value default machine.old) result machine.new }
-{
-    let Some(value) = value else {
-        return match default {
-            Some(default) => Ok(default),
-            None => Err(faulted(FaultCode::Key, line)),
-        };
+    call.no_value(machine)?;
+    let entries = entries_of(machine, call.setting, dict)?;
+    let values = match listed {
+        Listed::Items => pairs_up(machine, call.line, &entries)?,
+        Listed::Keys => Values::new(keys_of(machine.alloc(), &entries)?),
+        Listed::Values => Values::new(values_of(machine.alloc(), &entries)?),
     };
-    let _old = machine.change(setting, line, dict, Change::Delete(key))?;
-    Ok(value)
+    machine.new_list(call.line, values)
 }
 
-/// `pop(k, [d])`: the write guard, the check of the key, then the value under `k` is taken out; if there is none, `d`,
-/// or `Key`.
-pub fn call_dict_pop(
+/// A method of dictionaries that changes the entry of a key.
+#[derive(Clone, Copy, Debug, PartialEq, Eq)]
+pub enum Keyed {
+    Pop,
+    SetDefault,
+}
+
+/// `pop(k, [d])` or `setdefault(k, [d])`: the write guard, the check of the key, and then the value under `k`, which
+/// `pop` takes out. If there is none, `pop` answers `d`, or `Key` without it; `setdefault` pays 1, and puts `d` or None
+/// there.
+pub fn call_keyed(
     machine: &mut Machine,
-    setting: &Setting,
-    levels: u32,
-    line: usize,
+    keyed: Keyed,
     dict: Value,
-    given: &Arguments,
-) -> Result<Value, Stop>
-    ensures { Refines (spec.call_dict_pop setting.now levels line dict given.now machine.old) result machine.new }
+    call: &Call,
+) -> Result<Value, EvalError>
+    ensures { Refines (call_keyed call.now.setting.now call.now.levels call.now.line keyed dict call.now.given.now
+        machine.old) result machine.new }
 {
-    let (key, default) = machine.one_or_two(line, machine.positional(line, given)?)?;
-    machine.guard(setting, line, dict)?;
-    machine.check_key(setting, levels, line, key)?;
-    let value = machine.value_in(setting, dict, key);
-    take_out(machine, setting, line, dict, key, value, default)
+    let (key, default) = call.one_or_two(machine)?;
+    machine.guard(call.setting, call.line, dict)?;
+    machine.check_key(call.setting, call.levels, call.line, key)?;
+    match (keyed, machine.value_in(call.setting, dict, key)) {
+        (Keyed::Pop, Some(value)) => {
+            let _old = machine.change(call.setting, call.line, dict, Change::Delete(key))?;
+            Ok(value)
+        }
+        (Keyed::Pop, None) => match default {
+            Some(default) => Ok(default),
+            None => Err(fault_at(FaultCode::Key, call.line)),
+        },
+        (Keyed::SetDefault, Some(value)) => Ok(value),
+        (Keyed::SetDefault, None) => {
+            let value = else_given(None, default);
+            put_entry(machine, call.setting, call.line, dict, key, value)?;
+            Ok(value)
+        }
+    }
 }
 
 /// `popitem()`: the write guard, `Key` for an empty dictionary, then the first entry as a new tuple, and it is taken
 /// out.
-pub fn call_popitem(
-    machine: &mut Machine,
-    setting: &Setting,
-    line: usize,
-    dict: Value,
-    given: &Arguments,
-) -> Result<Value, Stop>
-    ensures { Refines (spec.call_popitem setting.now line dict given.now machine.old) result machine.new }
+pub fn call_popitem(machine: &mut Machine, dict: Value, call: &Call) -> Result<Value, EvalError>
+    ensures { Refines (spec.call_popitem call.now.setting.now call.now.line dict call.now.given.now machine.old)
+        result machine.new }
 {
-    machine.no_value(line, machine.positional(line, given)?)?;
-    machine.guard(setting, line, dict)?;
-    let Some(entry) = first_entry(machine, setting, dict) else {
-        return Err(faulted(FaultCode::Key, line));
+    call.no_value(machine)?;
+    machine.guard(call.setting, call.line, dict)?;
+    let Some(entry) = first_entry(machine, call.setting, dict) else {
+        return Err(fault_at(FaultCode::Key, call.line));
     };
-    let pair = pair_up(machine, line, entry)?;
-    let _old = machine.change(setting, line, dict, Change::Delete(entry.0))?;
+    let pair = pair_up(machine, call.line, entry)?;
+    let _old = machine.change(call.setting, call.line, dict, Change::Delete(entry.0))?;
     Ok(pair)
-}
-
-/// The value under a key; if there is none, the one that is given, or None, is put there.
-fn put_default(
-    machine: &mut Machine,
-    setting: &Setting,
-    line: usize,
-    dict: Value,
-    key: Value,
-    value: Option<Value>,
-    default: Option<Value>,
-) -> Result<Value, Stop>
-    ensures { Refines (spec.put_default setting.now line dict key value default machine.old) result machine.new }
-{
-    let Some(value) = value else {
-        let value = else_given(None, default);
-        put_entry(machine, setting, line, dict, key, value)?;
-        return Ok(value);
-    };
-    Ok(value)
-}
-
-/// `setdefault(k, [d])`: the write guard, the check of the key, then the value under `k`; if there is none, 1 is paid,
-/// and `d` or None is put there.
-pub fn call_setdefault(
-    machine: &mut Machine,
-    setting: &Setting,
-    levels: u32,
-    line: usize,
-    dict: Value,
-    given: &Arguments,
-) -> Result<Value, Stop>
-    ensures { Refines (spec.call_setdefault setting.now levels line dict given.now machine.old) result machine.new }
-{
-    let (key, default) = machine.one_or_two(line, machine.positional(line, given)?)?;
-    machine.guard(setting, line, dict)?;
-    machine.check_key(setting, levels, line, key)?;
-    let value = machine.value_in(setting, dict, key);
-    put_default(machine, setting, line, dict, key, value, default)
 }
 
 /// `update([x], **kw)`: `BadType` if `x` is not iterable, the write guard, then the pairs of `x` and the keyword
 /// arguments are put.
-pub fn call_update(
-    machine: &mut Machine,
-    setting: &Setting,
-    levels: u32,
-    line: usize,
-    dict: Value,
-    given: &Arguments,
-) -> Result<Value, Stop>
-    ensures { Refines (spec.call_update setting.now levels line dict given.now machine.old) result machine.new }
+pub fn call_update(machine: &mut Machine, dict: Value, call: &Call) -> Result<Value, EvalError>
+    ensures { Refines (spec.call_update call.now.setting.now call.now.levels call.now.line dict call.now.given.now
+        machine.old) result machine.new }
 {
-    let source = machine.none_or_one(line, given.positional.as_slice())?;
+    let source = machine.none_or_one(call.line, call.given.positional.as_slice())?;
     update_with(
         machine,
-        setting,
-        levels,
-        line,
+        call.setting,
+        call.levels,
+        call.line,
         dict,
         source,
-        given.named.as_slice(),
+        call.given.named.as_slice(),
     )?;
     Ok(Value::NoneValue)
 }

@@ -7,13 +7,15 @@
 //! - `pairs` has the pairs that `update` takes, `characters` goes over strings character by character.
 //!
 //! Begin at the function of the method that you look for. Which value has which methods is decided in `star_attribute`.
-//! The few types are helpers: `Pairs`, and `Set` and `Lookup` for the characters that `strip` takes off.
+//! Each is given a `Call`. The other types are helpers: `Pairs`, and `Set` and `Lookup` for the characters that `strip`
+//! takes off.
 //!
 //! The promise of each `call_..` is `Refines` of `star_machine`: it has the result of its definition in `star_meaning`
 //! (`ListMethods`, `DictMethods`, `TextMethods`). `docs/EXTENDING.md` goes through the places that a new method
 //! touches.
 #![tactic(auto)]
 
+pub mod call;
 mod characters;
 pub mod dicts;
 pub mod lists;

@@ -6,14 +6,14 @@ ghost use Rattle.star_meaning.specs.ListMethods as spec;
 ghost use Rattle.star_meaning.specs.Run.{all_of};
 ghost use Rattle.star_meaning.specs.Values.{content};
 
+use crate::call::Call;
 use star_machine::content::{Content, Kind};
-use star_machine::fault::{Stop, faulted};
+use star_machine::fault::{EvalError, fault_at};
 use star_machine::machine::Machine;
 use star_machine::setting::Setting;
 use star_machine::slices::bound_of;
 use star_machine::subscript::place_from;
 use star_meaning::fault::FaultCode;
-use star_meaning::given::Arguments;
 use star_store::arena::write::Change;
 use star_store::values::{Cell, Value};
 
@@ -27,20 +27,6 @@ fn item_count(machine: &Machine, setting: &Setting, list: Value) -> usize
     }
 }
 
-/// Adds a value after all others.
-fn add_item(
-    machine: &mut Machine,
-    setting: &Setting,
-    line: usize,
-    list: Value,
-    item: Value,
-) -> Result<(), Stop>
-    ensures { Refines (spec.add_item setting.now line list item machine.old) result machine.new }
-{
-    let _old = machine.change(setting, line, list, Change::Append(item))?;
-    Ok(())
-}
-
 /// Adds values after all others.
 fn add_items(
     machine: &mut Machine,
@@ -48,45 +34,35 @@ fn add_items(
     line: usize,
     list: Value,
     items: &[Value],
-) -> Result<(), Stop>
+) -> Result<(), EvalError>
     ensures { Refines (all_of (spec.add_item setting.now line list) items.now machine.old) result machine.new }
 {
     for item in items {
-        add_item(machine, setting, line, list, *item)?;
+        let _old = machine.change(setting, line, list, Change::Append(*item))?;
     }
     Ok(())
 }
 
 /// `append(x)`: the write guard, then 1 is paid, then `x` is added at the end.
-pub fn call_append(
-    machine: &mut Machine,
-    setting: &Setting,
-    line: usize,
-    list: Value,
-    given: &Arguments,
-) -> Result<Value, Stop>
-    ensures { Refines (spec.call_append setting.now line list given.now machine.old) result machine.new }
+pub fn call_append(machine: &mut Machine, list: Value, call: &Call) -> Result<Value, EvalError>
+    ensures { Refines (spec.call_append call.now.setting.now call.now.line list call.now.given.now machine.old)
+        result machine.new }
 {
-    let item = machine.only_one(line, machine.positional(line, given)?)?;
-    machine.guard(setting, line, list)?;
-    machine.pay(line, 1)?;
-    add_item(machine, setting, line, list, item)?;
+    let item = call.only_one(machine)?;
+    machine.guard(call.setting, call.line, list)?;
+    machine.pay(call.line, 1)?;
+    let _old = machine.change(call.setting, call.line, list, Change::Append(item))?;
     Ok(Value::NoneValue)
 }
 
 /// `clear()`, of a list or a dictionary: the write guard, then all is taken out.
-pub fn call_clear(
-    machine: &mut Machine,
-    setting: &Setting,
-    line: usize,
-    container: Value,
-    given: &Arguments,
-) -> Result<Value, Stop>
-    ensures { Refines (spec.call_clear setting.now line container given.now machine.old) result machine.new }
+pub fn call_clear(machine: &mut Machine, container: Value, call: &Call) -> Result<Value, EvalError>
+    ensures { Refines (spec.call_clear call.now.setting.now call.now.line container call.now.given.now machine.old)
+        result machine.new }
 {
-    machine.no_value(line, machine.positional(line, given)?)?;
-    machine.guard(setting, line, container)?;
-    let _old = machine.change(setting, line, container, Change::Clear)?;
+    call.no_value(machine)?;
+    machine.guard(call.setting, call.line, container)?;
+    let _old = machine.change(call.setting, call.line, container, Change::Clear)?;
     Ok(Value::NoneValue)
 }
 
@@ -98,7 +74,7 @@ pub fn extend(
     line: usize,
     list: Value,
     items: Value,
-) -> Result<(), Stop>
+) -> Result<(), EvalError>
     ensures { Refines (spec.extend setting.now line list items machine.old) result machine.new }
 {
     let count = machine.count_of(setting, line, items)?;
@@ -109,17 +85,12 @@ pub fn extend(
 }
 
 /// `extend(it)`: adds the items of `it` at the end.
-pub fn call_extend(
-    machine: &mut Machine,
-    setting: &Setting,
-    line: usize,
-    list: Value,
-    given: &Arguments,
-) -> Result<Value, Stop>
-    ensures { Refines (spec.call_extend setting.now line list given.now machine.old) result machine.new }
+pub fn call_extend(machine: &mut Machine, list: Value, call: &Call) -> Result<Value, EvalError>
+    ensures { Refines (spec.call_extend call.now.setting.now call.now.line list call.now.given.now machine.old)
+        result machine.new }
 {
-    let items = machine.only_one(line, machine.positional(line, given)?)?;
-    extend(machine, setting, line, list, items)?;
+    let items = call.only_one(machine)?;
+    extend(machine, call.setting, call.line, list, items)?;
     Ok(Value::NoneValue)
 }
 
@@ -132,7 +103,7 @@ fn equal_place(
     line: usize,
     list: Value,
     value: Value,
-) -> Result<Option<usize>, Stop>
+) -> Result<Option<usize>, EvalError>
     ensures { Refines (spec.with_items setting.now list (spec.equal_place setting.now levels line value 0) machine.old)
         result machine.new }
 {
@@ -145,34 +116,25 @@ fn equal_place(
 /// The place of the first item that is equal to a value. `BadValue` if there is none.
 fn place_with(
     machine: &mut Machine,
-    setting: &Setting,
-    levels: u32,
-    line: usize,
     list: Value,
     value: Value,
-) -> Result<usize, Stop>
-    ensures { Refines (spec.place_with setting.now levels line list value machine.old) result machine.new }
+    call: &Call,
+) -> Result<usize, EvalError>
+    ensures { Refines (spec.place_with call.now.setting.now call.now.levels call.now.line list value machine.old)
+        result machine.new }
 {
-    match equal_place(machine, setting, levels, line, list, value)? {
-        Some(at) => Ok(at),
-        None => Err(faulted(FaultCode::BadValue, line)),
-    }
+    let place = equal_place(machine, call.setting, call.levels, call.line, list, value)?;
+    place.ok_or(fault_at(FaultCode::BadValue, call.line))
 }
 
 /// `index(x)`: the place of the first item that is equal to `x`. `BadValue` if there is none.
-pub fn call_index(
-    machine: &mut Machine,
-    setting: &Setting,
-    levels: u32,
-    line: usize,
-    list: Value,
-    given: &Arguments,
-) -> Result<Value, Stop>
-    ensures { Refines (spec.call_index setting.now levels line list given.now machine.old) result machine.new }
+pub fn call_index(machine: &mut Machine, list: Value, call: &Call) -> Result<Value, EvalError>
+    ensures { Refines (spec.call_index call.now.setting.now call.now.levels call.now.line list call.now.given.now
+        machine.old) result machine.new }
 {
-    let value = machine.only_one(line, machine.positional(line, given)?)?;
-    let at = place_with(machine, setting, levels, line, list, value)?;
-    machine.new_count(line, at)
+    let value = call.only_one(machine)?;
+    let at = place_with(machine, list, value, call)?;
+    machine.new_count(call.line, at)
 }
 
 /// A place, counted from the end if it is below 0, held within 0 and a length.
@@ -184,75 +146,46 @@ fn insert_place(len: usize, place: i64) -> usize
 
 /// `insert(i, x)`: `BadType` if `i` is not an int, the write guard, then 1 is paid, then `x` is put before the item at
 /// `i`.
-pub fn call_insert(
-    machine: &mut Machine,
-    setting: &Setting,
-    line: usize,
-    list: Value,
-    given: &Arguments,
-) -> Result<Value, Stop>
-    ensures { Refines (spec.call_insert setting.now line list given.now machine.old) result machine.new }
+pub fn call_insert(machine: &mut Machine, list: Value, call: &Call) -> Result<Value, EvalError>
+    ensures { Refines (spec.call_insert call.now.setting.now call.now.line list call.now.given.now machine.old)
+        result machine.new }
 {
-    let (place, item) = machine.two(line, machine.positional(line, given)?)?;
-    let place = machine.want_int(setting, line, place)?;
-    machine.guard(setting, line, list)?;
-    machine.pay(line, 1)?;
-    let at = insert_place(item_count(machine, setting, list), place);
-    let _old = machine.change(setting, line, list, Change::Insert(at, item))?;
+    let (place, item) = machine.two(call.line, machine.positional(call.line, call.given)?)?;
+    let place = machine.want_int(call.setting, call.line, place)?;
+    machine.guard(call.setting, call.line, list)?;
+    machine.pay(call.line, 1)?;
+    let at = insert_place(item_count(machine, call.setting, list), place);
+    let _old = machine.change(call.setting, call.line, list, Change::Insert(at, item))?;
     Ok(Value::NoneValue)
 }
 
-/// The place of the item to take out: -1 without an argument. `BadType` if the argument is not an int.
-fn want_last(
-    machine: &Machine,
-    setting: &Setting,
-    line: usize,
-    place: Option<Value>,
-) -> Result<i64, Stop>
-    ensures { Refines (spec.want_last setting.now line place machine.now) result machine.now }
+/// `pop([i])`: `BadType` if `i` is not an int, the write guard, `Index` outside; the item is taken out, the last one
+/// without `i`.
+pub fn call_pop(machine: &mut Machine, list: Value, call: &Call) -> Result<Value, EvalError>
+    ensures { Refines (spec.call_pop call.now.setting.now call.now.line list call.now.given.now machine.old)
+        result machine.new }
 {
-    match place {
-        None => Ok(-1),
-        Some(place) => machine.want_int(setting, line, place),
-    }
-}
-
-/// `pop([i])`: `BadType` if `i` is not an int, the write guard, `Index` outside; the item is taken out.
-pub fn call_pop(
-    machine: &mut Machine,
-    setting: &Setting,
-    line: usize,
-    list: Value,
-    given: &Arguments,
-) -> Result<Value, Stop>
-    ensures { Refines (spec.call_pop setting.now line list given.now machine.old) result machine.new }
-{
-    let place = machine.none_or_one(line, machine.positional(line, given)?)?;
-    let place = want_last(machine, setting, line, place)?;
-    machine.guard(setting, line, list)?;
-    let Some(at) = place_from(item_count(machine, setting, list), place) else {
-        return Err(faulted(FaultCode::Index, line));
+    let place = call.none_or_one(machine)?;
+    let place = match place {
+        Some(place) => machine.want_int(call.setting, call.line, place)?,
+        None => -1,
     };
-    match machine.change(setting, line, list, Change::RemoveAt(at))? {
-        Some(item) => Ok(item),
-        None => Err(faulted(FaultCode::Index, line)),
-    }
+    machine.guard(call.setting, call.line, list)?;
+    let Some(at) = place_from(item_count(machine, call.setting, list), place) else {
+        return Err(fault_at(FaultCode::Index, call.line));
+    };
+    let item = machine.change(call.setting, call.line, list, Change::RemoveAt(at))?;
+    item.ok_or(fault_at(FaultCode::Index, call.line))
 }
 
 /// `remove(x)`: the write guard, then the first item that is equal to `x` goes. `BadValue` if there is none.
-pub fn call_remove(
-    machine: &mut Machine,
-    setting: &Setting,
-    levels: u32,
-    line: usize,
-    list: Value,
-    given: &Arguments,
-) -> Result<Value, Stop>
-    ensures { Refines (spec.call_remove setting.now levels line list given.now machine.old) result machine.new }
+pub fn call_remove(machine: &mut Machine, list: Value, call: &Call) -> Result<Value, EvalError>
+    ensures { Refines (spec.call_remove call.now.setting.now call.now.levels call.now.line list call.now.given.now
+        machine.old) result machine.new }
 {
-    let value = machine.only_one(line, machine.positional(line, given)?)?;
-    machine.guard(setting, line, list)?;
-    let at = place_with(machine, setting, levels, line, list, value)?;
-    let _old = machine.change(setting, line, list, Change::RemoveAt(at))?;
+    let value = call.only_one(machine)?;
+    machine.guard(call.setting, call.line, list)?;
+    let at = place_with(machine, list, value, call)?;
+    let _old = machine.change(call.setting, call.line, list, Change::RemoveAt(at))?;
     Ok(Value::NoneValue)
 }

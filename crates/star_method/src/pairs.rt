@@ -1,4 +1,4 @@
-//! The pairs that `update` puts into a dictionary.
+//! The pairs that `dict` and `update` put into a dictionary.
 
 ghost use Rattle.std.specs.Prelude.{◌≡◌, IfOk};
 ghost use Rattle.star_machine.specs.Refines.{Refines, RefinesBy};
@@ -9,7 +9,7 @@ ghost use Rattle.star_meaning.specs.Values.{content, guard};
 ghost use Rattle.star_method.specs.DictBuilder.{as_pairs, taken_entry};
 
 use star_machine::content::{Content, Kind};
-use star_machine::fault::{Stop, faulted};
+use star_machine::fault::{EvalError, fault_at};
 use star_machine::machine::Machine;
 use star_machine::setting::Setting;
 use star_machine::subscript::put_entry;
@@ -31,13 +31,13 @@ fn pair_of(
     setting: &Setting,
     line: usize,
     value: Value,
-) -> Result<(Value, Value), Stop>
+) -> Result<(Value, Value), EvalError>
     ensures { Refines (spec.pair_of setting.now line value machine.old) result machine.new }
 {
     let items = machine.take_all(setting, line, value)?;
     match items.as_slice() {
         [key, value] => Ok((*key, *value)),
-        _ => Err(faulted(FaultCode::BadValue, line)),
+        _ => Err(fault_at(FaultCode::BadValue, line)),
     }
 }
 
@@ -47,7 +47,7 @@ fn pairs_from(
     setting: &Setting,
     line: usize,
     items: &[Value],
-) -> Result<Entries, Stop>
+) -> Result<Entries, EvalError>
     ensures { Refines (each (spec.pair_of setting.now line) items.now machine.old) result machine.new }
 {
     let mut pairs = Entries::new(machine.alloc());
@@ -63,7 +63,7 @@ fn taken_entry(
     machine: &mut Machine,
     line: usize,
     entry: (Value, Value),
-) -> Result<(Value, Value), Stop>
+) -> Result<(Value, Value), EvalError>
     ensures { Refines (taken_entry line entry machine.old) result machine.new }
 {
     machine.pay(line, 1)?;
@@ -75,7 +75,7 @@ fn taken_entries(
     machine: &mut Machine,
     line: usize,
     entries: &[(Value, Value)],
-) -> Result<Entries, Stop>
+) -> Result<Entries, EvalError>
     ensures { Refines (spec.taken_entries line entries.now machine.old) result machine.new }
 {
     let mut taken = Entries::new(machine.alloc());
@@ -108,7 +108,7 @@ fn pairs_in(
     line: usize,
     source: Value,
     count: usize,
-) -> Result<Pairs, Stop>
+) -> Result<Pairs, EvalError>
     ensures { RefinesBy as_pairs (spec.pairs_in setting.now line source count (content setting.now machine.old source)
         machine.old) result machine.new }
 {
@@ -138,7 +138,7 @@ pub fn pairs_count(
     setting: &Setting,
     line: usize,
     source: Option<Value>,
-) -> Result<usize, Stop>
+) -> Result<usize, EvalError>
     ensures { Refines (spec.pairs_count setting.now line source machine.now) result machine.now }
 {
     match source {
@@ -155,7 +155,7 @@ pub fn pairs_of(
     line: usize,
     source: Option<Value>,
     count: usize,
-) -> Result<Pairs, Stop>
+) -> Result<Pairs, EvalError>
     ensures { RefinesBy as_pairs (spec.pairs_of setting.now line source count machine.old) result machine.new }
 {
     match source {
@@ -175,30 +175,14 @@ pub fn check_pair(
     line: usize,
     are_keys: bool,
     key: Value,
-) -> Result<(), Stop>
-    ensures { Refines (spec.check_pair setting.now levels line are_keys key machine.old) result machine.new }
+) -> Result<(), EvalError>
+    ensures answer { Refines (spec.check_pair setting.now levels line are_keys key machine.old) result machine.new }
+    ensures kept { machine.new.store ≡ machine.old.store }
 {
     if are_keys {
         return Ok(());
     }
     machine.check_key(setting, levels, line, key)
-}
-
-/// Puts a pair into an existing dictionary.
-fn put_pair(
-    machine: &mut Machine,
-    setting: &Setting,
-    levels: u32,
-    line: usize,
-    dict: Value,
-    are_keys: bool,
-    pair: (Value, Value),
-) -> Result<(), Stop>
-    ensures { Refines (spec.put_pair setting.now levels line dict are_keys pair machine.old) result machine.new }
-{
-    let (key, value) = pair;
-    check_pair(machine, setting, levels, line, are_keys, key)?;
-    put_entry(machine, setting, line, dict, key, value)
 }
 
 /// Puts pairs into an existing dictionary, in order.
@@ -210,12 +194,14 @@ fn put_each(
     dict: Value,
     are_keys: bool,
     pairs: &[(Value, Value)],
-) -> Result<(), Stop>
+) -> Result<(), EvalError>
     ensures { Refines (all_of (spec.put_pair setting.now levels line dict are_keys) pairs.now machine.old)
         result machine.new }
 {
     for pair in pairs {
-        put_pair(machine, setting, levels, line, dict, are_keys, *pair)?;
+        let (key, value) = *pair;
+        check_pair(machine, setting, levels, line, are_keys, key)?;
+        put_entry(machine, setting, line, dict, key, value)?;
     }
     Ok(())
 }
@@ -227,7 +213,7 @@ fn put_named(
     line: usize,
     dict: Value,
     named: &KeywordArgument,
-) -> Result<(), Stop>
+) -> Result<(), EvalError>
     ensures { Refines (spec.put_named setting.now line dict named.now machine.old) result machine.new }
 {
     let key = machine.key_for(line, named)?;
@@ -241,7 +227,7 @@ fn put_each_named(
     line: usize,
     dict: Value,
     named: &[KeywordArgument],
-) -> Result<(), Stop>
+) -> Result<(), EvalError>
     ensures { Refines (all_of (spec.put_named setting.now line dict) named.now machine.old) result machine.new }
 {
     for value in named {
@@ -260,7 +246,7 @@ fn put_pairs(
     dict: Value,
     pairs: &Pairs,
     named: &[KeywordArgument],
-) -> Result<(), Stop>
+) -> Result<(), EvalError>
     ensures { Refines (spec.put_pairs setting.now levels line dict (as_pairs pairs.now) named.now machine.old)
         result machine.new }
 {
@@ -287,7 +273,7 @@ pub fn update_with(
     dict: Value,
     source: Option<Value>,
     named: &[KeywordArgument],
-) -> Result<(), Stop>
+) -> Result<(), EvalError>
     ensures { Refines (spec.update_with setting.now levels line dict source named.now (guard setting.now line dict)
         machine.old) result machine.new }
 {

@@ -10,12 +10,12 @@ ghost use Rattle.star_meaning.specs.Texts as texts;
 ghost use Rattle.star_meaning.specs.Values.{content, new_text};
 ghost use Rattle.star_method.specs.Cuts.{IsFirstCut};
 
+use crate::call::Call;
 use crate::texts::pay_for_bytes;
-use star_machine::fault::{Stop, faulted};
+use star_machine::fault::{EvalError, fault_at};
 use star_machine::machine::Machine;
 use star_machine::setting::Setting;
 use star_meaning::fault::FaultCode;
-use star_meaning::given::Arguments;
 use star_store::values::{Value, Values};
 use star_text::Text;
 use std::alloc::{AllocError, Global};
@@ -59,7 +59,7 @@ fn new_parts(
     text: &str,
     by: &str,
     cuts: Option<u64>,
-) -> Result<Values, Stop>
+) -> Result<Values, EvalError>
     requires { 0 < length by.now }
     ensures { Refines (each (new_text line) (texts.parts text.now by.now cuts) machine.old) result machine.new }
 {
@@ -83,7 +83,7 @@ fn want_cuts(
     setting: &Setting,
     line: usize,
     cuts: Option<Value>,
-) -> Result<Option<u64>, Stop>
+) -> Result<Option<u64>, EvalError>
     ensures { Refines (spec.want_cuts setting.now line cuts machine.now) result machine.now }
 {
     let Some(cuts) = cuts else {
@@ -93,44 +93,23 @@ fn want_cuts(
     Ok(if cuts < 0 { None } else { Some(cuts as u64) })
 }
 
-/// One value, and the second, if there is one. `Args` for none or more.
-fn one_and_maybe(
-    machine: &Machine,
-    line: usize,
-    values: &[Value],
-) -> Result<(Value, Option<Value>), Stop>
-    ensures { Refines (spec.one_and_maybe line values.now machine.now) result machine.now }
-{
-    match values {
-        [first] => Ok((*first, None)),
-        [first, second] => Ok((*first, Some(*second))),
-        _ => Err(faulted(FaultCode::Args, line)),
-    }
-}
-
 /// `split(sep, [n])`: the bytes are paid; then new strings of the parts between cuts at `sep`, at most `n` of them, in
 /// a new list. `BadType` for arguments of other types, `BadValue` for an empty `sep`.
-pub fn call_split(
-    machine: &mut Machine,
-    setting: &Setting,
-    line: usize,
-    text: Value,
-    given: &Arguments,
-) -> Result<Value, Stop>
-    ensures { Refines (spec.call_split setting.now line (bytes_of (content setting.now machine.old text)) given.now
-        machine.old) result machine.new }
+pub fn call_split(machine: &mut Machine, text: Value, call: &Call) -> Result<Value, EvalError>
+    ensures { Refines (spec.call_split call.now.setting.now call.now.line
+        (bytes_of (content call.now.setting.now machine.old text)) call.now.given.now machine.old) result machine.new }
 {
-    let (by, cuts) = one_and_maybe(machine, line, machine.positional(line, given)?)?;
-    machine.check_text(setting, line, by)?;
-    let cuts = want_cuts(machine, setting, line, cuts)?;
-    let whole = machine.copied_text(setting, text)?;
-    let by = machine.copied_text(setting, by)?;
-    pay_for_bytes(machine, setting, line, text)?;
+    let (by, cuts) = call.one_or_two(machine)?;
+    machine.check_text(call.setting, call.line, by)?;
+    let cuts = want_cuts(machine, call.setting, call.line, cuts)?;
+    let whole = machine.copied_text(call.setting, text)?;
+    let by = machine.copied_text(call.setting, by)?;
+    pay_for_bytes(machine, call.setting, call.line, text)?;
     if by.as_str().is_empty() {
-        return Err(faulted(FaultCode::BadValue, line));
+        return Err(fault_at(FaultCode::BadValue, call.line));
     }
-    let parts = new_parts(machine, line, whole.as_str(), by.as_str(), cuts)?;
-    machine.new_list(line, parts)
+    let parts = new_parts(machine, call.line, whole.as_str(), by.as_str(), cuts)?;
+    machine.new_list(call.line, parts)
 }
 
 /// A string with another one in the place of each separator: at most `cuts` times, from the left.
@@ -163,7 +142,7 @@ fn two_or_three(
     machine: &Machine,
     line: usize,
     values: &[Value],
-) -> Result<(Value, Value, Option<Value>), Stop>
+) -> Result<(Value, Value, Option<Value>), EvalError>
     ensures { RefinesBy (λ r. record { old = r.0; new = r.1; cuts = r.2 })
         (spec.two_or_three line values.now machine.now)
         result machine.now }
@@ -171,32 +150,30 @@ fn two_or_three(
     match values {
         [old, new] => Ok((*old, *new, None)),
         [old, new, cuts] => Ok((*old, *new, Some(*cuts))),
-        _ => Err(faulted(FaultCode::Args, line)),
+        _ => Err(fault_at(FaultCode::Args, line)),
     }
 }
 
 /// `replace(old, new, [n])`: the bytes are paid, then a new string with `new` in the place of each `old`, of `n` at
 /// most. `BadType` for arguments of other types, `BadValue` for an empty `old`.
-pub fn call_replace(
-    machine: &mut Machine,
-    setting: &Setting,
-    line: usize,
-    text: Value,
-    given: &Arguments,
-) -> Result<Value, Stop>
-    ensures { Refines (spec.call_replace setting.now line (bytes_of (content setting.now machine.old text)) given.now
-        machine.old) result machine.new }
+pub fn call_replace(machine: &mut Machine, text: Value, call: &Call) -> Result<Value, EvalError>
+    ensures { Refines (spec.call_replace call.now.setting.now call.now.line
+        (bytes_of (content call.now.setting.now machine.old text)) call.now.given.now machine.old) result machine.new }
 {
-    let (old, new, cuts) = two_or_three(machine, line, machine.positional(line, given)?)?;
-    machine.check_text(setting, line, old)?;
-    machine.check_text(setting, line, new)?;
-    let cuts = want_cuts(machine, setting, line, cuts)?;
-    let whole = machine.copied_text(setting, text)?;
-    let old = machine.copied_text(setting, old)?;
-    let new = machine.copied_text(setting, new)?;
-    pay_for_bytes(machine, setting, line, text)?;
+    let (old, new, cuts) = two_or_three(
+        machine,
+        call.line,
+        machine.positional(call.line, call.given)?,
+    )?;
+    machine.check_text(call.setting, call.line, old)?;
+    machine.check_text(call.setting, call.line, new)?;
+    let cuts = want_cuts(machine, call.setting, call.line, cuts)?;
+    let whole = machine.copied_text(call.setting, text)?;
+    let old = machine.copied_text(call.setting, old)?;
+    let new = machine.copied_text(call.setting, new)?;
+    pay_for_bytes(machine, call.setting, call.line, text)?;
     if old.as_str().is_empty() {
-        return Err(faulted(FaultCode::BadValue, line));
+        return Err(fault_at(FaultCode::BadValue, call.line));
     }
     let made = replaced(
         machine.alloc(),
@@ -205,5 +182,5 @@ pub fn call_replace(
         new.as_str(),
         cuts,
     )?;
-    machine.new_text(line, made)
+    machine.new_text(call.line, made)
 }

@@ -9,23 +9,21 @@ ghost use Rattle.star_meaning.specs.BuiltIns.{joined};
 ghost use Rattle.star_machine.specs.Refines.{Refines, RefinesBy};
 ghost use Rattle.star_machine.specs.Kinds.{bytes_of};
 ghost use Rattle.star_meaning.specs.Operators as operators;
-ghost use Rattle.star_meaning.specs.Run.{and_then, found, give};
-ghost use Rattle.star_meaning.specs.declared.fault.FaultCode.TheVariants.{BadType};
 ghost use Rattle.star_meaning.specs.TextMethods as spec;
 ghost use Rattle.star_meaning.specs.Texts.{characters, without_end, without_front};
 ghost use Rattle.star_meaning.specs.Values.{content, text_of};
-ghost use Rattle.star_method.specs.Ends.{any_at_edge, at_edge, bytes_each, each_after, found_between, in_case};
+ghost use Rattle.star_method.specs.Ends.{any_at_edge, at_edge, bytes_each, each_after, found_between, in_case, joined_by};
 ghost use Rattle.star_method.specs.Sets.{test_of};
 
+use crate::call::Call;
 use crate::characters::{Lookup, Set, without_end, without_front};
 use star_machine::content::Content;
-use star_machine::fault::{Stop, faulted};
+use star_machine::fault::{EvalError, fault_at};
 use star_machine::machine::Machine;
 use star_machine::setting::Setting;
 use star_machine::slices::{bound_of, want_part};
 use star_machine::texts::place_between;
 use star_meaning::fault::FaultCode;
-use star_meaning::given::Arguments;
 use star_store::values::{Cell, Value};
 use star_text::Text;
 use std::alloc::AllocError;
@@ -36,7 +34,7 @@ pub fn pay_for_bytes(
     setting: &Setting,
     line: usize,
     text: Value,
-) -> Result<(), Stop>
+) -> Result<(), EvalError>
     ensures answer { Refines (spec.pay_for_bytes line (bytes_of (content setting.now machine.old text)) machine.old)
         result machine.new }
     ensures kept { machine.new.store ≡ machine.old.store }
@@ -73,20 +71,17 @@ fn cased(machine: &Machine, setting: &Setting, case: Case, text: Value) -> Resul
 /// `lower()` and `upper()`: the bytes are paid, then a new string, whose ASCII letters are small or large.
 pub fn call_case(
     machine: &mut Machine,
-    setting: &Setting,
-    line: usize,
     case: Case,
     text: Value,
-    given: &Arguments,
-) -> Result<Value, Stop>
-    ensures { Refines (spec.call_case line (in_case case) (bytes_of
-        (content setting.now machine.old text)) given.now machine.old)
-        result machine.new }
+    call: &Call,
+) -> Result<Value, EvalError>
+    ensures { Refines (spec.call_case call.now.line (in_case case)
+        (bytes_of (content call.now.setting.now machine.old text)) call.now.given.now machine.old) result machine.new }
 {
-    machine.no_value(line, machine.positional(line, given)?)?;
-    let made = cased(machine, setting, case, text)?;
-    pay_for_bytes(machine, setting, line, text)?;
-    machine.new_text(line, made)
+    call.no_value(machine)?;
+    let made = cased(machine, call.setting, case, text)?;
+    pay_for_bytes(machine, call.setting, call.line, text)?;
+    machine.new_text(call.line, made)
 }
 
 /// One to three values. `Args` for none or more.
@@ -94,7 +89,7 @@ fn one_to_three(
     machine: &Machine,
     line: usize,
     values: &[Value],
-) -> Result<(Value, Option<Value>, Option<Value>), Stop>
+) -> Result<(Value, Option<Value>, Option<Value>), EvalError>
     ensures { RefinesBy (λ r. record { what = r.0; from = r.1; to = r.2 })
         (spec.one_to_three line values.now machine.now)
         result machine.now }
@@ -103,7 +98,7 @@ fn one_to_three(
         [what] => Ok((*what, None, None)),
         [what, from] => Ok((*what, Some(*from), None)),
         [what, from, to] => Ok((*what, Some(*from), Some(*to))),
-        _ => Err(faulted(FaultCode::Args, line)),
+        _ => Err(fault_at(FaultCode::Args, line)),
     }
 }
 
@@ -148,22 +143,20 @@ fn place_in(
 
 /// `find(t, [a, [b]])`: the least place of `t` between `a` and `b`, which are ends as in a slice, else -1. `BadType`
 /// for arguments of other types.
-pub fn call_find(
-    machine: &mut Machine,
-    setting: &Setting,
-    line: usize,
-    text: Value,
-    given: &Arguments,
-) -> Result<Value, Stop>
-    ensures { Refines (spec.call_find setting.now line (bytes_of (content setting.now machine.old text)) given.now
-        machine.old) result machine.new }
+pub fn call_find(machine: &mut Machine, text: Value, call: &Call) -> Result<Value, EvalError>
+    ensures { Refines (spec.call_find call.now.setting.now call.now.line
+        (bytes_of (content call.now.setting.now machine.old text)) call.now.given.now machine.old) result machine.new }
 {
-    let (part, from, to) = one_to_three(machine, line, machine.positional(line, given)?)?;
-    machine.check_text(setting, line, part)?;
-    let from = want_part(machine, setting, line, from)?;
-    let to = want_part(machine, setting, line, to)?;
-    pay_for_bytes(machine, setting, line, text)?;
-    Ok(Value::Int(place_in(machine, setting, text, part, from, to)))
+    let (part, from, to) = one_to_three(
+        machine,
+        call.line,
+        machine.positional(call.line, call.given)?,
+    )?;
+    machine.check_text(call.setting, call.line, part)?;
+    let from = want_part(machine, call.setting, call.line, from)?;
+    let to = want_part(machine, call.setting, call.line, to)?;
+    pay_for_bytes(machine, call.setting, call.line, text)?;
+    Ok(Value::Int(place_in(machine, call.setting, text, part, from, to)))
 }
 
 /// The front or the end of a string.
@@ -246,12 +239,12 @@ fn some_at_edge(
     edge: Edge,
     text: Value,
     parts: &[Value],
-) -> Result<bool, Stop>
+) -> Result<bool, EvalError>
     ensures { Refines (any_at_edge setting.now line edge text (λ s. spec.texts_of setting.now s parts.now) machine.now)
         result machine.now }
 {
     if !are_texts(machine, setting, parts) {
-        return Err(faulted(FaultCode::BadType, line));
+        return Err(fault_at(FaultCode::BadType, line));
     }
     Ok(one_at_edge(machine, setting, edge, text, parts))
 }
@@ -264,7 +257,7 @@ fn choice_at_edge(
     edge: Edge,
     text: Value,
     choices: Value,
-) -> Result<bool, Stop>
+) -> Result<bool, EvalError>
     ensures { Refines (any_at_edge setting.now line edge text
         (λ s. spec.choices_in setting.now s (content setting.now s choices)) machine.now) result machine.now }
 {
@@ -276,7 +269,7 @@ fn choice_at_edge(
         Content::Held(Cell::Tuple(parts)) => {
             some_at_edge(machine, setting, line, edge, text, parts.as_slice())
         }
-        _ => Err(faulted(FaultCode::BadType, line)),
+        _ => Err(fault_at(FaultCode::BadType, line)),
     }
 }
 
@@ -284,18 +277,16 @@ fn choice_at_edge(
 /// `BadType` for another `p`.
 pub fn call_edge(
     machine: &mut Machine,
-    setting: &Setting,
-    line: usize,
     edge: Edge,
     text: Value,
-    given: &Arguments,
-) -> Result<Value, Stop>
-    ensures { Refines (spec.call_edge setting.now line (at_edge edge) (bytes_of (content setting.now machine.old text))
-        given.now machine.old) result machine.new }
+    call: &Call,
+) -> Result<Value, EvalError>
+    ensures { Refines (spec.call_edge call.now.setting.now call.now.line (at_edge edge)
+        (bytes_of (content call.now.setting.now machine.old text)) call.now.given.now machine.old) result machine.new }
 {
-    let choices = machine.only_one(line, machine.positional(line, given)?)?;
-    let stands = choice_at_edge(machine, setting, line, edge, text, choices)?;
-    pay_for_bytes(machine, setting, line, text)?;
+    let choices = call.only_one(machine)?;
+    let stands = choice_at_edge(machine, call.setting, call.line, edge, text, choices)?;
+    pay_for_bytes(machine, call.setting, call.line, text)?;
     Ok(Value::Bool(stands))
 }
 
@@ -305,7 +296,7 @@ fn want_set(
     setting: &Setting,
     line: usize,
     characters: Option<Value>,
-) -> Result<Set, Stop>
+) -> Result<Set, EvalError>
     ensures { RefinesBy test_of (spec.want_set setting.now line characters machine.now) result machine.now }
 {
     let Some(characters) = characters else {
@@ -362,21 +353,19 @@ fn stripped(
 /// both. `BadType` if `c` is not a string.
 pub fn call_strip(
     machine: &mut Machine,
-    setting: &Setting,
-    line: usize,
     front: bool,
     end: bool,
     text: Value,
-    given: &Arguments,
-) -> Result<Value, Stop>
-    ensures { Refines (spec.call_strip setting.now line front end (bytes_of (content setting.now machine.old text))
-        given.now machine.old) result machine.new }
+    call: &Call,
+) -> Result<Value, EvalError>
+    ensures { Refines (spec.call_strip call.now.setting.now call.now.line front end
+        (bytes_of (content call.now.setting.now machine.old text)) call.now.given.now machine.old) result machine.new }
 {
-    let set = machine.none_or_one(line, machine.positional(line, given)?)?;
-    let set = want_set(machine, setting, line, set)?;
-    let made = stripped(machine, setting, text, front, end, &set)?;
-    pay_for_bytes(machine, setting, line, text)?;
-    machine.new_text(line, made)
+    let set = call.none_or_one(machine)?;
+    let set = want_set(machine, call.setting, call.line, set)?;
+    let made = stripped(machine, call.setting, text, front, end, &set)?;
+    pay_for_bytes(machine, call.setting, call.line, text)?;
+    machine.new_text(call.line, made)
 }
 
 /// Puts strings after a text, each after another string.
@@ -425,33 +414,32 @@ fn join_all(
     line: usize,
     by: &str,
     texts: &[Value],
-) -> Result<Text, Stop>
-    ensures { Refines (and_then (found BadType line (spec.texts_of setting.now machine.now texts.now) machine.now)
-        (λ us. give (joined by.now us))) result machine.now }
+) -> Result<Text, EvalError>
+    ensures { Refines (joined_by setting.now line by.now texts.now machine.now) result machine.now }
 {
     if !are_texts(machine, setting, texts) {
-        return Err(faulted(FaultCode::BadType, line));
+        return Err(fault_at(FaultCode::BadType, line));
     }
     Ok(joined_texts(machine, setting, by, texts)?)
 }
 
 /// `join(it)`: the bytes are paid, then all items are taken, then a new string of them, with this one between them.
 /// `BadType` if `it` is not iterable, and if an item is not a string.
-pub fn call_join(
-    machine: &mut Machine,
-    setting: &Setting,
-    line: usize,
-    text: Value,
-    given: &Arguments,
-) -> Result<Value, Stop>
-    ensures { Refines (spec.call_join setting.now line (bytes_of (content setting.now machine.old text)) given.now
-        machine.old) result machine.new }
+pub fn call_join(machine: &mut Machine, text: Value, call: &Call) -> Result<Value, EvalError>
+    ensures { Refines (spec.call_join call.now.setting.now call.now.line
+        (bytes_of (content call.now.setting.now machine.old text)) call.now.given.now machine.old) result machine.new }
 {
-    let items = machine.only_one(line, machine.positional(line, given)?)?;
-    let count = machine.count_of(setting, line, items)?;
-    let by = machine.copied_text(setting, text)?;
-    pay_for_bytes(machine, setting, line, text)?;
-    let taken = machine.take_items(setting, line, items, count)?;
-    let made = join_all(machine, setting, line, by.as_str(), taken.as_slice())?;
-    machine.new_text(line, made)
+    let items = call.only_one(machine)?;
+    let count = machine.count_of(call.setting, call.line, items)?;
+    let by = machine.copied_text(call.setting, text)?;
+    pay_for_bytes(machine, call.setting, call.line, text)?;
+    let taken = machine.take_items(call.setting, call.line, items, count)?;
+    let made = join_all(
+        machine,
+        call.setting,
+        call.line,
+        by.as_str(),
+        taken.as_slice(),
+    )?;
+    machine.new_text(call.line, made)
 }

@@ -208,21 +208,8 @@ pub fn push_name(
     all.push_str(name)
 }
 
-/// `NAME:LINE:COLUMN`.
-pub fn push_place(
-    all: &mut String,
-    files: &Files,
-    mark: Mark,
-    naming: Naming,
-) -> Result<(), AllocError> {
-    let line = Line::at(text_of(files, mark.file), mark.start);
-    let column = line.column(mark.start);
-    push_name(all, files, mark.file, naming)?;
-    write!(all, ":{}:{column}", line.number)
-}
-
 /// `NAME:LINE`.
-pub fn push_short_place(
+pub fn push_place(
     all: &mut String,
     files: &Files,
     mark: Mark,
@@ -231,6 +218,12 @@ pub fn push_short_place(
     let line = Line::at(text_of(files, mark.file), mark.start);
     push_name(all, files, mark.file, naming)?;
     write!(all, ":{}", line.number)
+}
+
+/// `:COLUMN`, which comes after `NAME:LINE`.
+pub fn push_column(all: &mut String, files: &Files, mark: Mark) -> Result<(), AllocError> {
+    let column = Line::at(text_of(files, mark.file), mark.start).column(mark.start);
+    write!(all, ":{column}")
 }
 
 /// A part of a line as it is shown: how many columns are before the place and under it.

@@ -11,6 +11,13 @@ use star_lex::token::Token;
 use star_scope::error::{LocatedFault, ScopeFault};
 use std::alloc::{AllocError, Global};
 
+const NONE: &str = "write `None`";
+
+const NO_CLASSES: &str = "there are no classes: use a dict";
+
+const ELSEWHERE: &str =
+    "it is built in elsewhere, and not here: write it in the prelude, or load it";
+
 /// The help for names that other dialects have.
 const OF_DIALECTS: &[(&'static str, &'static str)] = &[
     ("none", NONE),
@@ -47,13 +54,6 @@ const OF_DIALECTS: &[(&'static str, &'static str)] = &[
     ("rule", ELSEWHERE),
     ("provider", ELSEWHERE),
 ];
-
-const NONE: &str = "write `None`";
-
-const NO_CLASSES: &str = "there are no classes: use a dict";
-
-const ELSEWHERE: &str =
-    "it is built in elsewhere, and not here: write it in the prelude, or load it";
 
 /// A label or a path without the signs that tell them apart: `//a/b:c.star` and `./a/b/c.star` as `a/b/c.star`.
 fn bare(alloc: Global, text: &str) -> Result<String, AllocError> {

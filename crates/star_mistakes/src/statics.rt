@@ -95,6 +95,15 @@ fn mistakes_by<'x>(
 }
 
 impl<'a> Sources<'a> {
+    /// The files of a run, one of which may be the prelude.
+    pub fn new(alloc: Global, files: &'a Files, prelude: Option<usize>) -> Self {
+        Sources {
+            alloc,
+            files,
+            prelude,
+        }
+    }
+
     /// The tree of the prelude, if it parses.
     fn prelude_tree(self) -> Result<Option<Tree>, AllocError> {
         let Some(prelude) = self.prelude else {

@@ -512,15 +512,20 @@ impl<'a> Spot<'a> {
         }
     }
 
-    /// The first form that fits.
-    fn form(self) -> Told {
+    /// The first form of the token itself that fits.
+    fn own_form(self) -> Told {
         if let Some(found) = self.reserved()? {
             return Ok(Some(found));
         }
         if let Some(found) = self.prefixed()? {
             return Ok(Some(found));
         }
-        if let Some(found) = self.float()? {
+        self.float()
+    }
+
+    /// The first form that fits.
+    fn form(self) -> Told {
+        if let Some(found) = self.own_form()? {
             return Ok(Some(found));
         }
         if let Some(found) = self.after_string()? {

@@ -4,7 +4,7 @@ use Rattle.std.proofs.lemmas.List.{map-append}
 use Rattle.std.specs.Prelude.{if◌then◌else◌}
 use denote.Ref.{Bor}
 use Rattle.star_store.specs.declared.values.Value.{Value}
-use Rattle.star_scope.specs.Names.{Names, has_name}
+use Rattle.star_outline.specs.Names.{Names, has_name}
 use Rattle.star_meaning.specs.Module.{bound_names, by_name, globals_of, if_bound, slots_of, without_loaded}
 use Rattle.star_meaning.specs.Run.{State}
 use Rattle.star_meaning.specs.Variables.{frame_of}

@@ -1,7 +1,7 @@
 -- The line of the last statement is that of the item at the last place.
 use Rattle.std.proofs.Common.{◌≡◌, ℕ, zero, suc, ◌+◌, ◌-◌, List, [], ◌∷◌, length, slice_get, Option, Some, None, refl, ap, sym, ◌∙◌, subst, arith}
 use Rattle.star_tree.specs.declared.tree.Statement.{Statement}
-use Rattle.star_scope.specs.Syntax.{position_of}
+use Rattle.star_outline.specs.Syntax.{position_of}
 use Rattle.star_meaning.specs.Module.{last_line}
 
 last_from : (line : ℕ) (s : Statement) (ss : List (Statement)) (x : Statement) → slice_get (s ∷ ss) (length ss) ≡ Some x → (position_of x).line ≡ last_line line (s ∷ ss)

@@ -14,8 +14,8 @@ use Rattle.star_meaning.specs.Run as run
 use Rattle.star_meaning.proofs.ByPlaces.{places_mean_names}
 use Rattle.star_meaning.proofs.Resolved.{programs_place_names}
 use Rattle.star_world.specs.World.{World}
-use Rattle.star_machine.specs.declared.fault.Stop.{Stop}
-use Rattle.star_machine.specs.declared.fault.Stop.TheVariants.{Faulted}
+use Rattle.star_machine.specs.declared.fault.EvalError.{EvalError}
+use Rattle.star_machine.specs.declared.fault.EvalError.TheVariants.{Faulted}
 use Rattle.star_machine.specs.Refines.{RefinesBy}
 use Rattle.star_module.specs.declared.module.Ended.{Ended as HeldEnded}
 use Rattle.star_module.specs.declared.module.Outcome.{Outcome}
@@ -25,13 +25,13 @@ use Rattle.star_module.specs.Globals.{owned}
 use Rattle.star_module.specs.Outcomes.{AreReady, IsOutcome, semantics, run_by_names, run_by_places, shown}
 
 -- the state that a run with this end left
-pub good_is : (o : run.Outcome Ended) (r : Result HeldEnded Stop) (e : HeldEnded) (s : run.State) (frozen : Published) (texts : Vec (String Global × List ℕ) Global) (lines : Vec (List ℕ) Global) (left : ℕ)
+pub good_is : (o : run.Outcome Ended) (r : Result HeldEnded EvalError) (e : HeldEnded) (s : run.State) (frozen : Published) (texts : Vec (String Global × List ℕ) Global) (lines : Vec (List ℕ) Global) (left : ℕ)
     → r ≡ Ok e → frozen ≡ record { cells = s.store.cells; globals = owned e.globals.items } → texts ≡ e.texts → lines.items ≡ s.lines → left ≡ s.steps → RefinesBy shown o r s → IsOutcome o (outcome.Good frozen texts lines left)
 good_is o r e s frozen texts lines left q f t l k h =
     let g : RefinesBy shown o (Ok e) s = subst (λ x. RefinesBy shown o x s) q h in
     subst (λ p. IsOutcome p (outcome.Good frozen texts lines left)) (sym g) (f, ap (λ x. owned x.items) t, l, k)
 
-pub fault_is : (o : run.Outcome Ended) (r : Result HeldEnded Stop) (code : FaultCode) (line : ℕ) (s : run.State) (lines : Vec (List ℕ) Global) (remains : Remains)
+pub fault_is : (o : run.Outcome Ended) (r : Result HeldEnded EvalError) (code : FaultCode) (line : ℕ) (s : run.State) (lines : Vec (List ℕ) Global) (remains : Remains)
     → r ≡ Err (Faulted code line) → lines.items ≡ s.lines → RefinesBy shown o r s → IsOutcome o (outcome.Fault code line lines remains)
 fault_is o r code line s lines remains q l h =
     let k : RefinesBy shown o (Err (Faulted code line)) s = subst (λ x. RefinesBy shown o x s) q h in

@@ -2,7 +2,7 @@
 use denote.Ref.{Bor}
 use Rattle.std.specs.Prelude.{ℕ, List, map, Option, Some, None, String, string_bytes, if◌then◌else◌}
 use Rattle.star_store.specs.declared.values.Value.{Value}
-use Rattle.star_scope.specs.Names.{Names, has_name}
+use Rattle.star_outline.specs.Names.{Names, has_name}
 use Rattle.star_meaning.specs.Module.{bound_names, loaded_names, without_loaded}
 use Rattle.star_meaning.specs.Program.{Setting, outline_of}
 

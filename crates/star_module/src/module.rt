@@ -12,7 +12,7 @@ ghost use Rattle.star_module.specs.Outcomes.{AreReady, IsOutcome, semantics, run
 
 use crate::globals::globals_of;
 use star_eval::execute::execute_each;
-use star_machine::fault::Stop;
+use star_machine::fault::EvalError;
 use star_machine::machine::Machine;
 use star_meaning::fault::FaultCode;
 use star_meaning::site::Site;
@@ -86,7 +86,7 @@ fn text_of(
     levels: u32,
     line: usize,
     global: &(String, Value),
-) -> Result<(String, Text), Stop>
+) -> Result<(String, Text), EvalError>
     ensures { RefinesBy owned_one (spec.global_text world.now.setting levels line (owned_one global.now) machine.old)
         result machine.new }
 {
@@ -103,7 +103,7 @@ fn texts_of(
     levels: u32,
     line: usize,
     globals: &[(String, Value)],
-) -> Result<Vec<(String, Text)>, Stop>
+) -> Result<Vec<(String, Text)>, EvalError>
     ensures { RefinesBy (λ ts. owned ts.items)
         (run.each (spec.global_text world.now.setting levels line) (owned globals.now) machine.old) result machine.new }
 {
@@ -121,7 +121,7 @@ fn end(
     levels: u32,
     line: usize,
     frame: Value,
-) -> Result<Ended, Stop>
+) -> Result<Ended, EvalError>
     ensures { RefinesBy shown (spec.end world.now.setting levels line frame machine.old) result machine.new }
 {
     let globals = globals_of(machine, world, frame)?;
@@ -135,7 +135,7 @@ fn run_file(
     world: &World,
     statements: &[Statement],
     levels: u32,
-) -> Result<Ended, Stop>
+) -> Result<Ended, EvalError>
     requires { length machine.old.store.cells + machine.old.steps + 1 < 2 ^ 32 }
     ensures { RefinesBy shown (spec.run_file (variables world.now) world.now.setting levels statements.now machine.old)
         result machine.new }
@@ -153,7 +153,7 @@ fn run_file(
 }
 
 /// How a run has ended on this machine. The only error is want of memory.
-fn outcome_of(machine: Machine, ended: Result<Ended, Stop>) -> Result<Outcome, AllocError>
+fn outcome_of(machine: Machine, ended: Result<Ended, EvalError>) -> Result<Outcome, AllocError>
     ensures { (o : run.Outcome spec.Ended) → RefinesBy shown o ended machine → IfOk result (λ out. IsOutcome o out) }
 {
     let left = machine.steps_left();
@@ -166,7 +166,7 @@ fn outcome_of(machine: Machine, ended: Result<Ended, Stop>) -> Result<Outcome, A
             lines,
             left,
         }),
-        Err(Stop::Faulted { code, line }) => Ok(Outcome::Fault {
+        Err(EvalError::Faulted { code, line }) => Ok(Outcome::Fault {
             code,
             line,
             lines,
@@ -175,7 +175,7 @@ fn outcome_of(machine: Machine, ended: Result<Ended, Stop>) -> Result<Outcome, A
                 store: freeze(arena, Vec::new(alloc)),
             },
         }),
-        Err(Stop::Memory) => Err(AllocError),
+        Err(EvalError::Memory) => Err(AllocError),
     }
 }
 

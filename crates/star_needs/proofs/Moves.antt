@@ -6,8 +6,8 @@ use Rattle.star_label.specs.Label.{package_of}
 use Rattle.star_parser.specs.Sources.{Parses}
 use Rattle.star_parser.proofs.Once.{one_answer}
 use Rattle.star_scope.specs.declared.error.ScopeFault.{ScopeFault}
-use Rattle.star_scope.specs.declared.loads.Lead.{Lead}
-use Rattle.star_scope.specs.declared.loads.Lead.TheVariants as lead
+use Rattle.star_scope.specs.declared.loads.LoadTarget.{LoadTarget}
+use Rattle.star_scope.specs.declared.loads.LoadTarget.TheVariants as lead
 use Rattle.star_scope.specs.declared.program.Prelude.{Prelude}
 use Rattle.star_scope.specs.declared.program.Program.{Program}
 use Rattle.star_scope.specs.Loads.{AllLead, LeadsTo, Read}
@@ -64,7 +64,7 @@ same_by_number files others prelude is_in size labels texts prelude_text = recor
     at n h (inr (inr more)) = beyond n (omega (arith, more))
 
 module _ (files others : List File) (labels : labels_of files ≡ labels_of others) where
-  lead_to : (here text : List ℕ) (l : Lead) → LeadsTo files here text l → LeadsTo others here text l
+  lead_to : (here text : List ℕ) (l : LoadTarget) → LeadsTo files here text l → LeadsTo others here text l
   lead_to here text (lead.File n) (p, m, a, less, at) = (p, m, a, subst (λ k. n < k) (length_same files others labels) less, sym (label_same files others labels n) ∙ at)
   lead_to here text lead.NoFile (p, m, a, none) = (p, m, a, λ n less at. none n (subst (λ k. n < k) (sym (length_same files others labels)) less) (label_same files others labels n ∙ at))
   lead_to here text lead.BadLabel bad = bad

@@ -1,6 +1,6 @@
 -- The environment of a run, with other outlines.
 use Rattle.std.specs.Prelude.{List, Option}
-use Rattle.star_scope.specs.Outlines.{Outline}
+use Rattle.star_outline.specs.Outlines.{Outline}
 use Rattle.star_meaning.specs.Program.{Setting}
 
 -- a setting with these outlines in place of its own

@@ -9,8 +9,8 @@ use Rattle.star_cache.specs.Walk.{Walk}
 use Rattle.star_label.specs.Files.{File}
 use Rattle.star_store.specs.declared.values.Value.{Value}
 use Rattle.star_tree.specs.declared.tree.Statement.{Statement}
-use Rattle.star_scope.specs.Names.{Names}
-use Rattle.star_scope.specs.Outlines.{Outline, names_in, outline}
+use Rattle.star_outline.specs.Names.{Names}
+use Rattle.star_outline.specs.Outlines.{Outline, names_in, outline}
 use Rattle.star_scope.specs.Places.{AllPlaced}
 use Rattle.star_scope.specs.Uses.{uses}
 use Rattle.star_meaning.specs.Local.{Trees, outlines, setting}

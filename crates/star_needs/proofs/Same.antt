@@ -11,7 +11,7 @@ use Rattle.star_store.specs.declared.arena.write.Change.{Change}
 use Rattle.star_tree.specs.declared.tree.BinaryOperator.{BinaryOperator}
 use Rattle.star_tree.specs.declared.tree.UnaryOperator.{UnaryOperator}
 use Rattle.star_tree.specs.declared.tree.Comparator.{Comparator}
-use Rattle.star_scope.specs.Outlines.{Outline}
+use Rattle.star_outline.specs.Outlines.{Outline}
 use Rattle.star_meaning.specs.declared.given.Arguments.{Arguments}
 use Rattle.star_meaning.specs.Arguments.{EvaluatedArgument}
 use Rattle.star_meaning.specs.Program.{Setting}

@@ -14,8 +14,10 @@ use Rattle.star_tree.specs.declared.tree.Statement.{Statement}
 use Rattle.star_tree.specs.declared.tree.Target.{Target}
 use Rattle.star_tree.specs.declared.tree.Argument.TheOpen as tree
 use Rattle.star_tree.specs.declared.tree.Form.TheOpen as form
-use Rattle.star_scope.specs.Syntax.{ExpressionForm, StatementForm, TargetForm, target}
-use Rattle.star_scope.specs.Uses.{Named, Use, all_uses, in_arm, in_entry, in_expression, in_returned, in_statement, in_target, loaded_uses, maybe_use, outer_of, uses}
+use Rattle.star_outline.specs.Syntax.{ExpressionForm, StatementForm, TargetForm, target}
+use Rattle.star_scope.specs.Uses.{Named, all_uses, in_arm, in_entry, in_expression, in_returned, in_statement, in_target, maybe_use, outer_of, uses}
+use Rattle.star_scope.proofs.UseForms.{expression_level}
+use Rattle.star_scope.proofs.StatementForms.{form_level, arm_opened}
 use Rattle.star_meaning.specs.declared.fault.FaultCode.TheVariants as code
 use Rattle.star_meaning.specs.declared.site.Site.{Site}
 use Rattle.star_meaning.specs.declared.site.Flow.{Flow}
@@ -28,17 +30,18 @@ use Rattle.star_meaning.specs.Expressions.{node}
 use Rattle.star_meaning.specs.Statements.{augment, arms, loop, load_name, module_of, returned, statement}
 use Rattle.star_meaning.specs.Local.{Trees}
 use Rattle.star_meaning.specs.Places.{Tables, by_places}
-use Rattle.star_meaning.proofs.Agree.{Agree, Every, agree_all_of, agree_bind, agree_block, agree_each, agree_fail, agree_give, agree_if, agree_kept, agree_quiet, agree_then, agree_turns}
+use Rattle.star_meaning.proofs.Agree.{Agree, agree_all_of, agree_bind, agree_block, agree_each, agree_fail, agree_give, agree_if, agree_kept, agree_quiet, agree_then, agree_turns}
 use Rattle.star_meaning.proofs.AgreeParts.{Scene}
 use Rattle.star_needs.proofs.SeenParts.{agree-dict_comprehension, agree-entry_of, agree-list_comprehension, agree-maybe, agree-new_function, agree-to_target}
 use Rattle.star_needs.proofs.SeenCalls.{agree-call_node}
-use Rattle.star_meaning.proofs.UsesOf.{Sub, by, every, expression_level, first, form_level, left, of_arm, of_target, parameters_are, rest, right, target_level}
+use Rattle.star_meaning.proofs.UsesOf.{Sub, by, every, first, left, of_target, parameters_are, rest, right, target_level}
 use Rattle.star_meaning.proofs.Quiet as quiet
 use Rattle.star_meaning.proofs.KeepsValues.{keeps-is_true, keeps-new_dict, keeps-new_list, keeps-new_text, keeps-new_tuple, keeps-take_item}
 use Rattle.star_meaning.proofs.KeepsOperators.{keeps-compared, keeps-operate, keeps-prefix}
 use Rattle.star_meaning.proofs.KeepsSubscript.{keeps-index, keeps-set_index, keeps-slice}
 use Rattle.star_meaning.proofs.KeepsMethods.{keeps-attribute}
 use Rattle.star_meaning.proofs.KeepsEntries.{keeps-augmented, keeps-fresh_entries}
+use Rattle.star_meaning.proofs.AgreeNodes.{loaded_each}
 use Rattle.star_needs.proofs.Outlines.{with_outlines}
 use Rattle.star_needs.proofs.Sight.{Sight, alike, alike_quiet, see_read}
 use Rattle.star_needs.proofs.Same.{same-attribute, same-augmented, same-compared, same-fresh_entries, same-index, same-is_true, same-iterate, same-operate, same-prefix, same-set_index, same-slice, same-take_item}
@@ -75,16 +78,12 @@ agree-augment tables trees w sight m n p ss chain h levels op e (tree.Target-F.T
 pub agree-arms : (tables : Tables) (trees : Trees) (w : Setting) (sight : Sight trees w) (m n : Semantics) (p : Site) (ss : List Statement) (chain : List ℕ) → Scene tables trees w m n p ss chain → (cases : List Arm) (a b : Action Flow) → Sub (all_uses in_arm cases chain) (uses ss) → Agree trees w p.file chain (Some p.frame) (a) (b) → Agree trees w p.file chain (Some p.frame) (arms (with_outlines sight.outlines w) m p cases a) (arms w n p cases b)
 agree-arms tables trees w sight m n p ss chain h [] a b k r = r
 agree-arms tables trees w sight m n p ss chain h (x ∷ more) a b k r =
-    let l : Sub (in_expression (out-Arm x).condition chain ++ all_uses in_statement (out-Arm x).body chain) (uses ss) = by _ _ (uses ss) (of_arm x chain) (left _ _ (uses ss) (k)) in
+    let l : Sub (in_expression (out-Arm x).condition chain ++ all_uses in_statement (out-Arm x).body chain) (uses ss) = by _ _ (uses ss) (arm_opened x chain) (left _ _ (uses ss) (k)) in
     agree_then trees w p.file chain (Some p.frame) _ _ _ _ (agree_then trees w p.file chain (Some p.frame) _ _ _ _ (h.parts.expr p (out-Arm x).condition ss chain h.stands (left _ _ (uses ss) (l))) (λ v. alike trees w p.file chain (Some p.frame) _ _ (same-is_true sight.outlines w v) (keeps-is_true w v))) (λ t. agree_if trees w p.file chain (Some p.frame) t _ _ _ _ (agree_block trees w p.file chain (Some p.frame) (λ x. Sub (in_statement x chain) (uses ss)) _ _ (λ x j. h.parts.stmt p x ss chain h.stands j) (out-Arm x).body (every in_statement (out-Arm x).body chain (uses ss) (right _ _ (uses ss) (l)))) (agree-arms tables trees w sight m n p ss chain h more a b (right _ _ (uses ss) (k)) r))
 
 pub agree-loop : (tables : Tables) (trees : Trees) (w : Setting) (sight : Sight trees w) (m n : Semantics) (p : Site) (ss : List Statement) (chain : List ℕ) → Scene tables trees w m n p ss chain → (t : Target) (body : List Statement) (v : Value) → Sub (in_target t chain) (uses ss) → Sub (all_uses in_statement body chain) (uses ss) → Agree trees w p.file chain (Some p.frame) (loop (by_places tables (with_outlines sight.outlines w)) (with_outlines sight.outlines w) m p t body v) (loop (by_names w) w n p t body v)
 agree-loop tables trees w sight m n p ss chain h t body v k l =
     agree_then trees w p.file chain (Some p.frame) _ _ _ _ (alike_quiet trees w p.file chain (Some p.frame) _ _ (same-iterate sight.outlines w p.line v) (quiet.keeps_iterate w p.line v)) (λ c. agree_then trees w p.file chain (Some p.frame) _ _ _ _ (agree_turns trees w p.file chain (Some p.frame) _ _ c 0 (λ i. agree_then trees w p.file chain (Some p.frame) _ _ _ _ (alike trees w p.file chain (Some p.frame) _ _ (same-take_item sight.outlines w p.line v i) (keeps-take_item w p.line v i)) (λ x. agree_then trees w p.file chain (Some p.frame) _ _ _ _ (agree-to_target tables trees w sight m n p ss chain h t x k) (λ _. agree_block trees w p.file chain (Some p.frame) (λ x. Sub (in_statement x chain) (uses ss)) _ _ (λ x j. h.parts.stmt p x ss chain h.stands j) body (every in_statement body chain (uses ss) (l)))))) (λ f. agree_then trees w p.file chain (Some p.frame) _ _ _ _ (agree_quiet trees w p.file chain (Some p.frame) _ (quiet.keeps_leave v)) (λ _. agree_give trees w p.file chain (Some p.frame) f)))
-
-loaded_each : (xs : List LoadedName) (chain : List ℕ) (us : List Use) → Sub (loaded_uses xs chain) us → Every (λ x. Contains us (Named x.local chain)) xs
-loaded_each [] chain us h = tt
-loaded_each (x ∷ xs) chain us h = (first _ _ us h, loaded_each xs chain us (rest _ _ us h))
 
 pub agree-load_name : (tables : Tables) (trees : Trees) (w : Setting) (sight : Sight trees w) (m n : Semantics) (p : Site) (ss : List Statement) (chain : List ℕ) → Scene tables trees w m n p ss chain → (o : Option Published) (x : LoadedName) → Contains (uses ss) (Named x.local chain) → Agree trees w p.file chain (Some p.frame) (load_name (by_places tables (with_outlines sight.outlines w)) p o x) (load_name (by_names w) p o x)
 agree-load_name tables trees w sight m n p ss chain h o x k = agree_then trees w p.file chain (Some p.frame) _ _ _ _ (agree_quiet trees w p.file chain (Some p.frame) _ (quiet.keeps_found code.NoName p.line (option_and_then (λ q. global_of x.loaded.text q.globals) o))) (λ v. agree_bind tables trees w h.known.resolved p x.local v ss chain h.stands k)

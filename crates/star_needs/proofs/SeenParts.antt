@@ -1,5 +1,5 @@
 -- The parts of a program, by places with other outlines, and by names: each does the same, if its parts do.
-use Rattle.std.proofs.Common.{◌≡◌, ℕ, ◌+◌, List, [], ◌∷◌, ◌++◌, length, nat_eq, Option, Some, None, refl, sym, ◌∙◌, subst}
+use Rattle.std.proofs.Common.{ℕ, ◌+◌, List, [], ◌∷◌, ◌++◌, length, nat_eq, Option, Some, None}
 use Rattle.std.specs.List.{Contains}
 use Rattle.std.specs.Option.{option_map}
 use Rattle.star_store.specs.declared.values.Value.{Value}
@@ -12,11 +12,12 @@ use Rattle.star_tree.specs.declared.tree.Parameter.{Parameter}
 use Rattle.star_tree.specs.declared.tree.Statement.{Statement}
 use Rattle.star_tree.specs.declared.tree.Target.{Target}
 use Rattle.star_tree.specs.declared.tree.Argument.TheOpen as tree
-use Rattle.star_scope.specs.Syntax.{ClauseForm, ParameterForm, TargetForm, clause, parameter, target}
+use Rattle.star_outline.specs.Syntax.{ClauseForm, ParameterForm, TargetForm, clause, parameter, target}
 use Rattle.star_scope.specs.Uses.{Defined, all_uses, in_clause, in_clauses, in_entry, in_expression, in_parameters, in_target, maybe_use, outer_of, uses}
+use Rattle.star_scope.proofs.UseForms.{of_entry, of_first, of_rest}
 use Rattle.star_meaning.specs.declared.fault.FaultCode.TheVariants as code
 use Rattle.star_meaning.specs.declared.site.Site.{Site}
-use Rattle.star_meaning.specs.Run.{Outcome, Done, Failed, Action, and_then, ◌>>=◌, give, pay}
+use Rattle.star_meaning.specs.Run.{Action, ◌>>=◌, pay}
 use Rattle.star_meaning.specs.Program.{Setting}
 use Rattle.star_meaning.specs.Variables.{by_names, new_frame}
 use Rattle.star_meaning.specs.Semantics.{Semantics}
@@ -25,15 +26,15 @@ use Rattle.star_meaning.specs.Comprehensions.{clause_turn, over, clause_node, cl
 use Rattle.star_meaning.specs.Expressions.{defaults_after, defaults, new_function, entry_of, maybe}
 use Rattle.star_meaning.specs.Local.{Trees}
 use Rattle.star_meaning.specs.Places.{Tables, by_places, new_slots}
-use Rattle.star_meaning.proofs.Agree.{Agree, Good, agree_bind, agree_fail, agree_frame, agree_function, agree_give, agree_if, agree_quiet, agree_repeat, agree_then}
-use Rattle.star_meaning.proofs.UsesOf.{Sub, by, first, left, of_clause, of_entry, of_first, of_outer, of_rest, of_target, outer_level, clause_level, target_level, right}
+use Rattle.star_meaning.proofs.Agree.{Agree, agree_bind, agree_fail, agree_frame, agree_function, agree_give, agree_if, agree_quiet, agree_repeat, agree_then}
+use Rattle.star_meaning.proofs.UsesOf.{Sub, by, first, left, of_clause, of_outer, of_target, outer_level, clause_level, target_level, right}
 use Rattle.star_meaning.proofs.Quiet as quiet
 use Rattle.star_meaning.proofs.KeepsValues.{keeps-is_true, keeps-take_all, keeps-take_item, keeps-check_key}
 use Rattle.star_meaning.proofs.KeepsSubscript.{keeps-index, keeps-set_index, keeps-put_entry}
 use Rattle.star_needs.proofs.Outlines.{with_outlines}
 use Rattle.star_needs.proofs.Sight.{Sight, alike, alike_quiet}
 use Rattle.star_needs.proofs.Same.{same-change, same-check_key, same-index, same-is_true, same-iterate, same-put_entry, same-set_index, same-take_all, same-take_item}
-use Rattle.star_meaning.proofs.AgreeParts.{Scene}
+use Rattle.star_meaning.proofs.AgreeParts.{Scene, at_frame, agree_assoc}
 
 -- ---- targets
 
@@ -92,23 +93,6 @@ pub agree-add_entry : (tables : Tables) (trees : Trees) (w : Setting) (sight : S
 agree-add_entry tables trees w sight m n p ss chain h levels e d k =
     let l : Sub (in_expression (out-Entry e).key chain ++ in_expression (out-Entry e).value chain) (uses ss) = by _ _ (uses ss) (of_entry e chain) k in
     agree_then trees w p.file chain (Some p.frame) _ _ _ _ (h.parts.expr p (out-Entry e).key ss chain h.stands (left _ _ (uses ss) (l))) (λ x. agree_then trees w p.file chain (Some p.frame) _ _ _ _ (h.parts.expr p (out-Entry e).value ss chain h.stands (right _ _ (uses ss) (l))) (λ v. agree_then trees w p.file chain (Some p.frame) _ _ _ _ (alike trees w p.file chain (Some p.frame) _ _ (same-check_key sight.outlines w levels p.line x) (keeps-check_key w levels p.line x)) (λ _. alike trees w p.file chain (Some p.frame) _ _ (same-put_entry sight.outlines w p.line d x v) (keeps-put_entry w p.line d x v))))
-
-assoc : {A B C : Type 0} (o : Outcome A) (f : A → Action B) (g : B → Action C) → and_then (and_then o f) g ≡ and_then o (λ x. f x >>= g)
-assoc (Done x s) f g = refl
-assoc (Failed e lines) f g = refl
-
--- a place in another frame
-abbrev at_frame : Site → Value → Action Site
-at_frame p v = give (record p { frame = v })
-
--- the actions after those that follow
-pub agree_assoc : {A B D : Type 0} (trees : Trees) (w : Setting) (file : ℕ) (chain : List ℕ) (frame : Option Value) (a b : Action A) (f g : A → Action B) (i j : B → Action D)
-    → Agree trees w file chain frame (a >>= λ x. f x >>= i) (b >>= λ x. g x >>= j) → Agree trees w file chain frame (a >>= f >>= i) (b >>= g >>= j)
-agree_assoc trees w file chain frame a b f g i j k = record {
-  holds = λ s fit fits.
-      let r = k.holds s fit fits in
-      (assoc (a s) f i ∙ r.0 ∙ sym (assoc (b s) g j), subst (λ o. Good trees w s o) (sym (assoc (b s) g j)) r.1);
-}
 
 pub agree_inner : {B : Type 0} (tables : Tables) (trees : Trees) (w : Setting) (sight : Sight trees w) (m n : Semantics) (p : Site) (ss : List Statement) (chain : List ℕ) → Scene tables trees w m n p ss chain → (number : ℕ) (f g : Site → Action B)
     → ((v : Value) → Agree trees w p.file (number ∷ chain) (Some v) (f (record p { frame = v })) (g (record p { frame = v })))

@@ -1,55 +1,33 @@
 -- The run of a file by places with other outlines is its run by names, by induction on the levels that may still be
 -- opened.
-use Rattle.std.proofs.Common.{◌≡◌, ℕ, zero, suc, List, [], ◌∷◌, Option, Some, None, refl, ap, sym, subst, nat_eq, Bool, true, false, if◌then◌else◌}
+use Rattle.std.proofs.Common.{◌≡◌, ℕ, zero, suc, List, [], ◌∷◌, Option, Some, None, refl, ap, sym, subst, nat_eq}
 use Rattle.star_store.specs.declared.values.Value.{Value}
 use Rattle.star_tree.specs.declared.tree.Statement.{Statement}
-use Rattle.star_scope.specs.Syntax.{expression, form_of, position_of, target}
+use Rattle.star_outline.specs.Syntax.{expression, form_of, position_of, target}
 use Rattle.star_scope.specs.Uses.{in_statement, uses}
 use Rattle.star_meaning.specs.declared.site.Site.{Site}
-use Rattle.star_meaning.specs.Run.{Action, ◌>>=◌, each, give, pay, seeing}
+use Rattle.star_meaning.specs.Run.{Action, ◌>>=◌, each, give, seeing}
 use Rattle.star_meaning.specs.Program.{Setting, blocks_in, outline_of, seen}
 use Rattle.star_meaning.specs.Values.{repr}
-use Rattle.star_scope.specs.Outlines.{Outline, names_in}
+use Rattle.star_outline.specs.Outlines.{Outline, names_in}
 use Rattle.star_meaning.specs.Variables.{by_names, frame_of}
 use Rattle.star_meaning.specs.Semantics.{Semantics}
-use Rattle.star_meaning.specs.Module.{Ended, bound_names, by_name, global_text, loaded_names, slots_of, without_loaded, at_line, end, last_line, meaning, most_levels, nothing_opens, one_more, run_file, start}
+use Rattle.star_meaning.specs.Module.{Ended, bound_names, by_name, global_text, loaded_names, slots_of, without_loaded, at_line, end, last_line, meaning, most_levels, one_more, run_file, start}
 use Rattle.star_meaning.specs.Local.{Trees, outlines}
 use Rattle.star_meaning.specs.Places.{AllFit, IsResolved, Stands, Tables, by_places}
-use Rattle.star_meaning.proofs.Agree.{Agree, agree_block, agree_fail, agree_frame, agree_kept, agree_then}
+use Rattle.star_meaning.proofs.Agree.{Agree, agree_block, agree_frame, agree_then}
 use Rattle.star_meaning.proofs.AgreeParts.{AllAgree, Known, Scene}
 use Rattle.star_needs.proofs.SeenParts.{agree-parts_node, agree-target_node}
 use Rattle.star_needs.proofs.SeenCalls.{agree-run}
 use Rattle.star_needs.proofs.SeenNodes.{agree-node, agree-statement}
 use Rattle.star_meaning.proofs.DefinedFiles.{definitions_stand, uses_are}
 use Rattle.star_meaning.proofs.UsesOf.{Sub, all, by, every, of_expression, of_statement, of_target}
-use Rattle.star_meaning.proofs.Keeps.{Keeps, keeps, keeps_pay}
-use Rattle.star_meaning.proofs.KeepsModule.{keeps-global_text}
+use Rattle.star_meaning.proofs.ByPlaces.{line_file, line_frame, none_agree, paying, keeps-end}
 use Rattle.star_needs.proofs.Outlines.{with_outlines}
 use Rattle.star_needs.proofs.Sight.{Sight, alike}
 
--- a statement of the running file has a line of its own, and has the same place
-line_file : (b : Bool) (p : Site) (line : ℕ) → (if b then record p { line = line } else p).file ≡ p.file
-line_file true p line = refl
-line_file false p line = refl
-
-line_frame : (b : Bool) (p : Site) (line : ℕ) → (if b then record p { line = line } else p).frame ≡ p.frame
-line_frame true p line = refl
-line_frame false p line = refl
-
-none_agree : (trees : Trees) (w : Setting) → AllAgree trees w (nothing_opens w) (nothing_opens w)
-none_agree trees w = record {
-  expr = λ p e ss chain h k. agree_fail _ trees w p.file chain (Some p.frame) _ _;
-  stmt = λ p x ss chain h k. agree_fail _ trees w p.file chain (Some p.frame) _ _;
-  assign = λ p t v ss chain h k. agree_fail _ trees w p.file chain (Some p.frame) _ _;
-  parts = λ p e i ss chain h k l. agree_fail _ trees w p.file chain (Some p.frame) _ _;
-  call = λ p f d xs ss chain h k l named. agree_fail _ trees w f.file chain (Some f.frame) _ _;
-}
-
 scene : (tables : Tables) (trees : Trees) (w : Setting) (sight : Sight trees w) (m n : Semantics) (p : Site) (ss : List Statement) (chain : List ℕ) → Known tables trees w → AllAgree trees w m n → Stands trees p.file ss → Scene tables trees w m n p ss chain
 scene tables trees w sight m n p ss chain k a h = record { known = k; parts = a; stands = h }
-
-paying : {A : Type 0} (trees : Trees) (w : Setting) (file : ℕ) (chain : List ℕ) (frame : Option Value) (line : ℕ) (a b : Action A) → Agree trees w file chain frame a b → Agree trees w file chain frame (pay line 1 >>= λ _. a) (pay line 1 >>= λ _. b)
-paying trees w file chain frame line a b h = agree_then trees w file chain frame _ _ _ _ (agree_kept trees w file chain frame _ (keeps_pay line 1)) (λ _. h)
 
 abbrev StatementAgrees : Tables → (trees : Trees) → (w : Setting) → Sight trees w → ℕ → Semantics → Semantics → Statement → List ℕ → Site → ℕ → Value → Type 0
 StatementAgrees tables trees w sight levels m n x chain p file frame = Agree trees w file chain (Some frame) ((one_more (by_places tables (with_outlines sight.outlines w)) (with_outlines sight.outlines w) levels m).stmt p x) ((one_more (by_names w) w levels n).stmt p x)
@@ -78,9 +56,6 @@ pub meaning_agrees : (tables : Tables) (trees : Trees) (w : Setting) (sight : Si
 unfolding meaning
 meaning_agrees tables trees w sight zero k = none_agree trees w
 meaning_agrees tables trees w sight (suc levels) k = more_agree tables trees w sight levels (meaning (by_places tables (with_outlines sight.outlines w)) (with_outlines sight.outlines w) levels) (meaning (by_names w) w levels) k (meaning_agrees tables trees w sight levels k)
-
-keeps-end : (w : Setting) (levels line : ℕ) (frame : Value) → Keeps true (end w levels line frame)
-keeps-end w levels line frame = search (keeps, keeps-global_text) depth 14
 
 abbrev ending : Option Outline → Setting → ℕ → ℕ → Value → Action Ended
 ending o w levels line frame =

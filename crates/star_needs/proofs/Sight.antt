@@ -4,7 +4,7 @@ use Rattle.std.specs.List.{Contains}
 use Rattle.star_tree.specs.declared.tree.Name.{Name}
 use Rattle.star_tree.specs.declared.tree.Statement.{Statement}
 use Rattle.star_store.specs.declared.values.Value.{Value}
-use Rattle.star_scope.specs.Outlines.{Outline}
+use Rattle.star_outline.specs.Outlines.{Outline}
 use Rattle.star_scope.specs.Uses.{Named, uses}
 use Rattle.star_meaning.specs.declared.site.Site.{Site}
 use Rattle.star_meaning.specs.Run.{Action}

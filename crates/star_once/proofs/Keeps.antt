@@ -16,7 +16,7 @@ use Rattle.star_tree.specs.declared.tree.Expression.{Expression}
 use Rattle.star_tree.specs.declared.tree.Statement.{Statement}
 use Rattle.star_tree.specs.declared.tree.Target.{Target}
 use Rattle.star_tree.specs.declared.tree.Name.{Name}
-use Rattle.star_scope.specs.Definitions.{Definition}
+use Rattle.star_outline.specs.Definitions.{Definition}
 use Rattle.star_meaning.specs.declared.fault.FaultCode.{FaultCode}
 use Rattle.star_meaning.specs.declared.fault.FaultCode.TheVariants as code
 use Rattle.star_meaning.specs.declared.site.Site.{Site}
@@ -29,6 +29,7 @@ use Rattle.star_meaning.specs.Binding.{BoundArgument}
 use Rattle.star_meaning.specs.Semantics.{Semantics, block, then_go, then_turn, turns, repeat}
 use Rattle.star_meaning.specs.Calls.{activate, deactivate}
 use Rattle.star_meaning.proofs.Stays as stays
+use Rattle.star_meaning.proofs.Quiet.{open_cell, close_cell}
 use Rattle.star_once.specs.Keys.{Differ, KeysDiffer}
 use Rattle.star_once.proofs.BoundArguments.{SharesOnce}
 use Rattle.star_once.proofs.Stores.{after_same, after_step, changed_look, made_look, same_look, stays_seen}
@@ -177,14 +178,6 @@ keeps_change w line v c = record { holds = λ s h. write_differs w line v c s h 
 
 changing : {w : Setting} (f : HeapCell → HeapCell) → ((e : HeapCell) → (f e).cell ≡ e.cell) → (v : Value) → Keeps w (storing (changed f v))
 changing {w = w} f same v = record { holds = λ s h. after_same w s (record s { store = changed f v s.store }) h (λ x. same_look f same v s.store w.shelf x) }
-
-open_cell : (b : Bool) (e : HeapCell) → (if b then record e { iterations = e.iterations + 1 } else e).cell ≡ e.cell
-open_cell true e = refl
-open_cell false e = refl
-
-close_cell : (b : Bool) (e : HeapCell) → (if b then record e { iterations = e.iterations - 1 } else e).cell ≡ e.cell
-close_cell true e = refl
-close_cell false e = refl
 
 pub keeps_iterate : (w : Setting) (line : ℕ) (v : Value) → Keeps w (iterate w line v)
 unfolding iterate count_of

@@ -2,8 +2,8 @@
 use Rattle.star_tree.specs.declared.tree.Argument.{Argument}
 use Rattle.star_tree.specs.declared.tree.Argument.TheOpen as tree
 use Rattle.star_meaning.specs.declared.site.Site.{Site}
-use Rattle.star_scope.specs.Syntax.{ArgumentForm}
-use Rattle.star_scope.specs.Definitions.{Body, Statements, Answer}
+use Rattle.star_outline.specs.Syntax.{ArgumentForm}
+use Rattle.star_outline.specs.Definitions.{Body, Statements, Answer}
 use Rattle.star_meaning.specs.Program.{Setting}
 use Rattle.star_meaning.specs.Semantics.{Semantics}
 use Rattle.star_meaning.specs.Calls.{pass_form, pass, run_body}

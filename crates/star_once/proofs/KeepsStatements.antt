@@ -12,7 +12,7 @@ use Rattle.star_tree.specs.declared.tree.Argument.TheOpen as tree
 use Rattle.star_tree.specs.declared.tree.Form.TheOpen as form
 use Rattle.star_meaning.specs.declared.site.Site.{Site}
 use Rattle.star_meaning.specs.declared.site.Flow.{Flow}
-use Rattle.star_scope.specs.Syntax.{StatementForm, TargetForm}
+use Rattle.star_outline.specs.Syntax.{StatementForm, TargetForm}
 use Rattle.star_meaning.specs.Program.{Setting, Variables}
 use Rattle.star_meaning.specs.Semantics.{Semantics}
 use Rattle.std.proofs.Common.{ℕ, List, [], ◌∷◌, Option, Some, None}

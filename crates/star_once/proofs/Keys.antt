@@ -8,7 +8,7 @@ use Rattle.star_store.specs.declared.values.Value.TheVariants as value
 use Rattle.star_store.specs.declared.values.Cell.{Cell}
 use Rattle.star_store.specs.declared.values.Cell.TheVariants as cell
 use Rattle.star_store.specs.Key.{is_key, key_cell, key_value, place_of, same_key, same_key_cell, same_key_value}
-use Rattle.star_scope.proofs.Numbers.{position_next}
+use Rattle.star_outline.proofs.Numbers.{position_next}
 use Rattle.star_data.specs.Data.{cell_of, text_in}
 use Rattle.star_data.proofs.Parts.{is_text}
 use Rattle.star_once.specs.Keys.{Apart, ApartFrom, Differ, IsFixed, IsThere, LeadsToFixed}

@@ -8,8 +8,8 @@ use Rattle.std.proofs.lemmas.Slice.Eq.{bytes_eq-Decides}
 use Rattle.star_store.specs.declared.values.Value.{Value}
 use Rattle.star_store.specs.Store.{Shelf}
 use Rattle.star_tree.specs.declared.tree.Statement.{Statement}
-use Rattle.star_scope.specs.Names.{once, same_name}
-use Rattle.star_scope.specs.Outlines.{block_names, loaded_names, names_in, outline}
+use Rattle.star_outline.specs.Names.{once, same_name}
+use Rattle.star_outline.specs.Outlines.{block_names, loaded_names, names_in, outline}
 use Rattle.star_meaning.specs.Local.{Trees}
 use Rattle.star_meaning.specs.Semantics.{block}
 use Rattle.star_meaning.specs.Module.{Ended, Good, Local, Stopped, bound_names, by_name, end, global_text, globals_of, if_bound, last_line, local_of, meaning, most_levels, put_by_name, run_file, slots_of, start, without_loaded}

@@ -5,7 +5,6 @@ use Rattle.star_store.specs.declared.values.Value.{Value}
 use Rattle.star_store.specs.declared.values.Value.TheVariants as value
 use Rattle.star_store.specs.declared.values.Cell.{Cell}
 use Rattle.star_store.specs.declared.values.Cell.TheVariants as cell
-use Rattle.star_store.specs.declared.values.HeapCell.{HeapCell}
 use Rattle.star_store.specs.Store.{Published, Shelf, is_taken, published_cells, put_up, widened}
 use Rattle.star_store.specs.Write.{cell_at}
 use Rattle.star_tree.specs.declared.tree.Statement.{Statement}
@@ -18,6 +17,7 @@ use Rattle.star_meaning.specs.Variables.{by_names}
 use Rattle.star_meaning.proofs.Keeps as base
 use Rattle.star_meaning.proofs.KeepsModule as base_module
 use Rattle.star_meaning.proofs.Runs as base_runs
+use Rattle.star_meaning.proofs.LoadedFit.{cells_in, flat_cells, equal_numbers}
 use Rattle.star_data.specs.Data.{cell_of, on_shelf, text_in}
 use Rattle.star_data.specs.Laws.{KeysStandOnce}
 use Rattle.star_data.proofs.Parts.{is_text}
@@ -44,21 +44,9 @@ different_keys_stand_once w s h v es e = once (seen w s) es (h v es e)
 
 -- ---- what a module sees that loads another
 
-equal_numbers : (m n : ℕ) → nat_eq m n ≡ true → m ≡ n
-equal_numbers m n e = grind (arith, e)
-
 other_number : (b : Bool) (m n : ℕ) → nat_eq m n ≡ b → (m ≡ n → ⊥) → b ≡ false
 other_number true m n e h = absurd (h (equal_numbers m n e))
 other_number false m n e h = refl
-
-abbrev cells_in : Option Published → List HeapCell
-cells_in None = []
-cells_in (Some p) = p.cells
-
-flat_cells : (o : Option (Option Published)) → published_cells o ≡ cells_in (option_flatten o)
-flat_cells None = refl
-flat_cells (Some None) = refl
-flat_cells (Some (Some p)) = refl
 
 -- a module on the shelf is seen from a module of another file
 from_shelf : (w : Setting) (steps file at : ℕ) (p : Published) (c : Cell) → (file ≡ w.home → ⊥) → published_of w file ≡ Some p → cell_at p.cells at ≡ Some c → seen w (start w steps) (value.Ref file at) ≡ Some c

@@ -4,7 +4,7 @@ use Rattle.star_store.specs.declared.values.Value.{Value}
 use Rattle.star_tree.specs.declared.tree.Argument.TheOpen as tree
 use Rattle.star_tree.specs.declared.tree.Entry.{Entry}
 use Rattle.star_tree.specs.declared.tree.Statement.{Statement}
-use Rattle.star_scope.specs.Syntax.{ExpressionForm, expression, form_of, position_of, target}
+use Rattle.star_outline.specs.Syntax.{ExpressionForm, expression, form_of, position_of, target}
 use Rattle.star_meaning.specs.declared.site.Site.{Site}
 use Rattle.star_meaning.specs.Expressions.{entry_of, fresh_entries, node}
 use Rattle.star_meaning.specs.Semantics.{Semantics}

@@ -12,6 +12,7 @@ use Rattle.star_meaning.specs.Laws.{KeepsKind}
 use Rattle.star_meaning.specs.Program.{Setting, seen}
 use Rattle.star_meaning.specs.Run.{State}
 use Rattle.star_meaning.proofs.Stays.{Stays}
+use Rattle.star_meaning.proofs.Quiet.{same_cells}
 use Rattle.star_once.specs.Keys.{Differ, IsFixed, KeysDiffer}
 use Rattle.star_once.proofs.Keys.{Stay, differ_stays}
 
@@ -125,14 +126,6 @@ changed_look f value.NoneValue s shelf v d e = was_same f (counted_at s shelf v)
 changed_look f (value.Bool b) s shelf v d e = was_same f (counted_at s shelf v) d e
 changed_look f (value.Int n) s shelf v d e = was_same f (counted_at s shelf v) d e
 changed_look f (value.Builtin b) s shelf v d e = was_same f (counted_at s shelf v) d e
-
--- a change that leaves what each cell holds
-same_cells : (f : HeapCell → HeapCell) → ((e : HeapCell) → (f e).cell ≡ e.cell) → (xs : List HeapCell) (i at : ℕ) → cell_at (changed_at f xs i) at ≡ cell_at xs at
-same_cells f h [] i at = refl
-same_cells f h (x ∷ xs) zero zero = ap Some (h x)
-same_cells f h (x ∷ xs) zero (suc at) = refl
-same_cells f h (x ∷ xs) (suc i) zero = refl
-same_cells f h (x ∷ xs) (suc i) (suc at) = same_cells f h xs i at
 
 either_same : (b c : Bool) (s : Store) (xs ps : List HeapCell) (at : ℕ) → cell_at xs at ≡ cell_at s.cells at → cell_at (if b then (if c then record s { cells = xs } else s).cells else ps) at ≡ cell_at (if b then s.cells else ps) at
 either_same true true s xs ps at h = h

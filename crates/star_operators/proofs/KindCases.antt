@@ -8,7 +8,7 @@ use Rattle.star_machine.specs.declared.content.Kind.TheVariants as kind
 use Rattle.star_meaning.specs.declared.fault.FaultCode.TheVariants.{BadType}
 use Rattle.star_meaning.specs.Run.{State, fail, give}
 use Rattle.star_meaning.specs.Program.{Setting, seen}
-use Rattle.star_meaning.specs.Values.{Content, Nothing, Truth, Number, BuiltInFunction, Held, Nowhere, content, int_of, with_content}
+use Rattle.star_meaning.specs.Values.{Content, Held, content, int_of, with_content}
 use Rattle.star_meaning.specs.Operators.{on_others, has, list_contains, range_has_value}
 use Rattle.star_meaning.specs.Percent.{percent}
 use Rattle.star_meaning.specs.Subscript.{entries_in}
@@ -21,18 +21,7 @@ modulo_text w levels line c d y h = ap (λ k. on_others w levels line binary.Mod
 
 pub modulo_other : (w : Setting) (levels line : ℕ) (c d : Content) (y : Value) → kind_of c ≢ kind.Text → on_others w levels line binary.Modulo c d y ≡ fail BadType line
 modulo_other w levels line (Held (cell.Text t)) d y h = absurd (h refl)
-modulo_other w levels line Nothing d y h = refl
-modulo_other w levels line (Truth b) d y h = refl
-modulo_other w levels line (Number n) d y h = refl
-modulo_other w levels line (BuiltInFunction b) d y h = refl
-modulo_other w levels line (Held (cell.Range r)) d y h = refl
-modulo_other w levels line (Held (cell.Tuple xs)) d y h = refl
-modulo_other w levels line (Held (cell.List xs)) d y h = refl
-modulo_other w levels line (Held (cell.Dict es)) d y h = refl
-modulo_other w levels line (Held (cell.Func f)) d y h = refl
-modulo_other w levels line (Held (cell.Frame f)) d y h = refl
-modulo_other w levels line (Held (cell.Bound m v)) d y h = refl
-modulo_other w levels line Nowhere d y h = refl
+modulo_other w levels line _ d y h = refl
 
 -- `in`
 pub has_list : (w : Setting) (levels line : ℕ) (s : State) (v x : Value) → kind_of (content w s v) ≡ kind.List → has w levels line (content w s v) x ≡ list_contains w levels line (row_in (seen w s v)) x
@@ -56,11 +45,4 @@ has_other w levels line (Held (cell.Range q)) x l t d u r = absurd (r q refl)
 has_other w levels line (Held (cell.Tuple xs)) x l t d u r = absurd (t refl)
 has_other w levels line (Held (cell.List xs)) x l t d u r = absurd (l refl)
 has_other w levels line (Held (cell.Dict es)) x l t d u r = absurd (d refl)
-has_other w levels line Nothing x l t d u r = refl
-has_other w levels line (Truth b) x l t d u r = refl
-has_other w levels line (Number n) x l t d u r = refl
-has_other w levels line (BuiltInFunction b) x l t d u r = refl
-has_other w levels line (Held (cell.Func f)) x l t d u r = refl
-has_other w levels line (Held (cell.Frame f)) x l t d u r = refl
-has_other w levels line (Held (cell.Bound m v)) x l t d u r = refl
-has_other w levels line Nowhere x l t d u r = refl
+has_other w levels line _ x l t d u r = refl

@@ -7,7 +7,7 @@ use Rattle.star_machine.specs.declared.content.Kind.TheVariants as kind
 use Rattle.star_meaning.specs.declared.fault.FaultCode.TheVariants.{BadType}
 use Rattle.star_meaning.specs.Run.{fail}
 use Rattle.star_meaning.specs.Program.{Setting}
-use Rattle.star_meaning.specs.Values.{Content, Nothing, Truth, Number, BuiltInFunction, Held, Nowhere}
+use Rattle.star_meaning.specs.Values.{Content, Held}
 use Rattle.star_meaning.specs.Subscript.{item_of, row_item, byte_at, entry_value, entries_in, set_in, set_item, set_entry}
 use Rattle.star_machine.specs.Kinds.{kind_of, bytes_of, size_of}
 use Rattle.star_machine.proofs.KindCases.{is_text, is_list, is_tuple, is_dict, is_range}
@@ -36,14 +36,7 @@ item_other w levels line (Held (cell.Range q)) i l t r u d = absurd (r q refl)
 item_other w levels line (Held (cell.Tuple xs)) i l t r u d = absurd (t refl)
 item_other w levels line (Held (cell.List xs)) i l t r u d = absurd (l refl)
 item_other w levels line (Held (cell.Dict es)) i l t r u d = absurd (d refl)
-item_other w levels line Nothing i l t r u d = refl
-item_other w levels line (Truth b) i l t r u d = refl
-item_other w levels line (Number n) i l t r u d = refl
-item_other w levels line (BuiltInFunction b) i l t r u d = refl
-item_other w levels line (Held (cell.Func f)) i l t r u d = refl
-item_other w levels line (Held (cell.Frame f)) i l t r u d = refl
-item_other w levels line (Held (cell.Bound m v)) i l t r u d = refl
-item_other w levels line Nowhere i l t r u d = refl
+item_other w levels line _ i l t r u d = refl
 
 pub set_list : (w : Setting) (levels line : ℕ) (c : Content) (x i v : Value) → kind_of c ≡ kind.List → set_in w levels line c x i v ≡ set_item w line x (size_of c) i v
 set_list w levels line c x i v h = rw (is_list c h) refl
@@ -54,14 +47,4 @@ set_dict w levels line c x i v h = ap (λ k. set_in w levels line k x i v) (is_d
 pub set_other : (w : Setting) (levels line : ℕ) (c : Content) (x i v : Value) → kind_of c ≢ kind.List → kind_of c ≢ kind.Dict → set_in w levels line c x i v ≡ fail BadType line
 set_other w levels line (Held (cell.List xs)) x i v l d = absurd (l refl)
 set_other w levels line (Held (cell.Dict es)) x i v l d = absurd (d refl)
-set_other w levels line (Held (cell.Text b)) x i v l d = refl
-set_other w levels line (Held (cell.Range q)) x i v l d = refl
-set_other w levels line (Held (cell.Tuple xs)) x i v l d = refl
-set_other w levels line Nothing x i v l d = refl
-set_other w levels line (Truth b) x i v l d = refl
-set_other w levels line (Number n) x i v l d = refl
-set_other w levels line (BuiltInFunction b) x i v l d = refl
-set_other w levels line (Held (cell.Func f)) x i v l d = refl
-set_other w levels line (Held (cell.Frame f)) x i v l d = refl
-set_other w levels line (Held (cell.Bound m v2)) x i v l d = refl
-set_other w levels line Nowhere x i v l d = refl
+set_other w levels line _ x i v l d = refl

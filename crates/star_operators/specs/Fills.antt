@@ -2,7 +2,7 @@
 use denote.Ref.{Bor}
 use Rattle.std.specs.Prelude.{◌≡◌, ℕ, nat_eq, List, [], ◌∷◌, ◌++◌, Result, Ok, Err, if◌then◌else◌}
 use Rattle.star_store.specs.declared.values.Value.{Value}
-use Rattle.star_machine.specs.declared.fault.Stop.{Stop}
+use Rattle.star_machine.specs.declared.fault.EvalError.{EvalError}
 use Rattle.star_meaning.specs.Run.{State, Outcome, Done, Action, ◌>>=◌, give}
 use Rattle.star_meaning.specs.Program.{Setting}
 use Rattle.star_meaning.specs.Percent.{next_text, percent}
@@ -16,7 +16,7 @@ letter_put w levels line b xs out =
     if nat_eq b 37 then give (xs, out ++ b ∷ []) else (next_text w levels line b xs >>= λ r. give (r.1, out ++ r.0))
 
 -- A function that answers the values that are left has the result of its definition.
-abbrev pub Fills : Outcome (List Value × List ℕ) → Result (Bor (List Value)) Stop → List ℕ → State → Type 0
+abbrev pub Fills : Outcome (List Value × List ℕ) → Result (Bor (List Value)) EvalError → List ℕ → State → Type 0
 Fills o (Ok left) out new = o ≡ Done (left.now, out) new
 Fills o (Err e) out new = Ends o e new
 

@@ -12,7 +12,7 @@ ghost use Rattle.star_meaning.specs.Subscript.{entries_in};
 ghost use Rattle.star_meaning.specs.Values.{Held, content};
 
 use star_machine::content::Kind;
-use star_machine::fault::{Stop, faulted};
+use star_machine::fault::{EvalError, fault_at};
 use star_machine::machine::Machine;
 use star_machine::setting::Setting;
 use star_machine::texts::place_between;
@@ -30,7 +30,7 @@ fn list_contains(
     line: usize,
     value: Value,
     row: Value,
-) -> Result<bool, Stop>
+) -> Result<bool, EvalError>
     ensures { Refines (spec.list_contains setting.now levels line (row_in (seen setting.now machine.old row)) value
         machine.old) result machine.new }
 {
@@ -46,7 +46,7 @@ fn dict_contains(
     line: usize,
     value: Value,
     dict: Value,
-) -> Result<bool, Stop>
+) -> Result<bool, EvalError>
     ensures { Refines (spec.has setting.now levels line
         (Held (cell.Dict (entries_in (content setting.now machine.old dict)))) value machine.old)
         result machine.new }
@@ -55,16 +55,16 @@ fn dict_contains(
     Ok(machine.place_in(setting, dict, value).is_some())
 }
 
-/// Whether a string is a substring of another one. `BadType` if it is not a string.
+/// Whether a string is a substring of another one. `BadType` if it is not a string. No value is opened, so no levels are
+/// needed.
 fn has_text(
     machine: &mut Machine,
     setting: &Setting,
-    levels: u32,
     line: usize,
     value: Value,
     text: Value,
-) -> Result<bool, Stop>
-    ensures { Refines (spec.has setting.now levels line
+) -> Result<bool, EvalError>
+    ensures { Refines (spec.has setting.now 0 line
         (Held (cell.Text (bytes_of (content setting.now machine.old text)))) value machine.old) result machine.new }
 {
     machine.check_text(setting, line, value)?;
@@ -91,16 +91,16 @@ fn has(
     line: usize,
     value: Value,
     container: Value,
-) -> Result<bool, Stop>
+) -> Result<bool, EvalError>
     ensures { Refines (spec.contains setting.now levels line value container machine.old) result machine.new }
 {
     match machine.kind(setting, container) {
         Kind::List => list_contains(machine, setting, levels, line, value, container),
         Kind::Tuple => list_contains(machine, setting, levels, line, value, container),
         Kind::Dict => dict_contains(machine, setting, levels, line, value, container),
-        Kind::Text => has_text(machine, setting, levels, line, value, container),
+        Kind::Text => has_text(machine, setting, line, value, container),
         Kind::Range(range) => Ok(has_int(range, machine.int_of(setting, value))),
-        _ => Err(faulted(FaultCode::BadType, line)),
+        _ => Err(fault_at(FaultCode::BadType, line)),
     }
 }
 
@@ -114,30 +114,6 @@ fn has_int(range: Range, int: Option<i64>) -> bool
     }
 }
 
-/// The answer of a comparison.
-fn tested(
-    machine: &mut Machine,
-    setting: &Setting,
-    levels: u32,
-    line: usize,
-    comparator: Comparator,
-    x: Value,
-    y: Value,
-) -> Result<bool, Stop>
-    ensures { Refines (spec.tested setting.now levels line comparator x y machine.old) result machine.new }
-{
-    match comparator {
-        Comparator::Equal => machine.equal(setting, levels, line, x, y),
-        Comparator::NotEqual => Ok(!machine.equal(setting, levels, line, x, y)?),
-        Comparator::Less => Ok(machine.compare(setting, levels, line, x, y)?.is_lt()),
-        Comparator::Greater => Ok(machine.compare(setting, levels, line, x, y)?.is_gt()),
-        Comparator::LessEqual => Ok(!machine.compare(setting, levels, line, x, y)?.is_gt()),
-        Comparator::GreaterEqual => Ok(!machine.compare(setting, levels, line, x, y)?.is_lt()),
-        Comparator::In => has(machine, setting, levels, line, x, y),
-        Comparator::NotIn => Ok(!has(machine, setting, levels, line, x, y)?),
-    }
-}
-
 /// The answer of a comparison of two values.
 #[tactic(auto, unfolding(star_meaning::specs::Operators::compared))]
 pub fn compared(
@@ -148,10 +124,19 @@ pub fn compared(
     comparator: Comparator,
     x: Value,
     y: Value,
-) -> Result<Value, Stop>
+) -> Result<Value, EvalError>
     ensures { Refines (spec.compared setting.now levels line comparator x y machine.old) result machine.new }
 {
-    let answer = tested(machine, setting, levels, line, comparator, x, y)?;
+    let answer = match comparator {
+        Comparator::Equal => machine.equal(setting, levels, line, x, y)?,
+        Comparator::NotEqual => !machine.equal(setting, levels, line, x, y)?,
+        Comparator::Less => machine.compare(setting, levels, line, x, y)?.is_lt(),
+        Comparator::Greater => machine.compare(setting, levels, line, x, y)?.is_gt(),
+        Comparator::LessEqual => !machine.compare(setting, levels, line, x, y)?.is_gt(),
+        Comparator::GreaterEqual => !machine.compare(setting, levels, line, x, y)?.is_lt(),
+        Comparator::In => has(machine, setting, levels, line, x, y)?,
+        Comparator::NotIn => !has(machine, setting, levels, line, x, y)?,
+    };
     Ok(Value::Bool(answer))
 }
 

@@ -12,7 +12,7 @@ ghost use Rattle.star_operators.specs.Operands.{on_operands};
 
 use crate::percent::percent;
 use star_machine::content::{Content, Kind};
-use star_machine::fault::{Stop, faulted};
+use star_machine::fault::{EvalError, fault_at};
 use star_machine::gathered::DictBuilder;
 use star_machine::machine::Machine;
 use star_machine::setting::Setting;
@@ -39,7 +39,7 @@ fn on_ints(
     operator: BinaryOperator,
     x: i64,
     y: i64,
-) -> Result<Value, Stop>
+) -> Result<Value, EvalError>
     ensures { Refines (spec.on_ints line operator x y machine.now) result machine.now }
 {
     match operator {
@@ -57,41 +57,41 @@ fn on_ints(
 }
 
 #[inline(always)]
-fn divide(machine: &Machine, line: usize, x: i64, y: i64) -> Result<Value, Stop>
+fn divide(machine: &Machine, line: usize, x: i64, y: i64) -> Result<Value, EvalError>
     ensures { Refines (spec.divide line x y machine.now) result machine.now }
 {
     if y == 0 {
-        return Err(faulted(FaultCode::Zero, line));
+        return Err(fault_at(FaultCode::Zero, line));
     }
     machine.new_int(line, floor_div(x, y))
 }
 
 #[inline(always)]
-fn remainder(machine: &Machine, line: usize, x: i64, y: i64) -> Result<Value, Stop>
+fn remainder(machine: &Machine, line: usize, x: i64, y: i64) -> Result<Value, EvalError>
     ensures { Refines (spec.remainder line x y machine.now) result machine.now }
 {
     if y == 0 {
-        return Err(faulted(FaultCode::Zero, line));
+        return Err(fault_at(FaultCode::Zero, line));
     }
     machine.new_int(line, floor_mod(x, y))
 }
 
 #[tactic(auto, using(crate::proofs::Shifts::left_up, crate::proofs::Shifts::left_below))]
-fn shift_left(machine: &Machine, line: usize, x: i64, count: i64) -> Result<Value, Stop>
+fn shift_left(machine: &Machine, line: usize, x: i64, count: i64) -> Result<Value, EvalError>
     ensures { Refines (spec.shift_left line x count machine.now) result machine.now }
 {
     if count < 0 {
-        return Err(faulted(FaultCode::BadValue, line));
+        return Err(fault_at(FaultCode::BadValue, line));
     }
     machine.new_int(line, shl(x, count))
 }
 
 #[tactic(auto, using(crate::proofs::Shifts::right_up, crate::proofs::Shifts::right_below))]
-fn shift_right(machine: &Machine, line: usize, x: i64, count: i64) -> Result<Value, Stop>
+fn shift_right(machine: &Machine, line: usize, x: i64, count: i64) -> Result<Value, EvalError>
     ensures { Refines (spec.shift_right line x count machine.now) result machine.now }
 {
     if count < 0 {
-        return Err(faulted(FaultCode::BadValue, line));
+        return Err(fault_at(FaultCode::BadValue, line));
     }
     machine.new_int(line, whole(shifted_right(x, count.unsigned_abs())))
 }
@@ -105,7 +105,12 @@ fn shifted_right(x: i64, count: u64) -> i64
 }
 
 /// A sign before an int. `Overflow` outside 64 bits.
-fn signed(machine: &Machine, line: usize, operator: UnaryOperator, x: i64) -> Result<Value, Stop>
+fn signed(
+    machine: &Machine,
+    line: usize,
+    operator: UnaryOperator,
+    x: i64,
+) -> Result<Value, EvalError>
     ensures { Refines (spec.signed line operator x machine.now) result machine.now }
 {
     match operator {
@@ -124,7 +129,7 @@ pub fn prefix(
     line: usize,
     operator: UnaryOperator,
     value: Value,
-) -> Result<Value, Stop>
+) -> Result<Value, EvalError>
     ensures { Refines (spec.prefix setting.now line operator value machine.now) result machine.now }
 {
     if let UnaryOperator::Not = operator {
@@ -160,7 +165,7 @@ fn add_values(
     line: usize,
     x: Value,
     y: Value,
-) -> Result<Value, Stop>
+) -> Result<Value, EvalError>
     ensures { Refines (spec.add line (content setting.now machine.old x)
         (content setting.now machine.old y) machine.old)
         result machine.new }
@@ -180,7 +185,7 @@ fn add_values(
             let items = joined(alloc, xs, ys)?;
             machine.new_tuple(line, items)
         }
-        _ => Err(faulted(FaultCode::BadType, line)),
+        _ => Err(fault_at(FaultCode::BadType, line)),
     }
 }
 
@@ -235,7 +240,7 @@ fn repeated(
     line: usize,
     value: Value,
     count: u64,
-) -> Result<Value, Stop>
+) -> Result<Value, EvalError>
     ensures { Refines (spec.repeated line (content setting.now machine.old value) count machine.old)
         result machine.new }
 {
@@ -259,7 +264,7 @@ fn repeated(
             let items = repeated_row(alloc, items, count)?;
             machine.build(line, cost, Cell::Tuple(items))
         }
-        _ => Err(faulted(FaultCode::BadType, line)),
+        _ => Err(fault_at(FaultCode::BadType, line)),
     }
 }
 
@@ -271,7 +276,7 @@ fn multiply(
     line: usize,
     x: Value,
     y: Value,
-) -> Result<Value, Stop>
+) -> Result<Value, EvalError>
     ensures { Refines (spec.multiply line (content setting.now machine.old x) (content setting.now machine.old y)
         machine.old) result machine.new }
 {
@@ -279,7 +284,7 @@ fn multiply(
         (Some(a), Some(b)) => machine.new_int(line, mul(a, b)),
         (Some(a), None) => repeated(machine, setting, line, y, count_from(a)),
         (None, Some(b)) => repeated(machine, setting, line, x, count_from(b)),
-        (None, None) => Err(faulted(FaultCode::BadType, line)),
+        (None, None) => Err(fault_at(FaultCode::BadType, line)),
     }
 }
 
@@ -319,7 +324,7 @@ fn unite(
     line: usize,
     x: Value,
     y: Value,
-) -> Result<Value, Stop>
+) -> Result<Value, EvalError>
     ensures { Refines (on_operands setting.now levels line BinaryOperator.BitOr x y machine.old) result machine.new }
 {
     match (machine.content(setting, x), machine.content(setting, y)) {
@@ -327,7 +332,7 @@ fn unite(
             let entries = union_of(machine, setting, left, right)?;
             machine.new_dict(line, entries)
         }
-        _ => Err(faulted(FaultCode::BadType, line)),
+        _ => Err(fault_at(FaultCode::BadType, line)),
     }
 }
 
@@ -340,7 +345,7 @@ fn on_others(
     operator: BinaryOperator,
     x: Value,
     y: Value,
-) -> Result<Value, Stop>
+) -> Result<Value, EvalError>
     ensures { Refines (on_operands setting.now levels line operator x y machine.old) result machine.new }
 {
     match operator {
@@ -348,7 +353,7 @@ fn on_others(
         BinaryOperator::Multiply => multiply(machine, setting, line, x, y),
         BinaryOperator::BitOr => unite(machine, setting, levels, line, x, y),
         BinaryOperator::Modulo => modulo(machine, setting, levels, line, x, y),
-        _ => Err(faulted(FaultCode::BadType, line)),
+        _ => Err(fault_at(FaultCode::BadType, line)),
     }
 }
 
@@ -363,7 +368,7 @@ pub fn operate(
     operator: BinaryOperator,
     x: Value,
     y: Value,
-) -> Result<Value, Stop>
+) -> Result<Value, EvalError>
     ensures { Refines (spec.operate setting.now levels line operator x y machine.old) result machine.new }
 {
     if let (Value::Int(x), Value::Int(y)) = (x, y) {
@@ -381,11 +386,11 @@ fn modulo(
     line: usize,
     x: Value,
     y: Value,
-) -> Result<Value, Stop>
+) -> Result<Value, EvalError>
     ensures { Refines (on_operands setting.now levels line BinaryOperator.Modulo x y machine.old) result machine.new }
 {
     match machine.kind(setting, x) {
         Kind::Text => percent(machine, setting, levels, line, x, y),
-        _ => Err(faulted(FaultCode::BadType, line)),
+        _ => Err(fault_at(FaultCode::BadType, line)),
     }
 }

@@ -8,7 +8,7 @@ ghost use Rattle.star_meaning.specs.Values.{content};
 
 use star_machine::content::Content;
 use star_machine::cuts::{cut_at, first_ascii};
-use star_machine::fault::{Stop, faulted};
+use star_machine::fault::{EvalError, fault_at};
 use star_machine::machine::Machine;
 use star_machine::setting::Setting;
 use star_meaning::fault::FaultCode;
@@ -25,7 +25,7 @@ fn format_letter(
     line: usize,
     letter: u8,
     value: Value,
-) -> Result<Text, Stop>
+) -> Result<Text, EvalError>
     ensures { Refines (spec.format_letter setting.now levels line letter value machine.old) result machine.new }
 {
     match letter {
@@ -35,7 +35,7 @@ fn format_letter(
             let _int = machine.want_int(setting, line, value)?;
             machine.repr(setting, levels, line, value)
         }
-        _ => Err(faulted(FaultCode::BadValue, line)),
+        _ => Err(fault_at(FaultCode::BadValue, line)),
     }
 }
 
@@ -49,7 +49,7 @@ fn put_letter<'v>(
     out: &mut String,
     letter: u8,
     values: &'v [Value],
-) -> Result<&'v [Value], Stop>
+) -> Result<&'v [Value], EvalError>
     ensures { Fills (letter_put setting.now levels line letter values.now (string_bytes out.old) machine.old) result
         (string_bytes out.new) machine.new }
 {
@@ -58,7 +58,7 @@ fn put_letter<'v>(
         return Ok(values);
     }
     let Some((value, left)) = values.split_first() else {
-        return Err(faulted(FaultCode::BadValue, line));
+        return Err(fault_at(FaultCode::BadValue, line));
     };
     let text = format_letter(machine, setting, levels, line, letter, *value)?;
     out.push_str(text.as_str())?;
@@ -75,7 +75,7 @@ fn filled(
     line: usize,
     format: &str,
     values: &[Value],
-) -> Result<Text, Stop>
+) -> Result<Text, EvalError>
     ensures { Refines (spec.filled setting.now levels line false format.now values.now [] machine.old)
         result machine.new }
 {
@@ -85,14 +85,14 @@ fn filled(
     while let Some((before, _percent, after)) = cut_at(rest, b'%', b'%') {
         out.push_str(before)?;
         let Some((letter, more)) = first_ascii(after) else {
-            return Err(faulted(FaultCode::BadValue, line));
+            return Err(fault_at(FaultCode::BadValue, line));
         };
         left = put_letter(machine, setting, levels, line, &mut out, letter, left)?;
         rest = more;
     }
     out.push_str(rest)?;
     if !left.is_empty() {
-        return Err(faulted(FaultCode::BadValue, line));
+        return Err(fault_at(FaultCode::BadValue, line));
     }
     Ok(Text::of(out)?)
 }
@@ -115,7 +115,7 @@ pub fn percent(
     line: usize,
     text: Value,
     value: Value,
-) -> Result<Value, Stop>
+) -> Result<Value, EvalError>
     ensures { Refines (percent_of setting.now levels line text value machine.old) result machine.new }
 {
     let format = machine.copied_text(setting, text)?;

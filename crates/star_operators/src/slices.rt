@@ -9,7 +9,7 @@ ghost use Rattle.star_meaning.specs.Subscript as spec;
 ghost use Rattle.star_meaning.specs.Values.{content};
 
 use star_machine::content::Content;
-use star_machine::fault::{Stop, faulted};
+use star_machine::fault::{EvalError, fault_at};
 use star_machine::machine::Machine;
 use star_machine::setting::Setting;
 use star_machine::slices::{bound_of, want_part};
@@ -220,7 +220,7 @@ fn sliced(
     start: Option<i64>,
     stop: Option<i64>,
     step: i64,
-) -> Result<Value, Stop>
+) -> Result<Value, EvalError>
     ensures { Refines (spec.sliced line (content setting.now machine.old value)
         (λ n. spec.slice_range n start stop step)
         machine.old) result machine.new }
@@ -239,22 +239,27 @@ fn sliced(
             let span = span_of(text.as_str().len(), start, stop, step);
             match picked_text(alloc, text.as_str(), span)? {
                 Some(text) => machine.new_text(line, text),
-                None => Err(faulted(FaultCode::Cut, line)),
+                None => Err(fault_at(FaultCode::Cut, line)),
             }
         }
-        _ => Err(faulted(FaultCode::BadType, line)),
+        _ => Err(fault_at(FaultCode::BadType, line)),
     }
 }
 
 /// That a value has slices: else `BadType`.
-fn check_slices(machine: &Machine, setting: &Setting, line: usize, value: Value) -> Result<(), Stop>
+fn check_slices(
+    machine: &Machine,
+    setting: &Setting,
+    line: usize,
+    value: Value,
+) -> Result<(), EvalError>
     ensures { Refines (slices_checked setting.now line value machine.now) result machine.now }
 {
     match machine.content(setting, value) {
         Content::Held(Cell::List(_)) => Ok(()),
         Content::Held(Cell::Tuple(_)) => Ok(()),
         Content::Held(Cell::Text(_)) => Ok(()),
-        _ => Err(faulted(FaultCode::BadType, line)),
+        _ => Err(fault_at(FaultCode::BadType, line)),
     }
 }
 
@@ -278,7 +283,7 @@ pub fn slice(
     start: Option<Value>,
     stop: Option<Value>,
     stride: Option<Value>,
-) -> Result<Value, Stop>
+) -> Result<Value, EvalError>
     ensures { Refines (spec.slice setting.now line value start stop stride machine.old) result machine.new }
 {
     check_slices(machine, setting, line, value)?;
@@ -286,7 +291,7 @@ pub fn slice(
     let stop = want_part(machine, setting, line, stop)?;
     let step = stride_of(want_part(machine, setting, line, stride)?);
     if step == 0 {
-        return Err(faulted(FaultCode::BadValue, line));
+        return Err(fault_at(FaultCode::BadValue, line));
     }
     sliced(machine, setting, line, value, start, stop, step)
 }

@@ -8,7 +8,7 @@ ghost use Rattle.star_operators.specs.Wanted.{item_of_row, place_wanted};
 ghost use Rattle.star_meaning.specs.Values.{content};
 
 use star_machine::content::Kind;
-use star_machine::fault::{Stop, faulted};
+use star_machine::fault::{EvalError, fault_at};
 use star_machine::machine::Machine;
 use star_machine::setting::Setting;
 use star_machine::subscript::{place_from, put_entry};
@@ -25,13 +25,13 @@ fn want_place(
     line: usize,
     len: usize,
     index: Value,
-) -> Result<usize, Stop>
+) -> Result<usize, EvalError>
     ensures { Refines (place_wanted setting.now line len index machine.now) result machine.now }
 {
     let int = machine.want_int(setting, line, index)?;
     match place_from(len, int) {
         Some(at) => Ok(at),
-        None => Err(faulted(FaultCode::Index, line)),
+        None => Err(fault_at(FaultCode::Index, line)),
     }
 }
 
@@ -42,13 +42,13 @@ fn row_item(
     line: usize,
     row: Value,
     index: Value,
-) -> Result<Value, Stop>
+) -> Result<Value, EvalError>
     ensures { Refines (item_of_row setting.now line row index machine.now) result machine.now }
 {
     let at = want_place(machine, setting, line, machine.size(setting, row), index)?;
     match machine.content(setting, row).item(at) {
         Some(item) => Ok(item),
-        None => Err(faulted(FaultCode::Index, line)),
+        None => Err(fault_at(FaultCode::Index, line)),
     }
 }
 
@@ -70,20 +70,20 @@ fn byte_at(
     line: usize,
     text: Value,
     index: Value,
-) -> Result<Value, Stop>
+) -> Result<Value, EvalError>
     ensures { Refines (spec.byte_at setting.now line (bytes_of
         (content setting.now machine.old text)) index machine.old)
         result machine.new }
 {
     let int = machine.want_int(setting, line, index)?;
     let Some(at) = place_from(machine.text_size(setting, text), int) else {
-        return Err(faulted(FaultCode::Index, line));
+        return Err(fault_at(FaultCode::Index, line));
     };
     let Some(byte) = machine.byte(setting, text, at) else {
-        return Err(faulted(FaultCode::Index, line));
+        return Err(fault_at(FaultCode::Index, line));
     };
     if byte >= 128 {
-        return Err(faulted(FaultCode::Cut, line));
+        return Err(fault_at(FaultCode::Cut, line));
     }
     let text = one_byte(machine.alloc(), byte)?;
     machine.new_text(line, text)
@@ -99,13 +99,13 @@ fn entry_value(
     line: usize,
     dict: Value,
     key: Value,
-) -> Result<Value, Stop>
+) -> Result<Value, EvalError>
     ensures { Refines (spec.entry_value setting.now levels line (spec.entries_in (content setting.now machine.old dict))
         key machine.old) result machine.new }
 {
     machine.check_key(setting, levels, line, key)?;
     let Some(value) = machine.value_in(setting, dict, key) else {
-        return Err(faulted(FaultCode::Key, line));
+        return Err(fault_at(FaultCode::Key, line));
     };
     Ok(value)
 }
@@ -119,7 +119,7 @@ pub fn index(
     line: usize,
     value: Value,
     at: Value,
-) -> Result<Value, Stop>
+) -> Result<Value, EvalError>
     ensures { Refines (spec.index setting.now levels line value at machine.old) result machine.new }
 {
     match machine.kind(setting, value) {
@@ -128,7 +128,7 @@ pub fn index(
         Kind::Range(_) => row_item(machine, setting, line, value, at),
         Kind::Text => byte_at(machine, setting, line, value, at),
         Kind::Dict => entry_value(machine, setting, levels, line, value, at),
-        _ => Err(faulted(FaultCode::BadType, line)),
+        _ => Err(fault_at(FaultCode::BadType, line)),
     }
 }
 
@@ -140,7 +140,7 @@ fn set_item(
     list: Value,
     index: Value,
     value: Value,
-) -> Result<(), Stop>
+) -> Result<(), EvalError>
     ensures { Refines (spec.set_item setting.now line list (size_of (content setting.now machine.old list)) index value
         machine.old) result machine.new }
 {
@@ -159,7 +159,7 @@ fn set_entry(
     dict: Value,
     key: Value,
     value: Value,
-) -> Result<(), Stop>
+) -> Result<(), EvalError>
     ensures { Refines (spec.set_entry setting.now levels line dict key value machine.old) result machine.new }
 {
     machine.guard(setting, line, dict)?;
@@ -177,12 +177,12 @@ pub fn set_index(
     target: Value,
     at: Value,
     value: Value,
-) -> Result<(), Stop>
+) -> Result<(), EvalError>
     ensures { Refines (spec.set_index setting.now levels line target at value machine.old) result machine.new }
 {
     match machine.kind(setting, target) {
         Kind::List => set_item(machine, setting, line, target, at, value),
         Kind::Dict => set_entry(machine, setting, levels, line, target, at, value),
-        _ => Err(faulted(FaultCode::BadType, line)),
+        _ => Err(fault_at(FaultCode::BadType, line)),
     }
 }

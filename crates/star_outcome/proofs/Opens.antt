@@ -2,7 +2,7 @@
 use Rattle.std.proofs.Common.{◌≡◌, ◌+◌, ◌<◌, ◌≤◌, ◌⊎◌, inl, inr, ℕ, zero, suc, true, false, List, [], ◌∷◌, ◌++◌, map, length, Option, Some, None, refl, ap, sym, ◌∙◌, subst, arith, length-append}
 use denote.Ref.{Bor}
 use Rattle.std.specs.Arc.{arc_value}
-use Rattle.std.specs.Prelude.{is_some, slice_get}
+use Rattle.std.specs.Prelude.{IsSome, is_some, slice_get}
 use Rattle.std.proofs.lemmas.List.{map-append}
 use Rattle.std.proofs.lemmas.Bool.{cases_order}
 use Rattle.star_cache.specs.State.{Loads}
@@ -15,7 +15,7 @@ use Rattle.star_plan.specs.Results.{IsGood, Ran, Static as StaticOutcome, Unload
 use Rattle.star_plan.proofs.Goodness.{from_good, to_good}
 use Rattle.star_plan.proofs.Seen.{cycle_is_bad}
 use Rattle.star_reading.specs.Codes.{fault_of}
-use Rattle.star_outcome.specs.Fits.{IsAsked}
+use Rattle.star_reading.proofs.PlacesRead.{some_of}
 use Rattle.star_outcome.specs.Frames.{FrameView, IsOpen}
 use Rattle.star_outcome.specs.Views.{AreGoodLoads, IsBadLoad, IsEnd, IsGoodModule, IsModule, IsModuleAt, ended_well}
 use Rattle.star_outcome.specs.declared.module.Ended.{Ended}
@@ -56,14 +56,6 @@ get_last (y ∷ xs) x = get_last xs x
 
 none_some : {X : Type 0} (o : Option X) (x : X) → o ≡ Some x → o ≡ None → ⊥
 none_some o x e h = let both : Some x ≡ None = sym e ∙ h in let no : ⊥ = cc in no
-
-pub open_new : (files : List File) (plan : Plan) (n : ℕ) → IsAsked files plan n → IsOpen files plan (record { n = n; told = 0; failed = None; modules = [] })
-open_new files plan n asked = record {
-  asked = asked;
-  told = omega arith;
-  bad = tt;
-  good = λ e. record { count = refl; each = λ i m less at. absurd (let no : ⊥ = omega (arith, less) in no) };
-}
 
 -- the next load is the first that is not good
 pub open_bad : (files : List File) (plan : Plan) (f : FrameView) → IsOpen files plan f → f.failed ≡ None → f.told < length (loads_of plan f.n) → IsBadLoad plan f.n f.told
@@ -121,14 +113,35 @@ at_end [] (suc i) h e = absurd (let no : ⊥ = omega (arith, h) in no)
 at_end (x ∷ xs) zero h e = absurd (let no : ⊥ = cc in no)
 at_end (x ∷ xs) (suc i) h e = ap suc (at_end xs i (omega (arith, h)) e)
 
-pub none_of : {X : Type 0} (o : Option X) → is_some o ≡ false → o ≡ None
+none_of : {X : Type 0} (o : Option X) → is_some o ≡ false → o ≡ None
 none_of None e = refl
 none_of (Some x) e = absurd (let no : ⊥ = cc in no)
 
 -- the module of a good load is kept beside those before it
-pub open_push : (files : List File) (plan : Plan) (n told : ℕ) (failed : Option ℕ) (xs ys : List (Bor Module)) (it : Bor Module) → ys ≡ xs ++ it ∷ [] → IsOpen files plan (record { n = n; told = told; failed = failed; modules = map (λ (m : Bor Module). m.now) xs })
+open_push : (files : List File) (plan : Plan) (n told : ℕ) (failed : Option ℕ) (xs ys : List (Bor Module)) (it : Bor Module) → ys ≡ xs ++ it ∷ [] → IsOpen files plan (record { n = n; told = told; failed = failed; modules = map (λ (m : Bor Module). m.now) xs })
     → failed ≡ None → told < length (loads_of plan n) → IsModuleAt plan n told it.now → ended_well it.now.ended ≡ true → IsOpen files plan (record { n = n; told = told + 1; failed = failed; modules = map (λ (m : Bor Module). m.now) ys })
 open_push files plan n told failed xs ys it same is none less right well =
     let f : FrameView = record { n = n; told = told; failed = failed; modules = map (λ (m : Bor Module). m.now) xs } in
     let more : map (λ (m : Bor Module). m.now) ys ≡ map (λ (m : Bor Module). m.now) xs ++ it.now ∷ [] = ap (map (λ (m : Bor Module). m.now)) same ∙ map-append (λ (m : Bor Module). m.now) xs (it ∷ []) in
     subst (λ ms. IsOpen files plan (record { n = n; told = told + 1; failed = failed; modules = ms })) (sym more) (open_more files plan f it.now is none less right well)
+
+-- a file by its parts
+abbrev pub frame : ℕ → ℕ → Option ℕ → List (Bor Module) → FrameView
+frame n told failed xs = record { n = n; told = told; failed = failed; modules = map (λ (m : Bor Module). m.now) xs }
+
+-- a file that is open, whose next load is told
+module _ (files : List File) (plan : Plan) (g : FrameView) (n told : ℕ) (failed : Option ℕ) (xs : List (Bor Module)) (same : g ≡ frame n told failed xs) (is : IsOpen files plan (frame n told failed xs)) (less : g.told < length (loads_of plan g.n)) where
+  next_less : told < length (loads_of plan n)
+  next_less = subst (λ (x : FrameView). x.told < length (loads_of plan x.n)) same less
+
+  -- .. after one that is not good
+  pub open_passed : IsSome failed → IsOpen files plan (frame n (told + 1) failed xs)
+  open_passed some = let one = some_of failed some in open_on files plan (frame n told failed xs) one.0 is one.1 next_less
+
+  -- .. and is the first that is not good
+  pub open_refused : is_some failed ≡ false → IsBadLoad plan g.n g.told → IsOpen files plan (frame n (told + 1) (Some told) xs)
+  open_refused none bad = open_bad files plan (frame n told failed xs) is (none_of failed none) next_less (subst (λ (x : FrameView). IsBadLoad plan x.n x.told) same bad)
+
+  -- .. and is good, as are all before it
+  pub open_told : (ys : List (Bor Module)) (it : Bor Module) → ys ≡ xs ++ it ∷ [] → is_some failed ≡ false → IsModuleAt plan g.n g.told it.now → ended_well it.now.ended ≡ true → IsOpen files plan (frame n (told + 1) failed ys)
+  open_told ys it more none right well = open_push files plan n told failed xs ys it more is (none_of failed none) next_less (subst (λ (x : FrameView). IsModuleAt plan x.n x.told it.now) same right) well

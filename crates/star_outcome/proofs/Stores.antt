@@ -50,9 +50,6 @@ gathered_over plan n rs needed = record {
     nowhere : (k : ℕ) → HasStore [] k → ⊥
     nowhere k (p, e) = let no : ⊥ = cc in no
 
-pub gathered_new : (plan : Plan) (n : ℕ) → IsGathered plan n [] []
-gathered_new plan n = gathered_over plan n [] (λ i d lt. absurd (let no : ⊥ = omega (arith, lt) in no))
-
 put_same : (r : ReachView) (h : ℕ) (p : Published) (shelf after : Shelf) → h ≡ r.number → p ≡ r.store → after ≡ put_up h p shelf → after ≡ put_up r.number r.store shelf
 put_same r h p shelf after number store e = e ∙ (ap (λ k. put_up k p shelf) number ∙ ap (λ q. put_up r.number q shelf) store)
 
@@ -99,10 +96,6 @@ has_put shelf k p e = (p, put_up-own k p shelf (free (slice_get shelf k) e))
 
 pub has_still : (shelf : Shelf) (h : ℕ) (p : Published) (k : ℕ) → HasStore shelf k → HasStore (put_up h p shelf) k
 has_still shelf h p k x = (x.0, put_up-keeps h p shelf k x.0 x.1)
-
--- a file needs all that a file that it loads leads to
-pub needed_by_load : (plan : Plan) (n m k : ℕ) → Loads (loaded plan) n m → LeadsTo (Loads (loaded plan)) m k → Needs plan n k
-needed_by_load plan n m k l w = (m, l, w)
 
 pub needed_of : (plan : Plan) (n m : ℕ) (rs : List ReachView) → Loads (loaded plan) n m → AreStores plan m rs → AreNeeded plan n rs
 needed_of plan n m rs l s i d lt = let one = s.own i d lt in ((m, l, one.0), one.1)

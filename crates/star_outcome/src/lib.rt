@@ -11,7 +11,7 @@
 //!   `ReachableStores` and `StoreRow` collect the stores that its body may read.
 //! - `Trace` has the refused loads; each is on a cycle. `Run` is the result of a run: the modules of all reached files,
 //!   by number. `GoodEnd` is the end of a file whose run went well; a caller may keep it, and give it to a later run.
-//! - `Naming`, called `J` in signatures, is the identity of one run: its files, their plan, its shelf. Only contracts
+//! - `RunId`, called `J` in signatures, is the identity of one run: its files, their plan, its shelf. Only contracts
 //!   see it; it keeps the notes of two runs apart.
 //!
 //! Begin at `module.rt`, then `told.rt`. `told::headline` states the headline of `star_cache` for this product. See

@@ -8,7 +8,7 @@ use std::marker::Brand;
 use std::sync::ledger::Ledger;
 
 /// The identity of one run: its files, their plan, and its shelf. Each run picks a fresh one for its cache.
-pub trait Naming: Ledger {
+pub trait RunId: Ledger {
     ghost files: { List File };
 
     // the roots, the prelude, the steps, and the result of reading each file
@@ -18,7 +18,7 @@ pub trait Naming: Ledger {
     ghost shelf: { List ℕ };
 }
 
-impl Naming for Brand {
+impl RunId for Brand {
     ghost files = { [] };
 
     ghost plan = { record { roots = []; prelude = None; steps = 1; reads = [] } };

@@ -7,14 +7,14 @@ ghost use Rattle.star_outcome.specs.Fits.{IsAsked};
 ghost use Rattle.star_outcome.specs.Views.{AreGoodLoads, IsBadLoad, IsModuleAt};
 
 use crate::module::Module;
-use crate::naming::Naming;
+use crate::naming::RunId;
 use std::alloc::{AllocError, Global};
 use std::marker::{Model, PhantomData};
 
 /// A file, the number of its loads that were told, the first of these that is not good, and the modules of those before
 /// it.
 #[derive(Drop)]
-pub struct OpenFile<'s, J: Naming> {
+pub struct OpenFile<'s, J: RunId> {
     n: usize,
     told: usize,
     failed: Option<usize>,
@@ -22,7 +22,7 @@ pub struct OpenFile<'s, J: Naming> {
     of: PhantomData<J>,
 }
 
-impl<'s, J: Naming> Model for OpenFile<'s, J> {
+impl<'s, J: RunId> Model for OpenFile<'s, J> {
     ghost use Rattle.std.specs.Prelude.{map};
     ghost use Rattle.star_outcome.specs.Frames.{FrameView, IsOpen};
 
@@ -43,7 +43,7 @@ impl<'s, J: Naming> Model for OpenFile<'s, J> {
     }) };
 }
 
-impl<'s, J: Naming> OpenFile<'s, J> {
+impl<'s, J: RunId> OpenFile<'s, J> {
     /// A file that was begun. None of its loads was told yet.
     pub fn new(alloc: Global, n: usize) -> OpenFile<'s, J>
         requires { IsAsked J.files J.plan n }

@@ -11,7 +11,7 @@ ghost use Rattle.star_outcome.specs.Reaches.{row_of, shared_of};
 ghost use Rattle.star_outcome.specs.Views.{AreGoodLoads, AreStores, IsGoodModule};
 
 use crate::module::{Ended, Module};
-use crate::naming::Naming;
+use crate::naming::RunId;
 use crate::store_row::{Reach, StoreRow};
 use star_store::arena::{Frozen, Homes};
 use std::alloc::{AllocError, Global};
@@ -21,14 +21,14 @@ use std::sync::Arc;
 /// The stores that were gathered for a file: as a shelf for its run, and as a row to be shared with the files that load
 /// it.
 #[derive(Drop)]
-pub struct ReachableStores<'s, J: Naming> {
+pub struct ReachableStores<'s, J: RunId> {
     file: usize,
     homes: Homes<'s>,
     reaches: StoreRow,
     of: PhantomData<J>,
 }
 
-impl<'s, J: Naming> Model for ReachableStores<'s, J> {
+impl<'s, J: RunId> Model for ReachableStores<'s, J> {
     ghost use Rattle.star_outcome.specs.Gathered.{GivenView, IsGathered};
     ghost use Rattle.star_outcome.specs.Reaches.{row_of};
 
@@ -39,7 +39,7 @@ impl<'s, J: Naming> Model for ReachableStores<'s, J> {
     ghost invariant = { λ g. IsGathered J.plan g.file g.homes (row_of g.reaches) };
 }
 
-impl<'s, J: Naming> ReachableStores<'s, J> {
+impl<'s, J: RunId> ReachableStores<'s, J> {
     /// No store yet.
     fn new(alloc: Global, file: usize) -> ReachableStores<'s, J>
         ensures { result.file ≡ file }
@@ -241,7 +241,7 @@ fn widest(modules: &[&Module]) -> Option<usize>
 }
 
 /// The start of the collection: the stores of the module that shares the most. Those of the others are added to it.
-fn begun<'s, J: Naming>(
+fn begun<'s, J: RunId>(
     alloc: Global,
     n: usize,
     modules: &[&'s Module],
@@ -256,7 +256,7 @@ fn begun<'s, J: Naming>(
 }
 
 /// The stores of all files that file `n` needs, by the modules of its loads. The error: an allocation failed.
-pub fn gathered<'s, J: Naming>(
+pub fn gathered<'s, J: RunId>(
     alloc: Global,
     n: usize,
     modules: &[&'s Module],
@@ -275,7 +275,7 @@ pub fn gathered<'s, J: Naming>(
 }
 
 /// The stores of a file: its own, and those of all files that it needs. The error: an allocation failed.
-pub fn stores_of<J: Naming>(
+pub fn stores_of<J: RunId>(
     alloc: Global,
     home: u32,
     store: Frozen,

@@ -7,7 +7,7 @@ ghost use Rattle.star_outcome.specs.Kept.{IsKept};
 ghost use Rattle.star_outcome.specs.Views.{IsTold};
 
 use crate::module::Module;
-use crate::naming::Naming;
+use crate::naming::RunId;
 use crate::outcome::Kept;
 use once_cell::race::Note;
 use star_cache::{Book, Product};
@@ -16,14 +16,14 @@ use std::marker::{Model, PhantomData};
 
 /// A file's number, whether it is good, and a note that knows its cell.
 #[derive(Drop)]
-pub struct Told<J: Naming> {
+pub struct Told<J: RunId> {
     number: usize,
     good: bool,
     note: Note<Module>,
     of: PhantomData<J>,
 }
 
-impl<J: Naming> Model for Told<J> {
+impl<J: RunId> Model for Told<J> {
     ghost use Rattle.std.specs.Prelude.{◌≡◌, slice_index};
     ghost use Rattle.star_outcome.specs.Views.{ToldView, IsTold};
 
@@ -35,7 +35,7 @@ impl<J: Naming> Model for Told<J> {
         × IsTold J.files J.plan t.number (record { number = t.number; good = t.good; known = t.note.known }) };
 }
 
-impl<J: Naming> Told<J> {
+impl<J: RunId> Told<J> {
     /// The product of a file whose module is published.
     pub fn new(number: usize, good: bool, note: Note<Module>) -> Told<J>
         requires cell { note.cell ≡ slice_index J.shelf number }
@@ -85,7 +85,7 @@ impl<J: Naming> Told<J> {
     }
 }
 
-impl<J: Naming> Product for Told<J> {
+impl<J: RunId> Product for Told<J> {
     ghost use Rattle.std.specs.Prelude.{◌≡◌, length, true};
     ghost use Rattle.star_plan.specs.Results as results;
     ghost use Rattle.star_outcome.specs.Goods.{told_good};
@@ -144,7 +144,7 @@ impl<J: Naming> Product for Told<J> {
 
 /// The headline at the host's product: true of the book of a run's files whenever the lock of its cache is free. The
 /// loads, the reached files and the outcomes are those of the plan.
-pub fn headline<J: Naming>(book: &Book<Told<J>>)
+pub fn headline<J: RunId>(book: &Book<Told<J>>)
     ensures { Headline (IsAsked J.files J.plan) (IsTold J.files J.plan) book.now }
 {
     // A call of the book lets the checker use its invariant; the headline follows from it.

@@ -4,7 +4,7 @@ ghost use Rattle.std.specs.Prelude.{◌≡◌, IfOk, IfSome};
 ghost use Rattle.boxcar.specs.Table.{Shows};
 ghost use Rattle.star_outcome.specs.Refusals.{AreRefusals, IsRefusal};
 
-use crate::naming::Naming;
+use crate::naming::RunId;
 use boxcar::tag::Tag;
 use boxcar::{Keeps, Pushed};
 use std::alloc::{AllocError, Global};
@@ -23,7 +23,7 @@ pub struct CyclicLoad {
 /// The rule of a trace: the load lies on a load cycle.
 pub struct OnCycle<J>(PhantomData<J>);
 
-impl<J: Naming> Keeps<CyclicLoad> for OnCycle<J> {
+impl<J: RunId> Keeps<CyclicLoad> for OnCycle<J> {
     ghost use Rattle.star_outcome.specs.Refusals.{IsRefusal};
 
     ghost holds = { λ _ _ r. IsRefusal J.plan r };
@@ -34,11 +34,11 @@ pub type Token<J> = Pushed<CyclicLoad, Global, OnCycle<J>>;
 
 /// The refused loads, in the order of their places.
 #[derive(Drop)]
-pub struct Trace<J: Naming> {
+pub struct Trace<J: RunId> {
     items: boxcar::Vec<CyclicLoad, Global, OnCycle<J>>,
 }
 
-impl<J: Naming> Trace<J> {
+impl<J: RunId> Trace<J> {
     /// No load. The error: an allocation failed.
     pub fn new(alloc: Global) -> Result<Trace<J>, AllocError> {
         Ok(Trace {

@@ -5,8 +5,8 @@ use Rattle.std.specs.List.{Contains}
 use Rattle.std.proofs.lemmas.Bool.{cases_eq}
 use Rattle.std.proofs.lemmas.List.Elements.{Contains-append_left, Contains-push}
 use Rattle.star_cache.specs.State.{Loads}
-use Rattle.star_scope.specs.Definitions.{AllDiffer}
-use Rattle.star_scope.proofs.Differ.{differ_pushed}
+use Rattle.star_outline.specs.Definitions.{AllDiffer}
+use Rattle.star_outline.proofs.Differ.{differ_pushed}
 use Rattle.star_meaning.specs.Module.{Good, Stopped}
 use Rattle.star_plan.specs.Causes.{Cause, Culprit, Cycle, IsCause, Lead}
 use Rattle.star_plan.specs.Plan.{Plan, Reading, loaded, read_of}

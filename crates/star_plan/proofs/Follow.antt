@@ -2,8 +2,8 @@
 use Rattle.std.proofs.Common.{arith, ◌≡◌, ◌<◌, ℕ, zero, suc, List, [], ◌∷◌, ◌++◌, length, refl, ap, sym, subst, ◌∙◌, ◌⊎◌, inl, inr}
 use Rattle.std.specs.List.{Contains}
 use Rattle.std.proofs.lemmas.List.Elements.{Contains-append_cases}
-use Rattle.star_scope.specs.Definitions.{AllDiffer}
-use Rattle.star_scope.proofs.Differ.{differ_pushed}
+use Rattle.star_outline.specs.Definitions.{AllDiffer}
+use Rattle.star_outline.proofs.Differ.{differ_pushed}
 use Rattle.star_plan.specs.Causes.{Cycle, FailsBy, IsCause, Lead}
 use Rattle.star_plan.specs.Laws.{CausesFollow, CycleIsCause, CyclesTurn, FaultIsCause}
 use Rattle.star_plan.specs.Plan.{Plan}
@@ -51,7 +51,7 @@ off_way plan n k m ms way fails a differ h =
     let r = rest_of plan k n m way a h in
     let next : r.lead.1.0 ≡ k = one_next plan n r.lead.1.0 k r.lead.1.1 fails in
     let again : Lead plan k r.rest m = subst (λ z. Lead plan z r.rest m) next r.lead.1.2 in
-    let same : way ≡ r.rest = one_way plan m k way r.rest a again (apart m way ms differ) (λ i. apart m way ms differ (r.within m i)) in
+    let same : way ≡ r.rest = one_way (FailsBy plan) (one_next plan) m k way r.rest a again (apart m way ms differ) (λ i. apart m way ms differ (r.within m i)) in
     let shorter : length r.rest < length way = r.shorter in
     let equal : length way ≡ length r.rest = ap length same in
     let no : ⊥ = omega arith in

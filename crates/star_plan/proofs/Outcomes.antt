@@ -7,7 +7,7 @@ use Rattle.star_cache.specs.State.{Loads}
 use Rattle.star_tree.specs.declared.tree.Statement.{Statement}
 use Rattle.star_meaning.specs.Module.{Local, Good, Stopped}
 use Rattle.star_plan.specs.Plan.{Plan, StaticFault, Faulty, loaded, loads_in, read_of, tree_in}
-use Rattle.star_plan.specs.Results.{AreGood, IsFirstBad, IsGoodAt, IsOutcome, Outcome, Static, Unloaded, Ran, all_good, if_good, ran, result, went_well}
+use Rattle.star_plan.specs.Results.{AreGood, IsFirstBad, IsGood, IsGoodAt, IsOutcome, Outcome, Static, Unloaded, Ran, all_good, if_good, ran, result, went_well}
 use Rattle.star_plan.proofs.Options.{chained, mapped}
 use Rattle.star_plan.proofs.Stay.{all_good-stay, good_is, result-from, result-stays, results-agree}
 
@@ -65,13 +65,18 @@ no_loads plan n f i read b =
     let there : slice_get [] i ≡ Some b.file = subst (λ ns. slice_get ns i ≡ Some b.file) none b.there in
     let no : ⊥ = cc in no
 
-pub one_place : (plan : Plan) (ns : List ℕ) (i j : ℕ) → IsFirstBad plan ns i → IsFirstBad plan ns j → i ≡ j
-one_place plan ns i j a b = by_order (cases_order i j)
+-- the first of some files that is not so has one place
+pub one_first : (P : ℕ → Type 0) (ns : List ℕ) (i j m k : ℕ) → slice_get ns i ≡ Some m → slice_get ns j ≡ Some k → (P m → ⊥) → (P k → ⊥)
+    → ((h n : ℕ) → h < i → slice_get ns h ≡ Some n → P n) → ((h n : ℕ) → h < j → slice_get ns h ≡ Some n → P n) → i ≡ j
+one_first P ns i j m k at there bad ill before earlier = by_order (cases_order i j)
   where
     by_order : ((i ≡ j) ⊎ ((i < j) ⊎ (j < i))) → i ≡ j
     by_order (inl same) = same
-    by_order (inr (inl less)) = absurd (a.bad (b.before i a.file less a.there))
-    by_order (inr (inr less)) = absurd (b.bad (a.before j b.file less b.there))
+    by_order (inr (inl less)) = absurd (bad (earlier i m less at))
+    by_order (inr (inr less)) = absurd (ill (before j k less there))
+
+pub one_place : (plan : Plan) (ns : List ℕ) (i j : ℕ) → IsFirstBad plan ns i → IsFirstBad plan ns j → i ≡ j
+one_place plan ns i j a b = one_first (IsGood plan) ns i j a.file b.file a.there b.there a.bad b.bad a.before b.before
 
 -- one file and others that are good at some depths are good at one
 pub gather : (plan : Plan) (ns : List ℕ) (ms : List Local) → AreGood plan ns ms → (d : ℕ) × (all_good (map (result plan d) ns) ≡ Some ms)

@@ -20,8 +20,8 @@ use Rattle.star_parser.specs.Sources.{Parses}
 use Rattle.star_parser.proofs.Once.{one_answer}
 use Rattle.star_scope.specs.declared.error.ScopeFault.{ScopeFault}
 use Rattle.star_scope.specs.declared.error.ScopeFault.TheVariants as fault
-use Rattle.star_scope.specs.declared.loads.Lead.{Lead}
-use Rattle.star_scope.specs.declared.loads.Lead.TheVariants as lead
+use Rattle.star_scope.specs.declared.loads.LoadTarget.{LoadTarget}
+use Rattle.star_scope.specs.declared.loads.LoadTarget.TheVariants as lead
 use Rattle.star_scope.specs.declared.program.Prelude.{Prelude}
 use Rattle.star_scope.specs.declared.program.Program.{Program}
 use Rattle.star_scope.specs.Faults.{first}
@@ -79,7 +79,7 @@ one_label here text p n q m a b = pick a.form b.form
     pick (inr (e, g)) (inl f) = absurd (differ (47 ∷ (q ++ 58 ∷ m)) n (sym f ∙ e))
     pick (inr (e, g)) (inr (f, h)) = ap (λ z. label_text z n) (g ∙ sym h) ∙ ap (label_text q) (tails 58 n m (sym e ∙ f))
 
-one_lead : (files : List File) (here text : List ℕ) → IsOrdered files → (l k : Lead) → LeadsTo files here text l → LeadsTo files here text k → l ≡ k
+one_lead : (files : List File) (here text : List ℕ) → IsOrdered files → (l k : LoadTarget) → LeadsTo files here text l → LeadsTo files here text k → l ≡ k
 one_lead files here text ordered (lead.File n) (lead.File m) (p, s, a, less, at) (q, t, b, short, is) = ap lead.File (one_file files n m ordered less short (at ∙ (one_label here text p s q t a b ∙ sym is)))
 one_lead files here text ordered (lead.File n) lead.NoFile (p, s, a, less, at) (q, t, b, none) = absurd (none n less (at ∙ one_label here text p s q t a b))
 one_lead files here text ordered (lead.File n) lead.BadLabel (p, s, a, less, at) bad = absurd (bad p s a)

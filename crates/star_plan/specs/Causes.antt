@@ -2,7 +2,7 @@
 use Rattle.std.specs.Prelude.{◌≡◌, ◌⊎◌, ℕ, List, [], ◌∷◌, ◌++◌, Some, slice_get}
 use Rattle.star_meaning.specs.declared.fault.Fault.{Fault}
 use Rattle.star_meaning.specs.Module.{Stopped}
-use Rattle.star_scope.specs.Definitions.{AllDiffer}
+use Rattle.star_outline.specs.Definitions.{AllDiffer}
 use Rattle.star_plan.specs.Plan.{Plan, StaticFault, loaded}
 use Rattle.star_plan.specs.Results.{IsOutcome, Static, Unloaded, Ran}
 
@@ -10,10 +10,14 @@ use Rattle.star_plan.specs.Results.{IsOutcome, Static, Unloaded, Ran}
 abbrev pub FailsBy : Plan → ℕ → ℕ → Type 0
 FailsBy plan n m = (i : ℕ) × IsOutcome plan n (Unloaded i) × (slice_get (loaded plan n) i ≡ Some m)
 
--- these files lead from the first one, a file, to another: each fails by the next, and the last by that other one
+-- these files lead from the first one, a file, to another: each to the next, and the last to that other one
+abbrev pub LeadBy : (ℕ → ℕ → Type 0) → ℕ → List ℕ → ℕ → Type 0
+LeadBy On n [] m = n ≡ m
+LeadBy On n (x ∷ xs) m = (n ≡ x) × ((k : ℕ) × On n k × LeadBy On k xs m)
+
+-- .. each fails by the next
 abbrev pub Lead : Plan → ℕ → List ℕ → ℕ → Type 0
-Lead plan n [] m = n ≡ m
-Lead plan n (x ∷ xs) m = (n ≡ x) × ((k : ℕ) × FailsBy plan n k × Lead plan k xs m)
+Lead plan = LeadBy (FailsBy plan)
 
 -- a file with a fault of its own
 abbrev pub HasFault : Plan → ℕ → Type 0
@@ -26,10 +30,14 @@ pub data Cause : Type 0 where
   Culprit : ℕ → Cause
   Cycle : List ℕ → Cause
 
--- first bad loads lead from a file to its cause; a cycle is listed from its first file that is met, and no file occurs
--- twice on the path
+-- files lead from a file to its cause: one at which a way ends, or a cycle, which is listed from its first file that is
+-- met; no file occurs twice on the path
+abbrev pub IsCauseBy : (ℕ → ℕ → Type 0) → (ℕ → Type 0) → ℕ → Cause → Type 0
+IsCauseBy On Ends n (Culprit m) = (way : List ℕ) × LeadBy On n way m × Ends m
+IsCauseBy On Ends n (Cycle []) = ⊥
+IsCauseBy On Ends n (Cycle (m ∷ ms)) =
+    (way : List ℕ) × LeadBy On n way m × LeadBy On m (m ∷ ms) m × AllDiffer (way ++ m ∷ ms)
+
+-- .. first bad loads lead to it, and a way ends at a file with a fault of its own
 abbrev pub IsCause : Plan → ℕ → Cause → Type 0
-IsCause plan n (Culprit m) = (way : List ℕ) × Lead plan n way m × HasFault plan m
-IsCause plan n (Cycle []) = ⊥
-IsCause plan n (Cycle (m ∷ ms)) =
-    (way : List ℕ) × Lead plan n way m × Lead plan m (m ∷ ms) m × AllDiffer (way ++ m ∷ ms)
+IsCause plan = IsCauseBy (FailsBy plan) (HasFault plan)

@@ -2,7 +2,7 @@
 use Rattle.std.specs.Prelude.{◌≡◌, ◌≤◌, ◌↔◌, ◌⊎◌, ◌∷◌, ◌++◌, ℕ, Bool, true, List, [], length, Option, Some, Contains}
 use Rattle.star_label.specs.Files.{File, IsOrdered}
 use Rattle.star_scope.specs.declared.program.Prelude.{Prelude}
-use Rattle.star_scope.specs.Definitions.{AllDiffer}
+use Rattle.star_outline.specs.Definitions.{AllDiffer}
 use Rattle.star_cache.specs.Walk.{IsOnCycle, LeadsTo}
 use Rattle.star_cache.specs.State.{Loads}
 use Rattle.star_meaning.specs.Module.{Good, Local, local, local_of, start}

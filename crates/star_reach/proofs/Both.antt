@@ -13,7 +13,7 @@ use Rattle.star_parser.proofs.Once.{one_answer}
 use Rattle.star_tree.specs.declared.tree.Statement.{Statement}
 use Rattle.star_tree.specs.declared.tree.Tree.{Tree}
 use Rattle.star_scope.specs.declared.loads.Load.{Load}
-use Rattle.star_scope.specs.declared.loads.Lead.TheVariants as lead
+use Rattle.star_scope.specs.declared.loads.LoadTarget.TheVariants as lead
 use Rattle.star_scope.specs.declared.program.Prelude.{Prelude}
 use Rattle.star_scope.specs.Loads.{AllLead, LeadsTo, Read, Written, load_of, prelude_loads, written}
 use Rattle.star_scope.specs.Resolve.{seen_by}

@@ -7,7 +7,7 @@ use Rattle.std.proofs.lemmas.List.Elements.{Contains-get_or}
 use Rattle.star_label.specs.Files.{File, label_at, text_at}
 use Rattle.star_label.specs.Label.{package_of}
 use Rattle.star_scope.specs.declared.loads.Load.{Load}
-use Rattle.star_scope.specs.declared.loads.Lead.TheVariants as lead
+use Rattle.star_scope.specs.declared.loads.LoadTarget.TheVariants as lead
 use Rattle.star_scope.specs.declared.program.Prelude.{Prelude}
 use Rattle.star_scope.specs.Loads.{AllLead, LeadsTo, Read, Written, load_of, prelude_loads, written}
 use Rattle.star_scope.specs.Resolve.{seen_by}

@@ -4,11 +4,11 @@ use denote.Param.Send.{IsSync, sendable}
 use Rattle.std.proofs.Crossing.{crosses}
 use Rattle.std.proofs.MapsCrossing as maps
 use Rattle.star_scope.specs.contracts.program.Program as program
-use Rattle.star_scope.specs.contracts.outline.Body as body
-use Rattle.star_scope.specs.contracts.outline.Definition as definition
-use Rattle.star_scope.specs.contracts.outline.Definitions as definitions
-use Rattle.star_scope.proofs.blocks.Blocks.TheSendSync as of_blocks
-use Rattle.star_scope.proofs.blocks.BlockNames.TheSendSync as of_names
+use Rattle.star_outline.specs.contracts.outline.Body as body
+use Rattle.star_outline.specs.contracts.outline.Definition as definition
+use Rattle.star_outline.specs.contracts.outline.Definitions as definitions
+use Rattle.star_outline.proofs.blocks.Blocks.TheSendSync as of_blocks
+use Rattle.star_outline.proofs.blocks.BlockNames.TheSendSync as of_names
 use Rattle.star_scope.proofs.spots.Spots.TheSendSync as of_spots
 use Rattle.star_scope.proofs.loads.Load.TheSendSync as of_load
 use Rattle.star_tree.specs.contracts.tree.Expression as expression

@@ -58,9 +58,6 @@ set_stays marks n k h = by_cases (same_or_not k n)
     (λ e. subst (λ i. IsMarked (slice_set marks n true) i) (sym e) (get_or-set_same marks n true false (subst (λ i. i < length marks) e (marked_within marks k h))))
     (λ ne. get_or-set_other marks n k true false ne ∙ h)
 
-pub grew_none : (ns : List ℕ) (marks : List Bool) (todo : List ℕ) → Grew ns marks todo marks todo
-grew_none ns marks todo = record { size = refl; stay = λ k h. h; fresh = λ k h. inl h; waiting = λ k h. h; found = λ h. h; left = refl }
-
 -- a file that is found waits to be read, so the number of files left stays
 pub left_one : (n : ℕ) (marks : List Bool) (todo : List ℕ) → n < length marks → get_or marks n false ≡ false → left_of (slice_set marks n true) (todo ++ n ∷ []) ≡ left_of marks todo
 left_one n marks todo inside clear =
@@ -82,9 +79,6 @@ grew_one n marks todo inside clear = record {
   found = λ all. All-append (IsMarked (slice_set marks n true)) todo (n ∷ []) (λ k d lt. set_stays marks n (get_or todo k d) (all k d lt)) (all_one (IsMarked (slice_set marks n true)) n (get_or-set_same marks n true false inside));
   left = left_one n marks todo inside clear;
 }
-
-pub marked_here : (n : ℕ) (marks : List Bool) → n < length marks → IsMarked (slice_set marks n true) n
-marked_here n marks inside = get_or-set_same marks n true false inside
 
 -- one more of these files is found, after others of them
 pub grew_more : (ns : List ℕ) (n : ℕ) (a : List Bool) (ta : List ℕ) (b : List Bool) (tb : List ℕ) (c : List Bool) (tc : List ℕ) → Contains ns n → Grew ns a ta b tb → Grew (n ∷ []) b tb c tc → Grew ns a ta c tc
@@ -170,22 +164,6 @@ waits_within files prelude roots row marks todo rest n f e =
 pub copied_fits : (o : Option (Bor Prelude)) (count : ℕ) → IfSome o (λ p. p.now.file < count) → (p : Prelude) → option_copied o ≡ Some p → p.file < count
 copied_fits None count h p e = absurd (let no : ⊥ = cc in no)
 copied_fits (Some q) count h p e = let same : q.now ≡ p = cc in subst (λ (x : Prelude). x.file < count) same h
-
--- a file that waits was read already
-pub found_again : (files : List File) (prelude : Option Prelude) (roots : List ℕ) (row : Row) (marks : List Bool) (todo : List ℕ) (n : ℕ)
-    → AreFound files prelude roots row marks (todo ++ n ∷ []) → IsSome (read_at row n) → AreFound files prelude roots row marks todo
-found_again files prelude roots row marks todo n f h = record {
-  right = f.right;
-  sized = f.sized;
-  marked = f.marked;
-  starts = f.starts;
-  loads = f.loads;
-  reached = f.reached;
-  read = f.read;
-  done = λ k m. by_cases (f.done k m) (λ r. inl r)
-      (λ c. by_cases (Contains-append_cases todo (n ∷ []) k c) (λ t. inr t) (λ one. inl (subst (λ i. IsSome (read_at row i)) (contains_one n k one) h)));
-  waits = all_front (IsMarked marks) todo n f.waits;
-}
 
 -- reached files stay reached if loads stay
 reached_grows : (p q : Plan) → p.roots ≡ q.roots → ((a b : ℕ) → Loads (loaded p) a b → Loads (loaded q) a b) → (n : ℕ) → IsReached p n → IsReached q n

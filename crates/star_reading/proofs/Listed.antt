@@ -8,14 +8,6 @@ use Rattle.star_plan.proofs.Rising.{rising_push}
 use Rattle.star_reading.specs.Listed.{AreListed}
 use Rattle.star_reading.proofs.Finds.{by_cases, contains_here, contains_one, same_or_not}
 
-pub none_listed : (plan : Plan) → AreListed plan 0 []
-none_listed plan = record {
-  in_order = λ k h. absurd (let no : ⊥ = omega (arith, h) in no);
-  below = λ k d lt. absurd (let no : ⊥ = omega (arith, lt) in no);
-  reached = λ n c. absurd (let less = c.1 in let no : ⊥ = omega (arith, less) in no);
-  all = λ n r h. absurd (let no : ⊥ = omega (arith, h) in no);
-}
-
 -- a file that is not reached is passed by
 pub listed_on : (plan : Plan) (n : ℕ) (ns : List ℕ) → (IsReached plan n → ⊥) → AreListed plan n ns → AreListed plan (n + 1) ns
 listed_on plan n ns never is = record {

@@ -6,8 +6,8 @@ use Rattle.std.specs.Option.{option_map}
 use Rattle.std.proofs.lemmas.List.Elements.{All-append}
 use Rattle.star_label.specs.Files.{File}
 use Rattle.star_tree.specs.declared.tree.Position.{Position}
-use Rattle.star_scope.specs.declared.loads.Lead.{Lead}
-use Rattle.star_scope.specs.declared.loads.Lead.TheVariants as lead
+use Rattle.star_scope.specs.declared.loads.LoadTarget.{LoadTarget}
+use Rattle.star_scope.specs.declared.loads.LoadTarget.TheVariants as lead
 use Rattle.star_scope.specs.declared.loads.Load.{Load}
 use Rattle.star_scope.specs.declared.program.Prelude.{Prelude}
 use Rattle.star_scope.specs.Loads.{AllLead, LeadsTo, Read as Led, load_at, load_of, prelude_loads}
@@ -26,7 +26,7 @@ just : {X : Type 0} (P : X → Type 0) (x : X) → P x → All P (x ∷ [])
 just P x h zero d lt = h
 just P x h (suc k) d lt = absurd (omega (arith, lt))
 
-led_within : (files : List File) (here text : List ℕ) (p : Position) (l : Lead) → LeadsTo files here text l → All (Fits files) (load_at p l)
+led_within : (files : List File) (here text : List ℕ) (p : Position) (l : LoadTarget) → LeadsTo files here text l → All (Fits files) (load_at p l)
 led_within files here text p (lead.File n) h = just (Fits files) (record { file = n; line = p.line; token = Some p.token }) h.3
 led_within files here text p lead.NoFile h = nothing (Fits files)
 led_within files here text p lead.BadLabel h = nothing (Fits files)

@@ -1,7 +1,6 @@
 -- Several threads may read files: the data that they share, and the results that they hand back.
 use Rattle.std.proofs.Common.{ℕ, List, [], ◌∷◌}
 use denote.Builtin.{usize}
-use denote.Hole.{shared_at}
 use denote.RattleType.{RattleType}
 use denote.Ref.{NamedLft}
 use denote.Struct.Tuple.{Tuple, TupleAt}
@@ -15,17 +14,17 @@ use Rattle.star_flow.proofs.search.Search.TheSendSync as of_search
 use Rattle.boxcar.proofs.vec.Vec.TheSendSync as of_trees
 use Rattle.star_label.proofs.files.Files.TheSendSync as of_labels
 use Rattle.star_lex.proofs.token.SyntaxFault.TheSendSync as of_syntax
-use Rattle.star_reading.proofs.Closures.{tuple_sync}
-use denote.Param.Send.{AllSync, IsSend, IsSync, sendable}
+use Rattle.star_reading.proofs.Closures.{captured, closure_sync}
+use denote.Param.Send.{IsSend, IsSync, sendable}
 use denote.Param.SendFields.{variants_send}
 use Rattle.std.proofs.Crossing.{crosses}
 use Rattle.std.proofs.MapsCrossing as maps
 use Rattle.star_scope.specs.contracts.program.Program as program
-use Rattle.star_scope.specs.contracts.outline.Body as body
-use Rattle.star_scope.specs.contracts.outline.Definition as definition
-use Rattle.star_scope.specs.contracts.outline.Definitions as definitions
-use Rattle.star_scope.proofs.blocks.Blocks.TheSendSync as of_blocks
-use Rattle.star_scope.proofs.blocks.BlockNames.TheSendSync as of_names
+use Rattle.star_outline.specs.contracts.outline.Body as body
+use Rattle.star_outline.specs.contracts.outline.Definition as definition
+use Rattle.star_outline.specs.contracts.outline.Definitions as definitions
+use Rattle.star_outline.proofs.blocks.Blocks.TheSendSync as of_blocks
+use Rattle.star_outline.proofs.blocks.BlockNames.TheSendSync as of_names
 use Rattle.star_scope.proofs.spots.Spots.TheSendSync as of_spots
 use Rattle.star_scope.proofs.loads.Load.TheSendSync as of_load
 use Rattle.star_scope.proofs.program.Prelude.TheSendSync as of_prelude
@@ -117,12 +116,5 @@ reader_sync κ ν =
     search (of_trees.the_sync, sendable, crosses) depth 40
 
 -- a reader's closure: it captures the reader, the runtime R, and the search
-module _ (R : RattleType) (α β γ δ ε : NamedLft) where
-  abbrev captured : List RattleType
-  captured = shared_at α (reader.the_row β γ) ∷ shared_at δ R ∷ shared_at ε search_of.the_row ∷ []
-
-  captured_sync : IsSync R → AllSync captured
-  captured_sync r = search (reader_sync, of_search.the_sync, sendable) depth 20
-
-  pub readers_sync : IsSync R → (ν : List ℕ) → IsSync (TupleAt ν captured)
-  readers_sync r ν = tuple_sync ν captured (captured_sync r)
+pub readers_sync : (R : RattleType) (α β γ δ ε : NamedLft) → IsSync R → (ν : List ℕ) → IsSync (TupleAt ν (captured (reader.the_row β γ) R search_of.the_row α δ ε))
+readers_sync R α β γ δ ε r ν = closure_sync (reader.the_row β γ) R search_of.the_row α δ ε (reader_sync β γ) r of_search.the_sync ν

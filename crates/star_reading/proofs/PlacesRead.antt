@@ -1,6 +1,6 @@
 -- The entries of a row of read files.
 use Rattle.std.proofs.Common.{◌≡◌, ◌<◌, ◌≢◌, ◌⊎◌, inl, inr, ℕ, zero, suc, List, [], ◌∷◌, ◌++◌, length, get_or, Option, Some, None, refl, ap, sym, ◌∙◌, subst, arith, length-append}
-use Rattle.std.specs.Prelude.{All, IfSome, IsSome, slice_get, slice_set}
+use Rattle.std.specs.Prelude.{All, IsSome, slice_get, slice_set}
 use Rattle.std.specs.Option.{option_flatten}
 use Rattle.std.proofs.lemmas.Bool.{cases_order}
 use Rattle.std.proofs.lemmas.List.{get_or_append_left, get_or-set_other, get_or-set_same, length-set}
@@ -11,7 +11,7 @@ use Rattle.star_label.specs.Files.{File}
 use Rattle.star_scope.specs.declared.program.Prelude.{Prelude}
 use Rattle.star_reading.specs.declared.reading.Read.{Read}
 use Rattle.star_reading.specs.declared.reading.Read.TheVariants as read
-use Rattle.star_reading.specs.Readings.{AreReadAs, IsPlaceable, IsPlaceOf, IsReadAs, Row, read_at}
+use Rattle.star_reading.specs.Readings.{AreReadAs, IsPlaceOf, IsReadAs, Row, read_at}
 
 -- one more file is read
 pub set_read : (files : List File) (prelude : Option Prelude) (row : Row) (k : ℕ) (r : Read) → k < length row → IsReadAs files prelude k r → AreReadAs files prelude row → AreReadAs files prelude (slice_set row k (Some r))
@@ -30,28 +30,6 @@ set_read files prelude row k r inside is all n d h = by_order (cases_order n k)
     by_order (inr (inl less)) = other (omega arith)
     by_order (inr (inr less)) = other (omega arith)
 
--- the reading of a file is taken out
-pub unset_read : (files : List File) (prelude : Option Prelude) (row : Row) (k : ℕ) → k < length row → AreReadAs files prelude row → AreReadAs files prelude (slice_set row k None)
-unset_read files prelude row k inside all n d h = by_order (cases_order n k)
-  where
-    short : n < length row
-    short = let e = length-set row k None in omega (arith, e, h)
-
-    other : n ≢ k → IsPlaceOf files prelude n (get_or (slice_set row k None) n d)
-    other ne = subst (IsPlaceOf files prelude n) (sym (get_or-set_other row k n None d ne)) (all n d short)
-
-    by_order : ((n ≡ k) ⊎ ((n < k) ⊎ (k < n))) → IsPlaceOf files prelude n (get_or (slice_set row k None) n d)
-    by_order (inl same) =
-        let here : IsPlaceOf files prelude k (get_or (slice_set row k None) k d) = subst (IsPlaceOf files prelude k) (sym (get_or-set_same row k None d inside)) tt in
-        subst (λ i. IsPlaceOf files prelude i (get_or (slice_set row k None) i d)) (sym same) here
-    by_order (inr (inl less)) = other (omega arith)
-    by_order (inr (inr less)) = other (omega arith)
-
--- a reading in a row is that of its file
-pub read_there : (files : List File) (prelude : Option Prelude) (n : ℕ) (o : Option Read) → IsPlaceOf files prelude n o → IfSome o (IsReadAs files prelude n)
-read_there files prelude n None h = tt
-read_there files prelude n (Some r) h = h
-
 -- nothing is read
 pub none_read : (files : List File) (prelude : Option Prelude) (row : Row) → All (λ o. o ≡ None) row → AreReadAs files prelude row
 none_read files prelude row none n d h = subst (IsPlaceOf files prelude n) (sym (none n d h)) tt
@@ -61,15 +39,6 @@ all_front P xs x h k d lt = subst P (get_or_append_left xs (x ∷ []) d k lt) (h
 
 pub all_last : {X : Type 0} (P : X → Type 0) (xs : List X) (x : X) → All P (xs ++ x ∷ []) → P x
 all_last P xs x h = subst P (get_or-append_seam xs x [] x) (h (length xs) x (let e = length-append xs (x ∷ []) in omega (arith, e)))
-
--- the reading of a file is of some file
-pub place_of_file : (files : List File) (prelude : Option Prelude) (n : ℕ) (o : Option Read) → IsPlaceOf files prelude n o → IsPlaceable o
-place_of_file files prelude n None h = tt
-place_of_file files prelude n (Some (read.Fault f)) h = tt
-place_of_file files prelude n (Some (read.Program p)) h = (n, prelude, h.0.statements, h.3.0, h.3.3)
-
-pub all_placeable : (files : List File) (prelude : Option Prelude) (row : Row) → AreReadAs files prelude row → All IsPlaceable row
-all_placeable files prelude row all n d h = place_of_file files prelude n (get_or row n d) (all n d h)
 
 -- within a row, `read_at` finds the entry at the index
 pub place_read : (row : Row) (n : ℕ) (d : Option Read) → n < length row → read_at row n ≡ get_or row n d

@@ -3,11 +3,11 @@ use Rattle.std.specs.Prelude.{ℕ, List, codes}
 use Rattle.star_lex.specs.declared.token.SyntaxFault.TheVariants as text
 use Rattle.star_scope.specs.declared.error.ScopeFault.TheVariants as names
 use Rattle.star_plan.specs.Plan.{StaticFault as PlanFault, OfText, OfNames}
-use Rattle.star_reading.specs.declared.code.StaticCode.{StaticCode}
-use Rattle.star_reading.specs.declared.code.StaticCode.TheVariants.{BadToken, BadIndent, Nested, Syntax, Undefined, BadPlace, Conflict, Private, NoFile, BadLabel}
+use Rattle.star_reading.specs.declared.code.StaticFaultCode.{StaticFaultCode}
+use Rattle.star_reading.specs.declared.code.StaticFaultCode.TheVariants.{BadToken, BadIndent, Nested, Syntax, Undefined, BadPlace, Conflict, Private, NoFile, BadLabel}
 use Rattle.star_reading.specs.declared.code.StaticFault.{StaticFault}
 
-abbrev pub fault_at : StaticCode → ℕ → PlanFault
+abbrev pub fault_at : StaticFaultCode → ℕ → PlanFault
 fault_at BadToken line = OfText (text.BadToken line)
 fault_at BadIndent line = OfText (text.BadIndent line)
 fault_at Nested line = OfText (text.TooNested line)
@@ -24,7 +24,7 @@ abbrev pub fault_of : StaticFault → PlanFault
 fault_of f = fault_at f.code f.line
 
 -- the word of a static fault in the report
-abbrev pub word_of : StaticCode → List ℕ
+abbrev pub word_of : StaticFaultCode → List ℕ
 word_of BadToken = codes "bad_token"
 word_of BadIndent = codes "bad_indent"
 word_of Nested = codes "nested"

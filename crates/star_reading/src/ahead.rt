@@ -17,6 +17,9 @@ use std::thread::Threads;
 /// One thread more may read for each further group of this many files.
 const SHARE: usize = 16;
 
+/// What one thread has read, by the numbers of the files. The error: an allocation failed.
+type Readings<'t> = Result<Vec<(usize, Read<'t>)>, AllocError>;
+
 /// The bytes of the texts of files.
 fn sizes(alloc: Global, files: &Labels) -> Result<Vec<usize>, AllocError> {
     let mut sizes = Vec::with_capacity(alloc, files.len())?;
@@ -48,11 +51,7 @@ impl<'s, 't> Reader<'s, 't> {
     }
 
     /// Reads one file after another, as they are handed out.
-    fn read_found<R: Wait>(
-        &self,
-        rt: &R,
-        search: &Search,
-    ) -> Result<Vec<(usize, Read<'t>)>, AllocError>
+    fn read_found<R: Wait>(&self, rt: &R, search: &Search) -> Readings<'t>
         requires parses { AreParsesOf self.now.files.now self.now.parses.now }
         ensures { IfOk result (λ reads.
             AreAllReadAs self.now.files.now (option_copied self.now.prelude) reads.items) }
@@ -70,11 +69,7 @@ impl<'s, 't> Reader<'s, 't> {
 
     /// As `read_found`, for one of several threads. If it fails, it leaves the search, so that no other thread waits for
     /// it.
-    fn read_share<R: Wait>(
-        &self,
-        rt: &R,
-        search: &Search,
-    ) -> Result<Vec<(usize, Read<'t>)>, AllocError>
+    fn read_share<R: Wait>(&self, rt: &R, search: &Search) -> Readings<'t>
         requires parses { AreParsesOf self.now.files.now self.now.parses.now }
         ensures { IfOk result (λ reads.
             AreAllReadAs self.now.files.now (option_copied self.now.prelude) reads.items) }
@@ -92,7 +87,7 @@ impl<'s, 't> Reader<'s, 't> {
         rt: &R,
         search: &Search,
         threads: usize,
-    ) -> Result<Vec<Result<Vec<(usize, Read<'t>)>, AllocError>>, AllocError>
+    ) -> Result<Vec<Readings<'t>>, AllocError>
         requires parses { AreParsesOf self.now.files.now self.now.parses.now }
         ensures { IfOk result (λ shares.
             AreSharesReadAs self.now.files.now (option_copied self.now.prelude) shares.items) }
@@ -188,10 +183,7 @@ impl<'t> Found<'t> {
     }
 
     /// Records the files that several threads have read.
-    fn add_shares(
-        &mut self,
-        shares: Vec<Result<Vec<(usize, Read<'t>)>, AllocError>>,
-    ) -> Result<(), AllocError>
+    fn add_shares(&mut self, shares: Vec<Readings<'t>>) -> Result<(), AllocError>
         ensures { OnOk result (StaysRight (λ files prelude. AreSharesReadAs files prelude shares.entry.items)
             self.old.reads.items self.new.reads.items) }
     {

@@ -13,7 +13,7 @@ use star_scope::error::ScopeFault;
 
 /// The kinds of static faults: why a file is not run.
 #[derive(Clone, Copy, Debug, PartialEq, Eq)]
-pub enum StaticCode {
+pub enum StaticFaultCode {
     BadToken,
     BadIndent,
     Nested,
@@ -29,7 +29,7 @@ pub enum StaticCode {
 /// A static fault and its line, which is 0 for bad syntax.
 #[derive(Clone, Copy, Debug, PartialEq, Eq)]
 pub struct StaticFault {
-    pub code: StaticCode,
+    pub code: StaticFaultCode,
     pub line: usize,
 }
 
@@ -38,10 +38,10 @@ pub fn of_syntax(fault: SyntaxFault) -> Option<StaticFault>
     ensures { MatchOption result (fault ≡ text.Memory) (λ f. (fault_of f ≡ OfText fault) × (fault ≢ text.Memory)) }
 {
     let (code, line) = match fault {
-        SyntaxFault::BadToken { line } => (StaticCode::BadToken, line),
-        SyntaxFault::BadIndent { line } => (StaticCode::BadIndent, line),
-        SyntaxFault::TooNested { line } => (StaticCode::Nested, line),
-        SyntaxFault::BadSyntax => (StaticCode::Syntax, 0),
+        SyntaxFault::BadSyntax => (StaticFaultCode::Syntax, 0),
+        SyntaxFault::BadToken { line } => (StaticFaultCode::BadToken, line),
+        SyntaxFault::BadIndent { line } => (StaticFaultCode::BadIndent, line),
+        SyntaxFault::TooNested { line } => (StaticFaultCode::Nested, line),
         SyntaxFault::Memory => return None,
     };
     Some(StaticFault { code, line })
@@ -52,33 +52,33 @@ pub fn of_scope(fault: ScopeFault) -> Option<StaticFault>
     ensures { MatchOption result (fault ≡ names.Memory) (λ f. (fault_of f ≡ OfNames fault) × (fault ≢ names.Memory)) }
 {
     let (code, line) = match fault {
-        ScopeFault::Undefined { line } => (StaticCode::Undefined, line),
-        ScopeFault::BadPlace { line } => (StaticCode::BadPlace, line),
-        ScopeFault::Conflict { line } => (StaticCode::Conflict, line),
-        ScopeFault::Private { line } => (StaticCode::Private, line),
-        ScopeFault::NoFile { line } => (StaticCode::NoFile, line),
-        ScopeFault::BadLabel { line } => (StaticCode::BadLabel, line),
+        ScopeFault::Undefined { line } => (StaticFaultCode::Undefined, line),
+        ScopeFault::BadPlace { line } => (StaticFaultCode::BadPlace, line),
+        ScopeFault::Conflict { line } => (StaticFaultCode::Conflict, line),
+        ScopeFault::Private { line } => (StaticFaultCode::Private, line),
+        ScopeFault::NoFile { line } => (StaticFaultCode::NoFile, line),
+        ScopeFault::BadLabel { line } => (StaticFaultCode::BadLabel, line),
         ScopeFault::Memory => return None,
     };
     Some(StaticFault { code, line })
 }
 
-impl StaticCode {
+impl StaticFaultCode {
     /// Its word in the report.
     pub fn text(self) -> &'static str
         ensures { result.now ≡ word_of self }
     {
         match self {
-            StaticCode::BadToken => "bad_token",
-            StaticCode::BadIndent => "bad_indent",
-            StaticCode::Nested => "nested",
-            StaticCode::Syntax => "syntax",
-            StaticCode::Undefined => "undefined",
-            StaticCode::BadPlace => "bad_place",
-            StaticCode::Conflict => "conflict",
-            StaticCode::Private => "private",
-            StaticCode::NoFile => "no_file",
-            StaticCode::BadLabel => "bad_label",
+            StaticFaultCode::BadToken => "bad_token",
+            StaticFaultCode::BadIndent => "bad_indent",
+            StaticFaultCode::Nested => "nested",
+            StaticFaultCode::Syntax => "syntax",
+            StaticFaultCode::Undefined => "undefined",
+            StaticFaultCode::BadPlace => "bad_place",
+            StaticFaultCode::Conflict => "conflict",
+            StaticFaultCode::Private => "private",
+            StaticFaultCode::NoFile => "no_file",
+            StaticFaultCode::BadLabel => "bad_label",
         }
     }
 }
@@ -89,7 +89,7 @@ impl StaticFault {
         ensures { result ≡ static_line (fault_of self) }
     {
         match self.code {
-            StaticCode::Syntax => 0,
+            StaticFaultCode::Syntax => 0,
             _ => self.line,
         }
     }

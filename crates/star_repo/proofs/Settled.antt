@@ -9,8 +9,6 @@ use Rattle.star_label.specs.Label.{package_of}
 use Rattle.star_label.specs.View.{text_of}
 use Rattle.star_repo.specs.declared.found.ReadFile.{ReadFile}
 use Rattle.star_repo.specs.Loading.{LoadsLabel}
-use Rattle.star_repo.specs.Parsed.{AreParsed}
-use Rattle.star_reading.specs.Parsed.{IsParsed}
 use Rattle.star_words.specs.Rows.{IsIn}
 use Rattle.star_repo.specs.Views.{answer_of, answers_in, fresh_answer}
 use Rattle.star_repo.specs.Way.{Answer, IsLoadedBy}
@@ -48,9 +46,6 @@ zip_append R [] vs [] ws h k = k
 zip_append R [] vs (y ∷ ys) ws h k = absurd h
 zip_append R (x ∷ xs) vs [] ws h k = absurd h
 zip_append R (x ∷ xs) vs (y ∷ ys) ws h k = (h.0, zip_append R xs vs ys ws h.1 k)
-
-pub parsed_too : (fs : List Fresh) (f : Fresh) → AreParsed (fs ++ f ∷ []) [] → ⊥
-parsed_too fs f h = no_more (λ f p. IsParsed (string_bytes f.1) p) fs f h
 
 -- ---- the answers stay
 

@@ -13,10 +13,6 @@ pub some_left : {X : Type 0} (xs : List X) → (xs ≡ [] → ⊥) → 0 < lengt
 some_left [] h = absurd (h refl)
 some_left (x ∷ xs) h = omega arith
 
-pub none_there : {X : Type 0} (xs : List X) → length xs ≡ 0 → xs ≡ []
-none_there [] h = refl
-none_there (x ∷ xs) h = absurd (let no : ⊥ = omega (arith, h) in no)
-
 pub length_none : {X : Type 0} (xs : List X) → xs ≡ [] → length xs ≡ 0
 length_none xs h = subst (λ ys. length ys ≡ 0) (sym h) refl
 

@@ -209,19 +209,16 @@ begins said words rest first = record {
   sized = refl;
 }
 
+-- the same answers and files at another place of the search
+moved : (said : Said) (words : Words) (d e : ℕ) (answers : List Answer) (fresh now : List File) (rest next : List (List ℕ)) (count size : ℕ)
+    → ((held : Held) → Agrees held answers → IsAtRound held words e answers now next) → IsWay said words d answers fresh rest count size → IsWay said words e answers now next count size
+moved said words d e answers fresh now rest next count size at way =
+    record { fits = way.fits; once = way.once; at_round = at; files = way.files; ordered = way.ordered; are = way.are; passed = way.passed; counted = way.counted; sized = way.sized }
+
 pub skips : (said : Said) (words : Words) (d : ℕ) (answers : List Answer) (fresh : List File) (rest : List (List ℕ)) (count size : ℕ) (l : List ℕ)
     → IsLooked l answers → IsWay said words d answers fresh (l ∷ rest) count size → IsWay said words d answers fresh rest count size
-skips said words d answers fresh rest count size l looked way = record {
-  fits = way.fits;
-  once = way.once;
-  at_round = λ held agrees. skipped_at held words d answers fresh rest l (way.at_round held agrees) looked;
-  files = way.files;
-  ordered = way.ordered;
-  are = way.are;
-  passed = way.passed;
-  counted = way.counted;
-  sized = way.sized;
-}
+skips said words d answers fresh rest count size l looked way =
+    moved said words d d answers fresh fresh (l ∷ rest) rest count size (λ held agrees. skipped_at held words d answers fresh rest l (way.at_round held agrees) looked) way
 
 once_more : (answers : List Answer) (l : List ℕ) (o : Option (List ℕ)) → (IsLooked l answers → ⊥)
     → ((m : List ℕ) (x y : Option (List ℕ)) → IsIn (m, x) answers → IsIn (m, y) answers → x ≡ y)
@@ -302,17 +299,8 @@ finds said words d answers fresh rest count size l t new below told few short is
 -- the next round begins
 pub turns : (said : Said) (words : Words) (d : ℕ) (answers : List Answer) (fresh : List File) (next : List (List ℕ)) (count size : ℕ)
     → ((m : List ℕ) → IsIn m next ↔ IsLoadedBy fresh m) → IsWay said words d answers fresh [] count size → IsWay said words (suc d) answers [] next count size
-turns said words d answers fresh next count size loaded way = record {
-  fits = way.fits;
-  once = way.once;
-  at_round = λ held agrees. turned_at held words d answers fresh next agrees (way.at_round held agrees) loaded;
-  files = way.files;
-  ordered = way.ordered;
-  are = way.are;
-  passed = way.passed;
-  counted = way.counted;
-  sized = way.sized;
-}
+turns said words d answers fresh next count size loaded way =
+    moved said words d (suc d) answers fresh [] [] next count size (λ held agrees. turned_at held words d answers fresh next agrees (way.at_round held agrees) loaded) way
 
 -- ---- the end
 

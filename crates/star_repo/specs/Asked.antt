@@ -1,8 +1,9 @@
 -- The files of a run that is asked for by the texts of labels.
-use Rattle.std.specs.Prelude.{ℕ, List, Option, Result, Ok, Err}
+use Rattle.std.specs.Prelude.{ℕ, List, Option, Result}
 use Rattle.star_label.specs.Files.{File}
 use Rattle.star_label.specs.View.{text_of}
 use Rattle.star_bundle.specs.declared.error.ServeError.TheVariants.{BadFile}
+use Rattle.star_folder.specs.Refusal.{failed_by}
 use Rattle.star_words.specs.Named.{IsMisnamed}
 use Rattle.star_repo.specs.Held.{Fits, Held, Said}
 use Rattle.star_repo.specs.Reach.{Words}
@@ -31,5 +32,4 @@ failed_find (why.File label BadFile) = 1
 failed_find e = 0
 
 abbrev pub finds_failed : {T : Type 0} → Result T RepoError → ℕ
-finds_failed (Ok x) = 0
-finds_failed (Err e) = failed_find e
+finds_failed r = failed_by failed_find r

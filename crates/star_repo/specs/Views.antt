@@ -1,5 +1,5 @@
 -- The program's states of a reading, as contracts see them.
-use Rattle.std.specs.Prelude.{◌≡◌, ◌↔◌, ◌⊎◌, ℕ, ⊤, List, [], ◌∷◌, ◌++◌, map, All, Option, None, Some, IfSome, option_map, Result, Ok, Err, String, string_bytes}
+use Rattle.std.specs.Prelude.{◌≡◌, ◌↔◌, ◌⊎◌, ℕ, ⊤, List, [], ◌∷◌, ◌++◌, map, All, Option, None, Some, IfSome, option_map, Result, String, string_bytes}
 use Rattle.std.specs.BTreeMap.{BTreeMap, insert_entry, values}
 use Rattle.std.specs.Cmp.Lexicographic.{slice_cmp}
 use Rattle.std.specs.Ordering.{nat_cmp}
@@ -10,6 +10,7 @@ use Rattle.star_label.specs.Files.{File, file_of}
 use Rattle.star_label.specs.Label.{Reads, label_text, package_of}
 use Rattle.star_label.specs.View.{text_of}
 use Rattle.star_bundle.specs.declared.error.ServeError.TheVariants.{BadFile}
+use Rattle.star_folder.specs.Refusal.{failed_by}
 use Rattle.star_scope.specs.Loads.{Written}
 use Rattle.star_repo.specs.Held.{Fits, Held, Said}
 use Rattle.star_repo.specs.Loading.{LoadsLabel}
@@ -103,8 +104,7 @@ failed_read (why.Refused label BadFile) = 1
 failed_read e = 0
 
 abbrev pub reads_failed : {T : Type 0} → Result T ReadError → ℕ
-reads_failed (Ok x) = 0
-reads_failed (Err e) = failed_read e
+reads_failed r = failed_by failed_read r
 
 -- load statements name the label in a file of the package `here`
 abbrev pub IsNamed : List ℕ → List Written → List ℕ → Type 0

@@ -7,7 +7,7 @@ ghost use Rattle.star_repo.specs.Held.{unmarked, unsaid};
 
 use crate::mark::{FRONT, MARK, front_of};
 use crate::repo::Repo;
-use star_folder::disk::{front_of_size, path_of};
+use star_folder::disk::{counted, front_of_size, kind_of, path_of, refused};
 use star_folder::folder::{FolderError, Kind};
 use star_label::label::Label;
 use star_words::pattern::Listing;
@@ -59,13 +59,7 @@ impl<'a, R: Files + AllocGlobal> Repo for DiskRepo<'a, R> {
         }
         match found_of(self.rt, self.top, label) {
             Ok(found) => Ok(found.text),
-            Err(error) => {
-                if error.kind() == ErrorKind::OutOfMemory {
-                    return Err(FolderError::Memory);
-                }
-                self.failed += 1;
-                Err(FolderError::Failed)
-            }
+            Err(error) => counted(error, &mut self.failed),
         }
     }
 }
@@ -153,14 +147,7 @@ fn entry_of<R: Files + AllocGlobal + Clone + Drop>(
             return Err(error);
         }
     };
-    let found = entry.file_type()?;
-    let kind = if found.is_file() {
-        Kind::File
-    } else if found.is_dir() {
-        Kind::Folder
-    } else {
-        Kind::Other
-    };
+    let kind = kind_of(entry.file_type()?);
     Ok(Some((String::from_str(alloc, entry.file_name())?, kind)))
 }
 
@@ -189,15 +176,6 @@ impl<'a, R: Files + AllocGlobal + Clone + Drop> Listing for DiskRepo<'a, R> {
         _alloc: Global,
         path: &str,
     ) -> Result<BTreeMap<String, Kind>, FolderError> {
-        match entries_of(self.rt, self.top, path) {
-            Ok(entries) => Ok(entries),
-            Err(error) => {
-                if error.kind() == ErrorKind::OutOfMemory {
-                    Err(FolderError::Memory)
-                } else {
-                    Err(FolderError::Failed)
-                }
-            }
-        }
+        entries_of(self.rt, self.top, path).map_err(refused)
     }
 }

@@ -24,17 +24,6 @@ pub struct MemoryRepo<'a> {
     files: &'a [FileAt<'a>],
 }
 
-impl<'a> MemoryRepo<'a> {
-    ghost use Rattle.star_repo.specs.Memory.{files_of};
-
-    /// The folder with these files.
-    pub fn new(files: &'a [FileAt<'a>]) -> Self
-        ensures { files_of result ≡ files.now }
-    {
-        MemoryRepo { files }
-    }
-}
-
 impl<'a> Repo for MemoryRepo<'a> {
     ghost says = { λ s. said_by s.files.now };
 
@@ -58,4 +47,15 @@ fn bytes_of<'a>(files: &'a [FileAt<'a>], label: &str) -> Option<&'a [u8]>
         }
     }
     None
+}
+
+impl<'a> MemoryRepo<'a> {
+    ghost use Rattle.star_repo.specs.Memory.{files_of};
+
+    /// The folder with these files.
+    pub fn new(files: &'a [FileAt<'a>]) -> Self
+        ensures { files_of result ≡ files.now }
+    {
+        MemoryRepo { files }
+    }
 }

@@ -1,5 +1,5 @@
 -- Steps of the search.
-use Rattle.std.proofs.Common.{arith, ◌≡◌, ◌<◌, ◌≤◌, ◌+◌, ◌-◌, ◌++◌, min, ℕ, zero, suc, List, [], ◌∷◌, drop, length, get_or, reverse, set, take, refl, ap, sym, subst, ◌∙◌}
+use Rattle.std.proofs.Common.{arith, ◌≡◌, ◌<◌, ◌≤◌, ◌+◌, ◌-◌, ◌++◌, min, ℕ, zero, suc, List, [], ◌∷◌, length, get_or, reverse, set, take, refl, ap, sym, subst, ◌∙◌}
 use Rattle.std.proofs.lemmas.List.{get_or_default, nil_from_length, reverse-append}
 use Rattle.std.specs.Prelude.{Some, None, map, slice_get}
 use Rattle.star_scope.specs.declared.loads.Load.{Load}
@@ -8,8 +8,8 @@ use Rattle.star_report.specs.declared.components.Frame.{Frame}
 use Rattle.star_report.specs.declared.components.Mark.{Mark}
 use Rattle.star_report.specs.declared.components.Mark.TheVariants.{New, Open, Closed}
 use Rattle.star_report.specs.declared.components.Search.{Search}
-use Rattle.star_report.specs.Components.{LoadsLead, loaded_at, mark_at}
-use Rattle.star_report.specs.Search.{Closes, Enters, Goes, IsClosedBy, IsSearch, IsSearching, IsSearchingAt, IsSettled, Pushes, StayFound, closed, first_frame, frames_left, left_at, left_from, left_in, left_of, load_of, went_on}
+use Rattle.star_report.specs.Components.{loaded_at, mark_at}
+use Rattle.star_report.specs.Search.{Closes, Enters, Goes, IsSearch, IsSearching, IsSearchingAt, Pushes, StayFound, closed, first_frame, frames_left, left_at, left_from, left_of, load_of, went_on}
 use Rattle.star_report.proofs.ComponentMarks.{found_stays, left_less, left_stays, own_mark}
 use Rattle.star_report.proofs.ComponentFrames.{taken_in}
 use Rattle.star_report.proofs.ComponentSearch.{entered, followed_found, followed_new, followed_open, last_taken_in}
@@ -117,13 +117,6 @@ begun row n old new was stack path is inside by =
       subst (StayFound old.marks.items) (sym marks) (found_stays old.marks.items n 0 is inside),
       λ e. (let both : Open 0 ≡ New = sym (own_mark old.marks.items n 0 is inside) ∙ (ap (λ m. mark_at m n) (sym marks) ∙ e) in let no : ⊥ = cc in no),
     )
-
--- what a search owes to close a component
-pub room_left : (row : Row) (f : Frame) (old : Search) → IsSearchingAt row f old → (old.count < length old.marks.items) × (f.place ≤ length old.stack.items)
-room_left row f old was =
-    let room = was.room in
-    let inside = was.frames.0.inside in
-    (omega (arith, room, inside), omega (arith, inside))
 
 -- the path ends: nothing is open
 pub ended : (row : Row) (new : Search) → IsSearching row new → new.path.items ≡ [] → (new.stack.items ≡ []) × IsSearch row new.marks.items [] [] new.count

@@ -16,7 +16,7 @@ use Rattle.star_plan.specs.Results.{IsGood}
 use Rattle.star_reading.specs.Readings.{InReadPlans, LeadWithin, Row, loads_at, readings}
 use Rattle.star_reading.proofs.Finds.{all_one, contains_here}
 use Rattle.star_reading.specs.Listed.{AreListed}
-use Rattle.star_reading.proofs.Listed.{listed_more, listed_on, none_listed}
+use Rattle.star_reading.proofs.Listed.{listed_more, listed_on}
 use Rattle.star_reading.proofs.Rows.{loads_are}
 use Rattle.star_outcome.specs.Goods.{end_good}
 use Rattle.star_outcome.specs.Views.{IsModule, ended_well}
@@ -132,12 +132,6 @@ node_is plan row it v read is file ok edges say = record {
 
 abbrev files_of : List graph.Node → List ℕ
 files_of vs = map (λ (v : graph.Node). v.file) vs
-
-pub graph_none : (plan : Plan) → IsGraphBelow plan 0 []
-graph_none plan = record {
-  listed = none_listed plan;
-  each = λ k d lt. absurd (let no : ⊥ = omega (arith, lt) in no);
-}
 
 -- a file that is not reached is passed by
 pub graph_on : (plan : Plan) (n : ℕ) (vs : List graph.Node) → (IsReached plan n → ⊥) → IsGraphBelow plan n vs → IsGraphBelow plan (n + 1) vs

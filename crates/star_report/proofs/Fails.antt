@@ -1,17 +1,15 @@
 -- The files by which files fail, as they are found among the modules of a run.
-use Rattle.std.proofs.Common.{arith, ◌≡◌, ◌<◌, ◌+◌, ◌↔◌, ◌⊎◌, inl, inr, ℕ, zero, suc, List, [], map, length, replicate, get_or, Option, Some, None, refl, ap, sym, subst, ◌∙◌}
+use Rattle.std.proofs.Common.{arith, ◌≡◌, ◌<◌, ◌+◌, ◌↔◌, ◌⊎◌, inl, inr, ℕ, zero, suc, List, [], map, length, replicate, Option, Some, None, refl, ap, sym, subst, ◌∙◌}
 use Rattle.std.specs.Arc.{arc_value}
 use Rattle.std.specs.Prelude.{All, Contains, IfSome, slice_get, slice_index_or, slice_set}
 use Rattle.std.proofs.lemmas.Bool.{cases_eq}
 use Rattle.std.proofs.lemmas.List.Elements.{All-contains}
-use Rattle.std.proofs.lemmas.Option.{slice_get-get_or}
 use Rattle.star_meaning.specs.Module.{Good as WentWell}
 use Rattle.star_outcome.specs.Views.{shown_texts}
 use Rattle.star_plan.specs.Causes.{FailsBy}
 use Rattle.star_plan.specs.Plan.{Plan, Reading, loaded, loads_in, read_of}
-use Rattle.star_plan.proofs.Causes.{one_next, stops}
+use Rattle.star_plan.proofs.Causes.{stops}
 use Rattle.star_plan.proofs.Outcomes.{no_bad}
-use Rattle.star_cause.specs.Ends.{AreWithin}
 use Rattle.star_cause.specs.Ways.{Goes, Nexts}
 use Rattle.star_plan.proofs.Rows.{get_set_other, get_set_same}
 use Rattle.star_reading.specs.Codes.{fault_of}
@@ -35,25 +33,6 @@ no_load plan n m (Good body) is other fails = no_bad plan is.outcome.0 n (WentWe
 pub fails_not : (it : Module) → ((index line : ℕ) → it.ended ≡ Unloaded index line → ⊥) → (plan : Plan) (n m : ℕ) → IsModule plan n it → (None ≡ Some m) ↔ FailsBy plan n m
 fails_not it other plan n m is = (λ e. absurd (let no : ⊥ = cc in no), λ fails. absurd (no_load plan n m it.ended is.ended other fails))
 
-fails_at : (plan : Plan) (n index line : ℕ) (it : Module) → it.ended ≡ Unloaded index line → index < length it.loads.items → IsModule plan n it → FailsBy plan n (get_or it.loads.items index 0)
-fails_at plan n index line it e inside is =
-    let end : IsEnd plan n (Unloaded index line) = subst (IsEnd plan n) e is.ended in
-    let there : slice_get it.loads.items index ≡ Some (get_or it.loads.items index 0) = slice_get-get_or it.loads.items index 0 inside in
-    (index, end.0, subst (λ ls. slice_get ls index ≡ Some (get_or it.loads.items index 0)) is.loads there)
-
--- .. and one that ended by a load fails by its file
-pub fails_by : (it : Module) (index line : ℕ) → it.ended ≡ Unloaded index line → index < length it.loads.items → (x : ℕ) → x ≡ get_or it.loads.items index 0 → (plan : Plan) (n m : ℕ) → IsModule plan n it → (Some x ≡ Some m) ↔ FailsBy plan n m
-fails_by it index line e inside x at plan n m is = (to, from)
-  where
-    own : FailsBy plan n x
-    own = subst (FailsBy plan n) (sym at) (fails_at plan n index line it e inside is)
-
-    to : Some x ≡ Some m → FailsBy plan n m
-    to both = subst (FailsBy plan n) (let same : x ≡ m = cc in same) own
-
-    from : FailsBy plan n m → Some x ≡ Some m
-    from fails = ap Some (one_next plan n x m own fails)
-
 pub next_below : (count : ℕ) (loads : List ℕ) (o : Option ℕ) → All (λ k. k < count) loads → IfSome o (Contains loads) → (m : ℕ) → o ≡ Some m → m < count
 next_below count loads o all among m e = All-contains (λ k. k < count) loads m all (subst (λ r. IfSome r (Contains loads)) e among)
 
@@ -63,15 +42,6 @@ none_there : (count n m : ℕ) → slice_get (replicate {A = Option ℕ} count N
 none_there zero n m is = let no : ⊥ = cc in no
 none_there (suc count) zero m is = let no : ⊥ = cc in no
 none_there (suc count) (suc n) m is = none_there count n m is
-
-pub below_none : (count : ℕ) → AreBelow count (replicate count None)
-below_none count n m goes = absurd (none_there count n m goes)
-
-pub fails_none : (plan : Plan) (ks : List KeptView) (count : ℕ) → AreFailsBelow plan ks 0 (replicate count None)
-fails_none plan ks count = record {
-  right = λ n m goes. absurd (none_there count n m goes);
-  all = λ k d less. absurd (let no : ⊥ = omega (arith, less) in no);
-}
 
 pub below_more : (count : ℕ) (nexts : Nexts) (n : ℕ) (o : Option ℕ) → n < length nexts → ((m : ℕ) → o ≡ Some m → m < count) → AreBelow count nexts → AreBelow count (slice_set nexts n o)
 below_more count nexts n o inside low was x m goes = turn (cases_eq x n)
@@ -125,6 +95,3 @@ fails_all ks count nexts size so files plan planned are n m = ((so plan are).rig
         let inside = among.1 in
         let low : among.0 < count = omega (arith, inside, size) in
         subst (λ z. Goes nexts z m) among.2 ((so plan are).all among.0 no_note low m (subst (λ z. FailsBy plan z m) (sym among.2) fails))
-
-pub within_all : (count : ℕ) (nexts : Nexts) → length nexts ≡ count → AreBelow count nexts → AreWithin nexts
-within_all count nexts size below n m goes = let less : m < count = below n m goes in omega (arith, less, size)

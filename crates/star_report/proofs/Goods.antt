@@ -2,16 +2,13 @@
 use Rattle.std.proofs.Common.{◌≡◌, ◌<◌, ◌+◌, ◌∙◌, ◌⊎◌, inl, inr, subst, arith, ℕ, List, Some, None, true, false, ap, sym, length}
 use Rattle.std.specs.Prelude.{slice_index_or}
 use Rattle.std.proofs.lemmas.Bool.{cases_order, true≢false}
-use Rattle.std.proofs.lemmas.List.Elements.{All-get_or, All-from_get_or}
+use Rattle.std.proofs.lemmas.List.Elements.{All-get_or}
 use Rattle.star_outcome.specs.Kept.{KeptView, IsGoodKept, AllGood}
 use Rattle.star_outcome.specs.Views.{ended_well}
 use Rattle.star_outcome.specs.declared.module.Module.{Module}
 
 no_note : KeptView
 no_note = record { number = 0; cell = 0; known = None }
-
-pub all_from : (ks : List KeptView) → ((k : ℕ) (d : KeptView) → k < length ks → IsGoodKept (slice_index_or ks k d)) → AllGood ks
-all_from ks h = All-from_get_or IsGoodKept ks no_note (λ i less. h i no_note less)
 
 pub not_all : (ks : List KeptView) (i : ℕ) (m : Module) → i < length ks → ((d : KeptView) → (slice_index_or ks i d).known ≡ Some m) → ended_well m.ended ≡ false → AllGood ks → ⊥
 not_all ks i m less known bad all =

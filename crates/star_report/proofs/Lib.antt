@@ -20,3 +20,4 @@ pub mod Drawings
 pub mod Edges
 pub mod Lines
 pub mod Told
+pub mod Reported

@@ -1,7 +1,7 @@
 -- The texts of members.
-use Rattle.std.proofs.Common.{◌≡◌, ℕ, Bool, true, false, ◌||◌, List, [], ◌∷◌, ◌++◌, Option, Some, None, Vec, codes, refl, ap, sym, subst, ◌∙◌, append-nil, append_assoc, if◌then◌else◌}
+use Rattle.std.proofs.Common.{◌≡◌, ℕ, Bool, true, false, ◌||◌, List, [], ◌∷◌, ◌++◌, Option, Some, None, Vec, refl, ap, sym, subst, ◌∙◌, append-nil, append_assoc, if◌then◌else◌}
 use denote.Ref.{Bor}
-use Rattle.std.specs.Prelude.{MatchOption, filter, is_some, map}
+use Rattle.std.specs.Prelude.{MatchOption}
 use Rattle.std.specs.Arc.{arc_value}
 use Rattle.std.specs.declared.alloc.Global.{Global}
 use Rattle.std.specs.declared.cmp.Ordering.{Ordering}
@@ -10,24 +10,18 @@ use Rattle.std.specs.declared.sync.Arc.{Arc}
 use Rattle.std.specs.Ordering.{match_ordering, nat_cmp}
 use Rattle.std.specs.Cmp.Lexicographic.{slice_cmp}
 use Rattle.std.specs.BTreeMap.{insert_entry}
+use Rattle.std.proofs.lemmas.Bool.{or_parts}
 use Rattle.json.specs.Print.{print, print_from, quoted}
 use Rattle.json.specs.Token.{Token, key}
-use Rattle.serde_json.specs.Data.{Data, Members, array, member, no_members, number, object, put, string, unsigned}
-use Rattle.serde_json.specs.View.{items_of}
+use Rattle.serde_json.specs.Data.{Data, Members, member, no_members, object, put}
 use Rattle.serde_json.specs.Written.{comma_if, compact_text, has_float, members_have_float, members_text}
-use Rattle.serde_json.proofs.OnLiterals.{serde_json_on_literals}
-use Rattle.star_label.specs.Files.{File}
-use Rattle.star_scope.specs.declared.loads.Load.{Load}
-use Rattle.star_plan.specs.Text.{globals_data, texts_data, well_data}
-use Rattle.star_outcome.specs.Views.{shown_texts}
 use Rattle.star_outcome.specs.declared.module.Body.{Body}
 use Rattle.star_outcome.specs.declared.module.Ended.{Ended}
 use Rattle.star_outcome.specs.declared.module.Ended.TheVariants.{Static, Load as Unloaded, Stopped, Good}
-use Rattle.star_report.specs.Shelf.{loads_part, names_of, steps_part, stored_data, values_in}
-use Rattle.star_report.specs.declared.wanted.Wanted.{Wanted}
+use Rattle.star_report.specs.Shelf.{names_of, stored_data, values_in}
 use Rattle.star_report.specs.Texts.{AreTexts, EndsIn, IsTextFor, Texts, and_last, joined_members}
 use Rattle.star_report.specs.Values.{put_some, value_members_by}
-use Rattle.star_report.specs.Wanted.{added, followed, load_member, put_in}
+use Rattle.star_report.specs.Wanted.{added, followed, put_in}
 
 -- ---- one more
 
@@ -54,10 +48,6 @@ texts_put k t d (x ∷ es) (member l c ms) are e =
 pub texts_some : {Z : Type 0} (k : Bor (List ℕ)) (t : Vec ℕ Z) (o : Option Data) (es new : Texts Z) (ms : Members) → IsTextFor o (Some t) → AreTexts es ms → new ≡ insert_entry key_cmp es k t → AreTexts new (put_some k.now o ms)
 texts_some k t None es new ms is are e = absurd is
 texts_some k t (Some d) es new ms is are e = subst (λ x. AreTexts x (put k.now d ms)) (sym e) (texts_put k t d es ms are is)
-
-pub texts_none : {Z : Type 0} (k : List ℕ) (o : Option Data) (es : Texts Z) (ms : Members) → IsTextFor {Z = Z} o None → AreTexts es ms → AreTexts es (put_some k o ms)
-texts_none k None es ms is are = are
-texts_none k (Some d) es ms is are = absurd is
 
 -- ---- joined
 
@@ -122,14 +112,10 @@ last_text k d e ends o old cut new is popped more =
 
 -- ---- floats
 
-either_false : (a b : Bool) → (a || b) ≡ false → (a ≡ false) × (b ≡ false)
-either_false true b h = absurd (let no : ⊥ = cc in no)
-either_false false b h = (refl, h)
-
 before_last : (ms : Members) (k : List ℕ) (e : Data) → members_have_float (and_last ms k e) ≡ false → members_have_float ms ≡ false
 before_last no_members k e h = refl
 before_last (member l d ms) k e h =
-    let both = either_false (has_float d) (members_have_float (and_last ms k e)) h in
+    let both = or_parts (has_float d) (members_have_float (and_last ms k e)) h in
     ap (λ b. b || members_have_float ms) both.0 ∙ before_last ms k e both.1
 
 -- where an object with a member more has no float, the object has none
@@ -138,16 +124,6 @@ no_float_before k d e ends h =
     let ms : Members = member ends.first ends.value ends.rest in
     let all : members_have_float (and_last ms k e) ≡ false = ap members_have_float (sym (ends.last e)) ∙ (ap (λ x. has_float (put_in k e x)) (sym ends.is) ∙ h) in
     ap has_float ends.is ∙ before_last ms k e all
-
--- ---- the module of a file that is ok
-
-pub good_ends : (loads steps : Bool) (label : List ℕ) (texts : List (List ℕ × List ℕ)) (lines : List (List ℕ)) (l s o : Data)
-    → EndsIn (codes "values") (put_in (codes "opaque") o (added (if steps then member (codes "steps") s no_members else no_members) (added (if loads then member (codes "loads") l no_members else no_members) (well_data label texts lines))))
-unfolding serde_json_on_literals
-good_ends true true label texts lines l s o = record { first = codes "globals"; value = globals_data texts; rest = member (codes "label") (string label) (member (codes "lines") (texts_data lines) (member (codes "loads") l (member (codes "opaque") o (member (codes "status") (string (codes "ok")) (member (codes "steps") s no_members))))); is = refl; last = λ e. refl }
-good_ends true false label texts lines l s o = record { first = codes "globals"; value = globals_data texts; rest = member (codes "label") (string label) (member (codes "lines") (texts_data lines) (member (codes "loads") l (member (codes "opaque") o (member (codes "status") (string (codes "ok")) no_members)))); is = refl; last = λ e. refl }
-good_ends false true label texts lines l s o = record { first = codes "globals"; value = globals_data texts; rest = member (codes "label") (string label) (member (codes "lines") (texts_data lines) (member (codes "opaque") o (member (codes "status") (string (codes "ok")) (member (codes "steps") s no_members)))); is = refl; last = λ e. refl }
-good_ends false false label texts lines l s o = record { first = codes "globals"; value = globals_data texts; rest = member (codes "label") (string label) (member (codes "lines") (texts_data lines) (member (codes "opaque") o (member (codes "status") (string (codes "ok")) no_members))); is = refl; last = λ e. refl }
 
 -- ---- pieces
 
@@ -200,11 +176,3 @@ values_there b files n e good body wanted is same =
 -- the text of data is that of the same data
 pub same_text : (d e : Data) (t : List ℕ) → e ≡ d → (has_float d ≡ false → t ≡ compact_text d) → has_float e ≡ false → t ≡ compact_text e
 same_text d e t same h none = h (ap has_float (sym same) ∙ none) ∙ ap compact_text (sym same)
-
--- what shows a file that is ok ends before its values
-pub shown_ends : (wanted : Wanted) (files : List File) (loads : List Load) (e : Ended) (b : Arc Body Global) (label : List ℕ) (d shown : Data) → e ≡ Good b → shown ≡ well_data label (shown_texts (arc_value b).shown.items) (arc_value b).lines.items
-    → EndsIn (codes "values") (put_in (codes "opaque") d (added (steps_part wanted e) (added (loads_part wanted files loads) shown)))
-shown_ends wanted files loads e b label d shown is well =
-    subst (λ x. EndsIn (codes "values") (put_in (codes "opaque") d (added (steps_part wanted x) (added (loads_part wanted files loads) shown)))) (sym is)
-    (subst (λ x. EndsIn (codes "values") (put_in (codes "opaque") d (added (steps_part wanted (Good b)) (added (loads_part wanted files loads) x)))) (sym well)
-    (good_ends wanted.loads wanted.steps label (shown_texts (arc_value b).shown.items) (arc_value b).lines.items (array (items_of (map (load_member files) (filter (λ (l : Load). is_some l.token) loads)))) (number (unsigned (arc_value b).paid)) d))

@@ -1,11 +1,12 @@
 -- The values of modules have no float, so their texts are exact.
-use Rattle.std.proofs.Common.{arith, ◌≡◌, ℕ, zero, suc, ℤ, pos, negsuc, List, [], ◌∷◌, Bool, true, false, ◌||◌, Option, Some, None, fold, map, codes, refl, ap, sym, ◌∙◌, if◌then◌else◌}
+use Rattle.std.proofs.Common.{arith, ◌≡◌, ℕ, zero, suc, ℤ, pos, negsuc, List, [], ◌∷◌, Bool, true, false, Option, Some, None, fold, map, codes, refl, ap, sym, ◌∙◌, if◌then◌else◌}
 use Rattle.std.specs.Prelude.{All, filter, is_some, option_and_then}
 use Rattle.std.specs.Option.{option_map}
 use Rattle.std.specs.declared.cmp.Ordering.{Ordering}
 use Rattle.std.specs.declared.cmp.Ordering.TheVariants.{Less, Equal, Greater}
 use Rattle.std.specs.Ordering.{nat_cmp, match_ordering}
 use Rattle.std.specs.Cmp.Lexicographic.{slice_cmp}
+use Rattle.std.proofs.lemmas.Bool.{or_parts}
 use Rattle.serde_json.specs.Data.{Data, Items, Members, array, boolean, item, member, no_items, no_members, null, number, object, put, string}
 use Rattle.serde_json.specs.Find.{of_integer}
 use Rattle.serde_json.specs.View.{items_of}
@@ -32,14 +33,6 @@ use Rattle.star_plan.specs.Causes.{Cause, Culprit, Cycle}
 use Rattle.star_plan.specs.Report.{Ended, HadFault, HadLoad, HadStatic, Module, WentWell}
 use Rattle.star_plan.specs.Text.{code_word, ended_data, ill_data, load_data, module_data, static_line, static_word, texts_data, well_data, with_global}
 
-left_false : (a b : Bool) → (a || b) ≡ false → a ≡ false
-left_false true b h = cc
-left_false false b h = refl
-
-right_false : (a b : Bool) → (a || b) ≡ false → b ≡ false
-right_false true b h = cc
-right_false false b h = h
-
 at_ordering : (o : Ordering) (a b c : Members) → members_have_float a ≡ false → members_have_float b ≡ false → members_have_float c ≡ false → members_have_float (match_ordering o a b c) ≡ false
 at_ordering Less a b c h g f = h
 at_ordering Equal a b c h g f = g
@@ -48,10 +41,9 @@ at_ordering Greater a b c h g f = f
 put_none : (k : List ℕ) (d : Data) (ms : Members) → has_float d ≡ false → members_have_float ms ≡ false → members_have_float (put k d ms) ≡ false
 put_none k d no_members g h = rw g refl
 put_none k d (member l e ms) g h =
-    let here = left_false (has_float e) (members_have_float ms) h in
-    let rest = right_false (has_float e) (members_have_float ms) h in
+    let both = or_parts (has_float e) (members_have_float ms) h in
     at_ordering (slice_cmp nat_cmp k l) (member k d (member l e ms)) (member l d ms) (member l e (put k d ms))
-    (rw g h) (rw g rest) (rw here (put_none k d ms g rest))
+    (rw g h) (rw g both.1) (rw both.0 (put_none k d ms g both.1))
 
 put_text : (k s : List ℕ) (ms : Members) → members_have_float ms ≡ false → members_have_float (put k (string s) ms) ≡ false
 put_text k s ms h = put_none k (string s) ms refl h
@@ -175,7 +167,9 @@ steps_as_plain plan n (Unloaded i) ms e = ap members_have_float e
 
 followed_plain : (ms ns : Members) → members_have_float ms ≡ false → members_have_float ns ≡ false → members_have_float (followed ms ns) ≡ false
 followed_plain no_members ns g h = h
-followed_plain (member k e ms) ns g h = rw (left_false (has_float e) (members_have_float ms) g) (followed_plain ms ns (right_false (has_float e) (members_have_float ms) g) h)
+followed_plain (member k e ms) ns g h =
+    let both = or_parts (has_float e) (members_have_float ms) g in
+    rw both.0 (followed_plain ms ns both.1 h)
 
 more_plain : (wanted : Wanted) (files : List File) (plan : Plan) (n : ℕ) (ms : Members) → AreMore wanted files plan n ms → members_have_float ms ≡ false
 more_plain wanted files plan n ms (l, s, v, a, b, c, e) =
@@ -194,7 +188,8 @@ put_in_none k e (array ds) g h = h
 added_none : (ms : Members) (d : Data) → members_have_float ms ≡ false → has_float d ≡ false → has_float (added ms d) ≡ false
 added_none no_members d g h = h
 added_none (member k e ms) d g h =
-    added_none ms (put_in k e d) (right_false (has_float e) (members_have_float ms) g) (put_in_none k e d (left_false (has_float e) (members_have_float ms) g) h)
+    let both = or_parts (has_float e) (members_have_float ms) g in
+    added_none ms (put_in k e d) both.1 (put_in_none k e d both.0 h)
 
 module_none : (files : List File) (m : Module) → has_float (module_data files m) ≡ false
 module_none files m = ended_none files (label_at files m.file) m.ended

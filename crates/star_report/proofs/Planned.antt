@@ -1,20 +1,15 @@
 -- What was read of files is what the plan has of them.
-use Rattle.std.proofs.Common.{arith, ◌≡◌, ◌<◌, ℕ, zero, suc, List, [], ◌∷◌, Option, length, refl, ap, sym, subst}
-use Rattle.std.specs.Prelude.{IsSome, slice_index_or, map}
+use Rattle.std.proofs.Common.{arith, ◌≡◌, ◌<◌, ℕ, zero, suc, List, [], ◌∷◌, Option, length, refl, ap, sym}
+use Rattle.std.specs.Prelude.{IsSome, slice_index_or}
 use Rattle.std.proofs.lemmas.Bool.{true≢false}
 use Rattle.star_label.specs.Files.{File, IsOrdered}
 use Rattle.star_plan.specs.Plan.{Plan}
 use Rattle.star_plan.specs.Reading.{IsPlanOf}
-use Rattle.star_plan.specs.Report.{IsReport}
 use Rattle.star_plan.proofs.Plans.{one-plan}
 use Rattle.star_reading.specs.Found.{IsReadOf}
 use Rattle.star_reading.specs.Readings.{Row, loads_at, read_at, readings}
 use Rattle.star_reading.proofs.Plans.{planned_so}
-use Rattle.star_outcome.specs.Kept.{AreModules, AreModulesOf, KeptView}
 use Rattle.star_report.specs.Shelf.{LeadToFiles}
-use Rattle.star_report.specs.Shown.{IsReportBut, IsReportOf}
-use Rattle.star_report.specs.Wanted.{Full}
-use Rattle.star_report.specs.declared.wanted.Wanted.{Wanted}
 
 -- what was read of a plan's files is what the plan has
 pub read_plan : (files : List File) (row : Row) (plan : Plan) → IsOrdered files → IsPlanOf files plan → IsReadOf files plan.roots plan.prelude row → readings row ≡ plan.reads
@@ -33,10 +28,3 @@ pub lead_to_files : (files : List File) (roots : List ℕ) (prelude : Option ℕ
 lead_to_files files roots prelude row (block, prelude_is, rows) n = λ i d less.
     let inside : (slice_index_or (loads_at row n) i d).file < length row = there row (slice_index_or (loads_at row n) i d).file (rows.closed.loads n i d less) in
     omega (arith, inside, rows.sized)
-
--- where as many files were begun as are reached, the text is that of the report
-pub report_of : (wanted : Wanted) (files : List File) (roots : List ℕ) (prelude : Option ℕ) (steps : ℕ) (row : Row) (ks : List KeptView) (begun : ℕ) (text : List ℕ) → begun ≡ length ks → AreModulesOf files roots prelude steps ks → IsReadOf files roots prelude row
-    → ((plan : Plan) → IsPlanOf files plan → plan.roots ≡ roots → IsReadOf files roots plan.prelude row → AreModules plan ks → IsReportBut wanted files plan (length ks) begun text) → IsReportOf wanted files roots prelude steps text
-report_of wanted files roots prelude steps row ks begun text count (plan, planned, of_roots, of_prelude, of_steps, are) read writes =
-    let but = writes plan planned of_roots (subst (λ p. IsReadOf files roots p row) (sym of_prelude) read) are in
-    (plan, planned, of_roots, of_prelude, of_steps, record { begun = begun; fulls = but.fulls; report = subst (λ b. IsReport plan b (map (λ (f : Full). f.shown) but.fulls)) (sym count) but.report; more = but.more; text_is = but.text_is })

@@ -2,7 +2,7 @@
 use Rattle.std.proofs.Common.{arith, ◌≡◌, ◌<◌, ◌+◌, ◌≤◌, ℕ, zero, suc, Bool, true, false, ◌||◌, List, [], ◌∷◌, ◌++◌, map, take, length, get_or, Option, Some, None, IfOk, IfSome, IsSome, Result, Ok, Err, refl, ap, sym, subst, ◌∙◌, codes, Vec}
 use Rattle.std.specs.Prelude.{All, decimal, filter, slice_index_or, if◌then◌else◌}
 use Rattle.std.proofs.lemmas.Simd.{map-map}
-use Rattle.std.proofs.lemmas.Bool.{true≢false}
+use Rattle.std.proofs.lemmas.Bool.{or_parts, true≢false}
 use Rattle.std.proofs.lemmas.List.{append-nil, append_assoc, length-map, length_push, get_or-map, map_push, take_all, take_more}
 use Rattle.serde_json.proofs.OnLiterals.{serde_json_on_literals}
 use Rattle.serde_json.specs.Data.{Data}
@@ -88,14 +88,6 @@ shown_push (q ∷ ps) p = by q.shown (shown_push ps p)
     by true rest = ap (λ ts. page_text q ∷ ts) rest
     by false rest = rest
 
--- the whole text, by what stands before the texts
-pub listed_end : (begun : ℕ) (ts : List (List ℕ)) (first : List ℕ) → first ≡ codes "{\"begun\":" ++ (decimal begun ++ codes ",\"modules\":[") → (first ++ listed false ts) ++ codes "]}\n" ≡ joined_text begun ts
-listed_end begun ts first is =
-    let rest : List ℕ = listed false ts ++ codes "]}\n" in
-    append_assoc first (listed false ts) (codes "]}\n")
-    ∙ (ap (λ x. x ++ rest) is ∙ (append_assoc (codes "{\"begun\":") (decimal begun ++ codes ",\"modules\":[") rest
-    ∙ ap (λ x. codes "{\"begun\":" ++ x) (append_assoc (decimal begun) (codes ",\"modules\":[") rest)))
-
 -- what is written for items
 items_listed : (later : Bool) (ds : List Data) → items_text later (items_of ds) ≡ listed later (map compact_text ds) ++ 93 ∷ []
 items_listed later [] = refl
@@ -130,11 +122,7 @@ texts_push (s ∷ ts) [] t d are is = absurd are
 texts_push (s ∷ ts) (e ∷ ds) t d are is = (are.0, texts_push ts ds t d are.1 is)
 
 first_none : (d : Data) (ds : List Data) → items_have_float (items_of (d ∷ ds)) ≡ false → (has_float d ≡ false) × (items_have_float (items_of ds) ≡ false)
-first_none d ds h = halves (has_float d) (items_have_float (items_of ds)) h
-  where
-    halves : (a b : Bool) → (a || b) ≡ false → (a ≡ false) × (b ≡ false)
-    halves true b h = absurd (let no : ⊥ = cc in no)
-    halves false b h = (refl, h)
+first_none d ds h = or_parts (has_float d) (items_have_float (items_of ds)) h
 
 texts_are : (ts : List (List ℕ)) (ds : List Data) → AreTextsOf ts ds → items_have_float (items_of ds) ≡ false → ts ≡ map compact_text ds
 texts_are [] [] are none = refl

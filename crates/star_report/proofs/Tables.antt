@@ -45,12 +45,6 @@ none_there zero n m is = let no : ⊥ = cc in no
 none_there (suc count) zero m is = let no : ⊥ = cc in no
 none_there (suc count) (suc n) m is = none_there count n m is
 
-pub table_none : (plan : Plan) (ks : List KeptView) (count : ℕ) → IsTableBelow plan ks 0 (replicate count None)
-table_none plan ks count = record {
-  right = λ n m is. absurd (none_there count n m is);
-  all = λ k d less. absurd (let no : ⊥ = omega (arith, less) in no);
-}
-
 pub table_more : (plan : Plan) (ks : List KeptView) (i n : ℕ) (table : Table) (m : Bor Module) → ((d : KeptView) → (slice_index_or ks i d).number ≡ n) → n < length table → IsReached plan n → IsModule plan n m.now
     → IsTableBelow plan ks i table → IsTableBelow plan ks (i + 1) (slice_set table n (Some m))
 table_more plan ks i n table m at inside reached own was = record {

@@ -12,8 +12,9 @@ use Rattle.serde_json.specs.Data.{Data, Members, member, no_members, put}
 use Rattle.serde_json.specs.Find.{get_member}
 use Rattle.serde_json.proofs.Views.{get_member-put, get_member-put_other}
 use Rattle.star_scope.specs.Loads.{is_private}
-use Rattle.star_report.specs.Laws.{AreToldOnce, NoneDropped, NoneTwice, member_count}
+use Rattle.star_report.specs.Laws.{AreToldOnce, NoneDropped, NoneTwice}
 use Rattle.star_once.specs.Names.{GlobalsStandOnce, NamesDiffer}
+use Rattle.star_data.specs.Counts.{member_count}
 use Rattle.star_data.specs.Data.{on_shelf}
 use Rattle.star_report.specs.Values.{global_data, is_opaque, opaque_names, put_some, shown_values, with_value}
 

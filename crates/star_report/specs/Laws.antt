@@ -1,14 +1,15 @@
 -- Laws of the report with what is wanted more of each module.
-use Rattle.std.specs.Prelude.{◌≡◌, ◌↔◌, ◌⊎◌, ◌+◌, ℕ, zero, suc, Bool, true, false, not, List, Option, Some, None, Contains, is_some, length, map}
+use Rattle.std.specs.Prelude.{◌≡◌, ◌↔◌, ◌⊎◌, ◌+◌, ℕ, Bool, true, false, not, List, Option, Some, None, Contains, is_some, length, map}
 use Rattle.std.specs.List.{filter}
-use Rattle.serde_json.specs.Data.{Data, Members, member, no_members}
+use Rattle.serde_json.specs.Data.{Data}
 use Rattle.serde_json.specs.Find.{get_member}
 use Rattle.star_label.specs.Files.{File}
 use Rattle.star_store.specs.declared.values.Value.{Value}
 use Rattle.star_store.specs.Store.{Shelf}
+use Rattle.star_data.specs.Counts.{member_count}
 use Rattle.star_data.specs.Data.{on_shelf}
 use Rattle.star_meaning.specs.Module.{Good}
-use Rattle.star_scope.specs.Definitions.{AllDiffer}
+use Rattle.star_outline.specs.Definitions.{AllDiffer}
 use Rattle.star_scope.specs.Loads.{is_private}
 use Rattle.star_scope.specs.declared.loads.Load.{Load}
 use Rattle.star_plan.specs.Plan.{Plan, loads_of}
@@ -66,10 +67,6 @@ pub record IsToldOnce (f : List ℕ → Option Data) (names : List (List ℕ)) (
 
 abbrev pub NoneDropped : Type 0
 NoneDropped = (f : List ℕ → Option Data) (names : List (List ℕ)) (name : List ℕ) → IsToldOnce f names name
-
-abbrev pub member_count : Members → ℕ
-member_count no_members = zero
-member_count (member k d ms) = suc (member_count ms)
 
 -- there are as many values and opaque names together as names that are not private
 abbrev pub AreToldOnce : (List ℕ → Option Data) → List (List ℕ) → Type 0

@@ -1,6 +1,6 @@
 -- Modules of the code, as the report shows them.
 use Rattle.std.specs.Arc.{arc_value}
-use Rattle.std.specs.Prelude.{◌≡◌, ℕ, Bool, List, length, map, codes, Option}
+use Rattle.std.specs.Prelude.{◌≡◌, ℕ, Bool, List, length, map, codes}
 use Rattle.std.specs.List.{All}
 use Rattle.serde_json.specs.Data.{Data, string}
 use Rattle.serde_json.specs.View.{view}
@@ -18,7 +18,7 @@ use Rattle.star_reading.specs.Codes.{fault_of}
 use Rattle.star_reading.specs.Found.{IsReadOf}
 use Rattle.star_reading.specs.Readings.{Row}
 use Rattle.star_outcome.specs.Kept.{AreModules, KeptView, RunView}
-use Rattle.star_report.specs.Wanted.{AreMore, Full, IsFullText, full_data, full_text, is_shown}
+use Rattle.star_report.specs.Wanted.{AreMore, Full, full_data, full_text, is_shown}
 use Rattle.star_report.specs.declared.wanted.Wanted.{Wanted}
 use Rattle.star_outcome.specs.declared.module.Ended.{Ended}
 use Rattle.star_outcome.specs.declared.module.Ended.TheVariants.{Static, Load as Unloaded, Stopped, Good}
@@ -63,10 +63,3 @@ abbrev pub ReportsRun : Wanted → List File → Row → List ℕ → RunView �
 ReportsRun wanted files row roots run text =
     (plan : Plan) → IsPlanOf files plan → plan.roots ≡ roots → IsReadOf files roots plan.prelude row
     → AreModules plan run.kept → IsReportBut wanted files plan (length run.kept) run.begun text
-
--- a text is that of the report of the plan that files have for roots, a prelude and a number of steps, with what is
--- wanted
-abbrev pub IsReportOf : Wanted → List File → List ℕ → Option ℕ → ℕ → List ℕ → Type 0
-IsReportOf wanted files roots prelude steps text =
-    (plan : Plan) × IsPlanOf files plan × (plan.roots ≡ roots) × (plan.prelude ≡ prelude) × (plan.steps ≡ steps)
-    × IsFullText wanted files plan text

@@ -23,6 +23,7 @@ use Rattle.star_scope.specs.declared.conflicts.Bound.{Bound}
 use Rattle.star_scope.specs.Bound.{Binds, Knows, after, is_in, names_of}
 use Rattle.star_scope.specs.Conflicts.{Binding, alone, conflict, conflict_at, conflicts, parameter_binding, parameter_bindings, parameter_form}
 use Rattle.star_scope.specs.Faults.{first_from}
+use Rattle.star_outline.proofs.Turns.{and_true, and_false}
 use Rattle.star_scope.proofs.Faults.{first_joined, first_none}
 
 swap : (a b c : Bool) → (a || (b || c)) ≡ (b || (a || c))
@@ -70,14 +71,6 @@ contains_texts (k ∷ ks) t = ap (λ b. b || list_any (is_at (λ k. slice_cmp na
 
 pub bind_none : (b : Bound) → Binds [] b b
 bind_none b earlier k = (k, sym (first_none b.found))
-
-and_true : (a : Bool) → a ≡ (a && true)
-and_true true = refl
-and_true false = refl
-
-and_false : (a : Bool) → false ≡ (a && false)
-and_false true = refl
-and_false false = refl
 
 any_alone : (x : List ℕ) (es : List Binding) → list_any (λ e. bytes_eq x e.text) es ≡ list_any (λ e. bytes_eq x e.text && (true || e.alone)) es
 any_alone x [] = refl

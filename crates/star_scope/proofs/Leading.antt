@@ -4,10 +4,11 @@ use Rattle.std.specs.Prelude.{slice_get}
 use Rattle.std.specs.Option.{option_map}
 use Rattle.star_scope.specs.declared.spot.Spot.{Spot}
 use Rattle.star_scope.specs.declared.spot.Spot.TheVariants as spot
-use Rattle.star_scope.specs.Names.{Names, has_name, same_name, slot_of}
-use Rattle.star_scope.specs.Outlines.{Block, names_in}
+use Rattle.star_outline.specs.Names.{Names, has_name, same_name, slot_of}
+use Rattle.star_outline.specs.Outlines.{names_in}
+use Rattle.star_outline.specs.declared.blocks.Block.{Block}
 use Rattle.star_scope.specs.Places.{FitRows, Leads, Row, SpotsLead, first_there, nearest, or_further, outermost_names, outside_spot, prelude_has, spot_in, spot_of, value_at, value_beside}
-use Rattle.star_scope.proofs.Numbers.{position_next}
+use Rattle.star_outline.proofs.Numbers.{position_next}
 
 -- ---- in one row
 

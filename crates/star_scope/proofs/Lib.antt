@@ -3,20 +3,10 @@ pub mod Placements
 pub mod LoadStatements
 pub mod Bindings
 pub mod BlockBindings
-pub mod Numbers
-pub mod Turns
-pub mod BoundNames
-pub mod OutlineLevels
-pub mod FirstPlaces
-pub mod OutlineFound
-pub mod OutlineStatements
 pub mod FirstFaults
-pub mod OwnLoads
 pub mod Resolved
 pub mod Placing
 pub mod UseForms
 pub mod StatementForms
 pub mod Leading
-pub mod Differ
-mod Noted
 pub mod Spotted

@@ -6,7 +6,7 @@ use Rattle.std.proofs.lemmas.List.{map-append, append_assoc, take_more}
 use Rattle.std.proofs.lemmas.Grind.{flat_map-append}
 use Rattle.star_label.specs.Files.{File}
 use Rattle.star_scope.specs.declared.error.LocatedFault.{LocatedFault}
-use Rattle.star_scope.specs.declared.loads.Lead.{Lead}
+use Rattle.star_scope.specs.declared.loads.LoadTarget.{LoadTarget}
 use Rattle.star_scope.specs.declared.loads.Load.{Load}
 use Rattle.star_tree.specs.declared.tree.Form.{Form, out-Form, roll-Form, roll-out-Form, out-roll-Form}
 use Rattle.star_tree.specs.declared.tree.Arm.{Arm}
@@ -32,7 +32,7 @@ add_none files here before found = record {
   faults = sym (first_none found);
 }
 
-pub add_one : (files : List File) (here : List ℕ) (w : Written) (l : Lead) (before after : List Load) (found more : Option LocatedFault)
+pub add_one : (files : List File) (here : List ℕ) (w : Written) (l : LoadTarget) (before after : List Load) (found more : Option LocatedFault)
     → LeadsTo files here w.module_string.text l
     → after ≡ before ++ load_at w.position l
     → more ≡ first_from (first_from found (module_fault w.module_string.position l)) (flat_map private_fault w.names)
@@ -66,16 +66,7 @@ is_load p l ns = ap (load_in p) (ap out-Form (sym (v.rolls-Load l ns)) ∙ out-r
 
 level : (p : Position) (f : form.Form-F Form Arm Statement) → ((l : Literal) (ns : List LoadedName) → f ≡ form.Load l ns → ⊥) → load_in p f ≡ []
 level p (form.Load l ns) other = elim (other l ns refl) [ ]
-level p (form.Expression e) other = refl
-level p (form.Assign t e) other = refl
-level p (form.Augment t op e) other = refl
-level p form.Pass other = refl
-level p form.Break other = refl
-level p form.Continue other = refl
-level p (form.Return e) other = refl
-level p (form.If arms otherwise) other = refl
-level p (form.For t e body) other = refl
-level p (form.Def n ps body) other = refl
+level p _ other = refl
 
 pub not_load : (p : Position) (f : Form) → ((l : Literal) (ns : List LoadedName) → f ≡ v.Load l ns → ⊥) → load_in p (out-Form f) ≡ []
 not_load p f other = level p (out-Form f) (λ l ns e. other l ns (sym (roll-out-Form f) ∙ ap roll-Form e ∙ v.rolls-Load l ns))

@@ -1,5 +1,5 @@
 -- Misplaced statements, one level at a time.
-use Rattle.std.proofs.Common.{◌≡◌, List, [], ◌∷◌, ◌++◌, refl, ap, sym, ◌∙◌}
+use Rattle.std.proofs.Common.{◌≡◌, List, ◌∷◌, ◌++◌, refl, ap, sym, ◌∙◌}
 use Rattle.star_tree.specs.declared.tree.Form.{Form, out-Form, map-Form}
 use Rattle.star_tree.specs.declared.tree.Arm.{Arm, out-Arm}
 use Rattle.star_tree.specs.declared.tree.Statement.{Statement, out-Statement}
@@ -8,34 +8,15 @@ use Rattle.star_tree.specs.declared.tree.Form.TheOpen as form
 use Rattle.star_tree.specs.declared.tree.Form.TheVariants as v
 use Rattle.star_tree.specs.declared.tree.Position.{Position}
 use Rattle.star_scope.specs.declared.placement.StatementContext.{StatementContext}
-use Rattle.star_scope.specs.Placement.{Misplaced, form_step, arm_step, statement_step, in_arm, in_arms, in_form, in_statement, in_statements, of_function, of_if, of_loop, only}
+use Rattle.star_scope.specs.Placement.{Misplaced, form_step, arm_step, statement_step, in_arm, in_arms, in_form, in_statement, in_statements, of_if, misplaced_by}
 
 abbrev pub form_level : form.Form-F Form Arm Statement → Position → Misplaced
-form_level (form.Expression e) p here = []
-form_level (form.Assign t e) p here = []
-form_level (form.Augment t op e) p here = []
-form_level form.Pass p here = []
-form_level form.Break p here = only here.in_loop p
-form_level form.Continue p here = only here.in_loop p
-form_level (form.Return e) p here = only here.in_function p
-form_level (form.Load l ns) p here = only here.in_file p
-form_level (form.If arms otherwise) p here = in_arms arms (of_if here) ++ in_statements otherwise (of_if here)
-form_level (form.For t e body) p here = in_statements body (of_loop here)
-form_level (form.Def n ps body) p here = in_statements body of_function
+form_level l p here = misplaced_by in_arms in_statements l p here
 
 form_steps : (l : form.Form-F Form Arm Statement) (p : Position) (here : StatementContext)
     → form_step (map-Form Form Arm Statement (Position → Misplaced) Misplaced Misplaced in_form in_arm in_statement l) p here ≡ form_level l p here
 form_steps (form.Expression e) p here = refl
-form_steps (form.Assign t e) p here = refl
-form_steps (form.Augment t op e) p here = refl
-form_steps form.Pass p here = refl
-form_steps form.Break p here = refl
-form_steps form.Continue p here = refl
-form_steps (form.Return e) p here = refl
-form_steps (form.Load l ns) p here = refl
-form_steps (form.If arms otherwise) p here = refl
-form_steps (form.For t e body) p here = refl
-form_steps (form.Def n ps body) p here = refl
+form_steps _ p here = refl
 
 pub form_opened : (f : Form) (p : Position) (here : StatementContext) → in_form f p here ≡ form_level (out-Form f) p here
 form_opened f p here = ap (λ (g : Position → Misplaced). g p here) (fold_out-Form _ _ _ form_step arm_step statement_step f) ∙ form_steps (out-Form f) p here

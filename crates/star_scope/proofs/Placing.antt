@@ -10,9 +10,9 @@ use Rattle.star_scope.specs.declared.error.LocatedFault.{LocatedFault}
 use Rattle.star_scope.specs.declared.spot.Spot.{Spot}
 use Rattle.star_scope.specs.declared.uses.ResolvedNames.{ResolvedNames}
 use Rattle.star_scope.specs.Chains.{names_outside}
-use Rattle.star_scope.specs.Faults.{first_from, stands_before}
-use Rattle.star_scope.specs.Names.{Names}
-use Rattle.star_scope.specs.Outlines.{Block}
+use Rattle.star_scope.specs.Faults.{first_from, comes_before}
+use Rattle.star_outline.specs.Names.{Names}
+use Rattle.star_outline.specs.declared.blocks.Block.{Block}
 use Rattle.star_scope.specs.ResolvedNames.{AllHaveSpots, HasSpot, Places}
 use Rattle.star_scope.specs.Places.{AllPlaced, IsPlaced, Spots, chain_length, spot_of, undefined, undefined_at, undefined_in}
 use Rattle.star_scope.specs.Spots.{Keeps, spot_at}
@@ -110,7 +110,7 @@ found_stays [] found e = absurd (not_none found e)
   where
     not_none : (r : LocatedFault) → Some r ≡ None → ⊥
     not_none r e = cc
-found_stays (f ∷ fs) found e = elim (stands_before f found) as (λ b. first_from (if b then Some f else Some found) fs ≡ None → ⊥) [ true ↦ found_stays fs f | false ↦ found_stays fs found ] e
+found_stays (f ∷ fs) found e = elim (comes_before f found) as (λ b. first_from (if b then Some f else Some found) fs ≡ None → ⊥) [ true ↦ found_stays fs f | false ↦ found_stays fs found ] e
 
 none_undefined : (us : List LocatedFault) (vs : List LocatedFault) → first_from None (us ++ vs) ≡ None → (us ≡ []) × (first_from None vs ≡ None)
 unfolding first_from

@@ -9,8 +9,10 @@ use Rattle.star_scope.specs.declared.program.Prelude.{Prelude}
 use Rattle.star_scope.specs.Conflicts.{block_conflicts}
 use Rattle.star_scope.specs.Faults.{first, first_from, first_of}
 use Rattle.star_scope.specs.Loads.{Read, faults_of}
-use Rattle.star_scope.specs.Names.{Names}
-use Rattle.star_scope.specs.Outlines.{Block, Definition, outline}
+use Rattle.star_outline.specs.Names.{Names}
+use Rattle.star_outline.specs.Outlines.{outline}
+use Rattle.star_outline.specs.declared.blocks.Block.{Block}
+use Rattle.star_outline.specs.Definitions.{Definition}
 use Rattle.star_scope.specs.Placement.{in_statements}
 use Rattle.star_scope.specs.Places.{undefined}
 use Rattle.star_scope.specs.Resolve.{faults_in, repeated, seen_by, standing_in}

@@ -10,7 +10,7 @@ use Rattle.star_tree.specs.declared.tree.LoadedName.{LoadedName}
 use Rattle.star_tree.specs.declared.tree.Name.{Name}
 use Rattle.star_tree.specs.declared.tree.Parameter.{Parameter}
 use Rattle.star_tree.specs.declared.tree.Statement.{Statement, out-Statement}
-use Rattle.star_scope.specs.Syntax.{StatementForm}
+use Rattle.star_outline.specs.Syntax.{StatementForm}
 use Rattle.star_scope.specs.Uses.{Defined, Named, OfForm, Within, all_uses, arm_uses, default_uses, form_uses, in_arm, in_expression, in_form, in_parameters, in_returned, in_statement, in_target, inner_of, loaded_use, loaded_uses, outer_of, parameter_name_uses, statement_uses, uses}
 
 defaults_in : (ps : List Parameter) (chain : List ℕ) → outer_of (in_parameters ps) chain ≡ all_uses default_uses ps chain
@@ -42,18 +42,10 @@ form_level (form.If arms otherwise) token chain = all_uses in_arm arms chain ++ 
 form_level (form.For y x body) token chain = in_expression x chain ++ (in_target y chain ++ all_uses in_statement body chain)
 form_level (form.Def n ps body) token chain = Defined token chain ∷ (Named n chain ∷ (outer_of (in_parameters ps) chain ++ (inner_of (in_parameters ps) ((1 + token) ∷ chain) ++ all_uses in_statement body ((1 + token) ∷ chain))))
 
+-- (a clause with a form comes first, so that the last one is read at each form by itself)
 step : (l : StatementForm) (token : ℕ) (chain : List ℕ) → in_form (roll-Form l) token chain ≡ form_level l token chain
 step (form.Expression x) token chain = ap (λ (w : OfForm). w token chain) (fold-roll-Form OfForm Within Within form_uses arm_uses statement_uses (form.Expression x))
-step (form.Assign y x) token chain = ap (λ (w : OfForm). w token chain) (fold-roll-Form OfForm Within Within form_uses arm_uses statement_uses (form.Assign y x))
-step (form.Augment y op x) token chain = ap (λ (w : OfForm). w token chain) (fold-roll-Form OfForm Within Within form_uses arm_uses statement_uses (form.Augment y op x))
-step form.Pass token chain = ap (λ (w : OfForm). w token chain) (fold-roll-Form OfForm Within Within form_uses arm_uses statement_uses form.Pass)
-step form.Break token chain = ap (λ (w : OfForm). w token chain) (fold-roll-Form OfForm Within Within form_uses arm_uses statement_uses form.Break)
-step form.Continue token chain = ap (λ (w : OfForm). w token chain) (fold-roll-Form OfForm Within Within form_uses arm_uses statement_uses form.Continue)
-step (form.Return o) token chain = ap (λ (w : OfForm). w token chain) (fold-roll-Form OfForm Within Within form_uses arm_uses statement_uses (form.Return o))
-step (form.Load l ns) token chain = ap (λ (w : OfForm). w token chain) (fold-roll-Form OfForm Within Within form_uses arm_uses statement_uses (form.Load l ns))
-step (form.If arms otherwise) token chain = ap (λ (w : OfForm). w token chain) (fold-roll-Form OfForm Within Within form_uses arm_uses statement_uses (form.If arms otherwise))
-step (form.For y x body) token chain = ap (λ (w : OfForm). w token chain) (fold-roll-Form OfForm Within Within form_uses arm_uses statement_uses (form.For y x body))
-step (form.Def n ps body) token chain = ap (λ (w : OfForm). w token chain) (fold-roll-Form OfForm Within Within form_uses arm_uses statement_uses (form.Def n ps body))
+step l token chain = ap (λ (w : OfForm). w token chain) (fold-roll-Form OfForm Within Within form_uses arm_uses statement_uses l)
 
 pub of : (x : Form) (l : StatementForm) (token : ℕ) (chain : List ℕ) → x ≡ roll-Form l → in_form x token chain ≡ form_level l token chain
 of x l token chain is = ap (λ y. in_form y token chain) is ∙ step l token chain

@@ -17,7 +17,7 @@ use Rattle.star_tree.specs.declared.tree.Parameter.TheVariants as p
 use Rattle.star_tree.specs.declared.tree.Target.TheVariants as t
 use Rattle.star_tree.specs.declared.tree.Name.{Name}
 use Rattle.star_tree.specs.declared.tree.Position.{Position}
-use Rattle.star_scope.specs.Syntax.{ExpressionForm, ParameterForm}
+use Rattle.star_outline.specs.Syntax.{ExpressionForm, ParameterForm}
 use Rattle.star_scope.specs.Uses.{ClauseUses, Defined, ParameterUses, Within, all_uses, argument_uses, clause_uses, clauses_uses, default_uses, entry_uses, expression_uses, in_argument, in_clause, in_clauses, in_entry, in_expression, in_parameter, in_target, inner_of, maybe_use, one_use, outer_of, parameter_name_uses, parameter_uses, target_uses}
 
 pub defaults_are : (ps : List Parameter) (chain : List ℕ) → outer_of (map in_parameter ps) chain ≡ all_uses default_uses ps chain
@@ -49,25 +49,8 @@ expression_level (tree.Attribute x n) chain = in_expression x chain
 expression_level (tree.Expression-F.Expression::Index x i) chain = in_expression x chain ++ in_expression i chain
 expression_level (tree.Slice x a b d) chain = in_expression x chain ++ (maybe_use (option_map in_expression a) chain ++ (maybe_use (option_map in_expression b) chain ++ maybe_use (option_map in_expression d) chain))
 
+-- (a clause with a form comes first, so that the last one is read at each form by itself)
 step : (l : ExpressionForm) (chain : List ℕ) → in_expression (roll-Expression l) chain ≡ expression_level l chain
-step (tree.Expression-F.Expression::Name n) chain = ap (λ (w : Within). w chain) (fold-roll-Expression Within Within Within ParameterUses Within ClauseUses Within argument_uses clause_uses expression_uses parameter_uses target_uses clauses_uses entry_uses (tree.Expression-F.Expression::Name n))
-step (tree.Int n) chain = ap (λ (w : Within). w chain) (fold-roll-Expression Within Within Within ParameterUses Within ClauseUses Within argument_uses clause_uses expression_uses parameter_uses target_uses clauses_uses entry_uses (tree.Int n))
-step (tree.Text x) chain = ap (λ (w : Within). w chain) (fold-roll-Expression Within Within Within ParameterUses Within ClauseUses Within argument_uses clause_uses expression_uses parameter_uses target_uses clauses_uses entry_uses (tree.Text x))
-step (tree.Expression-F.Expression::Tuple es) chain = ap (λ (w : Within). w chain) (fold-roll-Expression Within Within Within ParameterUses Within ClauseUses Within argument_uses clause_uses expression_uses parameter_uses target_uses clauses_uses entry_uses (tree.Expression-F.Expression::Tuple es))
-step (tree.Expression-F.Expression::List es) chain = ap (λ (w : Within). w chain) (fold-roll-Expression Within Within Within ParameterUses Within ClauseUses Within argument_uses clause_uses expression_uses parameter_uses target_uses clauses_uses entry_uses (tree.Expression-F.Expression::List es))
-step (tree.Dict es) chain = ap (λ (w : Within). w chain) (fold-roll-Expression Within Within Within ParameterUses Within ClauseUses Within argument_uses clause_uses expression_uses parameter_uses target_uses clauses_uses entry_uses (tree.Dict es))
-step (tree.ListComprehension at x cs) chain = ap (λ (w : Within). w chain) (fold-roll-Expression Within Within Within ParameterUses Within ClauseUses Within argument_uses clause_uses expression_uses parameter_uses target_uses clauses_uses entry_uses (tree.ListComprehension at x cs))
-step (tree.DictComprehension at x cs) chain = ap (λ (w : Within). w chain) (fold-roll-Expression Within Within Within ParameterUses Within ClauseUses Within argument_uses clause_uses expression_uses parameter_uses target_uses clauses_uses entry_uses (tree.DictComprehension at x cs))
-step (tree.Unary op x) chain = ap (λ (w : Within). w chain) (fold-roll-Expression Within Within Within ParameterUses Within ClauseUses Within argument_uses clause_uses expression_uses parameter_uses target_uses clauses_uses entry_uses (tree.Unary op x))
-step (tree.Binary op a b) chain = ap (λ (w : Within). w chain) (fold-roll-Expression Within Within Within ParameterUses Within ClauseUses Within argument_uses clause_uses expression_uses parameter_uses target_uses clauses_uses entry_uses (tree.Binary op a b))
-step (tree.Compare k a b) chain = ap (λ (w : Within). w chain) (fold-roll-Expression Within Within Within ParameterUses Within ClauseUses Within argument_uses clause_uses expression_uses parameter_uses target_uses clauses_uses entry_uses (tree.Compare k a b))
-step (tree.And a b) chain = ap (λ (w : Within). w chain) (fold-roll-Expression Within Within Within ParameterUses Within ClauseUses Within argument_uses clause_uses expression_uses parameter_uses target_uses clauses_uses entry_uses (tree.And a b))
-step (tree.Or a b) chain = ap (λ (w : Within). w chain) (fold-roll-Expression Within Within Within ParameterUses Within ClauseUses Within argument_uses clause_uses expression_uses parameter_uses target_uses clauses_uses entry_uses (tree.Or a b))
-step (tree.Conditional x a b) chain = ap (λ (w : Within). w chain) (fold-roll-Expression Within Within Within ParameterUses Within ClauseUses Within argument_uses clause_uses expression_uses parameter_uses target_uses clauses_uses entry_uses (tree.Conditional x a b))
-step (tree.Lambda at ps x) chain = ap (λ (w : Within). w chain) (fold-roll-Expression Within Within Within ParameterUses Within ClauseUses Within argument_uses clause_uses expression_uses parameter_uses target_uses clauses_uses entry_uses (tree.Lambda at ps x))
-step (tree.Call f es) chain = ap (λ (w : Within). w chain) (fold-roll-Expression Within Within Within ParameterUses Within ClauseUses Within argument_uses clause_uses expression_uses parameter_uses target_uses clauses_uses entry_uses (tree.Call f es))
-step (tree.Attribute x n) chain = ap (λ (w : Within). w chain) (fold-roll-Expression Within Within Within ParameterUses Within ClauseUses Within argument_uses clause_uses expression_uses parameter_uses target_uses clauses_uses entry_uses (tree.Attribute x n))
-step (tree.Expression-F.Expression::Index x i) chain = ap (λ (w : Within). w chain) (fold-roll-Expression Within Within Within ParameterUses Within ClauseUses Within argument_uses clause_uses expression_uses parameter_uses target_uses clauses_uses entry_uses (tree.Expression-F.Expression::Index x i))
 step (tree.Slice x None None None) chain = ap (λ (w : Within). w chain) (fold-roll-Expression Within Within Within ParameterUses Within ClauseUses Within argument_uses clause_uses expression_uses parameter_uses target_uses clauses_uses entry_uses (tree.Slice x None None None))
 step (tree.Slice x None None (Some d)) chain = ap (λ (w : Within). w chain) (fold-roll-Expression Within Within Within ParameterUses Within ClauseUses Within argument_uses clause_uses expression_uses parameter_uses target_uses clauses_uses entry_uses (tree.Slice x None None (Some d)))
 step (tree.Slice x None (Some b) None) chain = ap (λ (w : Within). w chain) (fold-roll-Expression Within Within Within ParameterUses Within ClauseUses Within argument_uses clause_uses expression_uses parameter_uses target_uses clauses_uses entry_uses (tree.Slice x None (Some b) None))
@@ -76,6 +59,7 @@ step (tree.Slice x (Some a) None None) chain = ap (λ (w : Within). w chain) (fo
 step (tree.Slice x (Some a) None (Some d)) chain = ap (λ (w : Within). w chain) (fold-roll-Expression Within Within Within ParameterUses Within ClauseUses Within argument_uses clause_uses expression_uses parameter_uses target_uses clauses_uses entry_uses (tree.Slice x (Some a) None (Some d)))
 step (tree.Slice x (Some a) (Some b) None) chain = ap (λ (w : Within). w chain) (fold-roll-Expression Within Within Within ParameterUses Within ClauseUses Within argument_uses clause_uses expression_uses parameter_uses target_uses clauses_uses entry_uses (tree.Slice x (Some a) (Some b) None))
 step (tree.Slice x (Some a) (Some b) (Some d)) chain = ap (λ (w : Within). w chain) (fold-roll-Expression Within Within Within ParameterUses Within ClauseUses Within argument_uses clause_uses expression_uses parameter_uses target_uses clauses_uses entry_uses (tree.Slice x (Some a) (Some b) (Some d)))
+step l chain = ap (λ (w : Within). w chain) (fold-roll-Expression Within Within Within ParameterUses Within ClauseUses Within argument_uses clause_uses expression_uses parameter_uses target_uses clauses_uses entry_uses l)
 
 pub of : (x : Expression) (l : ExpressionForm) (chain : List ℕ) → x ≡ roll-Expression l → in_expression x chain ≡ expression_level l chain
 of x l chain is = ap (λ y. in_expression y chain) is ∙ step l chain

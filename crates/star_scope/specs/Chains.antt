@@ -3,7 +3,7 @@ use Rattle.std.specs.Prelude.{ℕ, ◌+◌, List, [], ◌∷◌, Option}
 use Rattle.std.specs.Option.{option_map}
 use denote.Ref.{Bor}
 use Rattle.star_scope.specs.declared.chain.Link.{Link, File, Inside'}
-use Rattle.star_scope.specs.Names.{Names}
+use Rattle.star_outline.specs.Names.{Names}
 
 -- the numbers of blocks, the innermost first
 abbrev pub numbers : Link → List ℕ

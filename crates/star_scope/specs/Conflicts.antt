@@ -21,7 +21,7 @@ use Rattle.star_tree.specs.declared.tree.LoadedName.{LoadedName}
 use Rattle.star_scope.specs.declared.error.ScopeFault.TheVariants as fault
 use Rattle.star_scope.specs.declared.error.LocatedFault.{LocatedFault}
 use Rattle.star_scope.specs.Faults.{at}
-use Rattle.star_scope.specs.Names.{same_name}
+use Rattle.star_outline.specs.Names.{same_name}
 
 -- a binding of a name; it is alone if the name may have no other: the name of a parameter, or a loaded name
 pub record Binding : Type 0 where
@@ -101,17 +101,13 @@ loaded_binding n = alone n.local
 
 -- a `def` binds its own name, and no names of its body
 abbrev pub form_step : form.Form-F Bindings Bindings Bindings → Bindings
-form_step (form.Expression e) = []
 form_step (form.Assign t e) = target_bindings t
 form_step (form.Augment t op e) = target_bindings t
-form_step form.Pass = []
-form_step form.Break = []
-form_step form.Continue = []
-form_step (form.Return e) = []
 form_step (form.Load l ns) = flat_map loaded_binding ns
 form_step (form.If arms otherwise) = all_of arms ++ all_of otherwise
 form_step (form.For t e body) = target_bindings t ++ all_of body
 form_step (form.Def n ps body) = shared n
+form_step _ = []
 
 abbrev pub arm_step : form.Arm-F Bindings Bindings Bindings → Bindings
 arm_step a = all_of a.body

@@ -20,13 +20,13 @@ abbrev pub at : Position → (ℕ → ScopeFault) → LocatedFault
 at p f = record { token = p.token; fault = f p.line }
 
 -- its token comes first; at one token, its kind has the lower number
-abbrev pub stands_before : LocatedFault → LocatedFault → Bool
-stands_before a b = nat_lt a.token b.token || (nat_eq a.token b.token && nat_lt (rank a.fault) (rank b.fault))
+abbrev pub comes_before : LocatedFault → LocatedFault → Bool
+comes_before a b = nat_lt a.token b.token || (nat_eq a.token b.token && nat_lt (rank a.fault) (rank b.fault))
 
 -- the earlier of the fault found so far and one more
 abbrev pub earlier : Option LocatedFault → LocatedFault → Option LocatedFault
 earlier None more = Some more
-earlier (Some found) more = if stands_before more found then Some more else Some found
+earlier (Some found) more = if comes_before more found then Some more else Some found
 
 -- the earliest of the fault found so far and further faults
 unfoldable pub first_from : Option LocatedFault → List LocatedFault → Option LocatedFault
@@ -49,7 +49,7 @@ IsAmong (f ∷ fs) r = (r ≡ f) ⊎ IsAmong fs r
 
 -- it is one of these, and no other of them comes before it
 abbrev pub IsFirst : List LocatedFault → LocatedFault → Type 0
-IsFirst fs r = IsAmong fs r × ((f : LocatedFault) → IsAmong fs f → stands_before f r ≡ false)
+IsFirst fs r = IsAmong fs r × ((f : LocatedFault) → IsAmong fs f → comes_before f r ≡ false)
 
 -- the answer of `first`: the first fault; `None` exactly for an empty list
 pub record FirstIsFirst : Type 0 where

@@ -12,13 +12,14 @@ use Rattle.star_tree.specs.declared.tree.Literal.{Literal}
 use Rattle.star_tree.specs.declared.tree.LoadedName.{LoadedName}
 use Rattle.star_scope.specs.declared.error.ScopeFault.TheVariants as fault
 use Rattle.star_scope.specs.declared.error.LocatedFault.{LocatedFault}
-use Rattle.star_scope.specs.declared.loads.Lead.{Lead}
-use Rattle.star_scope.specs.declared.loads.Lead.TheVariants as lead
+use Rattle.star_scope.specs.declared.loads.LoadTarget.{LoadTarget}
+use Rattle.star_scope.specs.declared.loads.LoadTarget.TheVariants as lead
 use Rattle.star_scope.specs.declared.loads.Load.{Load}
+use Rattle.star_scope.specs.declared.loads.Loads.{Loads}
 use Rattle.star_scope.specs.Faults.{at, first_from}
 
 -- in the package `here`, a module string is the label of the file n, or a label that no file has, or not a label
-abbrev pub LeadsTo : List File → List ℕ → List ℕ → Lead → Type 0
+abbrev pub LeadsTo : List File → List ℕ → List ℕ → LoadTarget → Type 0
 LeadsTo files here text (lead.File n) =
     (p : List ℕ) × (m : List ℕ) × Reads here text p m × (n < length files) × (label_at files n ≡ label_text p m)
 LeadsTo files here text lead.NoFile =
@@ -45,7 +46,7 @@ written ss = flat_map written_in ss
 
 -- a load statement beside the target of its module string
 abbrev pub Read : Type 0
-Read = Written × Lead
+Read = Written × LoadTarget
 
 abbrev pub AllLead : List File → List ℕ → List Read → Type 0
 AllLead files here [] = Unit {0}
@@ -63,7 +64,7 @@ is_private (b ∷ bs) = b == 95
 abbrev pub private_fault : LoadedName → List LocatedFault
 private_fault n = if is_private n.loaded.text then at n.loaded.position (λ line. fault.Private line) ∷ [] else []
 
-abbrev pub module_fault : Position → Lead → List LocatedFault
+abbrev pub module_fault : Position → LoadTarget → List LocatedFault
 module_fault p (lead.File n) = []
 module_fault p lead.NoFile = at p (λ line. fault.NoFile line) ∷ []
 module_fault p lead.BadLabel = at p (λ line. fault.BadLabel line) ∷ []
@@ -73,7 +74,7 @@ abbrev pub faults_of : Read → List LocatedFault
 faults_of r = module_fault r.0.module_string.position r.1 ++ flat_map private_fault r.0.names
 
 -- the load of a statement whose module string leads to a file, with the place of the statement
-abbrev pub load_at : Position → Lead → List Load
+abbrev pub load_at : Position → LoadTarget → List Load
 load_at p (lead.File n) = record { file = n; line = p.line; token = Some p.token } ∷ []
 load_at p lead.NoFile = []
 load_at p lead.BadLabel = []
@@ -88,6 +89,10 @@ pub record Adds (files : List File) (here : List ℕ) (ws : List Written) (befor
   pub are : AreRead files here ws reads
   pub loads : after ≡ before ++ flat_map load_of reads
   pub faults : more ≡ first_from found (flat_map faults_of reads)
+
+-- they are added to the loads of a file and to their first fault
+abbrev pub AddsTo : List File → List ℕ → List Written → Loads → Loads → Type 0
+AddsTo files here ws old new = Adds files here ws old.loads.items new.loads.items old.first new.first
 
 -- the load of the prelude has no token, and line 1
 abbrev pub prelude_loads : Option ℕ → List Load

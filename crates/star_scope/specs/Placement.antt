@@ -42,18 +42,19 @@ abbrev pub only : Bool → Position → List LocatedFault
 only true p = []
 only false p = at p (λ line. fault.BadPlace line) ∷ []
 
+abbrev pub misplaced_by : {F A S : Type 0} → (List A → Misplaced) → (List S → Misplaced) → form.Form-F F A S → Position
+    → Misplaced
+misplaced_by arms block form.Break p here = only here.in_loop p
+misplaced_by arms block form.Continue p here = only here.in_loop p
+misplaced_by arms block (form.Return e) p here = only here.in_function p
+misplaced_by arms block (form.Load l ns) p here = only here.in_file p
+misplaced_by arms block (form.If cases otherwise) p here = arms cases (of_if here) ++ block otherwise (of_if here)
+misplaced_by arms block (form.For t e body) p here = block body (of_loop here)
+misplaced_by arms block (form.Def n ps body) p here = block body of_function
+misplaced_by arms block _ p here = []
+
 abbrev pub form_step : form.Form-F (Position → Misplaced) Misplaced Misplaced → Position → Misplaced
-form_step (form.Expression e) p here = []
-form_step (form.Assign t e) p here = []
-form_step (form.Augment t op e) p here = []
-form_step form.Pass p here = []
-form_step form.Break p here = only here.in_loop p
-form_step form.Continue p here = only here.in_loop p
-form_step (form.Return e) p here = only here.in_function p
-form_step (form.Load l ns) p here = only here.in_file p
-form_step (form.If arms otherwise) p here = each arms (of_if here) ++ each otherwise (of_if here)
-form_step (form.For t e body) p here = each body (of_loop here)
-form_step (form.Def n ps body) p here = each body of_function
+form_step l p here = misplaced_by each each l p here
 
 abbrev pub arm_step : form.Arm-F (Position → Misplaced) Misplaced Misplaced → Misplaced
 arm_step a = each a.body

@@ -9,8 +9,9 @@ use Rattle.star_scope.specs.declared.spot.Spot.{Spot}
 use Rattle.star_scope.specs.declared.spot.Spot.TheVariants as spot
 use Rattle.star_scope.specs.Faults.{at}
 use Rattle.star_scope.specs.Loads.{is_private}
-use Rattle.star_scope.specs.Names.{Names, has_name, same_name, slot_of}
-use Rattle.star_scope.specs.Outlines.{Block, names_in}
+use Rattle.star_outline.specs.Names.{Names, has_name, same_name, slot_of}
+use Rattle.star_outline.specs.Outlines.{names_in}
+use Rattle.star_outline.specs.declared.blocks.Block.{Block}
 use Rattle.star_scope.specs.Uses.{Use, Named, Defined}
 
 -- the most blocks that can be nested: the file's own; one for each of the 100 that the nesting weight allows; and one

@@ -12,11 +12,12 @@ use Rattle.star_scope.specs.declared.placement.StatementContext.{StatementContex
 use Rattle.star_scope.specs.declared.program.Prelude.{Prelude}
 use Rattle.star_scope.specs.declared.program.Program.{Program}
 use Rattle.star_scope.specs.Conflicts.{block_conflicts, repeated_parameters}
-use Rattle.star_scope.specs.Definitions.{AllDiffer}
-use Rattle.star_scope.specs.Faults.{first}
+use Rattle.star_outline.specs.Definitions.{AllDiffer}
+use Rattle.star_scope.specs.Faults.{first, first_of}
 use Rattle.star_scope.specs.Loads.{AreRead, Read, faults_of, load_of, prelude_loads, written}
-use Rattle.star_scope.specs.Names.{Names, once}
-use Rattle.star_scope.specs.Outlines.{Definition, file_names, outline}
+use Rattle.star_outline.specs.Names.{Names, once}
+use Rattle.star_outline.specs.Outlines.{file_names, outline}
+use Rattle.star_outline.specs.Definitions.{Definition}
 use Rattle.star_scope.specs.Placement.{in_statements, of_file, of_prelude}
 use Rattle.star_scope.specs.Places.{AllPlaced, undefined}
 use Rattle.star_scope.specs.Spots.{spot_at}
@@ -40,6 +41,13 @@ standing_in n (Some p) = if nat_eq p.file n then of_prelude else of_file
 -- the parameters of definitions that have the name of an earlier one of theirs
 abbrev pub repeated : List Definition → List LocatedFault
 repeated ds = flat_map (λ d. repeated_parameters d.parameters) ds
+
+-- the first static fault, given the first one of the load statements and the first undefined name
+abbrev pub first_fault : StatementContext → List Statement → Option LocatedFault → List Definition → Option LocatedFault
+    → Option LocatedFault
+first_fault here ss load ds unknown =
+    first_of (first_of (first_of (first_of (first (in_statements ss here)) load) (first (block_conflicts ss)))
+    (first (repeated ds))) unknown
 
 -- all static faults of a file, by the surroundings of its statements, the names of the prelude that it sees, and its
 -- load statements, each beside its target

@@ -1,15 +1,17 @@
 -- The effect of the code's walk over a part of a file: each name gets its spot, and the first undefined one is found.
-use Rattle.std.specs.Prelude.{◌≡◌, ◌≤◌, List, [], ◌∷◌, length, Option, Some}
+use denote.Ref.{Bor}
+use Rattle.std.specs.Prelude.{◌≡◌, ◌≤◌, List, [], ◌∷◌, length, Option, Some, None}
+use Rattle.star_tree.specs.declared.tree.Statement.{Statement}
 use Rattle.star_scope.specs.declared.chain.Scope.{Scope}
 use Rattle.star_scope.specs.declared.spot.Spot.{Spot}
 use Rattle.star_scope.specs.declared.uses.ResolvedNames.{ResolvedNames}
 use Rattle.star_scope.specs.Chains.{names_outside}
-use Rattle.star_scope.specs.Faults.{first_from}
-use Rattle.star_scope.specs.Names.{Names}
-use Rattle.star_scope.specs.Outlines.{Block}
-use Rattle.star_scope.specs.Places.{Spots, chain_length, spot_of, undefined}
+use Rattle.star_scope.specs.Faults.{first, first_from}
+use Rattle.star_outline.specs.Names.{Names}
+use Rattle.star_outline.specs.declared.blocks.Block.{Block}
+use Rattle.star_scope.specs.Places.{AllPlaced, Spots, chain_length, spot_of, undefined}
 use Rattle.star_scope.specs.Spots.{Keeps, spot_at}
-use Rattle.star_scope.specs.Uses.{Use, Named, Defined}
+use Rattle.star_scope.specs.Uses.{Use, Named, Defined, uses}
 
 -- a use of a name is in no more blocks than a chain may have, and if the name has a spot, its token has it
 abbrev pub HasSpot : Spots → List Block → Option Names → Use → Type 0
@@ -27,3 +29,12 @@ pub record Places (scope : Scope) (us : List Use) (old new : ResolvedNames) : Ty
   pub kept : Keeps old.spots new.spots
   pub have : AllHaveSpots (spot_at new.spots) scope.blocks.now (names_outside scope.prelude) us
   pub found : new.first ≡ first_from old.first (undefined scope.blocks.now (names_outside scope.prelude) us)
+
+-- the names of a file among these blocks: the first undefined one is found
+abbrev pub HasFirst : List Block → Option (Bor Names) → List Statement → ResolvedNames → Type 0
+HasFirst blocks prelude ss placed = placed.first ≡ first (undefined blocks (names_outside prelude) (uses ss))
+
+-- and if none is undefined, each has its spot
+abbrev pub HasSpots : List Block → Option (Bor Names) → List Statement → ResolvedNames → Type 0
+HasSpots blocks prelude ss placed =
+    placed.first ≡ None → AllPlaced (spot_at placed.spots) blocks (names_outside prelude) (uses ss)

@@ -2,13 +2,13 @@
 
 ghost use Rattle.std.specs.Prelude.{◌≡◌, ◌≤◌, ◌∷◌, [], ◌+◌, length, map, IfOk};
 ghost use Rattle.star_scope.specs.Chains.{names_outside};
-ghost use Rattle.star_scope.specs.Names.{has_name};
+ghost use Rattle.star_outline.specs.Names.{has_name};
 ghost use Rattle.star_scope.specs.Places.{chain_length, outermost_names, outside_spot, prelude_has, spot_of};
 
-use crate::binders::Bound;
-use crate::blocks::BlockNames;
 use crate::loads::is_private;
 use crate::spot::Spot;
+use star_outline::binders::Bound;
+use star_outline::blocks::BlockNames;
 use std::alloc::AllocError;
 use std::marker::Model;
 

@@ -2,7 +2,7 @@
 
 ghost use Rattle.std.specs.Prelude.{◌≡◌, Some};
 ghost use Rattle.star_scope.specs.declared.error.ScopeFault.TheVariants.{Memory};
-ghost use Rattle.star_scope.specs.Faults.{rank, stands_before, earlier};
+ghost use Rattle.star_scope.specs.Faults.{rank, comes_before, earlier};
 
 use std::alloc::{AllocError, AllocFailed};
 use thiserror::Error;
@@ -76,8 +76,8 @@ pub struct LocatedFault {
 
 impl LocatedFault {
     /// Whether it comes before another fault: its token comes first, or it has the same token and the lower number.
-    pub fn stands_before(self, other: LocatedFault) -> bool
-        ensures { result ≡ stands_before self other }
+    pub fn comes_before(self, other: LocatedFault) -> bool
+        ensures { result ≡ comes_before self other }
     {
         self.token < other.token
             || (self.token == other.token && self.fault.rank() < other.fault.rank())
@@ -90,7 +90,7 @@ pub fn earlier(found: Option<LocatedFault>, more: LocatedFault) -> Option<Locate
 {
     match found {
         Some(first) => {
-            if more.stands_before(first) {
+            if more.comes_before(first) {
                 Some(more)
             } else {
                 Some(first)

@@ -7,8 +7,8 @@
 //! - `placement`: misplaced statements;
 //! - `loads`: load statements, and the files that they lead to;
 //! - `conflicts`: names bound twice though one of the bindings must be the only one, and repeated parameters;
-//! - `uses`: each name, with the block that binds it, or that it is undefined. Before, `outline` has collected the
-//!   definitions and the blocks. `chain`, `blocks` and `binders` are the tables for the look-ups.
+//! - `uses`: each name, with the block that binds it, or that it is undefined. Before, `star_outline` has collected the
+//!   definitions and the blocks. `chain` has the blocks around a name.
 //!
 //! The main types:
 //!
@@ -25,16 +25,11 @@
 //! spot leads to the nearest binding of its name.
 #![tactic(auto)]
 
-mod binders;
-pub mod blocks;
 mod chain;
 pub mod conflicts;
 pub mod error;
-mod index;
 pub mod law;
 pub mod loads;
-mod names;
-pub mod outline;
 pub mod placement;
 pub mod program;
 pub mod spot;

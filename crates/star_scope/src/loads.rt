@@ -4,7 +4,7 @@ ghost use Rattle.std.specs.Prelude.{◌≡◌, ◌<◌, ◌++◌, length, true, 
 ghost use Rattle.star_label.specs.Label.{is_package};
 ghost use Rattle.star_scope.specs.declared.error.ScopeFault.TheVariants.{Memory};
 ghost use Rattle.star_scope.specs.Faults.{at, first_from};
-ghost use Rattle.star_scope.specs.Loads.{Adds, IsLoads, LeadsTo, load_at, is_private, module_fault, prelude_loads, private_fault, written_in};
+ghost use Rattle.star_scope.specs.Loads.{AddsTo, IsLoads, LeadsTo, is_private, load_at, module_fault, prelude_loads, private_fault, written_in};
 ghost use Rattle.std.specs.List.{flat_map};
 
 use crate::error::{LocatedFault, ScopeFault, earlier};
@@ -16,7 +16,7 @@ use std::alloc::{AllocError, Global};
 
 /// The target of a module string.
 #[derive(Clone, Copy, Debug, PartialEq, Eq)]
-pub enum Lead {
+pub enum LoadTarget {
     /// The file with this number.
     File(usize),
     /// The string is a label, and no file has it.
@@ -45,7 +45,12 @@ pub struct Loads {
 }
 
 /// The target of a module string in a file of this package.
-fn lead_of(alloc: Global, files: &Files, package: &str, text: &str) -> Result<Lead, ScopeFault>
+fn lead_of(
+    alloc: Global,
+    files: &Files,
+    package: &str,
+    text: &str,
+) -> Result<LoadTarget, ScopeFault>
     requires { is_package «package».now ≡ true }
     ensures leads { IfOk result (λ l. LeadsTo files.now «package».now text.now l) }
     ensures memory { IfErr result (λ e. e ≡ Memory) }
@@ -53,11 +58,11 @@ fn lead_of(alloc: Global, files: &Files, package: &str, text: &str) -> Result<Le
     match Label::read(alloc, text, package) {
         Ok(label) => {
             match files.find(&label) {
-                Some(n) => Ok(Lead::File(n)),
-                None => Ok(Lead::NoFile),
+                Some(n) => Ok(LoadTarget::File(n)),
+                None => Ok(LoadTarget::NoFile),
             }
         }
-        Err(LabelError::BadLabel) => Ok(Lead::BadLabel),
+        Err(LabelError::BadLabel) => Ok(LoadTarget::BadLabel),
         Err(_) => Err(ScopeFault::Memory),
     }
 }
@@ -74,15 +79,19 @@ pub(crate) fn is_private(text: &str) -> bool
 
 /// The fault found so far, or the fault of a module string if it comes first.
 #[tactic(auto, unfolding(crate::specs::Faults::first_from))]
-fn module_fault(found: Option<LocatedFault>, position: Position, lead: Lead) -> Option<LocatedFault>
+fn module_fault(
+    found: Option<LocatedFault>,
+    position: Position,
+    lead: LoadTarget,
+) -> Option<LocatedFault>
     ensures { result ≡ first_from found (module_fault position lead) }
 {
     let fault = match lead {
-        Lead::File(_) => return found,
-        Lead::NoFile => ScopeFault::NoFile {
+        LoadTarget::File(_) => return found,
+        LoadTarget::NoFile => ScopeFault::NoFile {
             line: position.line,
         },
-        Lead::BadLabel => ScopeFault::BadLabel {
+        LoadTarget::BadLabel => ScopeFault::BadLabel {
             line: position.line,
         },
     };
@@ -125,10 +134,10 @@ fn private_faults(mut found: Option<LocatedFault>, names: &[LoadedName]) -> Opti
 }
 
 /// Adds the load of a statement after the others, if its module string leads to a file.
-fn push_load(loads: &mut Vec<Load>, position: Position, lead: Lead) -> Result<(), AllocError>
+fn push_load(loads: &mut Vec<Load>, position: Position, lead: LoadTarget) -> Result<(), AllocError>
     ensures { OnOk result (loads.new.items ≡ loads.old.items ++ load_at position lead) }
 {
-    if let Lead::File(file) = lead {
+    if let LoadTarget::File(file) = lead {
         loads.push(Load {
             file,
             line: position.line,
@@ -147,8 +156,7 @@ fn add_statement(
     statement: &Statement,
 ) -> Result<(), ScopeFault>
     requires { is_package «package».now ≡ true }
-    ensures adds { OnOk result (Adds files.now «package».now (written_in statement.now) loads.old.loads.items
-        loads.new.loads.items loads.old.first loads.new.first) }
+    ensures adds { OnOk result (AddsTo files.now «package».now (written_in statement.now) loads.old loads.new) }
     ensures memory { IfErr result (λ e. e ≡ Memory) }
 {
     match &statement.form {

@@ -4,27 +4,25 @@ ghost use Rattle.std.specs.Prelude.{◌≡◌, ◌<◌, length, map, IfOk, IfErr
 ghost use Rattle.std.specs.Option.{is_some, option_copied, option_map};
 ghost use Rattle.star_scope.specs.declared.error.ScopeFault.TheVariants.{Memory};
 ghost use Rattle.star_scope.specs.Chains.{names_outside};
-ghost use Rattle.star_scope.specs.Conflicts.{block_conflicts};
-ghost use Rattle.star_scope.specs.Definitions.{AllDiffer, definition_in, definition_of};
+ghost use Rattle.star_outline.specs.Definitions.{AllDiffer, definition_in, definition_of};
 ghost use Rattle.star_scope.specs.Spots.{spot_at};
 ghost use Rattle.star_scope.specs.Faults.{first, first_of};
-ghost use Rattle.star_scope.specs.Placement.{in_statements as in_place};
-ghost use Rattle.star_scope.specs.Names.{once, slot_of, with_names};
-ghost use Rattle.star_scope.specs.Outlines.{file_names, loaded_by, names_in, outline};
-ghost use Rattle.star_scope.specs.Resolve.{Resolves, prelude_names, repeated, seen_by, standing_in};
-ghost use Rattle.star_scope.specs.Syntax.{form_of};
+ghost use Rattle.star_outline.specs.Names.{once, slot_of, with_names};
+ghost use Rattle.star_outline.specs.Outlines.{file_names, loaded_by, names_in, outline};
+ghost use Rattle.star_scope.specs.Resolve.{Resolves, first_fault, prelude_names, repeated, seen_by, standing_in};
+ghost use Rattle.star_outline.specs.Syntax.{form_of};
 
-use crate::blocks::{BlockNames, Blocks};
 use crate::conflicts::{block_conflict, repeated_parameter};
 use crate::error::{LocatedFault, ScopeFault, earlier};
 use crate::loads::{Load, find_loads};
-use crate::names::{add_loaded, add_statements, load_statements};
-use crate::outline::{Definition, Definitions, Found, find_in_statements};
 use crate::placement::{OF_FILE, OF_PRELUDE, StatementContext, in_statements};
 use crate::spot::Spot;
 use crate::spots::Spots;
 use crate::uses::resolve_names;
 use star_label::files::Files;
+use star_outline::blocks::{BlockNames, Blocks};
+use star_outline::names::{add_loaded, add_statements, load_statements};
+use star_outline::outline::{Definition, Definitions, Found, find_in_statements};
 use star_tree::tree::{Form, Statement, Tree};
 use std::alloc::{AllocError, Global};
 
@@ -176,9 +174,7 @@ fn first_fault(
     definitions: &Definitions<'_>,
     undefined: Option<LocatedFault>,
 ) -> Result<Option<LocatedFault>, ScopeFault>
-    ensures first { IfOk result (λ found. found
-        ≡ first_of (first_of (first_of (first_of (first (in_place statements.now here)) load)
-        (first (block_conflicts statements.now))) (first (repeated definitions.now))) undefined) }
+    ensures first { IfOk result (λ found. found ≡ first_fault here statements.now load definitions.now undefined) }
     ensures differ { IfOk result (λ _. AllDiffer (map (λ d. d.number) definitions.now)) }
     ensures memory { IfErr result (λ e. e ≡ Memory) }
 {

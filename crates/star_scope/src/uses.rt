@@ -1,22 +1,19 @@
 //! Resolves all names of a file: a walk that gives each use its spot and finds the first undefined name.
 
-ghost use Rattle.std.specs.Prelude.{◌≡◌, ◌∷◌, ◌++◌, [], None, IfOk, IfErr, OnOk};
+ghost use Rattle.std.specs.Prelude.{◌≡◌, ◌∷◌, ◌++◌, [], IfOk, IfErr, OnOk};
 ghost use Rattle.std.specs.Option.{option_map};
 ghost use Rattle.star_scope.specs.declared.error.ScopeFault.TheVariants as fault;
 ghost use Rattle.star_scope.specs.declared.error.ScopeFault.TheVariants.{Memory};
-ghost use Rattle.star_scope.specs.Chains.{names_outside};
-ghost use Rattle.star_scope.specs.Faults.{at, first, first_from};
-ghost use Rattle.star_scope.specs.Places.{AllPlaced, undefined};
-ghost use Rattle.star_scope.specs.ResolvedNames.{Places};
-ghost use Rattle.star_scope.specs.Spots.{spot_at};
-ghost use Rattle.star_scope.specs.Uses.{all_uses, default_uses, in_argument, in_arm, in_clause, in_clauses, in_entry, in_expression, in_form, in_returned, in_statement, in_target, loaded_use, maybe_use, one_use, parameter_name_uses, uses};
+ghost use Rattle.star_scope.specs.Faults.{at, first_from};
+ghost use Rattle.star_scope.specs.ResolvedNames.{HasFirst, HasSpots, Places};
+ghost use Rattle.star_scope.specs.Uses.{all_uses, default_uses, in_argument, in_arm, in_clause, in_clauses, in_entry, in_expression, in_form, in_returned, in_statement, in_target, loaded_use, maybe_use, one_use, parameter_name_uses};
 
-use crate::binders::Bound;
-use crate::blocks::{BlockNames, Blocks};
 use crate::chain::{Chain, Scope};
 use crate::error::{LocatedFault, ScopeFault, earlier};
 use crate::spots::Spots;
 use sqlite_items::Boxed;
+use star_outline::binders::Bound;
+use star_outline::blocks::{BlockNames, Blocks};
 use star_tree::tree::{
     Argument, Arm, Clause, Clauses, Entry, Expression, Form, LoadedName, Name, Parameter, Position,
     Statement, Target,
@@ -545,11 +542,8 @@ fn place_all(
     scope: &Scope<'_, '_>,
     statements: &[Statement],
 ) -> Result<ResolvedNames, AllocError>
-    ensures first { IfOk result (λ placed. placed.first
-        ≡ first (undefined scope.now.blocks.now (names_outside scope.now.prelude) (uses statements.now))) }
-    ensures spots { IfOk result (λ placed. placed.first ≡ None
-        → AllPlaced (spot_at placed.spots) scope.now.blocks.now (names_outside scope.now.prelude)
-        (uses statements.now)) }
+    ensures first { IfOk result (λ placed. HasFirst scope.now.blocks.now scope.now.prelude statements.now placed) }
+    ensures spots { IfOk result (λ placed. HasSpots scope.now.blocks.now scope.now.prelude statements.now placed) }
 {
     let mut placed = ResolvedNames {
         spots: Spots::new(alloc),
@@ -571,10 +565,8 @@ pub fn resolve_names<'s, 't>(
     prelude: Option<&'s BlockNames<'t>>,
     statements: &[Statement],
 ) -> Result<ResolvedNames, ScopeFault>
-    ensures first { IfOk result (λ placed. placed.first
-        ≡ first (undefined blocks.now (names_outside prelude.entry) (uses statements.now))) }
-    ensures spots { IfOk result (λ placed. placed.first ≡ None
-        → AllPlaced (spot_at placed.spots) blocks.now (names_outside prelude.entry) (uses statements.now)) }
+    ensures first { IfOk result (λ placed. HasFirst blocks.now prelude.entry statements.now placed) }
+    ensures spots { IfOk result (λ placed. HasSpots blocks.now prelude.entry statements.now placed) }
     ensures memory { IfErr result (λ e. e ≡ Memory) }
 {
     let bound = Bound::of(alloc, blocks)?;

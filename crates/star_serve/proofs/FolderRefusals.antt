@@ -1,12 +1,13 @@
 -- Which refusals a folder can have.
-use Rattle.std.proofs.Common.{◌≡◌, ℕ, List, [], ◌∷◌, Bool, Result, Ok, Err, refl}
+use Rattle.std.proofs.Common.{◌≡◌, ℕ, List, [], ◌∷◌, Bool, Option, Result, Ok, Err, refl}
 use Rattle.std.specs.Prelude.{IfErr}
-use Rattle.star_bundle.specs.Bundle.{Asked}
+use Rattle.star_bundle.specs.Bundle.{Asked, asked_among}
 use Rattle.star_bundle.specs.Refusal.{Fails, writes_failed}
 use Rattle.star_folder.specs.Refusal.{failed_listing, failed_read, files_failed, listings_failed}
 use Rattle.star_folder.proofs.StopKinds.{IsOfWalk}
 use Rattle.star_serve.specs.Serve.{IsRefusedDir, IsRefusedRun}
-use Rattle.star_serve.proofs.Refusals.{IsOf, IsOfWords}
+use Rattle.star_label.specs.Files.{File}
+use Rattle.star_serve.proofs.Refusals.{IsOf, IsOfWords, words_kind}
 use Rattle.star_bundle.specs.declared.error.ServeError.{ServeError}
 use Rattle.star_bundle.specs.declared.error.ServeError.TheVariants.{TooBig, BadDir, BadFile, NotText, TooMany, TooLong, BadRoot, NoRoot, BadPrelude, NoPrelude, Memory, Write, Unpublished}
 
@@ -38,11 +39,15 @@ words_refused stopped answers unwritten NoPrelude given h k a u = (rw h at a, u)
 words_refused stopped answers unwritten Memory given h k a u = u
 words_refused stopped answers unwritten e given h k a u = absurd (rw h at k)
 
-pub words_failed : (e : ServeError) (given : Result Asked ServeError) → Fails e given → IsOf IsOfWords given → NoneFailed e
+words_failed : (e : ServeError) (given : Result Asked ServeError) → Fails e given → IsOf IsOfWords given → NoneFailed e
 words_failed BadDir given h k = absurd (rw h at k)
 words_failed BadFile given h k = absurd (rw h at k)
 words_failed Write given h k = absurd (rw h at k)
 words_failed e given h k = (refl, refl, refl)
+
+-- .. of these files
+pub words_among : (roots : List (List ℕ)) (prelude : Option (List ℕ)) (files : List File) (e : ServeError) → Fails e (asked_among roots prelude files) → NoneFailed e
+words_among roots prelude files e h = words_failed e (asked_among roots prelude files) h (words_kind IsOfWords roots prelude files tt tt tt tt)
 
 -- a run or its report is refused
 pub run_refused : (stopped : ServeError → Type 0) (answers : Result Asked ServeError → Type 0) (unwritten : Type 0) (e : ServeError) (asked : Asked) → IsRefusedRun unwritten e → answers (Ok asked) → IsRefusedDir stopped answers unwritten e

@@ -28,11 +28,7 @@ IsFault BadBundle = ⊤
 IsFault BadKey = ⊤
 IsFault TooMany = ⊤
 IsFault TooLong = ⊤
-IsFault BadRoot = ⊤
-IsFault NoRoot = ⊤
-IsFault BadPrelude = ⊤
-IsFault NoPrelude = ⊤
-IsFault e = ⊥
+IsFault e = IsOfWords e
 
 abbrev pub IsOf : {A : Type 0} → (ServeError → Type 0) → Result A ServeError → Type 0
 IsOf P (Ok x) = ⊤

@@ -1,5 +1,5 @@
 -- Which refusals files on demand can have.
-use Rattle.std.proofs.Common.{◌≡◌, ◌∙◌, inl, inr, ℕ, List, [], ◌∷◌, Bool, true, false, cond, Option, Some, None, Result, Ok, Err, refl, ap, sym, subst}
+use Rattle.std.proofs.Common.{◌≡◌, inl, inr, ℕ, List, [], ◌∷◌, Bool, true, false, cond, Option, Some, None, Result, Ok, Err, refl, ap, sym, subst}
 use Rattle.std.specs.Prelude.{⊤}
 use Rattle.std.specs.List.{position}
 use Rattle.std.specs.Str.{bytes_eq}
@@ -8,12 +8,11 @@ use Rattle.star_bundle.specs.Bundle.{Asked, asked_among, is_label, number_of, pr
 use Rattle.star_bundle.specs.Refusal.{Fails, writes_failed}
 use Rattle.star_bundle.specs.declared.error.ServeError.{ServeError}
 use Rattle.star_bundle.specs.declared.error.ServeError.TheVariants.{BadRoot, NoRoot, BadPrelude, NoPrelude, Memory, Write, Unpublished}
-use Rattle.star_words.specs.Named.{AllLabels, AreLabels, IsMisnamed}
-use Rattle.star_repo.specs.Asked.{AreFilesFor, IsUnread, failed_find}
+use Rattle.star_words.specs.Named.{AllLabels, AreLabels}
+use Rattle.star_repo.specs.Asked.{AreFilesFor}
 use Rattle.star_repo.specs.Held.{Said}
-use Rattle.star_repo.specs.declared.error.RepoError.{RepoError}
 use Rattle.star_repo.specs.declared.error.RepoError.TheVariants as why
-use Rattle.star_serve.specs.Repo.{IsRefusedAll, IsRefusedOf, IsRefusedRepo, failed_write}
+use Rattle.star_serve.specs.Repo.{IsRefusedAll, IsRefusedOf}
 use Rattle.star_serve.specs.Serve.{IsRefusedRun}
 use Rattle.star_serve.proofs.Refusals.{IsOf, IsOfWords, bind_kind, there_kind}
 
@@ -81,29 +80,6 @@ read_refused said roots p files unwritten Memory are labels h = h
 read_refused said roots p files unwritten Write are labels h = (h.0, (files, are, h.1))
 read_refused said roots p files unwritten Unpublished are labels h = ((h.0.0, (files, are, h.0.1)), h.1)
 read_refused said roots p files unwritten e are labels h = absurd h
-
--- files that were not read
-misnamed : (said : Said) (roots : List (List ℕ)) (p : Option (List ℕ)) (unwritten : Type 0) (e : ServeError) → IsMisnamed roots p e → unwritten → IsRefusedAll said roots p unwritten e
-misnamed said roots p unwritten BadRoot h u = (h, u)
-misnamed said roots p unwritten BadPrelude h u = (h, u)
-misnamed said roots p unwritten Memory h u = u
-misnamed said roots p unwritten e h u = absurd h
-
-pub unread_refused : (said : Said) (roots : List (List ℕ)) (p : Option (List ℕ)) (unwritten : Type 0) (e : RepoError) → IsUnread said roots p e → unwritten → IsRefusedRepo said roots p unwritten e
-unread_refused said roots p unwritten (why.File label error) h u = (h, u)
-unread_refused said roots p unwritten (why.Run error) h u = misnamed said roots p unwritten error h u
-
-none_written : (roots : List (List ℕ)) (p : Option (List ℕ)) (e : ServeError) → IsMisnamed roots p e → failed_write (why.Run e) ≡ 0
-none_written roots p Write h = absurd h
-none_written roots p e h = refl
-
-pub unread_writes : (said : Said) (roots : List (List ℕ)) (p : Option (List ℕ)) (e : RepoError) → IsUnread said roots p e → failed_write e ≡ 0
-unread_writes said roots p (why.File label error) h = refl
-unread_writes said roots p (why.Run error) h = none_written roots p error h
-
--- a write failed in the run just where the answer says so
-pub same_writes : (e : ServeError) → failed_write (why.Run e) ≡ writes_failed {T = Bool} (Err e)
-same_writes e = refl
 
 -- what is asked for is asked of these files
 asked_so : (files : List File) (p : Result (Option ℕ) ServeError) (ns : List ℕ) (a : Asked) → (p >>= λ q. Ok (record { files = files; roots = ns; prelude = q })) ≡ Ok a → a.files ≡ files

@@ -4,16 +4,10 @@ use Rattle.std.specs.Prelude.{MatchOption}
 use Rattle.std.specs.List.{slice_range}
 use Rattle.memchr.specs.Find.{NoneBefore, Nowhere}
 use Rattle.std.proofs.lemmas.Bool.{eqb-true}
-use Rattle.std.proofs.lemmas.List.{drop-drop, drop-take, get_or-take, get_or_default, length-drop, length-take-le, take-take}
+use Rattle.std.proofs.lemmas.List.{drop-drop, drop-take, get_or-take, get_or_default, length-drop, length-take-le}
 use Rattle.std.proofs.Math.Seq.{drop-cons}
 use Rattle.memchr.specs.Find.{IsFirstByte, Passes, is_byte}
 use Rattle.star_session.specs.Lines.{IsOneLine, is_end}
-
--- the first bytes of what stands ahead
-pub front : (buffer : List ℕ) (start end count : ℕ) → count ≤ end - start → slice_range buffer start (start + count) ≡ take count (slice_range buffer start end)
-front buffer start end count h =
-    let n : start + count - start ≡ count = omega arith in
-    ap (λ k. take k (drop start buffer)) n ∙ sym (take-take count (end - start) (drop start buffer) h)
 
 -- the others
 pub rest : (buffer : List ℕ) (start end count : ℕ) → count ≤ end - start → slice_range buffer (start + count) end ≡ drop count (slice_range buffer start end)

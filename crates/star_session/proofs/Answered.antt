@@ -113,25 +113,32 @@ refuses (Ok l) items d before after id a e text same of named says =
     (id, is, says ∙ ap (λ t. answer_line id (codes "refused") (compact_text (string t))) named)
 
 -- the bytes of a line, all of which are there
-pub ready : {V E : Type 0} (r : Result V E) (items : V → List ℕ) (o : Origin) (said : Said) (d : Defaults) (before after : List File) (bytes : List ℕ) (v : Data) → json_of bytes ≡ Some v
+value_ready : (kind : Line) (bytes whole : List ℕ) (v : Data) → kind ≡ line.Ready → json_of bytes ≡ Some v → IsPiece kind bytes whole → value_of whole ≡ Ok v
+value_ready kind bytes whole v is j piece =
+    let all : IsPiece line.Ready bytes whole = subst (λ k. IsPiece k bytes whole) is piece in
+    value_is whole v all.1 (ap json_of (sym all.0) ∙ j)
+
+pub ready : {V E : Type 0} (r : Result V E) (items : V → List ℕ) (o : Origin) (said : Said) (d : Defaults) (before after : List File) (kind : Line) (bytes : List ℕ) (v : Data) → kind ≡ line.Ready → json_of bytes ≡ Some v
     → IfOk r (λ l. (line : List ℕ) → value_of line ≡ Ok v → IsAnsweredAs o said d before line after (items l))
-    → IfOk r (λ l. (whole : List ℕ) → IsPiece line.Ready bytes whole → IsAnsweredAs o said d before whole after (items l))
-ready (Err x) items o said d before after bytes v j h = tt
-ready (Ok l) items o said d before after bytes v j h = λ whole piece. h whole (value_is whole v piece.1 (ap json_of (sym piece.0) ∙ j))
+    → IfOk r (λ l. (whole : List ℕ) → IsPiece kind bytes whole → IsAnsweredAs o said d before whole after (items l))
+ready (Err x) items o said d before after kind bytes v is j h = tt
+ready (Ok l) items o said d before after kind bytes v is j h = λ whole piece. h whole (value_ready kind bytes whole v is j piece)
 
-pub unread : {V E : Type 0} (r : Result V E) (items : V → List ℕ) (o : Origin) (said : Said) (d : Defaults) (before after : List File) (bytes : List ℕ) (e : RequestError) → after ≡ before
+pub unread : {V E : Type 0} (r : Result V E) (items : V → List ℕ) (o : Origin) (said : Said) (d : Defaults) (before after : List File) (kind : Line) (bytes : List ℕ) (e : RequestError) → kind ≡ line.Ready → after ≡ before
     → IsWhy e (there_or not_object (json_of bytes)) → IfOk r (λ _. e ≢ reason.Memory) → IfOk r (λ l. IsRefusal null (spec.text_of e) (items l))
-    → IfOk r (λ l. (whole : List ℕ) → IsPiece line.Ready bytes whole → IsAnsweredAs o said d before whole after (items l))
-unread (Err x) items o said d before after bytes e same cause known says = tt
-unread (Ok l) items o said d before after bytes e same (inl m) known says = absurd (known m)
-unread (Ok l) items o said d before after bytes e same (inr bad) known says = λ whole piece.
-    unreadable_as o said d before whole (spec.text_of e) after (items l) (no_value whole (spec.text_of e) piece.1 (ap (λ t. there_or not_object (json_of t)) (sym piece.0) ∙ bad)) same says
+    → IfOk r (λ l. (whole : List ℕ) → IsPiece kind bytes whole → IsAnsweredAs o said d before whole after (items l))
+unread (Err x) items o said d before after kind bytes e is same cause known says = tt
+unread (Ok l) items o said d before after kind bytes e is same (inl m) known says = absurd (known m)
+unread (Ok l) items o said d before after kind bytes e is same (inr bad) known says = λ whole piece.
+    let all : IsPiece line.Ready bytes whole = subst (λ k. IsPiece k bytes whole) is piece in
+    unreadable_as o said d before whole (spec.text_of e) after (items l) (no_value whole (spec.text_of e) all.1 (ap (λ t. there_or not_object (json_of t)) (sym all.0) ∙ bad)) same says
 
-pub long : {V E : Type 0} (r : Result V E) (items : V → List ℕ) (o : Origin) (said : Said) (d : Defaults) (before after : List File) (bytes : List ℕ) → after ≡ before
+pub long : {V E : Type 0} (r : Result V E) (items : V → List ℕ) (o : Origin) (said : Said) (d : Defaults) (before after : List File) (kind : Line) (bytes : List ℕ) → kind ≡ line.TooLong → after ≡ before
     → IfOk r (λ l. IsRefusal null line_too_long (items l))
-    → IfOk r (λ l. (whole : List ℕ) → IsPiece line.TooLong bytes whole → IsAnsweredAs o said d before whole after (items l))
-long (Err x) items o said d before after bytes same says = tt
-long (Ok l) items o said d before after bytes same says = λ whole piece. unreadable_as o said d before whole line_too_long after (items l) (no_room whole piece) same says
+    → IfOk r (λ l. (whole : List ℕ) → IsPiece kind bytes whole → IsAnsweredAs o said d before whole after (items l))
+long (Err x) items o said d before after kind bytes is same says = tt
+long (Ok l) items o said d before after kind bytes is same says = λ whole piece.
+    unreadable_as o said d before whole line_too_long after (items l) (no_room whole (subst (λ k. IsPiece k bytes whole) is piece)) same says
 
 -- a refusal of what has no id
 pub null_refusal : {V E : Type 0} (r : Result V E) (items : V → List ℕ) (id text : List ℕ) → IsIdText null id
@@ -145,11 +152,11 @@ pub lost_misreads : {V E : Type 0} (r : Result V E) (o : Origin) (said : Said) (
 lost_misreads (Ok l) o said d before after v same = tt
 lost_misreads (Err x) o said d before after v same = λ line j. lost_as o said d before line after same
 
-pub lost_ready : {V E : Type 0} (r : Result V E) (o : Origin) (said : Said) (d : Defaults) (before after : List File) (bytes : List ℕ) (v : Data) → json_of bytes ≡ Some v
+pub lost_ready : {V E : Type 0} (r : Result V E) (o : Origin) (said : Said) (d : Defaults) (before after : List File) (kind : Line) (bytes : List ℕ) (v : Data) → kind ≡ line.Ready → json_of bytes ≡ Some v
     → IfErr r (λ _. (line : List ℕ) → value_of line ≡ Ok v → IsAnsweredAs o said d before line after no_memory_line)
-    → IfErr r (λ _. (whole : List ℕ) → IsPiece line.Ready bytes whole → IsAnsweredAs o said d before whole after no_memory_line)
-lost_ready (Ok l) o said d before after bytes v j h = tt
-lost_ready (Err x) o said d before after bytes v j h = λ whole piece. h whole (value_is whole v piece.1 (ap json_of (sym piece.0) ∙ j))
+    → IfErr r (λ _. (whole : List ℕ) → IsPiece kind bytes whole → IsAnsweredAs o said d before whole after no_memory_line)
+lost_ready (Ok l) o said d before after kind bytes v is j h = tt
+lost_ready (Err x) o said d before after kind bytes v is j h = λ whole piece. h whole (value_ready kind bytes whole v is j piece)
 
 pub lost_line : {V E : Type 0} (r : Result V E) (o : Origin) (said : Said) (d : Defaults) (before after : List File) (kind : Line) (bytes : List ℕ) → after ≡ before
     → IfErr r (λ _. (whole : List ℕ) → IsPiece kind bytes whole → IsAnsweredAs o said d before whole after no_memory_line)

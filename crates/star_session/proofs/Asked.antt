@@ -24,10 +24,6 @@ onto : {A : Type 0} (front : List A) (x : A) (r : Result (List A) (List ℕ)) �
 onto front x (Err why) = refl
 onto front x (Ok xs) = ap Ok (sym (append_assoc front (x ∷ []) xs))
 
-pub at_front : {A : Type 0} (r : Result (List A) (List ℕ)) → r ≡ after [] r
-at_front (Err why) = refl
-at_front (Ok xs) = refl
-
 -- a change, and the members after it
 pub changes_next : (front : List Change) (k : List ℕ) (t : Option (List ℕ)) (d : Data) (ms : Members) → text_or_null d ≡ Some t → is_label k ≡ true
     → after front (changes_of (member k d ms)) ≡ after (front ++ (k, t) ∷ []) (changes_of ms)
@@ -45,9 +41,6 @@ no_label k t d ms h l = rw (h, l) refl
 pub changes_done : (front : List Change) → after front (changes_of no_members) ≡ Ok front
 unfolding changes_of
 changes_done front = ap Ok (append-nil front)
-
-pub changes_first : (ms : Members) → changes_of ms ≡ after [] (changes_of ms)
-changes_first ms = at_front (changes_of ms)
 
 -- a path, and the items after it
 onto_all : (front more : List Change) (r : Result (List Change) (List ℕ)) → after front (r >>= λ cs. Ok (more ++ cs)) ≡ after (front ++ more) r
@@ -67,9 +60,6 @@ pub gone_done : (front : List Change) → after front (gone_in no_items) ≡ Ok 
 unfolding gone_in
 gone_done front = ap Ok (append-nil front)
 
-pub gone_first : (ds : Items) → gone_in ds ≡ after [] (gone_in ds)
-gone_first ds = at_front (gone_in ds)
-
 -- a text, and the items after it
 pub texts_next : (front : List (List ℕ)) (t : List ℕ) (d : Data) (ds : Items) → as_str d ≡ Some t
     → after front (texts_in (item d ds)) ≡ after (front ++ t ∷ []) (texts_in ds)
@@ -83,9 +73,6 @@ texts_stop d ds h = rw h refl
 pub texts_done : (front : List (List ℕ)) → after front (texts_in no_items) ≡ Ok front
 unfolding texts_in
 texts_done front = ap Ok (append-nil front)
-
-pub texts_first : (ds : Items) → texts_in ds ≡ after [] (texts_in ds)
-texts_first ds = at_front (texts_in ds)
 
 -- a word, and the items after it
 pub words_next : (w more : Wanted) (word : List ℕ) (d : Data) (ds : Items) → as_str d ≡ Some word → with_word w word ≡ Ok more → with_words w (item d ds) ≡ with_words more ds

@@ -1,3 +1,4 @@
+pub mod Items
 pub mod Changes
 pub mod Ahead
 pub mod Takings

@@ -3,7 +3,6 @@ use Rattle.std.proofs.Common.{◌≡◌, ℕ, List, [], ◌∷◌, ◌++◌, Boo
 use Rattle.std.specs.Prelude.{◌⊎◌}
 use Rattle.std.specs.Option.{option_copied, option_map}
 use Rattle.star_label.specs.Files.{File, limit_passed}
-use Rattle.star_label.specs.declared.error.LabelError.{LabelError}
 use Rattle.star_bundle.specs.Bundle.{Asked, asked_among, prelude_of, roots_of, within_limits, ◌>>=◌}
 use Rattle.star_bundle.specs.Refusal.{Fails}
 use Rattle.star_bundle.specs.declared.error.ServeError.{ServeError}
@@ -32,9 +31,6 @@ fails_or_memory e given h = inl h
 -- the limits of the files
 abbrev limited : List File → Asking → Result (List File) ServeError
 limited before a = within_limits (files_after before a.changes) (limit_passed (files_after before a.changes))
-
-pub memory_refused : (before : List File) (a : Asking) (e : ServeError) → e ≡ Memory → IsRefusalOf before a e
-memory_refused before a e h = inr (inl h)
 
 -- files that pass a limit
 pub limit_refused : (before : List File) (a : Asking) (e : ServeError) → Fails e (limited before a) → IsRefusalOf before a e
@@ -75,10 +71,6 @@ pub limits_kept : (made entries files : List File) → entries ≡ files → lim
 limits_kept made entries files e none is =
     let free : limit_passed files ≡ None = ap limit_passed (sym e) ∙ none in
     ap (within_limits files) free ∙ ap Ok (sym (is ∙ e))
-
--- files that pass one
-pub limits_passed : (entries files : List File) (l : LabelError) → entries ≡ files → limit_passed entries ≡ Some l → within_limits files (limit_passed files) ≡ within_limits files (Some l)
-limits_passed entries files l e some = ap (within_limits files) (ap limit_passed (sym e) ∙ some)
 
 -- a report for what is asked among files that pass no limit
 pub report_of_asked : (before files : List File) (a : Asking) (roots : List (List ℕ)) (prelude : Option (List ℕ)) (asked : Asked) (report : List ℕ) (ok : Bool)

@@ -118,14 +118,8 @@ no_rest d s0 s1 h0 t f took = record {
 
 -- what was read from the start, of files that were none
 pub session : (d : Answering) (s0 s1 : Said) (t0 t1 : Option (List ℕ)) → IsRest d s0 s1 [] t0 t1 [] → IsSession d s0 s1 t0 t1
-session d s0 s1 t0 t1 r = record {
-  input = r.given;
-  all_read = r.all_read;
-  answers = r.answers;
-  writes = r.writes;
-  after = r.after;
-  answered = r.answered;
-}
+session d s0 s1 t0 t1 r =
+    record { input = r.given; all_read = r.all_read; answers = r.answers; writes = r.writes; after = r.after; answered = r.answered }
 
 -- the next line was taken, and answered
 pub step : (d : Answering) (s0 s1 : Said) (h0 h1 line : List ℕ) (t0 t1 : Option (List ℕ)) (f0 f1 : List File) (answer : List ℕ) (last : Bool)

@@ -1,15 +1,14 @@
 -- The line that is being taken from a stream.
-use Rattle.std.proofs.Common.{◌≡◌, ◌≢◌, ◌+◌, ℕ, List, [], ◌∷◌, ◌++◌, true, false, Option, None, Some, length, take, drop, refl, ap, sym, ◌∙◌, subst, append_assoc, arith}
+use Rattle.std.proofs.Common.{◌≡◌, ◌≢◌, ◌+◌, ℕ, List, [], ◌∷◌, ◌++◌, true, false, Option, None, Some, length, take, drop, refl, ap, sym, ◌∙◌, subst, append_assoc}
 use Rattle.std.specs.Prelude.{MatchOption}
 use Rattle.std.specs.Io.KnownBytes.{Consumes, IsAtEnd}
 use Rattle.std.proofs.lemmas.List.{append-nil, take-append-drop}
-use Rattle.std.proofs.lemmas.List.Elements.{All-append, All-nil}
+use Rattle.std.proofs.lemmas.List.Elements.{All-append}
 use Rattle.std.proofs.Math.Seq.{take-length}
 use Rattle.star_serve.specs.Stream.{Adds, Gives, Said}
 use Rattle.star_serve.proofs.Streams.{Gives-more}
 use Rattle.star_session.specs.Lines.{IsNext, IsOneLine, IsPiece, IsTaken, TakesAll, is_end}
 use Rattle.star_session.specs.declared.lines.Line.{Line}
-use Rattle.star_session.specs.declared.lines.Line.TheVariants.{Ready}
 use Rattle.star_session.specs.declared.lines.Taken.{Taken}
 
 -- some bytes of a line were taken
@@ -31,16 +30,6 @@ Consumes-none (Some x) = refl
 
 pub Gives-none : (s : Said) → Gives s s []
 Gives-none s = (Adds-none s.given, Consumes-none s.left)
-
-pub begun : (s : Said) (ahead items : List ℕ) → items ≡ [] → IsBegun s s ahead ahead Ready items
-begun s ahead items none = record {
-  given = [];
-  gives = Gives-none s;
-  bytes = [];
-  split = append-nil ahead;
-  one = All-nil (λ b. is_end b ≡ false);
-  piece = (none, omega arith);
-}
 
 -- all that stood ahead is of the line, and more was read
 pub goes_on : (old mid new : Said) (ahead left more : List ℕ) (kind now : Line) (items items' : List ℕ) (n : ℕ) → IsBegun old mid ahead left kind items → IsOneLine left → n ≡ length left

@@ -26,46 +26,9 @@ pub record Asking : Type 0 where
   pub steps : ℕ
   pub wanted : Wanted
 
--- why a line is not a request: the texts of its refusal
-abbrev pub line_too_long : List ℕ
-line_too_long = codes "line too long"
-
-abbrev pub not_object : List ℕ
-not_object = codes "not a JSON object"
-
-abbrev pub no_member : List ℕ → List ℕ
-no_member name = codes "no such member: " ++ name
-
-abbrev pub no_roots : List ℕ
-no_roots = codes "`roots` is missing"
-
-abbrev pub bad_roots : List ℕ
-bad_roots = codes "`roots` must be an array of labels"
-
-abbrev pub bad_files : List ℕ
-bad_files = codes "`files` must be an object from labels to texts or nulls"
-
-abbrev pub no_files : List ℕ
-no_files = codes "`files` does not go with `--repo`"
-
-abbrev pub bad_changed : List ℕ
-bad_changed = codes "`changed` must be an array of paths"
-
-abbrev pub bad_label : List ℕ → List ℕ
-bad_label label = codes "bad label in `files`: " ++ label
-
-abbrev pub bad_prelude : List ℕ
-bad_prelude = codes "`prelude` must be a label or null"
-
-abbrev pub bad_steps : List ℕ
-bad_steps = codes "`steps` must be a number from 1 to 100000000"
-
 -- how many steps a file may take
 abbrev pub AreSteps : ℕ → Type 0
 AreSteps n = (1 ≤ n) × (n ≤ 100000000)
-
-abbrev pub bad_with : List ℕ
-bad_with = codes "`with` must be an array of some of values, loads, steps, only-roots"
 
 -- one thing after another, up to the first that is refused
 infixl 10 ◌>>=◌
@@ -87,9 +50,16 @@ text_or_null (string s) = Some (Some s)
 text_or_null (array ds) = None
 text_or_null (object ms) = None
 
+-- the texts of refusals stand before what is refused so
+abbrev pub bad_label : List ℕ → List ℕ
+bad_label label = codes "bad label in `files`: " ++ label
+
 -- a name that is a label in normal form
 abbrev pub label_in : List ℕ → Result (List ℕ) (List ℕ)
 label_in name = if is_label name then Ok name else Err (bad_label name)
+
+abbrev pub bad_files : List ℕ
+bad_files = codes "`files` must be an object from labels to texts or nulls"
 
 -- members whose names are labels in normal form, each with a text or null: the changes, in their order
 unfoldable pub changes_of : Members → Result (List Change) (List ℕ)
@@ -99,6 +69,9 @@ changes_of (member k d ms) = do
   label ← label_in k
   changes ← changes_of ms
   Ok ((label, text) ∷ changes)
+
+abbrev pub no_files : List ℕ
+no_files = codes "`files` does not go with `--repo`"
 
 -- the files that a request sends, unless a folder has the files
 abbrev pub files_in : Origin → Data → Result (List Change) (List ℕ)
@@ -110,6 +83,9 @@ abbrev pub gone_at : Option (List ℕ) → List Change
 gone_at None = []
 gone_at (Some label) = (label, None) ∷ []
 
+abbrev pub bad_changed : List ℕ
+bad_changed = codes "`changed` must be an array of paths"
+
 -- items that are all paths: the files that they lead to, below the top, are taken away
 unfoldable pub gone_in : Items → Result (List Change) (List ℕ)
 gone_in no_items = Ok []
@@ -118,10 +94,16 @@ gone_in (item d ds) = do
   changes ← gone_in ds
   Ok (gone_at (label_of_path [] path) ++ changes)
 
+abbrev pub no_member : List ℕ → List ℕ
+no_member name = codes "no such member: " ++ name
+
 -- the files that have changed, if a folder has the files
 abbrev pub changed_in : Origin → Data → Result (List Change) (List ℕ)
 changed_in Sent d = Err (no_member (codes "changed"))
 changed_in Folder d = there_or bad_changed (as_array d) >>= gone_in
+
+abbrev pub bad_roots : List ℕ
+bad_roots = codes "`roots` must be an array of labels"
 
 -- items that are all texts
 unfoldable pub texts_in : Items → Result (List (List ℕ)) (List ℕ)
@@ -131,6 +113,9 @@ texts_in (item d ds) = do
   texts ← texts_in ds
   Ok (text ∷ texts)
 
+abbrev pub no_roots : List ℕ
+no_roots = codes "`roots` is missing"
+
 -- the roots that a value names
 abbrev pub roots_in : Data → Result (List (List ℕ)) (List ℕ)
 roots_in d = do
@@ -138,9 +123,15 @@ roots_in d = do
   items ← there_or bad_roots (as_array roots)
   texts_in items
 
+abbrev pub bad_prelude : List ℕ
+bad_prelude = codes "`prelude` must be a label or null"
+
 -- the prelude that a value names
 abbrev pub prelude_in : Data → Result (Option (List ℕ)) (List ℕ)
 prelude_in d = there_or bad_prelude (text_or_null d)
+
+abbrev pub bad_steps : List ℕ
+bad_steps = codes "`steps` must be a number from 1 to 100000000"
 
 -- a number of steps
 abbrev pub steps_in : Data → Result ℕ (List ℕ)
@@ -148,6 +139,9 @@ steps_in d = do
   value ← there_or bad_steps (as_number d)
   n ← there_or bad_steps (as_u64 value)
   if nat_le 1 n && nat_le n 100000000 then Ok n else Err bad_steps
+
+abbrev pub bad_with : List ℕ
+bad_with = codes "`with` must be an array of some of values, loads, steps, only-roots"
 
 -- with what a word names
 unfoldable pub with_word : Wanted → List ℕ → Result Wanted (List ℕ)
@@ -214,12 +208,18 @@ plain defaults roots = record {
   wanted = defaults.wanted;
 }
 
+abbrev pub not_object : List ℕ
+not_object = codes "not a JSON object"
+
 -- what a value asks for, or why it is not a request
 unfoldable pub asking_in : Defaults → Data → Result Asking (List ℕ)
 asking_in defaults d = do
   members ← there_or not_object (as_object d)
   roots ← roots_in d
   with_members defaults.origin (plain defaults roots) members
+
+abbrev pub line_too_long : List ℕ
+line_too_long = codes "line too long"
 
 -- the value that a line is
 unfoldable pub value_of : List ℕ → Result Data (List ℕ)

@@ -1,19 +1,18 @@
 //! A request: changes of files, and a question about the files after them.
 
 ghost use Rattle.std.specs.Prelude.{◌≡◌, ◌≢◌, ◌≤◌, ◌⊎◌, ◌++◌, [], false, Err, IfErr, IfOk, None, Ok, OnOk, Some, map, option_map, string_bytes};
-ghost use Rattle.serde_json.specs.Find.{as_object};
 ghost use Rattle.serde_json.specs.View.{items_view, members_view, view};
 ghost use Rattle.star_bundle.specs.Bundle.{json_of};
 ghost use Rattle.star_label.specs.View.{text_of};
 ghost use Rattle.star_session.specs.Changes.{change_of};
-ghost use Rattle.star_words.specs.Words.{label_of_path};
 ghost use Rattle.star_session.specs.Requests as spec;
 ghost use Rattle.star_session.specs.Requests.{IsIdText, IsWhy, asked_by, there_or};
 ghost use Rattle.star_session.specs.declared.request.RequestError.TheVariants.{Memory};
+ghost use Rattle.star_words.specs.Words.{label_of_path};
 
 use crate::question::Question;
 use serde_json::{Map, Value};
-use star_bundle::bundle::normal_label;
+use star_bundle::bundle::{into_members, json_in, normal_label};
 use star_label::label::Label;
 use star_report::wanted::Wanted;
 use star_words::words::label_of;
@@ -149,15 +148,9 @@ pub fn value_in(alloc: Global, line: &[u8]) -> Result<Value, RequestError>
     ensures ok { IfOk result (λ v. json_of line.now ≡ Some (view v)) }
     ensures refused { IfErr result (λ e. IsWhy e (there_or spec.not_object (json_of line.now))) }
 {
-    match Value::from_slice(alloc, line) {
-        Ok(value) => Ok(value),
-        Err(error) => {
-            if error.is_memory() {
-                Err(RequestError::Memory)
-            } else {
-                Err(RequestError::NotObject)
-            }
-        }
+    match json_in(alloc, line)? {
+        Some(value) => Ok(value),
+        None => Err(RequestError::NotObject),
     }
 }
 
@@ -168,15 +161,6 @@ fn text_or_null(value: Value) -> Option<Option<String>>
     match value {
         Value::String(text) => Some(Some(text)),
         Value::Null => Some(None),
-        _ => None,
-    }
-}
-
-fn into_members(value: Value) -> Option<Map<String, Value>>
-    ensures { option_map (λ m. members_view m.entries) result ≡ as_object (view value) }
-{
-    match value {
-        Value::Object(members) => Some(members),
         _ => None,
     }
 }

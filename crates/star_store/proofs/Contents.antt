@@ -1,5 +1,5 @@
 -- Contents of keys: their levels, additions to a list, and when two are the same.
-use Rattle.std.proofs.Common.{◌≡◌, ℕ, zero, suc, ◌+◌, ◌-◌, ◌<◌, Bool, true, false, ◌&&◌, nat_eq, List, [], ◌∷◌, ◌++◌, length, if◌then◌else◌, Option, Some, None, is_some, refl, ap, sym, ◌∙◌, arith}
+use Rattle.std.proofs.Common.{◌≡◌, ℕ, zero, suc, ◌+◌, ◌-◌, ◌<◌, Bool, true, false, ◌&&◌, ◌||◌, nat_eq, List, [], ◌∷◌, ◌++◌, length, if◌then◌else◌, Option, Some, None, is_some, refl, ap, sym, ◌∙◌, arith}
 use Rattle.std.specs.List.{list_all}
 use Rattle.std.specs.Option.{option_map}
 use Rattle.std.specs.Cmp.Lexicographic.{pointwise}
@@ -29,14 +29,7 @@ only_atom_is look n v a h e = content_at look n v h ∙ one v e
   where
     in_cell : (c : Option Cell) → atom_in c ≡ Some a → content_cell (content look (n - 1)) c ≡ Some (a ∷ [])
     in_cell (Some (cell.Text t)) e = ap (option_map (λ b. b ∷ [])) e
-    in_cell (Some (cell.Range r)) e = cc
-    in_cell (Some (cell.Tuple xs)) e = cc
-    in_cell (Some (cell.List xs)) e = cc
-    in_cell (Some (cell.Dict es)) e = cc
-    in_cell (Some (cell.Func f)) e = cc
-    in_cell (Some (cell.Frame f)) e = cc
-    in_cell (Some (cell.Bound m x)) e = cc
-    in_cell None e = cc
+    in_cell _ e = cc
 
     one : (v : Value) → only_atom look v ≡ Some a → content_value look (content look (n - 1)) v ≡ Some (a ∷ [])
     one value.NoneValue e = ap (option_map (λ b. b ∷ [])) e
@@ -78,13 +71,17 @@ some_join None b = refl
 
 -- truth
 
-and_false : (b : Bool) → (b && false) ≡ false
+pub and_false : (b : Bool) → (b && false) ≡ false
 and_false true = refl
 and_false false = refl
 
 pub and_true : (b : Bool) → (b && true) ≡ b
 and_true true = refl
 and_true false = refl
+
+pub or_false : (b : Bool) → (b || false) ≡ b
+or_false true = refl
+or_false false = refl
 
 and_assoc : (a b c : Bool) → ((a && b) && c) ≡ (a && (b && c))
 and_assoc true b c = refl
@@ -267,15 +264,8 @@ items_have g f h [] = refl
 items_have g f h (x ∷ xs) = ap (λ b. b && list_all g xs) (h x) ∙ ap (λ (b : Bool). is_some (f x) && b) (items_have g f h xs) ∙ sym (some_join (f x) (content_each f xs))
 
 cells_have : (g : Value → Bool) (f : Value → Option (List Atom)) → ((v : Value) → g v ≡ is_some (f v)) → (c : Option Cell) → key_cell g c ≡ is_some (content_cell f c)
-cells_have g f h (Some (cell.Text t)) = refl
 cells_have g f h (Some (cell.Tuple xs)) = items_have g f h xs ∙ sym (some_join (Some (atom.Row (length xs) ∷ [])) (content_each f xs))
-cells_have g f h (Some (cell.Range r)) = refl
-cells_have g f h (Some (cell.List xs)) = refl
-cells_have g f h (Some (cell.Dict es)) = refl
-cells_have g f h (Some (cell.Func d)) = refl
-cells_have g f h (Some (cell.Frame d)) = refl
-cells_have g f h (Some (cell.Bound m v)) = refl
-cells_have g f h None = refl
+cells_have g f h _ = refl
 
 values_have : (look : Value → Option Cell) (g : Value → Bool) (f : Value → Option (List Atom)) → ((v : Value) → g v ≡ is_some (f v)) → (v : Value) → key_value look g v ≡ is_some (content_value look f v)
 values_have look g f h value.NoneValue = refl

@@ -3,7 +3,7 @@ use Rattle.std.proofs.Common.{◌≡◌, ℕ, zero, suc, nat_eq, Bool, true, fal
 use Rattle.std.specs.List.{list_all, remove}
 use Rattle.std.specs.Option.{option_map}
 use Rattle.std.specs.Cmp.Lexicographic.{pointwise}
-use Rattle.std.proofs.lemmas.Bool.{eqb-true}
+use Rattle.std.proofs.lemmas.Bool.{and_parts, eqb-true}
 use Rattle.std.proofs.lemmas.List.Folds.{list_all-append}
 use Rattle.std.proofs.lemmas.Option.{slice_get-map}
 use Rattle.star_store.specs.declared.values.Value.{Value}
@@ -16,7 +16,7 @@ use Rattle.star_store.specs.Content.{KeepsKeys, content, content_cell, content_e
 use Rattle.star_store.specs.Index.{Covers, IsIndexed, IsKnown, Places, PlacesAt, Shows, alone, entries_of, far_home, is_far, is_within, key_entry, place_by, place_told}
 use Rattle.star_store.specs.Key.{key_levels, same_key}
 use Rattle.star_store.specs.Store.{Store}
-use Rattle.star_store.proofs.Contents.{contents_stay, same_keys}
+use Rattle.star_store.proofs.Contents.{contents_stay, same_keys, or_false}
 use Rattle.star_store.proofs.Indexes.{alike, none_found}
 
 -- contents and numbers
@@ -50,13 +50,7 @@ content_near look (suc n) v k h = in_value v h
     in_cell : (c : Option Cell) → content_cell (content look n) c ≡ Some k → near k ≡ true
     in_cell (Some (cell.Text t)) e = sym (is (atom.Text t ∷ []) e)
     in_cell (Some (cell.Tuple xs)) e = in_row (length xs) (content_each (content look n) xs) e
-    in_cell (Some (cell.Range r)) e = cc
-    in_cell (Some (cell.List xs)) e = cc
-    in_cell (Some (cell.Dict es)) e = cc
-    in_cell (Some (cell.Func f)) e = cc
-    in_cell (Some (cell.Frame f)) e = cc
-    in_cell (Some (cell.Bound m x)) e = cc
-    in_cell None e = cc
+    in_cell _ e = cc
 
     in_value : (v : Value) → content_value look (content look n) v ≡ Some k → near k ≡ true
     in_value value.NoneValue e = sym (is (atom.Nothing ∷ []) e)
@@ -102,10 +96,6 @@ shown s look h (value.Builtin b) c e = cc
 shown_keeps : (s : Store) (look : Value → Option Cell) → Shows look s.home s.cells → KeepsKeys (alone s) look
 shown_keeps s look h = record { texts = λ v t e. shown s look h v (cell.Text t) e; tuples = λ v xs e. shown s look h v (cell.Tuple xs) e }
 
-or_false : (b : Bool) → (b || false) ≡ b
-or_false true = refl
-or_false false = refl
-
 -- whether a key of an index has a content
 abbrev has_key : (Value → Option Cell) → List Atom → List Atom → Bool
 has_key look atoms k = pointwise same_atom atoms k || is_far look atoms k
@@ -133,10 +123,7 @@ module _ (s : Store) (look : Value → Option Cell) (h : Shows look s.home s.cel
       by : (b : Bool) → (if b then content (alone s) key_levels (value.Ref home at) else Some (atom.Far home at ∷ [])) ≡ Some k → has_key look atoms k ≡ same_content (Some atoms) (content look key_levels (value.Ref home at))
       by true q = own_tells atoms (value.Ref home at) k q
       by false q = far_tells atoms n home at k q
-  entry_tells atoms n value.NoneValue k e = own_tells atoms value.NoneValue k e
-  entry_tells atoms n (value.Bool b) k e = own_tells atoms (value.Bool b) k e
-  entry_tells atoms n (value.Int m) k e = own_tells atoms (value.Int m) k e
-  entry_tells atoms n (value.Builtin b) k e = own_tells atoms (value.Builtin b) k e
+  entry_tells atoms n v k e = own_tells atoms v k e
 
   entries_tell : (key : Value) (atoms : List Atom) → content look key_levels key ≡ Some atoms → (es : List (Value × Value)) (index : List (List Atom)) → map (λ e. key_entry s e.0) es ≡ map Some index → map (has_key look atoms) index ≡ map (λ e. same_key look key_levels key e.0) es
   entries_tell key atoms t [] [] e = refl
@@ -182,14 +169,6 @@ pub known_places : (look : Value → Option Cell) (key : Value) (c : Option Cell
 known_places look key c index (Some place) h k = subst (Places look key c) (sym h) (known_found look key c index (content look key_levels key) refl k)
 known_places look key c index None h k = tt
 
-and_left : (b c : Bool) → (b && c) ≡ true → b ≡ true
-and_left true c h = refl
-and_left false c h = cc
-
-and_right : (b c : Bool) → (b && c) ≡ true → c ≡ true
-and_right true c h = h
-and_right false c h = cc
-
 -- an index that has no number
 
 no_number : (look : Value → Option Cell) (atoms k : List Atom) → is_within [] (far_home k) ≡ true → is_far look atoms k ≡ false
@@ -205,8 +184,8 @@ no_number look atoms (atom.Row n ∷ ks) e = refl
 near_tests : (look : Value → Option Cell) (atoms : List Atom) (index : List (List Atom)) → Covers [] index → map (pointwise same_atom atoms) index ≡ map (has_key look atoms) index
 near_tests look atoms [] h = refl
 near_tests look atoms (k ∷ index) h =
-    let one : is_within [] (far_home k) ≡ true = and_left (is_within [] (far_home k)) (list_all (λ j. is_within [] (far_home j)) index) h in
-    let rest : Covers [] index = and_right (is_within [] (far_home k)) (list_all (λ j. is_within [] (far_home j)) index) h in
+    let one : is_within [] (far_home k) ≡ true = (and_parts (is_within [] (far_home k)) (list_all (λ j. is_within [] (far_home j)) index) h).0 in
+    let rest : Covers [] index = (and_parts (is_within [] (far_home k)) (list_all (λ j. is_within [] (far_home j)) index) h).1 in
     ap (λ (b : Bool). b ∷ map (pointwise same_atom atoms) index)
     (sym (or_false (pointwise same_atom atoms k)) ∙ ap (λ (b : Bool). pointwise same_atom atoms k || b) (sym (no_number look atoms k one)))
     ∙ ap (λ (bs : List Bool). has_key look atoms k ∷ bs) (near_tests look atoms index rest)
@@ -229,8 +208,8 @@ covered_at : (homes : List ℕ) (index : List (List Atom)) (at : ℕ) (a : List 
 covered_at homes [] at a h e = cc
 covered_at homes (k ∷ index) zero a h e =
     let q : k ≡ a = cc in
-    subst (λ (j : List Atom). is_within homes (far_home j) ≡ true) q (and_left (is_within homes (far_home k)) (list_all (λ j. is_within homes (far_home j)) index) h)
-covered_at homes (k ∷ index) (suc at) a h e = covered_at homes index at a (and_right (is_within homes (far_home k)) (list_all (λ j. is_within homes (far_home j)) index) h) e
+    subst (λ (j : List Atom). is_within homes (far_home j) ≡ true) q (and_parts (is_within homes (far_home k)) (list_all (λ j. is_within homes (far_home j)) index) h).0
+covered_at homes (k ∷ index) (suc at) a h e = covered_at homes index at a (and_parts (is_within homes (far_home k)) (list_all (λ j. is_within homes (far_home j)) index) h).1 e
 
 -- the content at a place of an index is that of the key there
 content_at : (look : Value → Option Cell) (c : Option Cell) (index : List (List Atom)) (at : ℕ) (e : Value × Value) (a : List Atom) → IsKnown look c index → Covers [] index → slice_get (entries_of c) at ≡ Some e → slice_get index at ≡ Some a → content look key_levels e.0 ≡ Some a
@@ -263,8 +242,8 @@ is_covered homes k = is_within homes (far_home k)
 pub covers_more : (homes more : List ℕ) (index : List (List Atom)) → ((k : List Atom) → is_within homes (far_home k) ≡ true → is_within more (far_home k) ≡ true) → Covers homes index → Covers more index
 covers_more homes more [] f h = refl
 covers_more homes more (k ∷ index) f h =
-    let one : is_covered more k ≡ true = f k (and_left (is_covered homes k) (list_all (is_covered homes) index) h) in
-    let rest : Covers more index = covers_more homes more index f (and_right (is_covered homes k) (list_all (is_covered homes) index) h) in
+    let one : is_covered more k ≡ true = f k (and_parts (is_covered homes k) (list_all (is_covered homes) index) h).0 in
+    let rest : Covers more index = covers_more homes more index f (and_parts (is_covered homes k) (list_all (is_covered homes) index) h).1 in
     ap (λ (b : Bool). b && list_all (is_covered more) index) one ∙ rest
 
 covers_last : (homes : List ℕ) (index : List (List Atom)) (k : List Atom) → Covers homes index → is_within homes (far_home k) ≡ true → Covers homes (index ++ k ∷ [])
@@ -276,10 +255,10 @@ covers_last homes index k h e =
 pub covers_removed : (homes : List ℕ) (index : List (List Atom)) (at : ℕ) → Covers homes index → Covers homes (remove index at)
 covers_removed homes [] zero h = refl
 covers_removed homes [] (suc at) h = refl
-covers_removed homes (k ∷ index) zero h = and_right (is_covered homes k) (list_all (is_covered homes) index) h
+covers_removed homes (k ∷ index) zero h = (and_parts (is_covered homes k) (list_all (is_covered homes) index) h).1
 covers_removed homes (k ∷ index) (suc at) h =
-    ap (λ (b : Bool). b && list_all (is_covered homes) (remove index at)) (and_left (is_covered homes k) (list_all (is_covered homes) index) h)
-    ∙ covers_removed homes index at (and_right (is_covered homes k) (list_all (is_covered homes) index) h)
+    ap (λ (b : Bool). b && list_all (is_covered homes) (remove index at)) (and_parts (is_covered homes k) (list_all (is_covered homes) index) h).0
+    ∙ covers_removed homes index at (and_parts (is_covered homes k) (list_all (is_covered homes) index) h).1
 
 -- a key that is pushed, or not, after its file was added
 pub covers_push : (homes more : List ℕ) (index new : List (List Atom)) (k : List Atom) (o : Option ℕ) (b : Bool) → Covers homes index → ((j : List Atom) → is_within homes (far_home j) ≡ true → is_within more (far_home j) ≡ true) → o ≡ far_home k → is_within more o ≡ true → new ≡ (if b then index ++ k ∷ [] else index) → Covers more new

@@ -157,17 +157,11 @@ alone_at s t home at c q f h =
 
 alone_texts : (s t : Store) → Stays s t → (v : Value) (x : List ℕ) → alone s v ≡ Some (cell.Text x) → alone t v ≡ Some (cell.Text x)
 alone_texts s t k (value.Ref home at) x h = alone_at s t home at (cell.Text x) k.home (k.texts at x) h
-alone_texts s t k value.NoneValue x h = cc
-alone_texts s t k (value.Bool b) x h = cc
-alone_texts s t k (value.Int n) x h = cc
-alone_texts s t k (value.Builtin b) x h = cc
+alone_texts s t k _ x h = cc
 
 alone_tuples : (s t : Store) → Stays s t → (v : Value) (xs : List Value) → alone s v ≡ Some (cell.Tuple xs) → alone t v ≡ Some (cell.Tuple xs)
 alone_tuples s t k (value.Ref home at) xs h = alone_at s t home at (cell.Tuple xs) k.home (k.tuples at xs) h
-alone_tuples s t k value.NoneValue xs h = cc
-alone_tuples s t k (value.Bool b) xs h = cc
-alone_tuples s t k (value.Int n) xs h = cc
-alone_tuples s t k (value.Builtin b) xs h = cc
+alone_tuples s t k _ xs h = cc
 
 alone_stays : (s t : Store) → Stays s t → KeepsKeys (alone s) (alone t)
 alone_stays s t k = record { texts = alone_texts s t k; tuples = alone_tuples s t k }
@@ -181,10 +175,7 @@ entry_stays s t k (value.Ref home at) a h =
     by : (b : Bool) → (if b then content (alone s) key_levels (value.Ref home at) else Some (atom.Far home at ∷ [])) ≡ Some a → (if b then content (alone t) key_levels (value.Ref home at) else Some (atom.Far home at ∷ [])) ≡ Some a
     by true g = contents_stay (alone s) (alone t) key_levels (value.Ref home at) a (alone_stays s t k) g
     by false g = g
-entry_stays s t k value.NoneValue a h = contents_stay (alone s) (alone t) key_levels value.NoneValue a (alone_stays s t k) h
-entry_stays s t k (value.Bool b) a h = contents_stay (alone s) (alone t) key_levels (value.Bool b) a (alone_stays s t k) h
-entry_stays s t k (value.Int n) a h = contents_stay (alone s) (alone t) key_levels (value.Int n) a (alone_stays s t k) h
-entry_stays s t k (value.Builtin b) a h = contents_stay (alone s) (alone t) key_levels (value.Builtin b) a (alone_stays s t k) h
+entry_stays s t k v a h = contents_stay (alone s) (alone t) key_levels v a (alone_stays s t k) h
 
 each_stays : (s t : Store) → Stays s t → (es : List (Value × Value)) (index : List (List Atom)) → map (λ e. key_entry s e.0) es ≡ map Some index → map (λ e. key_entry t e.0) es ≡ map Some index
 each_stays s t k [] [] h = refl
@@ -199,14 +190,7 @@ each_stays s t k (e ∷ es) (a ∷ index) h =
 
 stays_indexed : (s t : Store) (c : Option Cell) (index : List (List Atom)) → Stays s t → IsIndexed s c index → IsIndexed t c index
 stays_indexed s t (Some (cell.Dict es)) index k h = each_stays s t k es index h
-stays_indexed s t (Some (cell.Text x)) index k h = tt
-stays_indexed s t (Some (cell.Range r)) index k h = tt
-stays_indexed s t (Some (cell.Tuple xs)) index k h = tt
-stays_indexed s t (Some (cell.List xs)) index k h = tt
-stays_indexed s t (Some (cell.Func f)) index k h = tt
-stays_indexed s t (Some (cell.Frame f)) index k h = tt
-stays_indexed s t (Some (cell.Bound m v)) index k h = tt
-stays_indexed s t None index k h = tt
+stays_indexed s t _ index k h = tt
 
 within_rows : (rows : Indexes) (at : ℕ) (index : List (List Atom)) → index_at rows at ≡ Some index → at < length rows
 within_rows [] at index h = cc
@@ -232,7 +216,7 @@ still_indexed s t rows h k d l = record { each = λ at index q. each at index q 
     each at index q (Some (cell.Bound m v)) e = tt
     each at index q None e = tt
 
-front : {X : Type 0} (xs ys : List X) (i : ℕ) → i < length xs → slice_get (xs ++ ys) i ≡ slice_get xs i
+pub front : {X : Type 0} (xs ys : List X) (i : ℕ) → i < length xs → slice_get (xs ++ ys) i ≡ slice_get xs i
 front [] ys i h = absurd (omega arith)
 front (x ∷ xs) ys zero h = refl
 front (x ∷ xs) ys (suc i) h = front xs ys i (omega arith)

@@ -1,16 +1,13 @@
 pub mod Contents
-pub mod Equals
 pub mod Far
 pub mod Fronts
 pub mod GlobalNames
 pub mod Indexes
 pub mod Ints
 pub mod Keys
-pub mod Orders
 pub mod Places
 pub mod Rows
 pub mod Store
 pub mod Tables
-pub mod Texts
 pub mod Walks
 pub mod Writing

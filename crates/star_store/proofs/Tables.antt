@@ -3,7 +3,7 @@ use Rattle.std.proofs.Common.{◌≡◌, ℕ, zero, suc, ◌+◌, ◌<◌, ◌�
 use Rattle.std.specs.List.{list_all, list_any}
 use Rattle.std.specs.Option.{option_map}
 use Rattle.std.specs.Cmp.Lexicographic.{pointwise}
-use Rattle.std.proofs.lemmas.Bool.{eqb-true, eqb-false, ltb-false, ne_eqb}
+use Rattle.std.proofs.lemmas.Bool.{and_parts, eqb-false, eqb-true, ltb-false, ne_eqb}
 use Rattle.std.proofs.lemmas.List.{drop_more}
 use Rattle.std.proofs.lemmas.List.Folds.{list_any-append}
 use Rattle.std.proofs.lemmas.List.Quantifiers.{position-Some}
@@ -21,30 +21,11 @@ use Rattle.star_store.specs.Key.{key_levels}
 use Rattle.star_store.specs.Scalars.{contents_alike}
 use Rattle.star_store.specs.Table.{AreRows, AreRowsUpTo, IsAdded, IsRow, earlier, has, is_among, is_closed, is_closed_cell, is_from, is_from_any, is_home, or_none, row_at}
 use Rattle.star_store.specs.Write.{cell_at}
-use Rattle.star_store.proofs.Indexes.{alike}
+use Rattle.star_store.proofs.Indexes.{alike, front}
 use Rattle.star_store.proofs.Places.{earlier_assoc, earlier_none, or_place, position_never, position_or, position_push, position_same}
+use Rattle.star_store.proofs.Contents.{and_false, and_true, or_false}
 
 -- truth
-
-and_left : (b c : Bool) → (b && c) ≡ true → b ≡ true
-and_left true c h = refl
-and_left false c h = cc
-
-and_right : (b c : Bool) → (b && c) ≡ true → c ≡ true
-and_right true c h = h
-and_right false c h = cc
-
-and_false : (b : Bool) → (b && false) ≡ false
-and_false true = refl
-and_false false = refl
-
-and_true : (b : Bool) → (b && true) ≡ b
-and_true true = refl
-and_true false = refl
-
-or_false : (b : Bool) → (b || false) ≡ b
-or_false true = refl
-or_false false = refl
 
 none_passes : {X : Type 0} (f : X → Bool) (xs : List X) → ((x : X) → f x ≡ false) → list_any f xs ≡ false
 none_passes f [] h = refl
@@ -104,8 +85,8 @@ closed_at : (home : ℕ) (cells : List HeapCell) (at : ℕ) (c : Cell) → is_cl
 closed_at home [] at c h e = cc
 closed_at home (d ∷ cells) zero c h e =
     let q : d.cell ≡ c = cc in
-    ap (is_closed_cell home) (sym q) ∙ and_left (is_closed_cell home d.cell) (is_closed home cells) h
-closed_at home (d ∷ cells) (suc at) c h e = closed_at home cells at c (and_right (is_closed_cell home d.cell) (is_closed home cells) h) e
+    ap (is_closed_cell home) (sym q) ∙ (and_parts (is_closed_cell home d.cell) (is_closed home cells) h).0
+closed_at home (d ∷ cells) (suc at) c h e = closed_at home cells at c (and_parts (is_closed_cell home d.cell) (is_closed home cells) h).1 e
 
 module _ (home : ℕ) (cells : List HeapCell) (look later : Value → Option Cell) (h : Shows look home cells) (k : Shows later home cells) (c : is_closed home cells ≡ true) where
   Alike : ℕ → Type 0
@@ -123,19 +104,12 @@ module _ (home : ℕ) (cells : List HeapCell) (look later : Value → Option Cel
   items_alike : (n : ℕ) → Alike n → (xs : List Value) → list_all (is_home home) xs ≡ true → content_each (content look n) xs ≡ content_each (content later n) xs
   items_alike n a [] e = refl
   items_alike n a (x ∷ xs) e =
-      ap (λ (o : Option (List Atom)). join o (content_each (content look n) xs)) (item_alike n a x (and_left (is_home home x) (list_all (is_home home) xs) e))
-      ∙ ap (join (content later n x)) (items_alike n a xs (and_right (is_home home x) (list_all (is_home home) xs) e))
+      ap (λ (o : Option (List Atom)). join o (content_each (content look n) xs)) (item_alike n a x (and_parts (is_home home x) (list_all (is_home home) xs) e).0)
+      ∙ ap (join (content later n x)) (items_alike n a xs (and_parts (is_home home x) (list_all (is_home home) xs) e).1)
 
   cell_alike : (n : ℕ) → Alike n → (o : Option Cell) → ((d : Cell) → o ≡ Some d → is_closed_cell home d ≡ true) → content_cell (content look n) o ≡ content_cell (content later n) o
-  cell_alike n a (Some (cell.Text t)) f = refl
   cell_alike n a (Some (cell.Tuple xs)) f = ap (join (Some (atom.Row (length xs) ∷ []))) (items_alike n a xs (f (cell.Tuple xs) refl))
-  cell_alike n a (Some (cell.Range r)) f = refl
-  cell_alike n a (Some (cell.List xs)) f = refl
-  cell_alike n a (Some (cell.Dict es)) f = refl
-  cell_alike n a (Some (cell.Func g)) f = refl
-  cell_alike n a (Some (cell.Frame g)) f = refl
-  cell_alike n a (Some (cell.Bound m v)) f = refl
-  cell_alike n a None f = refl
+  cell_alike n a _ f = refl
 
   contents_alike_at : (n : ℕ) → Alike n
   unfolding content Alike
@@ -181,6 +155,9 @@ get_other (y ∷ ys) (suc at) (suc i) x n = get_other ys at i x (λ e. n (ap suc
 row_more : (row : List ℕ) (at i : ℕ) → has (row ++ at ∷ []) i ≡ (has row i || (nat_eq at i && true))
 row_more row at i = list_any-append (λ j. nat_eq j i) row (at ∷ []) ∙ ap (λ (b : Bool). has row i || b) (or_false (nat_eq at i) ∙ sym (and_true (nat_eq at i)))
 
+no_more : {new : Bool} (old here : Bool) → new ≡ old → new ≡ (old || (here && false))
+no_more old here e = e ∙ sym (or_false old) ∙ ap (λ (b : Bool). old || b) (sym (and_false here))
+
 -- a content that has a row
 here_added : (content : List Atom) (at : ℕ) (contents : List (List Atom)) (rows : List (List ℕ)) (place : ℕ) → place_by content contents ≡ Some place → place < length rows → IsAdded content at contents rows contents (set rows place (or_none (slice_get rows place) ++ at ∷ []))
 here_added content at contents rows place p l atoms i = by (pointwise same_atom atoms content) refl
@@ -192,10 +169,7 @@ here_added content at contents rows place p l atoms i = by (pointwise same_atom 
         ∙ ap (λ (o : Option (List ℕ)). has (or_none o) i) (get_set rows place (or_none (slice_get rows place) ++ at ∷ []) l)
         ∙ row_more (or_none (slice_get rows place)) at i
         ∙ ap (λ (o : Option ℕ). has (or_none (row_at rows o)) i || (nat_eq at i && true)) (sym q)
-    by false e =
-        other (place_by atoms contents) refl
-        ∙ sym (or_false (has (or_none (row_at rows (place_by atoms contents))) i))
-        ∙ ap (λ (b : Bool). has (or_none (row_at rows (place_by atoms contents))) i || b) (sym (and_false (nat_eq at i)))
+    by false e = no_more (has (or_none (row_at rows (place_by atoms contents))) i) (nat_eq at i) (other (place_by atoms contents) refl)
       where
         apart : (j : ℕ) → place_by atoms contents ≡ Some j → j ≡ place → ⊥
         apart j q same =
@@ -211,11 +185,6 @@ here_added content at contents rows place p l atoms i = by (pointwise same_atom 
 
 pub added_here : (content : List Atom) (at : ℕ) (contents : List (List Atom)) (rows new : List (List ℕ)) (place : ℕ) → place_by content contents ≡ Some place → place < length rows → new ≡ set rows place (or_none (slice_get rows place) ++ at ∷ []) → IsAdded content at contents rows contents new
 added_here content at contents rows new place p l e = subst (λ (r : List (List ℕ)). IsAdded content at contents rows contents r) (sym e) (here_added content at contents rows place p l)
-
-front : {X : Type 0} (xs ys : List X) (i : ℕ) → i < length xs → slice_get (xs ++ ys) i ≡ slice_get xs i
-front [] ys i h = absurd (omega arith)
-front (x ∷ xs) ys zero h = refl
-front (x ∷ xs) ys (suc i) h = front xs ys i (omega arith)
 
 last_at : {X : Type 0} (xs : List X) (x : X) (n : ℕ) → n ≡ length xs → slice_get (xs ++ x ∷ []) n ≡ Some x
 last_at [] x zero h = refl
@@ -236,10 +205,7 @@ new_added content at contents rows p l atoms i =
         ∙ ap (λ (o : Option (List ℕ)). has (or_none o) i) (last_at rows (at ∷ []) (length contents) (sym l))
         ∙ (or_false (nat_eq at i) ∙ sym (and_true (nat_eq at i)))
         ∙ ap (λ (o : Option ℕ). has (or_none (row_at rows o)) i || (nat_eq at i && true)) (sym q)
-    by false e =
-        other (place_by atoms contents) refl
-        ∙ sym (or_false (has (or_none (row_at rows (place_by atoms contents))) i))
-        ∙ ap (λ (b : Bool). has (or_none (row_at rows (place_by atoms contents))) i || b) (sym (and_false (nat_eq at i)))
+    by false e = no_more (has (or_none (row_at rows (place_by atoms contents))) i) (nat_eq at i) (other (place_by atoms contents) refl)
       where
         other : (o : Option ℕ) → place_by atoms contents ≡ o → has (or_none (row_at (rows ++ (at ∷ []) ∷ []) (or_place o None))) i ≡ has (or_none (row_at rows o)) i
         other None q = refl
@@ -360,8 +326,8 @@ told_place look atoms homes index h = alike (λ k. pointwise same_atom atoms k |
     each : (ks : List (List Atom)) → Covers homes ks → map (λ k. pointwise same_atom atoms k || is_from_any look atoms homes k) ks ≡ map (λ k. pointwise same_atom atoms k || is_far look atoms k) ks
     each [] e = refl
     each (k ∷ ks) e =
-        ap (λ (b : Bool). (pointwise same_atom atoms k || b) ∷ map (λ j. pointwise same_atom atoms j || is_from_any look atoms homes j) ks) (from_any_is look atoms homes k (and_left (is_within homes (far_home k)) (list_all (λ j. is_within homes (far_home j)) ks) e))
-        ∙ ap (λ (bs : List Bool). (pointwise same_atom atoms k || is_far look atoms k) ∷ bs) (each ks (and_right (is_within homes (far_home k)) (list_all (λ j. is_within homes (far_home j)) ks) e))
+        ap (λ (b : Bool). (pointwise same_atom atoms k || b) ∷ map (λ j. pointwise same_atom atoms j || is_from_any look atoms homes j) ks) (from_any_is look atoms homes k (and_parts (is_within homes (far_home k)) (list_all (λ j. is_within homes (far_home j)) ks) e).0)
+        ∙ ap (λ (bs : List Bool). (pointwise same_atom atoms k || is_far look atoms k) ∷ bs) (each ks (and_parts (is_within homes (far_home k)) (list_all (λ j. is_within homes (far_home j)) ks) e).1)
 
 -- the start of that loop, its steps and its end
 pub told_start : (look : Value → Option Cell) (atoms : List Atom) (homes : List ℕ) (keys index : List (List Atom)) (place : Option ℕ) → Covers homes index → keys ≡ index → place ≡ place_by atoms keys → earlier place (position (is_from_any look atoms homes) keys) ≡ place_told look atoms index

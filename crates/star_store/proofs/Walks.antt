@@ -30,13 +30,7 @@ row_apart x n None = refl
 in_cell : (f : Value → Option (List Atom)) (x : Scalar) (c : Option Cell) → same_content (Some (scalar_atom x ∷ [])) (content_cell f c) ≡ is_only x (atom_in c)
 in_cell f x (Some (cell.Text t)) = and_true (same_atom (scalar_atom x) (atom.Text t))
 in_cell f x (Some (cell.Tuple xs)) = row_apart x (length xs) (content_each f xs)
-in_cell f x (Some (cell.Range r)) = refl
-in_cell f x (Some (cell.List xs)) = refl
-in_cell f x (Some (cell.Dict es)) = refl
-in_cell f x (Some (cell.Func d)) = refl
-in_cell f x (Some (cell.Frame d)) = refl
-in_cell f x (Some (cell.Bound m v)) = refl
-in_cell f x None = refl
+in_cell f x _ = refl
 
 in_value : (look : Value → Option Cell) (f : Value → Option (List Atom)) (x : Scalar) (v : Value) → same_content (Some (scalar_atom x ∷ [])) (content_value look f v) ≡ is_only x (only_atom look v)
 in_value look f x value.NoneValue = and_true (same_atom (scalar_atom x) atom.Nothing)

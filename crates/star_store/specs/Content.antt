@@ -1,5 +1,5 @@
 -- The content of a key, without any cell, so that it may be hashed.
-use Rattle.std.specs.Prelude.{◌≡◌, ℕ, zero, suc, Bool, false, List, [], ◌∷◌, ◌++◌, length, Option, Some, None, is_some}
+use Rattle.std.specs.Prelude.{◌≡◌, ℕ, zero, suc, Bool, false, List, [], ◌∷◌, ◌++◌, length, if◌then◌else◌, Option, Some, None, is_some}
 use Rattle.std.specs.Option.{option_map}
 use Rattle.std.specs.Cmp.Lexicographic.{pointwise}
 use Rattle.star_store.specs.declared.values.Value.{Value}
@@ -60,6 +60,17 @@ content look (suc n) v = content_value look (content look n) v
 -- atoms, and after them those of a content, if it has any
 abbrev pub after : List Atom → Option (List Atom) → Option (List Atom)
 after xs o = option_map (λ ks. xs ++ ks) o
+
+-- atoms are others with those of a content after them just if the content is there, as an answer says
+abbrev pub IsPut : List Atom → Option (List Atom) → List Atom → Bool → Type 0
+IsPut old o new whole = after old o ≡ (if whole then Some new else None)
+
+-- the content of a key that is not a tuple, and that of a row of items, if this many levels may be opened in them
+abbrev pub atom_content : (Value → Option Cell) → Value → Option (List Atom)
+atom_content look v = option_map (λ a. a ∷ []) (only_atom look v)
+
+abbrev pub row_content : (Value → Option Cell) → ℕ → List Value → Option (List Atom)
+row_content look levels xs = content_row (content look levels) xs
 
 -- whether two atoms are equal
 abbrev pub same_atom : Atom → Atom → Bool

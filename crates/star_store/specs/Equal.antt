@@ -10,6 +10,7 @@ use Rattle.star_store.specs.declared.values.Cell.TheVariants as cell
 use Rattle.star_store.specs.declared.fault.StoreFault.TheVariants.{Deep}
 use Rattle.star_store.specs.Names.{built_in_number}
 use Rattle.star_store.specs.Spend.{Spend, Lacks, answer, visited, all_places}
+use Rattle.star_store.specs.Index.{entries_of}
 use Rattle.star_store.specs.Key.{value_of}
 use Rattle.star_store.specs.Range.{same_range}
 
@@ -75,3 +76,15 @@ same_values look f _ _ = answer false
 unfoldable pub same : (Value → Option Cell) → ℕ → Value → Value → Spend Bool
 same look zero x y = λ n. Lacks Deep n
 same look (suc levels) x y = visited (same_values look (same look levels) x y)
+
+-- the cells that two values lead to, which may be one, if this many levels may be opened in them
+abbrev pub same_read : (Value → Option Cell) → ℕ → Bool → Value → Value → Spend Bool
+same_read look levels one x y = same_cells look (same look levels) one (look x) (look y)
+
+-- the entries of the dictionaries that two values lead to
+abbrev pub same_dicts : (Value → Option Cell) → ℕ → Value → Value → Spend Bool
+same_dicts look levels x y = same_entries look (same look levels) (entries_of (look x)) (entries_of (look y))
+
+-- the left one's entry at a place
+abbrev pub same_dict_entry : (Value → Option Cell) → ℕ → Value → Value → ℕ → Spend Bool
+same_dict_entry look levels x y i = same_entry look (same look levels) (entries_of (look x)) (entries_of (look y)) i

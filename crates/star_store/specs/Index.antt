@@ -1,5 +1,5 @@
 -- Indexes of dictionaries: the contents of the keys, in order, which tell the place of a key at once.
-use Rattle.std.specs.Prelude.{◌≡◌, ℕ, nat_eq, ◌≤◌, if◌then◌else◌, Bool, true, false, ◌||◌, List, [], ◌∷◌, ◌++◌, length, map, Option, Some, None, slice_get, position, option_and_then}
+use Rattle.std.specs.Prelude.{◌≡◌, ◌⊎◌, ℕ, nat_eq, ◌≤◌, if◌then◌else◌, Bool, true, false, ◌||◌, List, [], ◌∷◌, ◌++◌, length, map, Option, Some, None, slice_get, position, option_and_then}
 use Rattle.std.specs.List.{list_all, list_any, remove}
 use Rattle.std.specs.Option.{option_map, option_flatten}
 use Rattle.std.specs.Cmp.Lexicographic.{pointwise}
@@ -54,6 +54,10 @@ is_far look atoms _ = false
 abbrev pub place_told : (Value → Option Cell) → List Atom → List (List Atom) → Option ℕ
 place_told look atoms index = position (λ k. pointwise same_atom atoms k || is_far look atoms k) index
 
+-- the place of a value in such an index, if it is a key
+abbrev pub place_of_key : (Value → Option Cell) → Value → List (List Atom) → Option ℕ
+place_of_key look key index = option_and_then (λ atoms. place_told look atoms index) (content look key_levels key)
+
 -- a file's values lead to these cells
 abbrev pub Shows : (Value → Option Cell) → ℕ → List HeapCell → Type 0
 Shows look home cells = (at : ℕ) → look (value.Ref home at) ≡ cell_at cells at
@@ -85,6 +89,11 @@ Indexes = List (Option (Box (List (List Atom))))
 abbrev pub index_at : Indexes → ℕ → Option (List (List Atom))
 index_at rows at = option_map (λ b. b.value) (option_flatten (slice_get rows at))
 
+-- each index was there before, or it is the one that was put at an address
+abbrev pub IsPutAt : ℕ → List (List Atom) → Indexes → Indexes → Type 0
+IsPutAt at index old new = (i : ℕ) (found : List (List Atom)) → index_at new i ≡ Some found
+    → (index_at old i ≡ Some found) ⊎ ((i ≡ at) × (found ≡ index))
+
 -- each index of a store is one of the dictionary at its address
 pub record AreIndexed (s : Store) (rows : Indexes) : Type 0 where
   pub each : (at : ℕ) (index : List (List Atom)) → index_at rows at ≡ Some index
@@ -114,6 +123,10 @@ pub record AreChanged (at : ℕ) (c : Change) (place : Option ℕ) (atoms : Opti
 -- the value of an entry, and the value that another dictionary has for its key
 abbrev pub beside : (Value → Option Cell) → Option Cell → Value × Value → Value × Option Value
 beside look other e = (e.1, value_of look e.0 (entries_of other))
+
+-- those of the entry of a dictionary at a place
+abbrev pub beside_at : (Value → Option Cell) → Value → ℕ → Value → Option (Value × Option Value)
+beside_at look dict at other = option_map (beside look (look other)) (slice_get (entries_of (look dict)) at)
 
 -- a place is that of another dictionary for the key of the entry at a place
 abbrev pub PlacesAt : (Value → Option Cell) → Option Cell → ℕ → Option Cell → Option ℕ → Type 0

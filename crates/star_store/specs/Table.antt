@@ -36,6 +36,10 @@ abbrev pub IsRow : (Value → Option Cell) → List Atom → ℕ → List ℕ �
 IsRow look atoms home row =
     (at : ℕ) → has row at ≡ same_content (Some atoms) (content look key_levels (value.Ref home at))
 
+-- it has them wherever the file's values lead to these cells
+abbrev pub IsRowOf : ℕ → List HeapCell → List Atom → List ℕ → Type 0
+IsRowOf home cells atoms row = (look : Value → Option Cell) → Shows look home cells → IsRow look atoms home row
+
 -- a row, or an empty one
 abbrev pub or_none : Option (List ℕ) → List ℕ
 or_none (Some row) = row

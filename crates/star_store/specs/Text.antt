@@ -1,6 +1,8 @@
 -- The texts of values, over stores that do not change, by the levels and the steps that are left.
+use denote.Ref.{Bor}
 use Rattle.std.specs.Prelude.{◌≡◌, ℕ, zero, suc, ◌+◌, ◌/◌, ◌%◌, nat_lt, nat_eq, Bool, false, ◌&&◌, ◌||◌, List, [], ◌∷◌, ◌++◌, length, slice_get, Option, Some, None, Result, Ok, Err, if◌then◌else◌, pos, codes}
 use Rattle.std.specs.List.{list_any, flat_map}
+use Rattle.std.specs.Option.{option_copied}
 use Rattle.std.specs.Char.{digit_char, encode_utf8}
 use Rattle.std.specs.Fmt.{signed_decimal}
 use Rattle.std.specs.Str.{chars}
@@ -51,6 +53,10 @@ bounds_parts r =
     (if int_eq r.start (pos 0) then signed_decimal r.stop ∷ []
     else signed_decimal r.start ∷ codes ", " ∷ signed_decimal r.stop ∷ [])
     else signed_decimal r.start ∷ codes ", " ∷ signed_decimal r.stop ∷ codes ", " ∷ signed_decimal r.step ∷ []
+
+-- start, stop and step
+abbrev pub all_bounds : Range → List ℕ
+all_bounds r = signed_decimal r.start ++ codes ", " ++ signed_decimal r.stop ++ codes ", " ++ signed_decimal r.step
 
 -- range(stop), range(start, stop) or range(start, stop, step)
 abbrev pub range_after : List ℕ → Range → List ℕ
@@ -172,6 +178,17 @@ say_value look f path (value.Ref h a) = say_cell f path (value.Ref h a) (look (v
 unfoldable pub text : (Value → Option Cell) → ℕ → List Value → Value → Say
 text look zero path v = λ out n. Lacks Deep n
 text look (suc levels) path v = λ out. visited (say_value look (text look levels) path v out)
+
+-- a value, and a cell that it leads to, if this many levels may be opened in them
+abbrev pub say_within : (Value → Option Cell) → ℕ → List Value → Value → Say
+say_within look levels path v = say_value look (text look levels) path v
+
+abbrev pub say_read : (Value → Option Cell) → ℕ → List Value → Value → Option (Bor Cell) → Say
+say_read look levels path v c = say_cell (text look levels) path v (option_copied c)
+
+-- the text of what is inside of a value
+abbrev pub say_inside : (Value → Option Cell) → ℕ → List Value → Value → Value → Say
+say_inside look levels path v = text look levels (path ++ v ∷ [])
 
 -- A function's answer, the text that it left and the steps that it left are those of the definition, unless memory ran
 -- out.

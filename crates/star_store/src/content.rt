@@ -5,14 +5,14 @@
 //! (`KeyContent`), and a look-up asks the index by the key itself (`ScalarKey`), which hashes alike (`hashed_alike`). A
 //! copy of its string would cost two atomic additions.
 
-ghost use Rattle.std.specs.Prelude.{◌≡◌, ◌∷◌, [], Some, None, if◌then◌else◌, IfOk};
+ghost use Rattle.std.specs.Prelude.{◌≡◌, ◌∷◌, [], IfOk};
 ghost use Rattle.std.specs.Cmp.{partial_equiv_from_equiv};
 ghost use Rattle.std.specs.Cmp.Lexicographic.{lists_equiv, pointwise};
 ghost use Rattle.std.specs.Cmp.Rules.{hashing};
 ghost use Rattle.std.specs.Hash as fed;
 ghost use Rattle.std.specs.Option.{option_map};
 ghost use Rattle.std.proofs.Common.{rules};
-ghost use Rattle.star_store.specs.Content.{ContentsStay, KeysHaveContents, SameKeysHaveOneContent, after, content, content_row, only_atom, same_atom};
+ghost use Rattle.star_store.specs.Content.{ContentsStay, IsPut, KeysHaveContents, SameKeysHaveOneContent, atom_content, content, only_atom, row_content, same_atom};
 ghost use Rattle.star_store.specs.Index.{far_home};
 ghost use Rattle.star_store.specs.Key.{key_levels};
 ghost use Rattle.star_store.specs.Scalars.{content_hashed, contents_alike, hashed, hashed_alike, hashed_as_equal, is_of, is_only, of_alike, scalar_atom};
@@ -261,8 +261,8 @@ fn put_content<'a>(
     value: Value,
     atoms: &mut Vec<Atom>,
 ) -> Result<bool, AllocError>
-    ensures { IfOk result (λ whole. after atoms.old.items (content (look arena.now homes.now) levels value)
-        ≡ (if whole then Some atoms.new.items else None)) }
+    ensures { IfOk result (λ whole. IsPut atoms.old.items (content (look arena.now homes.now) levels value)
+        atoms.new.items whole) }
 {
     if levels == 0 {
         return Ok(false);
@@ -283,9 +283,8 @@ fn put_atom(
     value: Value,
     atoms: &mut Vec<Atom>,
 ) -> Result<bool, AllocError>
-    ensures { IfOk result (λ whole.
-        after atoms.old.items (option_map (λ a. a ∷ []) (only_atom (look arena.now homes.now) value))
-        ≡ (if whole then Some atoms.new.items else None)) }
+    ensures { IfOk result (λ whole. IsPut atoms.old.items (atom_content (look arena.now homes.now) value)
+        atoms.new.items whole) }
 {
     let Some(key) = scalar_key(arena, homes, value) else {
         return Ok(false);
@@ -304,9 +303,8 @@ fn put_index<'a>(
     items: &'a Values,
     atoms: &mut Vec<Atom>,
 ) -> Result<bool, AllocError>
-    ensures { IfOk result (λ whole.
-        after atoms.old.items (content_row (content (look arena.now homes.now) levels) items.now)
-        ≡ (if whole then Some atoms.new.items else None)) }
+    ensures { IfOk result (λ whole. IsPut atoms.old.items (row_content (look arena.now homes.now) levels items.now)
+        atoms.new.items whole) }
 {
     atoms.push(Atom::Row(items.len()))?;
     for item in items.as_slice() {

@@ -4,12 +4,9 @@
 //! A table says which cells it is of by what shows that a slot has a snapshot of them (`Written`, of no bytes): a slot
 //! has one value for good, so the table that is found beside a store is of the store's own cells.
 
-ghost use Rattle.std.specs.Prelude.{◌≡◌, ◌<◌, ◌∷◌, ◌++◌, [], List, ℕ, Option, Some, IfSome, IfOk, OnOk, length, drop, set, slice_get};
+ghost use Rattle.std.specs.Prelude.{◌≡◌, ◌<◌, ◌∷◌, ◌++◌, [], List, ℕ, Some, IfSome, IfOk, OnOk, length, drop, set, slice_get};
 ghost use Rattle.std.specs.Option.{option_copied};
-ghost use Rattle.star_store.specs.Index.{Shows};
-ghost use Rattle.star_store.specs.Table.{AreRows, IsAdded, IsRow, or_none, row_by};
-ghost use Rattle.star_store.specs.declared.values.Value.{Value as AnyValue};
-ghost use Rattle.star_store.specs.declared.values.Cell.{Cell as AnyCell};
+ghost use Rattle.star_store.specs.Table.{AreRows, IsAdded, IsRowOf, or_none, row_by};
 
 use crate::content::KeyContent;
 use crate::index::Index;
@@ -145,8 +142,7 @@ impl Table {
 
     /// The addresses of the keys that have a content.
     pub(crate) fn find(&self, content: &KeyContent) -> Option<&Row>
-        ensures { (look : AnyValue → Option AnyCell) → Shows look self.now.home self.now.cells.value.value.items
-            → IsRow look content.now self.now.home (or_none (option_copied result)) }
+        ensures { IsRowOf self.now.home self.now.cells.value.value.items content.now (or_none (option_copied result)) }
     {
         self.rows.find(content)
     }

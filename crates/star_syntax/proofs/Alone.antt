@@ -6,7 +6,6 @@ use Rattle.std.specs.declared.alloc.AllocError.{AllocError}
 use Rattle.star_lex.specs.declared.token.Punctuator.TheVariants as s
 use Rattle.star_lex.specs.declared.token.Keyword.TheVariants as k
 use Rattle.star_syntax.specs.declared.leaf.TokenValue.{TokenValue}
-use Rattle.star_syntax.specs.declared.leaf.TokenValue.TheVariants as word
 use Rattle.star_syntax.specs.declared.leaf.ValuedToken.{ValuedToken}
 use Rattle.star_syntax.specs.declared.level.Level.{Level}
 use Rattle.star_syntax.specs.declared.level.Level.TheVariants as levels
@@ -20,6 +19,7 @@ use Rattle.star_syntax.specs.Alone.{ReadAlone}
 use Rattle.star_syntax.specs.Expressions.{right_of, after, before, opt, sign_, keyword_, keyword_at, is_keyword, unary_word, comparator_word, atom_of, atom, with_suffix, name, given, in_brackets, parentheses, list_display, dict_display, operand, lambda_of, lambda_parameters, lambda, a_test, attribute, call, subscript, suffix, primary, unary_of, unary_operator, signed, unary, binary_of, binary_operator, climb, round_at, bit_or, not_in_of, comparator, compared, comparison_of, comparison, denied_of, denied, negation, and_of, next_negation, conjunction, or_of, next_conjunction, disjunction, choice, conditional_of, conditional, any_test}
 use Rattle.star_syntax.specs.Language.{Gives, rule, rule_of_level}
 use Rattle.star_syntax.specs.Written.{EndsBefore}
+use Rattle.star_syntax.proofs.Makes.{by-atom}
 use Rattle.star_syntax.proofs.Quiet.{QuietWord, quiet-word, unplaced}
 use Rattle.star_syntax.proofs.Rounds.{rest}
 
@@ -168,20 +168,9 @@ module _ (knot : Readers) (t u : ValuedToken) (us : List ValuedToken) (x : Expre
   level-read levels.Unary = unary-read
   level-read levels.Primary = primary-read
 
-no-atom : (x : Expression) → None ≡ Some x → ⊥
-no-atom x e = cc
-
 -- an atom is one of three words
 is-atom : (p : Position) (w : TokenValue) (x : Expression) → atom_of p w ≡ Some x → IsAtom p w x
-is-atom p (word.Name text) x e = record { atom' = e; sign = refl; denial = refl; lambda' = refl }
-is-atom p (word.Int value) x e = record { atom' = e; sign = refl; denial = refl; lambda' = refl }
-is-atom p (word.Text text) x e = record { atom' = e; sign = refl; denial = refl; lambda' = refl }
-is-atom p (word.Keyword keyword) x e = absurd (no-atom x e)
-is-atom p (word.Punctuator sign) x e = absurd (no-atom x e)
-is-atom p word.Newline x e = absurd (no-atom x e)
-is-atom p word.Indent x e = absurd (no-atom x e)
-is-atom p word.Outdent x e = absurd (no-atom x e)
-is-atom p word.End x e = absurd (no-atom x e)
+is-atom p = by-atom (λ w x. IsAtom p w x) p (λ text. record { atom' = refl; sign = refl; denial = refl; lambda' = refl }) (λ value. record { atom' = refl; sign = refl; denial = refl; lambda' = refl }) (λ text. record { atom' = refl; sign = refl; denial = refl; lambda' = refl })
 
 abbrev value-or : Expression → Answer Expression → Expression
 value-or y None = y

@@ -106,21 +106,13 @@ negation-safe : (m : ℕ) → safe rank 2 m negation ≡ true
 unfolding negation denied comparison compared comparator bit_or
 negation-safe m = simp (climb-safe 6, climb-cost 6)
 
-conjunction-cost : cost conjunction ≡ 1
-unfolding conjunction
-conjunction-cost = negation-cost
-
-conjunction-safe : (m : ℕ) → safe rank 2 m conjunction ≡ true
-unfolding conjunction next_negation
-conjunction-safe m = simp (negation-safe, negation-cost)
-
 disjunction-cost : cost disjunction ≡ 1
-unfolding disjunction
-disjunction-cost = conjunction-cost
+unfolding disjunction conjunction
+disjunction-cost = negation-cost
 
 disjunction-safe : (m : ℕ) → safe rank 2 m disjunction ≡ true
-unfolding disjunction next_conjunction
-disjunction-safe m = simp (conjunction-safe, conjunction-cost)
+unfolding disjunction next_conjunction conjunction next_negation
+disjunction-safe m = simp (negation-safe, negation-cost)
 
 lambda-safe : (m : ℕ) → safe rank 2 m lambda ≡ true
 unfolding lambda lambda_parameters ordered_parameters list_of_parameters next_parameter parameter named_parameter star star_star default

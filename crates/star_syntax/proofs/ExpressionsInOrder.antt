@@ -2,7 +2,6 @@
 use Rattle.std.proofs.Common.{◌≡◌, ℕ, zero, suc, Bool, true, false, List, [], ◌∷◌, Option, Some, None, refl, subst}
 use Rattle.std.specs.Prelude.{if◌then◌else◌}
 use Rattle.star_syntax.specs.declared.leaf.TokenValue.{TokenValue}
-use Rattle.star_syntax.specs.declared.leaf.TokenValue.TheVariants as word
 use Rattle.star_syntax.specs.declared.level.Level.{Level}
 use Rattle.star_syntax.specs.declared.level.Level.TheVariants as levels
 use Rattle.star_syntax.specs.declared.level.Suffix.{Suffix}
@@ -17,10 +16,12 @@ use Rattle.star_tree.specs.declared.tree.Expression.{Expression}
 use Rattle.star_syntax.specs.Sorts.{Val, both, maybe, list}
 use Rattle.star_syntax.specs.Sorts as sorts
 use Rattle.star_syntax.specs.Grammar.{level, the, Readers}
+use Rattle.star_syntax.specs.InOrder.{parameter_in_order}
 use Rattle.star_syntax.specs.Keeps.{keep, arguments_in_order, parameters_in_order}
 use Rattle.star_syntax.specs.Expressions.{StopAndStride, atom_of, tuple_unless_one, parentheses_of, list_of, dict_of, comparison_of, conditional_of, subscript_of, with_suffix, parameter_of, star_of, next_test, list_of_tests, tests, next_primary, list_of_primaries, primaries, targets, for_clause, if_clause, next_clause, further_clauses, all_clauses, inside, parentheses, further_tests, after_element, elements, list_display, entry, next_entry, further_entries, after_entry, entries, dict_display, atom, operand, named, argument, next_argument, list_of_arguments, ordered_arguments, given, default, named_parameter, star, star_star, parameter, next_parameter, list_of_parameters, ordered_parameters, taken, parameters_in_parentheses, lambda_parameters, lambda, attribute, call, stride, stop_and_stride, after_start, from_test, in_brackets, subscript, suffix, primary, signed, unary, climb, bit_or, compared, comparison, denied, negation, next_negation, conjunction, next_conjunction, disjunction, choice, conditional, any_test}
-use Rattle.star_syntax.proofs.Kept.{OfExpression, OfArgument, OfParameter, OfTarget, OfClause, OfClauses, OfEntry, Given, Taken, of-Name, of-Int, of-Text, of-Tuple, of-List, of-Dict, of-ListComprehension, of-DictComprehension, of-Unary, of-Binary, of-Compare, of-And, of-Or, of-Conditional, of-Lambda, of-Call, of-Attribute, of-Index, of-Slice, of-Positional, of-Named, of-StarArgument, of-StarStarArgument, of-Plain, of-Default, of-StarParameter, of-BareStar, of-StarStarParameter, of-For, of-If, of-clauses, of-entry}
-use Rattle.star_syntax.proofs.Makes.{Makes, Each, Maybe, nothing-found, same_some, makes-any, makes-one, makes-seq, makes-alt, makes-act, makes-when, makes-fold, makes-after, makes-before, makes-opt, makes-list, makes-rep}
+use Rattle.star_syntax.proofs.Kept.{Holds, OfExpression, OfTarget, Given, Taken, of-Name, of-Int, of-Text, of-Tuple, of-List, of-Dict, of-ListComprehension, of-DictComprehension, of-Unary, of-Binary, of-Compare, of-And, of-Or, of-Conditional, of-Lambda, of-Call, of-Attribute, of-Index, of-Slice, of-Positional, of-Named, of-StarArgument, of-StarStarArgument, of-Plain, of-Default, of-StarParameter, of-BareStar, of-StarStarParameter, of-For, of-If, of-clauses, of-entry}
+use Rattle.star_syntax.proofs.Makes.{Makes, Each, Maybe, by-atom, nothing-found, same_some, makes-any, makes-one, makes-seq, makes-alt, makes-act, makes-when, makes-fold, makes-after, makes-before, makes-opt, makes-list, makes-rep}
+use Rattle.star_syntax.proofs.Orders.{argument_in_order, clause_in_order, clauses_in_order, entry_in_order}
 use Rattle.star_syntax.proofs.TargetsInOrder.{target-kept}
 
 -- ---- the values of productions
@@ -39,7 +40,7 @@ OfStopAndStride c = Maybe OfExpression c.0 × Maybe OfExpression c.1
 
 -- clauses, or further parts
 abbrev After : {A : Type 0} → (A → Type 0) → Option Clauses × List A → Type 0
-After P p = Maybe OfClauses p.0 × Each P p.1
+After P p = Maybe (Holds clauses_in_order) p.0 × Each P p.1
 
 abbrev AfterStart : Option StopAndStride × List Expression → Type 0
 AfterStart p = Maybe OfStopAndStride p.0 × Each OfExpression p.1
@@ -59,21 +60,13 @@ a-list (at, None) k = of-List [] tt
 a-list (at, Some (x, (None, more))) k = of-List (x ∷ more) (k.1.0, k.1.1.1)
 a-list (at, Some (x, (Some c, more))) k = of-ListComprehension at x c k.1.0 k.1.1.0
 
-a-dict : (p : Position × Option (Entry × (Option Clauses × List Entry))) → Unit {0} × Maybe (λ q. OfEntry q.0 × After OfEntry q.1) p.1 → OfExpression (dict_of p)
+a-dict : (p : Position × Option (Entry × (Option Clauses × List Entry))) → Unit {0} × Maybe (λ q. Holds entry_in_order q.0 × After (Holds entry_in_order) q.1) p.1 → OfExpression (dict_of p)
 a-dict (at, None) k = of-Dict [] tt
 a-dict (at, Some (x, (None, more))) k = of-Dict (x ∷ more) (k.1.0, k.1.1.1)
 a-dict (at, Some (x, (Some c, more))) k = of-DictComprehension at x c k.1.0 k.1.1.0
 
 an-atom : (at : Position) (w : TokenValue) (x : Expression) → atom_of at w ≡ Some x → OfExpression x
-an-atom at (word.Name text) x e = subst OfExpression (same_some _ x e) (of-Name _)
-an-atom at (word.Int value) x e = subst OfExpression (same_some _ x e) (of-Int value)
-an-atom at (word.Text text) x e = subst OfExpression (same_some _ x e) (of-Text text)
-an-atom at (word.Keyword keyword) x e = absurd (nothing-found x e)
-an-atom at (word.Punctuator sign) x e = absurd (nothing-found x e)
-an-atom at word.Newline x e = absurd (nothing-found x e)
-an-atom at word.Indent x e = absurd (nothing-found x e)
-an-atom at word.Outdent x e = absurd (nothing-found x e)
-an-atom at word.End x e = absurd (nothing-found x e)
+an-atom at = by-atom (λ w x. OfExpression x) at (λ text. of-Name _) of-Int of-Text
 
 a-comparison : (p : Expression × Option (Comparator × Expression)) → OfExpression p.0 × Maybe (λ q. Unit {0} × OfExpression q.1) p.1 → OfExpression (comparison_of p)
 a-comparison (left, None) k = k.0
@@ -93,11 +86,11 @@ a-suffix x (suffixes.Call given) k l = of-Call x given k l
 a-suffix x (suffixes.Index index) k l = of-Index x index k l
 a-suffix x (suffixes.Slice start stop stride) k l = of-Slice x start stop stride k l.0 l.1.0 l.1.1
 
-a-parameter : (p : Name × Option Expression) → Unit {0} × Maybe OfExpression p.1 → OfParameter (parameter_of p)
+a-parameter : (p : Name × Option Expression) → Unit {0} × Maybe OfExpression p.1 → Holds parameter_in_order (parameter_of p)
 a-parameter (name, None) k = of-Plain name
 a-parameter (name, Some x) k = of-Default name x k.1
 
-a-star : (o : Option Name) → OfParameter (star_of o)
+a-star : (o : Option Name) → Holds parameter_in_order (star_of o)
 a-star None = of-BareStar
 a-star (Some name) = of-StarParameter name
 
@@ -139,11 +132,11 @@ module _ (k : Readers) (m : (l : Level) → Makes k sorts.expression (the (level
   unfolding for_clause
   for-clause = makes-after k (makes-seq k targets' (makes-after k (m levels.Or)))
 
-  next-clause : Makes k _ next_clause OfClause
+  next-clause : Makes k _ next_clause (Holds clause_in_order)
   unfolding next_clause if_clause
   next-clause = makes-alt k (makes-act k (λ p q. of-For p.0 p.1 q.0 q.1) for-clause) (makes-act k of-If (makes-after k (m levels.Or)))
 
-  all-clauses : Makes k _ all_clauses OfClauses
+  all-clauses : Makes k _ all_clauses (Holds clauses_in_order)
   unfolding all_clauses further_clauses
   all-clauses = makes-act k (λ p q. of-clauses p.0.0 p.0.1 p.1 q.0.0 q.0.1 q.1) (makes-seq k for-clause (makes-rep k next-clause))
 
@@ -160,7 +153,7 @@ module _ (k : Readers) (m : (l : Level) → Makes k sorts.expression (the (level
   list-display = makes-act k a-list (makes-seq k (makes-any k) (makes-before k (makes-opt k (makes-seq k (m levels.Test)
       (makes-alt k (makes-act k (λ c q. (q, tt)) all-clauses) (makes-act k (λ xs q. (tt, q)) (makes-before k further-tests)))))))
 
-  entry' : Makes k _ entry OfEntry
+  entry' : Makes k _ entry (Holds entry_in_order)
   unfolding entry
   entry' = makes-act k (λ p q. of-entry p.0 p.1 q.0 q.1) (makes-seq k (m levels.Test) (makes-after k (m levels.Test)))
 
@@ -173,23 +166,23 @@ module _ (k : Readers) (m : (l : Level) → Makes k sorts.expression (the (level
   unfolding operand atom
   operand' = makes-alt k (makes-one k (λ t x e. an-atom t.position t.word x e)) (makes-alt k parentheses' (makes-alt k list-display dict-display))
 
-  argument' : Makes k _ argument OfArgument
+  argument' : Makes k _ argument (Holds argument_in_order)
   unfolding argument named
   argument' = makes-alt k (makes-act k (λ p q. of-Named p.0 p.1 q.1) (makes-seq k (makes-any k) (m levels.Test)))
       (makes-alt k (makes-act k of-StarArgument (makes-after k (m levels.Test))) (makes-alt k (makes-act k of-StarStarArgument (makes-after k (m levels.Test))) (makes-act k of-Positional (m levels.Test))))
 
   given' : Makes k _ given Given
   unfolding given ordered_arguments list_of_arguments next_argument
-  given' = makes-alt k (makes-before k (makes-when k (ordered arguments_in_order OfArgument) (makes-list k argument' (makes-after k argument')))) (makes-act k (λ u q. (refl, tt)) (makes-any k))
+  given' = makes-alt k (makes-before k (makes-when k (ordered arguments_in_order (Holds argument_in_order)) (makes-list k argument' (makes-after k argument')))) (makes-act k (λ u q. (refl, tt)) (makes-any k))
 
-  parameter' : Makes k _ parameter OfParameter
+  parameter' : Makes k _ parameter (Holds parameter_in_order)
   unfolding parameter named_parameter default star star_star
   parameter' = makes-alt k (makes-act k a-parameter (makes-seq k (makes-any k) (makes-opt k (makes-after k (m levels.Test)))))
       (makes-alt k (makes-act k (λ o q. a-star o) (makes-any k)) (makes-act k (λ name q. of-StarStarParameter name) (makes-any k)))
 
   ordered-parameters : Makes k _ ordered_parameters Taken
   unfolding ordered_parameters list_of_parameters next_parameter
-  ordered-parameters = makes-when k (ordered parameters_in_order OfParameter) (makes-list k parameter' (makes-after k parameter'))
+  ordered-parameters = makes-when k (ordered parameters_in_order (Holds parameter_in_order)) (makes-list k parameter' (makes-after k parameter'))
 
   pub parameters-in-parentheses : Makes k _ parameters_in_parentheses Taken
   unfolding parameters_in_parentheses taken

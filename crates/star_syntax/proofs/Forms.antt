@@ -18,9 +18,10 @@ use Rattle.star_tree.specs.declared.tree.Comparator.{Comparator}
 use Rattle.star_tree.specs.declared.tree.Comparator.TheVariants as comparators
 use Rattle.star_tree.specs.declared.tree.Expression.{Expression}
 use Rattle.star_tree.specs.declared.tree.Expression.TheVariants as e
+use Rattle.star_syntax.specs.Sorts.{Sort, Val}
 use Rattle.star_syntax.specs.Sorts as sorts
-use Rattle.star_syntax.specs.Grammar.{level, the, Reads, hit, miss, free, seq-some, seq-first, seq-second, alt-first, alt-second, fold-none, fold-some, act-none, act-some, itself, Rounds, stop, more}
-use Rattle.star_syntax.specs.Expressions.{same_sign, same_keyword, is_sign, is_keyword, binary_operator, snoc, next_test, list_of_tests, for_clause, all_clauses, inside, parentheses, further_tests, after_element, elements, list_display, atom, operand, attribute, call, stop_and_stride, after_start, from_test, in_brackets, subscript, suffix, primary, signed, unary, bit_or, comparator, compared, comparison, denied, negation, next_negation, conjunction, next_conjunction, disjunction, choice, conditional}
+use Rattle.star_syntax.specs.Grammar.{level, G, the, Reads, hit, miss, free, seq-some, seq-first, seq-second, alt-first, alt-second, fold-none, fold-some, act-none, act-some, itself, Rounds, stop, more}
+use Rattle.star_syntax.specs.Expressions.{same_sign, same_keyword, is_sign, is_keyword, binary_operator, snoc, after, sign_, a_test, next_test, list_of_tests, for_clause, all_clauses, inside, parentheses, further_tests, after_element, elements, list_display, atom, operand, attribute, call, stop_and_stride, after_start, from_test, in_brackets, subscript, suffix, primary, signed, unary, bit_or, comparator, compared, comparison, denied, negation, next_negation, conjunction, next_conjunction, disjunction, choice, conditional}
 use Rattle.star_syntax.specs.Language.{rule}
 use Rattle.star_syntax.specs.Written.{mark, spelt, called, IsUnary, positive, negative, inverted, IsBinary, times, divided, modulo, plus, minus, to-left, to-right, bits-and, bits-xor, bits-or, IsComparator, equal, unequal, less, greater, at-most, at-least, contained}
 use Rattle.star_syntax.proofs.Quiet.{BeginsNone, suffix-none, test-none}
@@ -40,34 +41,21 @@ after_binary p sign ts bits-and = suffix-none (record { dot = refl; paren = refl
 after_binary p sign ts bits-xor = suffix-none (record { dot = refl; paren = refl; bracket = refl })
 after_binary p sign ts bits-or = suffix-none (record { dot = refl; paren = refl; bracket = refl })
 
-pub after_comparator : (p : Position) (w : TokenValue) {c : Comparator} (ts : List ValuedToken) → IsComparator w c → Reads rule _ suffix (record { word = w; position = p } ∷ ts) None
-unfolding same_sign
-after_comparator p w ts equal = suffix-none (record { dot = refl; paren = refl; bracket = refl })
-after_comparator p w ts unequal = suffix-none (record { dot = refl; paren = refl; bracket = refl })
-after_comparator p w ts less = suffix-none (record { dot = refl; paren = refl; bracket = refl })
-after_comparator p w ts greater = suffix-none (record { dot = refl; paren = refl; bracket = refl })
-after_comparator p w ts at-most = suffix-none (record { dot = refl; paren = refl; bracket = refl })
-after_comparator p w ts at-least = suffix-none (record { dot = refl; paren = refl; bracket = refl })
-after_comparator p w ts contained = suffix-none (record { dot = refl; paren = refl; bracket = refl })
+-- the word of a comparison, which goes on no operand
+pub record Comparing (p : Position) (w : TokenValue) (c : Comparator) (ts : List ValuedToken) : Type 0 where
+  pub suffix' : Reads rule _ suffix (record { word = w; position = p } ∷ ts) None
+  pub sign' : (i : ℕ) → Reads rule _ (binary_operator i) (record { word = w; position = p } ∷ ts) None
+  pub compares' : Reads rule _ comparator (record { word = w; position = p } ∷ ts) (Some (c, ts))
 
-pub no_sign_of_comparator : (p : Position) (w : TokenValue) {c : Comparator} (ts : List ValuedToken) → IsComparator w c → (i : ℕ) → Reads rule _ (binary_operator i) (record { word = w; position = p } ∷ ts) None
-no_sign_of_comparator p w ts equal i = miss refl
-no_sign_of_comparator p w ts unequal i = miss refl
-no_sign_of_comparator p w ts less i = miss refl
-no_sign_of_comparator p w ts greater i = miss refl
-no_sign_of_comparator p w ts at-most i = miss refl
-no_sign_of_comparator p w ts at-least i = miss refl
-no_sign_of_comparator p w ts contained i = miss refl
-
-pub compares : (p : Position) (w : TokenValue) (c : Comparator) (ts : List ValuedToken) → IsComparator w c → Reads rule _ comparator (record { word = w; position = p } ∷ ts) (Some (c, ts))
-unfolding comparator
-compares p w c ts equal = alt-first (hit refl)
-compares p w c ts unequal = alt-first (hit refl)
-compares p w c ts less = alt-first (hit refl)
-compares p w c ts greater = alt-first (hit refl)
-compares p w c ts at-most = alt-first (hit refl)
-compares p w c ts at-least = alt-first (hit refl)
-compares p w c ts contained = alt-first (hit refl)
+pub comparing : (p : Position) (w : TokenValue) (c : Comparator) (ts : List ValuedToken) → IsComparator w c → Comparing p w c ts
+unfolding same_sign comparator
+comparing p w c ts equal = record { suffix' = suffix-none (record { dot = refl; paren = refl; bracket = refl }); sign' = λ i. miss refl; compares' = alt-first (hit refl) }
+comparing p w c ts unequal = record { suffix' = suffix-none (record { dot = refl; paren = refl; bracket = refl }); sign' = λ i. miss refl; compares' = alt-first (hit refl) }
+comparing p w c ts less = record { suffix' = suffix-none (record { dot = refl; paren = refl; bracket = refl }); sign' = λ i. miss refl; compares' = alt-first (hit refl) }
+comparing p w c ts greater = record { suffix' = suffix-none (record { dot = refl; paren = refl; bracket = refl }); sign' = λ i. miss refl; compares' = alt-first (hit refl) }
+comparing p w c ts at-most = record { suffix' = suffix-none (record { dot = refl; paren = refl; bracket = refl }); sign' = λ i. miss refl; compares' = alt-first (hit refl) }
+comparing p w c ts at-least = record { suffix' = suffix-none (record { dot = refl; paren = refl; bracket = refl }); sign' = λ i. miss refl; compares' = alt-first (hit refl) }
+comparing p w c ts contained = record { suffix' = suffix-none (record { dot = refl; paren = refl; bracket = refl }); sign' = λ i. miss refl; compares' = alt-first (hit refl) }
 
 pub not_in : (p q : Position) (ts : List ValuedToken) → Reads rule _ comparator (spelt p k.Not ∷ spelt q k.In ∷ ts) (Some (comparators.NotIn, ts))
 unfolding comparator same_keyword
@@ -131,26 +119,38 @@ module _ {ts us : List ValuedToken} {x : Expression} where
 
 -- ---- displays
 
--- nothing begins with a closing sign
-pub no-paren : BeginsNone (word.Punctuator s.RightParen)
-unfolding same_sign same_keyword
-no-paren = record { lambda' = refl; denial = refl; sign = refl; atom' = λ p. refl; paren = refl; bracket = refl; brace = refl }
+-- nothing begins with a closing sign or a colon
+pub record ClosingSigns : Type 0 where
+  pub paren' : BeginsNone (word.Punctuator s.RightParen)
+  pub bracket' : BeginsNone (word.Punctuator s.RightBracket)
+  pub brace' : BeginsNone (word.Punctuator s.RightBrace)
+  pub colon' : BeginsNone (word.Punctuator s.Colon)
 
-pub no-bracket : BeginsNone (word.Punctuator s.RightBracket)
+pub closing : ClosingSigns
 unfolding same_sign same_keyword
-no-bracket = record { lambda' = refl; denial = refl; sign = refl; atom' = λ p. refl; paren = refl; bracket = refl; brace = refl }
+closing = record {
+  paren' = record { lambda' = refl; denial = refl; sign = refl; atom' = λ p. refl; paren = refl; bracket = refl; brace = refl };
+  bracket' = record { lambda' = refl; denial = refl; sign = refl; atom' = λ p. refl; paren = refl; bracket = refl; brace = refl };
+  brace' = record { lambda' = refl; denial = refl; sign = refl; atom' = λ p. refl; paren = refl; bracket = refl; brace = refl };
+  colon' = record { lambda' = refl; denial = refl; sign = refl; atom' = λ p. refl; paren = refl; bracket = refl; brace = refl };
+}
 
-pub no-test-after : (p : Position) (w : TokenValue) (ts : List ValuedToken) → is_sign s.Comma w ≡ None → Reads rule _ next_test (record { word = w; position = p } ∷ ts) None
+-- a further part is one after a comma
+pub record Commas (a : Sort) (further h : G a) : Type 0 where
+  pub next' : (ts us : List ValuedToken) (y : Val a) (p : Position) → Reads rule _ h ts (Some (y, us)) → Reads rule _ further (mark p s.Comma ∷ ts) (Some (y, us))
+  pub none' : (p : Position) (w : TokenValue) (ts : List ValuedToken) → is_sign s.Comma w ≡ None → Reads rule _ further (record { word = w; position = p } ∷ ts) None
+
+pub commas : (a : Sort) (h : G a) → Commas a (after (sign_ s.Comma) h) h
+unfolding same_sign
+commas a h = record { next' = λ ts us y p d. act-some {x = (tt, y)} (seq-some (hit refl) d); none' = λ p w ts n. act-none (seq-first (miss n)) }
+
+pub next-tests : Commas sorts.expression next_test a_test
 unfolding next_test
-no-test-after p w ts n = act-none (seq-first (miss n))
+next-tests = commas sorts.expression a_test
 
 pub last-comma : (p q : Position) (ts : List ValuedToken) → Reads rule _ next_test (mark p s.Comma ∷ mark q s.RightParen ∷ ts) None
 unfolding next_test same_sign
-last-comma p q ts = act-none (seq-second {x = tt} (hit refl) (test-none q (word.Punctuator s.RightParen) ts no-paren))
-
-pub next-test-of : {ts us : List ValuedToken} {x : Expression} (p : Position) → Reads rule _ (the (level levels.Test)) ts (Some (x, us)) → Reads rule _ next_test (mark p s.Comma ∷ ts) (Some (x, us))
-unfolding next_test same_sign
-next-test-of {x = x} p d = act-some {x = (tt, x)} (seq-some (hit refl) d)
+last-comma p q ts = act-none (seq-second {x = tt} (hit refl) (test-none q (word.Punctuator s.RightParen) ts closing.paren'))
 
 pub no-clauses : (p : Position) (w : TokenValue) (ts : List ValuedToken) → is_keyword k.For w ≡ None → Reads rule _ all_clauses (record { word = w; position = p } ∷ ts) None
 unfolding all_clauses for_clause
@@ -162,7 +162,7 @@ Tests found ts all us = Rounds rule (sorts.list sorts.expression) sorts.expressi
 pub empty-tuple-of : (p q : Position) (us : List ValuedToken) → Reads rule _ operand (mark p s.LeftParen ∷ mark q s.RightParen ∷ us) (Some (e.Tuple [], us))
 unfolding operand atom parentheses inside list_of_tests same_sign
 empty-tuple-of p q us = alt-second (miss refl) (alt-first (act-some {x = (tt, e.Tuple [])} (seq-some (hit refl) (act-some {x = None} (act-some {x = (None, tt)} (seq-some
-    (alt-second (act-none (seq-first (fold-none (act-none (test-none q (word.Punctuator s.RightParen) us no-paren))))) (act-some {x = tt} free)) (hit refl)))))))
+    (alt-second (act-none (seq-first (fold-none (act-none (test-none q (word.Punctuator s.RightParen) us closing.paren'))))) (act-some {x = tt} free)) (hit refl)))))))
 
 pub tuple-of : {ts vs us : List ValuedToken} {x : Expression} {xs : List Expression} (p q r : Position) → Reads rule _ (the (level levels.Test)) ts (Some (x, vs)) → Tests (x ∷ []) vs xs (mark q s.Comma ∷ mark r s.RightParen ∷ us)
     → Reads rule _ operand (mark p s.LeftParen ∷ ts) (Some (e.Tuple xs, us))
@@ -173,7 +173,7 @@ tuple-of {x = x} {xs = xs} p q r d f = alt-second (miss refl) (alt-first (act-so
 pub empty-list-of : (p q : Position) (us : List ValuedToken) → Reads rule _ operand (mark p s.LeftBracket ∷ mark q s.RightBracket ∷ us) (Some (e.List [], us))
 unfolding operand atom parentheses list_display elements same_sign
 empty-list-of p q us = alt-second (miss refl) (alt-second (act-none (seq-first (miss refl))) (alt-first (act-some {x = (p, None)} (seq-some (hit refl) (act-some {x = (None, tt)} (seq-some
-    (alt-second (act-none (seq-first (test-none q (word.Punctuator s.RightBracket) us no-bracket))) (act-some {x = tt} free)) (hit refl)))))))
+    (alt-second (act-none (seq-first (test-none q (word.Punctuator s.RightBracket) us closing.bracket'))) (act-some {x = tt} free)) (hit refl)))))))
 
 pub list-of : {ts vs us : List ValuedToken} {x : Expression} {xs : List Expression} (p q : Position) → Reads rule _ (the (level levels.Test)) ts (Some (x, vs)) → Reads rule _ all_clauses vs None → Tests [] vs xs (mark q s.RightBracket ∷ us)
     → Reads rule _ operand (mark p s.LeftBracket ∷ ts) (Some (e.List (x ∷ xs), us))

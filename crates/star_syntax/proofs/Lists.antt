@@ -27,8 +27,8 @@ use Rattle.star_syntax.specs.Keeps.{keep, arguments_in_order, parameters_in_orde
 use Rattle.star_syntax.specs.Expressions.{same_sign, same_keyword, snoc, opt, after, sign_, a_test, name, next_primary, list_of_primaries, primaries, targets, for_clause, if_clause, next_clause, further_clauses, all_clauses, parentheses, after_element, elements, list_display, entry, next_entry, further_entries, after_entry, entries, dict_display, atom, operand, named, argument, next_argument, list_of_arguments, ordered_arguments, given, default, named_parameter, star, star_star, parameter, next_parameter, list_of_parameters, ordered_parameters, lambda_parameters, lambda, attribute, call, stride, stop_and_stride, after_start, from_test, in_brackets, subscript, suffix, primary, disjunction, any_test}
 use Rattle.star_syntax.specs.Language.{rule}
 use Rattle.star_syntax.specs.Written.{mark, spelt, called}
-use Rattle.star_syntax.proofs.Quiet.{BeginsNone, test-none}
-use Rattle.star_syntax.proofs.Forms.{no-paren}
+use Rattle.star_syntax.proofs.Quiet.{test-none}
+use Rattle.star_syntax.proofs.Forms.{Commas, commas, closing}
 
 -- ---- rounds that make a list
 
@@ -49,15 +49,6 @@ one-listed a h {ts = ts} {us = us} found x xs d f =
 kept : {A : Type 0} (test : A → Bool) (x : A) → test x ≡ true → keep test x ≡ Some x
 kept test x e = rw e refl
 
--- nothing begins with a closing brace or a colon
-pub no-brace : BeginsNone (word.Punctuator s.RightBrace)
-unfolding same_sign same_keyword
-no-brace = record { lambda' = refl; denial = refl; sign = refl; atom' = λ p. refl; paren = refl; bracket = refl; brace = refl }
-
-pub no-colon : BeginsNone (word.Punctuator s.Colon)
-unfolding same_sign same_keyword
-no-colon = record { lambda' = refl; denial = refl; sign = refl; atom' = λ p. refl; paren = refl; bracket = refl; brace = refl }
-
 -- ---- dictionaries
 
 pub entry-of : {ts vs us : List ValuedToken} {x y : Expression} (p : Position) → Reads rule _ (the (level levels.Test)) ts (Some (x, mark p s.Colon ∷ vs)) → Reads rule _ (the (level levels.Test)) vs (Some (y, us))
@@ -65,18 +56,14 @@ pub entry-of : {ts vs us : List ValuedToken} {x y : Expression} (p : Position) �
 unfolding entry same_sign
 entry-of {x = x} {y = y} p d f = act-some {x = (x, y)} (seq-some d (act-some {x = (tt, y)} (seq-some (hit refl) f)))
 
-pub next-entry-of : {ts us : List ValuedToken} {y : Entry} (p : Position) → Reads rule _ entry ts (Some (y, us)) → Reads rule _ next_entry (mark p s.Comma ∷ ts) (Some (y, us))
-unfolding next_entry same_sign
-next-entry-of {y = y} p d = act-some {x = (tt, y)} (seq-some (hit refl) d)
-
-pub no-next-entry : (p : Position) (ts : List ValuedToken) → Reads rule _ next_entry (mark p s.RightBrace ∷ ts) None
-unfolding next_entry same_sign
-no-next-entry p ts = act-none (seq-first (miss refl))
+pub next-entries : Commas sorts.entry next_entry entry
+unfolding next_entry
+next-entries = commas sorts.entry entry
 
 pub empty-dict-of : (p q : Position) (us : List ValuedToken) → Reads rule _ operand (mark p s.LeftBrace ∷ mark q s.RightBrace ∷ us) (Some (e.Dict [], us))
 unfolding operand atom parentheses list_display dict_display entries entry same_sign
 empty-dict-of p q us = alt-second (miss refl) (alt-second (act-none (seq-first (miss refl))) (alt-second (act-none (seq-first (miss refl))) (act-some {x = (p, None)} (seq-some (hit refl) (act-some {x = (None, tt)} (seq-some
-    (alt-second (act-none (seq-first (act-none (seq-first (test-none q (word.Punctuator s.RightBrace) us no-brace))))) (act-some {x = tt} free)) (hit refl)))))))
+    (alt-second (act-none (seq-first (act-none (seq-first (test-none q (word.Punctuator s.RightBrace) us closing.brace'))))) (act-some {x = tt} free)) (hit refl)))))))
 
 pub dict-of : {ts vs us : List ValuedToken} {y : Entry} {ys : List Entry} (p q : Position) → Reads rule _ entry ts (Some (y, vs)) → Reads rule _ all_clauses vs None → Listed sorts.entry next_entry [] vs ys (mark q s.RightBrace ∷ us)
     → Reads rule _ operand (mark p s.LeftBrace ∷ ts) (Some (e.Dict (y ∷ ys), us))
@@ -151,18 +138,14 @@ module _ {ts us : List ValuedToken} {x : Expression} where
   unfolding argument named same_sign
   with-two-stars-of p d = alt-second (act-none (seq-first (act-none (seq-first (miss refl))))) (alt-second (act-none (act-none (seq-first (miss refl)))) (alt-first (act-some {x = x} (act-some {x = (tt, x)} (seq-some (hit refl) d)))))
 
-pub next-argument-of : {ts us : List ValuedToken} {y : Argument} (p : Position) → Reads rule _ argument ts (Some (y, us)) → Reads rule _ next_argument (mark p s.Comma ∷ ts) (Some (y, us))
-unfolding next_argument same_sign
-next-argument-of {y = y} p d = act-some {x = (tt, y)} (seq-some (hit refl) d)
-
-pub no-next-argument : (p : Position) (ts : List ValuedToken) → Reads rule _ next_argument (mark p s.RightParen ∷ ts) None
-unfolding next_argument same_sign
-no-next-argument p ts = act-none (seq-first (miss refl))
+pub next-arguments : Commas sorts.argument next_argument argument
+unfolding next_argument
+next-arguments = commas sorts.argument argument
 
 pub none-given-of : (p : Position) (us : List ValuedToken) → Reads rule _ given (mark p s.RightParen ∷ us) (Some ([], mark p s.RightParen ∷ us))
 unfolding given ordered_arguments list_of_arguments argument named same_sign
 none-given-of p us = alt-second (act-none (seq-first (when-none (fold-none (act-none (alt-second (act-none (seq-first (act-none (seq-first (miss refl))))) (alt-second (act-none (act-none (seq-first (miss refl))))
-    (alt-second (act-none (act-none (seq-first (miss refl)))) (act-none (test-none p (word.Punctuator s.RightParen) us no-paren)))))))))) (act-some {x = tt} free)
+    (alt-second (act-none (act-none (seq-first (miss refl)))) (act-none (test-none p (word.Punctuator s.RightParen) us closing.paren')))))))))) (act-some {x = tt} free)
 
 pub given-of : {ts vs us : List ValuedToken} {y : Argument} {ys : List Argument} (p : Position) → arguments_in_order ys ≡ true → Reads rule _ argument ts (Some (y, vs)) → Listed sorts.argument next_argument (y ∷ []) vs ys (mark p s.RightParen ∷ us)
     → Reads rule _ given ts (Some (ys, mark p s.RightParen ∷ us))
@@ -235,13 +218,9 @@ pub twice-starred-of : (p : Position) (x : Name) (us : List ValuedToken) → Rea
 unfolding parameter named_parameter star star_star same_sign
 twice-starred-of p x us = alt-second (act-none (seq-first (miss refl))) (alt-second (act-none (act-none (seq-first (miss refl)))) (act-some {x = x} (act-some {x = (tt, x)} (seq-some (hit refl) (hit refl)))))
 
-pub next-parameter-of : {ts us : List ValuedToken} {y : Parameter} (p : Position) → Reads rule _ parameter ts (Some (y, us)) → Reads rule _ next_parameter (mark p s.Comma ∷ ts) (Some (y, us))
-unfolding next_parameter same_sign
-next-parameter-of {y = y} p d = act-some {x = (tt, y)} (seq-some (hit refl) d)
-
-pub no-next-parameter : (p : Position) (ts : List ValuedToken) → Reads rule _ next_parameter (mark p s.Colon ∷ ts) None
-unfolding next_parameter same_sign
-no-next-parameter p ts = act-none (seq-first (miss refl))
+pub next-parameters : Commas sorts.parameter next_parameter parameter
+unfolding next_parameter
+next-parameters = commas sorts.parameter parameter
 
 pub none-taken-of : (p : Position) (us : List ValuedToken) → Reads rule _ lambda_parameters (mark p s.Colon ∷ us) (Some ([], mark p s.Colon ∷ us))
 unfolding lambda_parameters ordered_parameters list_of_parameters parameter named_parameter star star_star same_sign

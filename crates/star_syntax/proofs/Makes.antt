@@ -1,11 +1,15 @@
 -- A fact of each value that a part of the grammar reads, from the same fact of the values of its own parts.
-use Rattle.std.proofs.Common.{◌≡◌, ℕ, zero, suc, List, [], ◌∷◌, ◌++◌, length, Option, Some, None, refl, ap, sym, ◌∙◌, subst}
+use Rattle.std.proofs.Common.{◌≡◌, ℕ, ℤ, zero, suc, List, [], ◌∷◌, ◌++◌, length, Option, Some, None, refl, ap, sym, ◌∙◌, subst}
+use Rattle.star_syntax.specs.declared.leaf.TokenValue.{TokenValue}
+use Rattle.star_syntax.specs.declared.leaf.TokenValue.TheVariants as word
 use Rattle.star_syntax.specs.declared.leaf.ValuedToken.{ValuedToken}
 use Rattle.star_tree.specs.declared.tree.Position.{Position}
+use Rattle.star_tree.specs.declared.tree.Expression.{Expression}
+use Rattle.star_tree.specs.declared.tree.Expression.TheVariants as e
 use Rattle.star_syntax.specs.Sorts.{Sort, Val, both, maybe, list}
 use Rattle.star_syntax.specs.Sorts as sorts
 use Rattle.star_syntax.specs.Grammar.{G, one, seq, alt, fold, act, when, placed, Answer, Readers, step, rounds, first, before_rest, located, and_then, or_else}
-use Rattle.star_syntax.specs.Expressions.{single, snoc, opt, rep, after, before}
+use Rattle.star_syntax.specs.Expressions.{atom_of, single, snoc, opt, rep, after, before}
 
 -- each value that the part reads, with a knot for the parts that hold themselves
 pub record Makes (k : Readers) (s : Sort) (g : G s) (P : Val s → Type 0) : Type 0 where
@@ -54,6 +58,19 @@ some_or x (Some y) = y
 
 pub same_some : {A : Type 0} (x y : A) → Some x ≡ Some y → x ≡ y
 same_some x y e = ap (some_or x) e
+
+-- a fact of each word that is an atom: a name, an int or a string
+pub by-atom : (P : TokenValue → Expression → Type 0) (p : Position) → ((text : List ℕ) → P (word.Name text) (e.Name (record { text = text; position = p })))
+    → ((value : ℤ) → P (word.Int value) (e.Int value)) → ((text : List ℕ) → P (word.Text text) (e.Text text)) → (w : TokenValue) (x : Expression) → atom_of p w ≡ Some x → P w x
+by-atom P p on-name on-int on-text (word.Name text) x is = subst (P (word.Name text)) (same_some _ x is) (on-name text)
+by-atom P p on-name on-int on-text (word.Int value) x is = subst (P (word.Int value)) (same_some _ x is) (on-int value)
+by-atom P p on-name on-int on-text (word.Text text) x is = subst (P (word.Text text)) (same_some _ x is) (on-text text)
+by-atom P p on-name on-int on-text (word.Keyword keyword) x is = absurd (nothing-found x is)
+by-atom P p on-name on-int on-text (word.Punctuator sign) x is = absurd (nothing-found x is)
+by-atom P p on-name on-int on-text word.Newline x is = absurd (nothing-found x is)
+by-atom P p on-name on-int on-text word.Indent x is = absurd (nothing-found x is)
+by-atom P p on-name on-int on-text word.Outdent x is = absurd (nothing-found x is)
+by-atom P p on-name on-int on-text word.End x is = absurd (nothing-found x is)
 
 parted : {A B : Type 0} (r : Answer A) (f : A → List ValuedToken → Answer B) (p : B × List ValuedToken) → and_then r f ≡ Some p → (q : A × List ValuedToken) × (r ≡ Some q) × (f q.0 q.1 ≡ Some p)
 parted None f p e = absurd (nothing-found p e)

@@ -44,25 +44,13 @@ pub and-none : {p : Position} {w : TokenValue} {ts : List ValuedToken} → is_ke
 unfolding next_negation
 and-none n = act-none (seq-first (miss n))
 
-and-over : Reads rule _ next_negation [] None
-unfolding next_negation
-and-over = act-none (seq-first over)
-
 pub or-none : {p : Position} {w : TokenValue} {ts : List ValuedToken} → is_keyword k.Or w ≡ None → Reads rule _ next_conjunction (record { word = w; position = p } ∷ ts) None
 unfolding next_conjunction
 or-none n = act-none (seq-first (miss n))
 
-or-over : Reads rule _ next_conjunction [] None
-unfolding next_conjunction
-or-over = act-none (seq-first over)
-
 pub if-none : {p : Position} {w : TokenValue} {ts : List ValuedToken} → is_keyword k.If w ≡ None → Reads rule _ choice (record { word = w; position = p } ∷ ts) None
 unfolding choice
 if-none n = act-none (seq-first (miss n))
-
-if-over : Reads rule _ choice [] None
-unfolding choice
-if-over = act-none (seq-first over)
 
 -- words with which no part of an expression goes on
 pub record Quiet (ts : List ValuedToken) : Type 0 where
@@ -106,7 +94,8 @@ quiet-word w for' = record { suffix' = record { dot = refl; paren = refl; bracke
 quiet-word w else' = record { suffix' = record { dot = refl; paren = refl; bracket = refl }; binary' = λ n. refl; comparator' = record { sign = refl; denial = refl }; and' = refl; or' = refl; if' = refl }
 
 pub quiet : (ts : List ValuedToken) → Stops ts → Quiet ts
-quiet ts nothing-more = record { suffix' = suffix-over; binary' = λ n. over; comparator' = comparator-over; and' = and-over; or' = or-over; if' = if-over }
+unfolding next_negation next_conjunction choice
+quiet ts nothing-more = record { suffix' = suffix-over; binary' = λ n. over; comparator' = comparator-over; and' = act-none (seq-first over); or' = act-none (seq-first over); if' = act-none (seq-first over) }
 quiet ts (before {w = w} ends) =
     let q = quiet-word w ends in
     record { suffix' = suffix-none q.suffix'; binary' = λ n. miss (q.binary' n); comparator' = comparator-none q.comparator'; and' = and-none q.and'; or' = or-none q.or'; if' = if-none q.if' }

@@ -263,6 +263,10 @@ module _ (rule : (r : Rule) → G (sort r)) where
     located-none [] = refl
     located-none (t ∷ ts) = refl
 
+    -- two parts, of which the first reads
+    both-agree : {a b : Sort} {x : Val a} {us : List ValuedToken} {r : Answer (Val b)} (k : Readers) (g : G a) (h : G b) (ts : List ValuedToken) → Some (x, us) ≡ step k g ts → r ≡ step k h us → and_then r (λ y vs. Some ((x, y), vs)) ≡ step k (seq g h) ts
+    both-agree k g h ts i j = rw (← i) (rw (← j) refl)
+
     module _ (k : Readers) (n : ℕ) (only : Only k n) where
       mutual
         pub agrees : {s : Sort} {g : G s} {ts : List ValuedToken} {r : Answer (Val s)} → Reads rule s g ts r → (m : ℕ) → safe rank ranks m g ≡ true → length ts * ranks + m ≤ n → r ≡ step k g ts
@@ -272,17 +276,13 @@ module _ (rule : (r : Rule) → G (sort r)) where
         agrees free m s b = refl
         agrees (seq-some {g = g} {h = h} {ts = ts} {us = us} d e) m s b =
             let t = and_split (safe rank ranks m g) (safe rank ranks (rank_after ranks (cost g) m) h) s in
-            let i = agrees d m t.0 b in
-            let j = agrees e (rank_after ranks (cost g) m) t.1 (bound (length us) (length ts) (cost g) m n (shorter d) b) in
-            rw (← i) (rw (← j) refl)
+            both-agree k g h ts (agrees d m t.0 b) (agrees e (rank_after ranks (cost g) m) t.1 (bound (length us) (length ts) (cost g) m n (shorter d) b))
         agrees (seq-first {g = g} {h = h} d) m s b =
             let t = and_split (safe rank ranks m g) (safe rank ranks (rank_after ranks (cost g) m) h) s in
             rw (← agrees d m t.0 b) refl
         agrees (seq-second {g = g} {h = h} {ts = ts} {us = us} d e) m s b =
             let t = and_split (safe rank ranks m g) (safe rank ranks (rank_after ranks (cost g) m) h) s in
-            let i = agrees d m t.0 b in
-            let j = agrees e (rank_after ranks (cost g) m) t.1 (bound (length us) (length ts) (cost g) m n (shorter d) b) in
-            rw (← i) (rw (← j) refl)
+            both-agree k g h ts (agrees d m t.0 b) (agrees e (rank_after ranks (cost g) m) t.1 (bound (length us) (length ts) (cost g) m n (shorter d) b))
         agrees (alt-first {g = g} {h = h} d) m s b =
             let t = and_split (safe rank ranks m g) (safe rank ranks m h) s in
             rw (← agrees d m t.0 b) refl

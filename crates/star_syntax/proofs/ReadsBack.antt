@@ -23,8 +23,8 @@ use Rattle.star_syntax.specs.Language.{rule}
 use Rattle.star_syntax.specs.Written.{mark, spelt, right-paren, right-bracket, right-brace, comma, colon, for', before, Written, a-name, an-int, a-text, a-sign, a-denial, a-binary, a-comparison, an-absence, an-and, an-or, a-conditional, an-attribute, an-index, an-empty-tuple, a-tuple, an-empty-list, a-list, an-empty-dict, a-dict, a-list-comprehension, a-dict-comprehension, a-call, a-slice, a-lambda, Enclosed, enclosed, Further, no-further, one-further, Optional, left-out, put, OneEntry, an-entry, FurtherEntries, no-entry, next-entry, OneArgument, positional, by-name, with-star, with-two-stars, FurtherArguments, no-argument, next-argument, Arguments, none-given, some-given, OneParameter, plain, default, starred, bare-star, twice-starred, FurtherParameters, no-parameter, next-parameter, Parameters, none-taken, some-taken, ForPart, for-each, OneClause, each, only-if, FurtherClauses, no-clause, next-clause, AllClauses, clauses-from, ReadsBack}
 use Rattle.star_syntax.proofs.Quiet.{Quiet, quiet, comparator-none, and-none, or-none, test-none}
 use Rattle.star_syntax.proofs.Levels.{Front, front, in_front, primary-of, unary-of, bit-or-of, comparison-of, negation-of, conjunction-of, disjunction-of, test-of, from-disjunction, from-negation, from-comparison, from-bit-or, from-unary, from-primary, from-operand, binary-of}
-use Rattle.star_syntax.proofs.Forms.{after_binary, after_comparator, no_sign_of_comparator, compares, not_in, after_keyword, no_sign, compared-of, and-of, or-of, choice-of, index-of, sign-of, denial-of, attribute-of, enclosed-of, no-test-after, last-comma, next-test-of, no-clauses, Tests, empty-tuple-of, tuple-of, empty-list-of, list-of, no-bracket}
-use Rattle.star_syntax.proofs.Lists.{Listed, last-listed, one-listed, no-colon, entry-of, next-entry-of, no-next-entry, empty-dict-of, dict-of, list-comprehension-of, dict-comprehension-of, for-of, each-of, only-if-of, no-next-clause, clauses-of, Unnamed, unnamed, positional-of, by-name-of, with-star-of, with-two-stars-of, next-argument-of, no-next-argument, none-given-of, given-of, call-of, put-of, left-out-of, stop-and-stride-of, from-start, from-nothing, slice-of, Closed, closed-comma, closed-colon, plain-of, default-of, starred-of, bare-star-of, twice-starred-of, next-parameter-of, no-next-parameter, none-taken-of, taken-of, lambda-of}
+use Rattle.star_syntax.proofs.Forms.{after_binary, comparing, not_in, after_keyword, no_sign, compared-of, and-of, or-of, choice-of, index-of, sign-of, denial-of, attribute-of, enclosed-of, closing, next-tests, last-comma, no-clauses, Tests, empty-tuple-of, tuple-of, empty-list-of, list-of}
+use Rattle.star_syntax.proofs.Lists.{Listed, last-listed, one-listed, entry-of, next-entries, empty-dict-of, dict-of, list-comprehension-of, dict-comprehension-of, for-of, each-of, only-if-of, no-next-clause, clauses-of, Unnamed, unnamed, positional-of, by-name-of, with-star-of, with-two-stars-of, next-arguments, none-given-of, given-of, call-of, put-of, left-out-of, stop-and-stride-of, from-start, from-nothing, slice-of, Closed, closed-comma, closed-colon, plain-of, default-of, starred-of, bare-star-of, twice-starred-of, next-parameters, none-taken-of, taken-of, lambda-of}
 
 before-comma : (p : Position) (ts : List ValuedToken) → Quiet (mark p s.Comma ∷ ts)
 before-comma p ts = quiet (mark p s.Comma ∷ ts) (before comma)
@@ -39,13 +39,16 @@ front-of : {x : Expression} {ts us : List ValuedToken} → Enclosed x ts us → 
 front-of (enclosed {p = p} {ts = ts} w) = in_front p ts
 
 -- the word after an element is quiet, if the word after all of them is
-quiet-further : {xs : List Expression} {ts us : List ValuedToken} → Further xs ts us → Quiet us → Quiet ts
-quiet-further no-further q = q
-quiet-further (one-further {p = p} {ts = ts} e f) q = before-comma p ts
+-- so the leaves from the first comma on are such as each comma begins
+further-front : {xs : List Expression} {ts us : List ValuedToken} (P : List ValuedToken → Type 0) → ((p : Position) (ts : List ValuedToken) → P (mark p s.Comma ∷ ts)) → Further xs ts us → P us → P ts
+further-front P at-comma no-further n = n
+further-front P at-comma (one-further {p = p} {ts = ts} e f) n = at-comma p ts
 
-no-clauses-further : {xs : List Expression} {ts us : List ValuedToken} → Further xs ts us → Reads rule _ all_clauses us None → Reads rule _ all_clauses ts None
-no-clauses-further no-further n = n
-no-clauses-further (one-further {p = p} {ts = ts} e f) n = no-clauses p (word.Punctuator s.Comma) ts refl
+abbrev NoClauses : List ValuedToken → Type 0
+NoClauses ts = Reads rule _ all_clauses ts None
+
+clauses-comma : (p : Position) (ts : List ValuedToken) → NoClauses (mark p s.Comma ∷ ts)
+clauses-comma p ts = no-clauses p (word.Punctuator s.Comma) ts refl
 
 module _ {x : Expression} {ts us : List ValuedToken} (f : Front ts) (d : Reads rule _ operand ts (Some (x, us))) (n : Reads rule _ suffix us None) where
   unary-at : Reads rule _ unary ts (Some (x, us))
@@ -104,13 +107,9 @@ clauses-front : {cs : List Clause} {ts us : List ValuedToken} → FurtherClauses
 clauses-front no-clause q = q
 clauses-front (next-clause c cs) q = clause-front c
 
-entries-front : {ys : List Entry} {ts us : List ValuedToken} → FurtherEntries ys ts us → Quiet us → Quiet ts
-entries-front no-entry q = q
-entries-front (next-entry {p = p} {ts = ts} y ys) q = before-comma p ts
-
-no-clauses-entries : {ys : List Entry} {ts us : List ValuedToken} → FurtherEntries ys ts us → Reads rule _ all_clauses us None → Reads rule _ all_clauses ts None
-no-clauses-entries no-entry n = n
-no-clauses-entries (next-entry {p = p} {ts = ts} y ys) n = no-clauses p (word.Punctuator s.Comma) ts refl
+entries-front : {ys : List Entry} {ts us : List ValuedToken} (P : List ValuedToken → Type 0) → ((p : Position) (ts : List ValuedToken) → P (mark p s.Comma ∷ ts)) → FurtherEntries ys ts us → P us → P ts
+entries-front P at-comma no-entry n = n
+entries-front P at-comma (next-entry {p = p} {ts = ts} y ys) n = at-comma p ts
 
 arguments-front : {ys : List Argument} {ts us : List ValuedToken} → FurtherArguments ys ts us → Quiet us → Quiet ts
 arguments-front no-argument q = q
@@ -146,7 +145,7 @@ one-more-test : {ts vs us : List ValuedToken} (found : List Expression) (x : Exp
     → Tests found (mark p s.Comma ∷ ts) (found ++ x ∷ xs) us
 one-more-test {ts = ts} {us = us} found x xs p d f =
     let P : List Expression → Type 0 = λ z. Tests found (mark p s.Comma ∷ ts) z us in
-    subst P (append_assoc found (x ∷ []) xs) (more (next-test-of p d) f)
+    subst P (append_assoc found (x ∷ []) xs) (more (next-tests.next' _ _ x p d) f)
 
 mutual
   unfolding operand atom same_sign same_keyword
@@ -164,7 +163,8 @@ mutual
       from-bit-or f.undenied f.unbound q (binary-of p sign operator is (unary-at f (part i) (after_binary p sign vs is)) (unary-at (front-of j) (part j) q.suffix') q.binary')
   law (a-comparison {p = p} {w = w} {comparator = c} {vs = vs} is i j) q =
       let f = front-of i in
-      from-comparison f.undenied f.unbound q (compared-of c (bit-or-at f (part i) (after_comparator p w vs is) (no_sign_of_comparator p w vs is)) (compares p w c vs is) (bit-or-at (front-of j) (part j) q.suffix' q.binary'))
+      let m = comparing p w c vs is in
+      from-comparison f.undenied f.unbound q (compared-of c (bit-or-at f (part i) m.suffix' m.sign') m.compares' (bit-or-at (front-of j) (part j) q.suffix' q.binary'))
   law (an-absence {p = p} {q = p'} {vs = vs} i j) q =
       let f = front-of i in
       let ws : List ValuedToken = spelt p' k.In ∷ vs in
@@ -187,15 +187,15 @@ mutual
   law (an-empty-tuple {p = p} {q = p'} {us = us}) q = from-operand (in_front p (mark p' s.RightParen ∷ us)) q (empty-tuple-of p p' us)
   law (a-tuple {p = p} {q = p'} {r = r} {x = x} {ts = ts} {us = us} i js) q =
       let b = before-comma p' (mark r s.RightParen ∷ us) in
-      from-operand (in_front p ts) q (tuple-of p p' r (from-operand (front-of i) (quiet-further js b) (part i)) (parts js (x ∷ []) b (last-comma p' r us)))
+      from-operand (in_front p ts) q (tuple-of p p' r (from-operand (front-of i) (further-front Quiet before-comma js b) (part i)) (parts js (x ∷ []) b (last-comma p' r us)))
   law (an-empty-list {p = p} {q = p'} {us = us}) q = from-operand (front-bracket p (mark p' s.RightBracket ∷ us)) q (empty-list-of p p' us)
   law (a-list {p = p} {q = p'} {ts = ts} {us = us} i js) q =
       let b = before-bracket p' us in
-      from-operand (front-bracket p ts) q (list-of p p' (from-operand (front-of i) (quiet-further js b) (part i)) (no-clauses-further js (no-clauses p' (word.Punctuator s.RightBracket) us refl)) (parts js [] b (no-test-after p' (word.Punctuator s.RightBracket) us refl)))
+      from-operand (front-bracket p ts) q (list-of p p' (from-operand (front-of i) (further-front Quiet before-comma js b) (part i)) (further-front NoClauses clauses-comma js (no-clauses p' (word.Punctuator s.RightBracket) us refl)) (parts js [] b (next-tests.none' p' (word.Punctuator s.RightBracket) us refl)))
   law (an-empty-dict {p = p} {q = p'} {us = us}) q = from-operand (front-brace p (mark p' s.RightBrace ∷ us)) q (empty-dict-of p p' us)
   law (a-dict {p = p} {q = p'} {ts = ts} {us = us} y ys) q =
       let b = before-brace p' us in
-      from-operand (front-brace p ts) q (dict-of p p' (entry-law y (entries-front ys b)) (no-clauses-entries ys (no-clauses p' (word.Punctuator s.RightBrace) us refl)) (entries-law ys [] b (no-next-entry p' us)))
+      from-operand (front-brace p ts) q (dict-of p p' (entry-law y (entries-front Quiet before-comma ys b)) (entries-front NoClauses clauses-comma ys (no-clauses p' (word.Punctuator s.RightBrace) us refl)) (entries-law ys [] b (next-entries.none' p' (word.Punctuator s.RightBrace) us refl)))
   law (a-list-comprehension {p = p} {q = p'} {ts = ts} {us = us} i c) q =
       from-operand (front-bracket p ts) q (list-comprehension-of p p' (from-operand (front-of i) (all-front c) (part i)) (all-law c (quiet-part (before-bracket p' us)) (no-next-clause p' s.RightBracket us)))
   law (a-dict-comprehension {p = p} {q = p'} {ts = ts} {us = us} y c) q =
@@ -203,7 +203,7 @@ mutual
   law (a-call {p = p} {q = p'} {us = us} i js is) q = from-primary (front-of i) q (call-of p p' (part i) (given-law p' us js is) q.suffix')
   law (a-slice {p = p} {q = q'} {r = r} {t = t} {ws = ws} {zs = zs} {us = us} i a b c) q =
       from-primary (front-of i) q (slice-of p t (part i)
-      (start-law q' ws a (stop-and-stride-of q' r (optional-law b (before-colon r zs) (test-none r (word.Punctuator s.Colon) zs no-colon)) (optional-law c (before-bracket t us) (test-none t (word.Punctuator s.RightBracket) us no-bracket)))) q.suffix')
+      (start-law q' ws a (stop-and-stride-of q' r (optional-law b (before-colon r zs) (test-none r (word.Punctuator s.Colon) zs closing.colon')) (optional-law c (before-bracket t us) (test-none t (word.Punctuator s.RightBracket) us closing.bracket')))) q.suffix')
   law (a-lambda {p = p} {q = p'} {vs = vs} js is i) q = lambda-of p p' (taken-law p' vs js is) (from-operand (front-of i) q (part i))
 
   -- a part in parentheses is an operand
@@ -212,14 +212,14 @@ mutual
 
   parts : {xs : List Expression} {ts us : List ValuedToken} → Further xs ts us → (found : List Expression) → Quiet us → Reads rule _ next_test us None → Tests found ts (found ++ xs) us
   parts (no-further {us = us}) found q n = no-more-tests found us n
-  parts (one-further {p = p} {x = x} {xs = xs} i js) found q n = one-more-test found x xs p (from-operand (front-of i) (quiet-further js q) (part i)) (parts js (found ++ x ∷ []) q n)
+  parts (one-further {p = p} {x = x} {xs = xs} i js) found q n = one-more-test found x xs p (from-operand (front-of i) (further-front Quiet before-comma js q) (part i)) (parts js (found ++ x ∷ []) q n)
 
   optional-law : {a : Option Expression} {ts us : List ValuedToken} → Optional a ts us → Quiet us → Reads rule _ (the (level levels.Test)) us None → Reads rule _ (opt a_test) ts (Some (a, us))
   optional-law left-out q n = left-out-of n
   optional-law (put i) q n = put-of (from-operand (front-of i) q (part i))
 
   start-law : {a b c : Option Expression} {ts us : List ValuedToken} (p : Position) (ws : List ValuedToken) → Optional a ts (mark p s.Colon ∷ ws) → Reads rule _ stop_and_stride (mark p s.Colon ∷ ws) (Some ((b, c), us)) → Reads rule _ in_brackets ts (Some (suffixes.Slice a b c, us))
-  start-law p ws left-out d = from-nothing (test-none p (word.Punctuator s.Colon) ws no-colon) d
+  start-law p ws left-out d = from-nothing (test-none p (word.Punctuator s.Colon) ws closing.colon') d
   start-law p ws (put i) d = from-start (from-operand (front-of i) (before-colon p ws) (part i)) d
 
   entry-law : {y : Entry} {ts us : List ValuedToken} → OneEntry y ts us → Quiet us → Reads rule _ entry ts (Some (y, us))
@@ -227,7 +227,7 @@ mutual
 
   entries-law : {ys : List Entry} {ts us : List ValuedToken} → FurtherEntries ys ts us → (found : List Entry) → Quiet us → Reads rule _ following_entry us None → Listed sorts.entry following_entry found ts (found ++ ys) us
   entries-law (no-entry {us = us}) found q n = last-listed sorts.entry following_entry found us n
-  entries-law (next-entry {p = p} {y = y} {ys = ys} i js) found q n = one-listed sorts.entry following_entry found y ys (next-entry-of p (entry-law i (entries-front js q))) (entries-law js (found ++ y ∷ []) q n)
+  entries-law (next-entry {p = p} {y = y} {ys = ys} i js) found q n = one-listed sorts.entry following_entry found y ys (next-entries.next' _ _ y p (entry-law i (entries-front Quiet before-comma js q))) (entries-law js (found ++ y ∷ []) q n)
 
   argument-law : {y : Argument} {ts us : List ValuedToken} → OneArgument y ts us → Quiet us → Reads rule _ argument ts (Some (y, us))
   argument-law (positional i) q = positional-of (unnamed-of i) (from-operand (front-of i) q (part i))
@@ -237,11 +237,11 @@ mutual
 
   arguments-law : {ys : List Argument} {ts us : List ValuedToken} → FurtherArguments ys ts us → (found : List Argument) → Quiet us → Reads rule _ following_argument us None → Listed sorts.argument following_argument found ts (found ++ ys) us
   arguments-law (no-argument {us = us}) found q n = last-listed sorts.argument following_argument found us n
-  arguments-law (next-argument {p = p} {y = y} {ys = ys} i js) found q n = one-listed sorts.argument following_argument found y ys (next-argument-of p (argument-law i (arguments-front js q))) (arguments-law js (found ++ y ∷ []) q n)
+  arguments-law (next-argument {p = p} {y = y} {ys = ys} i js) found q n = one-listed sorts.argument following_argument found y ys (next-arguments.next' _ _ y p (argument-law i (arguments-front js q))) (arguments-law js (found ++ y ∷ []) q n)
 
   given-law : {ys : List Argument} {ts : List ValuedToken} (p : Position) (vs : List ValuedToken) → Arguments ys ts (mark p s.RightParen ∷ vs) → arguments_in_order ys ≡ true → Reads rule _ arguments_given ts (Some (ys, mark p s.RightParen ∷ vs))
   given-law p vs none-given is = none-given-of p vs
-  given-law p vs (some-given {y = y} i js) is = given-of p is (argument-law i (arguments-front js (before-paren p vs))) (arguments-law js (y ∷ []) (before-paren p vs) (no-next-argument p vs))
+  given-law p vs (some-given {y = y} i js) is = given-of p is (argument-law i (arguments-front js (before-paren p vs))) (arguments-law js (y ∷ []) (before-paren p vs) (next-arguments.none' p (word.Punctuator s.RightParen) vs refl))
 
   parameter-law : {y : Parameter} {ts us : List ValuedToken} → OneParameter y ts us → Quiet us → Closed us → Reads rule _ parameter ts (Some (y, us))
   parameter-law (plain {name = name}) q c = plain-of name c
@@ -254,14 +254,14 @@ mutual
   parameters-law (no-parameter {us = us}) found q n = last-listed sorts.parameter following_parameter found us n
   parameters-law (next-parameter {p = p} {y = y} {ys = ys} i js) found q n =
       let f = parameters-front js q in
-      one-listed sorts.parameter following_parameter found y ys (next-parameter-of p (parameter-law i f.0 f.1)) (parameters-law js (found ++ y ∷ []) q n)
+      one-listed sorts.parameter following_parameter found y ys (next-parameters.next' _ _ y p (parameter-law i f.0 f.1)) (parameters-law js (found ++ y ∷ []) q n)
 
   taken-law : {ys : List Parameter} {ts : List ValuedToken} (p : Position) (vs : List ValuedToken) → Parameters ys ts (mark p s.Colon ∷ vs) → parameters_in_order ys ≡ true → Reads rule _ lambda_parameters ts (Some (ys, mark p s.Colon ∷ vs))
   taken-law p vs none-taken is = none-taken-of p vs
   taken-law p vs (some-taken {y = y} i js) is =
       let q : Quiet (mark p s.Colon ∷ vs) × Closed (mark p s.Colon ∷ vs) = (before-colon p vs, closed-colon p vs) in
       let f = parameters-front js q in
-      taken-of is (parameter-law i f.0 f.1) (parameters-law js (y ∷ []) q (no-next-parameter p vs))
+      taken-of is (parameter-law i f.0 f.1) (parameters-law js (y ∷ []) q (next-parameters.none' p (word.Punctuator s.Colon) vs refl))
 
   for-law : {target : Target} {y : Expression} {ts us : List ValuedToken} → ForPart target y ts us → QuietPart us → Reads rule _ for_clause ts (Some ((target, y), us))
   for-law (for-each {p = p} {q = p'} {vs = vs} is i j) q = for-of p p' is (primary-of (part i) (after_keyword p' k.In vs)) (disjunction-at (front-of j) (part j) q.suffix' q.binary' q.comparator' q.and' q.or')

@@ -14,7 +14,7 @@ use Rattle.star_syntax.specs.Keeps.{target_of, targets_of, tuple_target, list_ta
 use Rattle.star_syntax.specs.InOrder.{each_in_order, in_order}
 use Rattle.star_syntax.proofs.Makes.{Each, nothing-found, same_some}
 use Rattle.star_syntax.proofs.Kept.{OfExpression, OfTarget, of-NameTarget, of-IndexTarget, of-TupleTarget, of-ListTarget}
-use Rattle.star_syntax.proofs.Orders.{both-true, FormExpression, openedExpression}
+use Rattle.star_syntax.proofs.Orders.{both-true, Form, opened}
 use Rattle.star_syntax.proofs.Targets.{rolled}
 
 abbrev PE : Expression → Type 0
@@ -26,7 +26,7 @@ Any x = Unit {0}
 abbrev Such : Type 0
 Such = tree.Expression-F ((x : Argument) × Any x) ((x : Clause) × Any x) ((x : Expression) × PE x) ((x : Parameter) × Any x) ((x : Target) × Any x) ((x : Clauses) × Any x) ((x : Entry) × Any x)
 
-abbrev bare : Such → FormExpression
+abbrev bare : Such → Form tree.Expression-F
 bare y = folds.map-Expression ((x : Argument) × Any x) ((x : Clause) × Any x) ((x : Expression) × PE x) ((x : Parameter) × Any x) ((x : Target) × Any x) ((x : Clauses) × Any x) ((x : Entry) × Any x) Argument Clause Expression Parameter Target Clauses Entry (λ z. z.0) (λ z. z.0) (λ z. z.0) (λ z. z.0) (λ z. z.0) (λ z. z.0) (λ z. z.0) y
 
 -- the targets of the parts of a tuple or list display
@@ -55,23 +55,23 @@ as_list (Some ts) t e = (ts, refl, same_some (targets.List ts) t e)
 layer : (y : Such) → PE (roll-Expression (bare y))
 layer (tree.Expression-F.Expression::Name n) t k e = subst OfTarget (same_some (targets.Name n) t (sym (rolled (tree.Expression-F.Expression::Name n)) ∙ e)) (of-NameTarget n)
 layer (tree.Expression-F.Expression::Index a b) t k e =
-    let q = both-true _ _ (sym (openedExpression (bare (tree.Expression-F.Expression::Index a b))) ∙ k) in
+    let q = both-true _ _ (sym (opened.expression' (bare (tree.Expression-F.Expression::Index a b))) ∙ k) in
     subst OfTarget (same_some (targets.Index a.0 b.0) t (sym (rolled (tree.Expression-F.Expression::Index a.0 b.0)) ∙ e)) (of-IndexTarget a.0 b.0 q.0 q.1)
 layer (tree.Expression-F.Expression::Tuple ys) t k e =
     let p = as_tuple (targets_of (map (λ y. y.0) ys)) t (sym (rolled (bare (tree.Expression-F.Expression::Tuple ys))) ∙ e) in
-    subst OfTarget p.2 (of-TupleTarget p.0 (several ys p.0 (sym (openedExpression (bare (tree.Expression-F.Expression::Tuple ys))) ∙ k) p.1))
+    subst OfTarget p.2 (of-TupleTarget p.0 (several ys p.0 (sym (opened.expression' (bare (tree.Expression-F.Expression::Tuple ys))) ∙ k) p.1))
 layer (tree.Expression-F.Expression::List ys) t k e =
     let p = as_list (targets_of (map (λ y. y.0) ys)) t (sym (rolled (bare (tree.Expression-F.Expression::List ys))) ∙ e) in
-    subst OfTarget p.2 (of-ListTarget p.0 (several ys p.0 (sym (openedExpression (bare (tree.Expression-F.Expression::List ys))) ∙ k) p.1))
+    subst OfTarget p.2 (of-ListTarget p.0 (several ys p.0 (sym (opened.expression' (bare (tree.Expression-F.Expression::List ys))) ∙ k) p.1))
 layer y t k e = absurd (nothing-found t (sym (rolled (bare y)) ∙ e))
 
 pub target-kept : (x : Expression) (t : Target) → OfExpression x → target_of x ≡ Some t → OfTarget t
 target-kept x = ind-Expression Any Any PE Any Any Any Any (λ x' y p. tt) (λ x' y p. tt) (λ x' y p. subst (λ z. PE (roll-Expression z)) p (layer y)) (λ x' y p. tt) (λ x' y p. tt) (λ x' y p. tt) (λ x' y p. tt) x
 
-augmented-layer : (l : FormExpression) (t : Target) → in_order (roll-Expression l) ≡ true → augmented_level l ≡ Some t → OfTarget t
+augmented-layer : (l : Form tree.Expression-F) (t : Target) → in_order (roll-Expression l) ≡ true → augmented_level l ≡ Some t → OfTarget t
 augmented-layer (tree.Expression-F.Expression::Name n) t k e = subst OfTarget (same_some (targets.Name n) t e) (of-NameTarget n)
 augmented-layer (tree.Expression-F.Expression::Index a b) t k e =
-    let q = both-true _ _ (sym (openedExpression (tree.Expression-F.Expression::Index a b)) ∙ k) in
+    let q = both-true _ _ (sym (opened.expression' (tree.Expression-F.Expression::Index a b)) ∙ k) in
     subst OfTarget (same_some (targets.Index a b) t e) (of-IndexTarget a b q.0 q.1)
 augmented-layer y t k e = absurd (nothing-found t e)
 

@@ -182,7 +182,7 @@ impl<F: Fn(Global, u128, Level, &[ValuedToken]) -> Read<'_, Boxed<Expression>>> 
     }
 
     /// `Arg {',' Arg}`
-    #[tactic(auto, unfolding(crate::specs::Expressions::list_of_arguments))]
+    #[tactic(auto, unfolding(crate::specs::Expressions::list_of_arguments), using(crate::proofs::Rounds::turns))]
     fn list_of_arguments<'a>(&self, leaves: &'a [ValuedToken]) -> Read<'a, Items<Argument>>
         requires { Nests self.now.depth (F.pre self.now.expression) (F.post self.now.expression) }
         ensures { Gives (reads self.now.depth spec.list_of_arguments leaves.now) result }
@@ -334,7 +334,7 @@ impl<F: Fn(Global, u128, Level, &[ValuedToken]) -> Read<'_, Boxed<Expression>>> 
     }
 
     /// `Param {',' Param}`
-    #[tactic(auto, unfolding(crate::specs::Expressions::list_of_parameters))]
+    #[tactic(auto, unfolding(crate::specs::Expressions::list_of_parameters), using(crate::proofs::Rounds::turns))]
     fn list_of_parameters<'a>(&self, leaves: &'a [ValuedToken]) -> Read<'a, Items<Parameter>>
         requires { Nests self.now.depth (F.pre self.now.expression) (F.post self.now.expression) }
         ensures { Gives (reads self.now.depth spec.list_of_parameters leaves.now) result }

@@ -37,10 +37,7 @@ fn unary_operator(leaves: &[ValuedToken]) -> Option<(UnaryOperator, &[ValuedToke
     ensures { Finds (first (λ t. spec.unary_word t.word) leaves.now) result }
 {
     match leaves {
-        [leaf, rest @ ..] => match unary_word(&leaf.word) {
-            Some(operator) => Some((operator, rest)),
-            None => None,
-        },
+        [leaf, rest @ ..] => Some((unary_word(&leaf.word)?, rest)),
         [] => None,
     }
 }
@@ -63,6 +60,7 @@ fn binary_sign(sign: Punctuator) -> Option<BinaryOperator>
     }
 }
 
+/// How loosely an operator binds its operands: 0 binds tightest.
 fn precedence(operator: BinaryOperator) -> usize
     ensures { result ≡ spec.precedence operator }
 {
@@ -92,10 +90,7 @@ fn binary_operator(level: usize, leaves: &[ValuedToken]) -> Option<(BinaryOperat
     ensures { Finds (first (λ t. spec.binary_word level t.word) leaves.now) result }
 {
     match leaves {
-        [leaf, rest @ ..] => match binary_word(level, &leaf.word) {
-            Some(operator) => Some((operator, rest)),
-            None => None,
-        },
+        [leaf, rest @ ..] => Some((binary_word(level, &leaf.word)?, rest)),
         [] => None,
     }
 }
@@ -128,10 +123,7 @@ fn one_comparator(leaves: &[ValuedToken]) -> Option<(Comparator, &[ValuedToken])
     ensures { Finds (first (λ t. spec.comparator_word t.word) leaves.now) result }
 {
     match leaves {
-        [leaf, rest @ ..] => match comparator_word(&leaf.word) {
-            Some(found) => Some((found, rest)),
-            None => None,
-        },
+        [leaf, rest @ ..] => Some((comparator_word(&leaf.word)?, rest)),
         [] => None,
     }
 }
@@ -364,7 +356,7 @@ impl<F: Fn(Global, u128, Level, &[ValuedToken]) -> Read<'_, Boxed<Expression>>> 
     }
 
     /// `And = Not {'and' Not}`
-    #[tactic(auto, unfolding(crate::specs::Expressions::conjunction))]
+    #[tactic(auto, unfolding(crate::specs::Expressions::conjunction), using(crate::proofs::Rounds::turns))]
     fn conjunction<'a>(&self, leaves: &'a [ValuedToken]) -> Read<'a, Boxed<Expression>>
         requires { Nests self.now.depth (F.pre self.now.expression) (F.post self.now.expression) }
         ensures { Gives (reads self.now.depth spec.conjunction leaves.now) result }
@@ -395,7 +387,7 @@ impl<F: Fn(Global, u128, Level, &[ValuedToken]) -> Read<'_, Boxed<Expression>>> 
     }
 
     /// `Or = And {'or' And}`
-    #[tactic(auto, unfolding(crate::specs::Expressions::disjunction))]
+    #[tactic(auto, unfolding(crate::specs::Expressions::disjunction), using(crate::proofs::Rounds::turns))]
     pub fn disjunction<'a>(&self, leaves: &'a [ValuedToken]) -> Read<'a, Boxed<Expression>>
         requires { Nests self.now.depth (F.pre self.now.expression) (F.post self.now.expression) }
         ensures { Gives (reads self.now.depth spec.disjunction leaves.now) result }

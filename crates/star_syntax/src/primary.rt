@@ -15,6 +15,17 @@ use std::alloc::Global;
 /// Where a slice stops, and its stride.
 type StopAndStride = (Option<Boxed<Expression>>, Option<Boxed<Expression>>);
 
+fn slice_of(start: Option<Boxed<Expression>>, ends: StopAndStride) -> Suffix
+    ensures { result ≡ Suffix.Slice start ends.0 ends.1 }
+{
+    let (stop, stride) = ends;
+    Suffix::Slice {
+        start,
+        stop,
+        stride,
+    }
+}
+
 fn with_suffix(value: Boxed<Expression>, suffix: Suffix) -> Expression
     ensures { result ≡ spec.with_suffix value suffix }
 {
@@ -156,17 +167,7 @@ impl<F: Fn(Global, u128, Level, &[ValuedToken]) -> Read<'_, Boxed<Expression>>> 
                 let found = tuple_unless_one(onto(self.alloc, first.into_inner(), more)?);
                 Ok(Some((Suffix::Index(Boxed::new(self.alloc, found)?), rest)))
             }
-            Some((stop, stride)) => {
-                let start = Some(first);
-                Ok(Some((
-                    Suffix::Slice {
-                        start,
-                        stop,
-                        stride,
-                    },
-                    rest,
-                )))
-            }
+            Some(ends) => Ok(Some((slice_of(Some(first), ends), rest))),
         }
     }
 
@@ -179,18 +180,10 @@ impl<F: Fn(Global, u128, Level, &[ValuedToken]) -> Read<'_, Boxed<Expression>>> 
         if let Some(found) = self.from_test(leaves)? {
             return Ok(Some(found));
         }
-        let Some(((stop, stride), rest)) = self.stop_and_stride(leaves)? else {
+        let Some((ends, rest)) = self.stop_and_stride(leaves)? else {
             return Ok(None);
         };
-        let start = None;
-        Ok(Some((
-            Suffix::Slice {
-                start,
-                stop,
-                stride,
-            },
-            rest,
-        )))
+        Ok(Some((slice_of(None, ends), rest)))
     }
 
     /// `'[' Tests ']' | '[' [Test] ':' [Test] [':' [Test]] ']'`
@@ -227,7 +220,7 @@ impl<F: Fn(Global, u128, Level, &[ValuedToken]) -> Read<'_, Boxed<Expression>>> 
     }
 
     /// `Primary = Operand {suffix}`
-    #[tactic(auto, unfolding(crate::specs::Expressions::primary))]
+    #[tactic(auto, unfolding(crate::specs::Expressions::primary), using(crate::proofs::Rounds::turns))]
     pub fn primary<'a>(&self, leaves: &'a [ValuedToken]) -> Read<'a, Boxed<Expression>>
         requires { Nests self.now.depth (F.pre self.now.expression) (F.post self.now.expression) }
         ensures { Gives (reads self.now.depth spec.primary leaves.now) result }

@@ -8,9 +8,9 @@
 //! A name, an int or a string before a word that ends an expression is read at once (`alone`); each level of the
 //! grammar would read the same (`specs/Alone`).
 
-ghost use Rattle.std.specs.Prelude.{◌≡◌, ◌∷◌, true, IfOk};
+ghost use Rattle.std.specs.Prelude.{◌≡◌, ◌∷◌, length, true, IfOk};
 ghost use Rattle.star_syntax.specs.Alone.{ReadAlone};
-ghost use Rattle.star_syntax.specs.Grammar.{first, level as at_level, run};
+ghost use Rattle.star_syntax.specs.Grammar.{first, level as at_level, rounds, run};
 ghost use Rattle.star_syntax.specs.Expressions as spec;
 ghost use Rattle.star_syntax.specs.Language.{Finds, Gives, Nests, reads, rule};
 ghost use Rattle.star_syntax.specs.Written.{EndsBefore};
@@ -113,17 +113,20 @@ pub fn keyword_at(expected: Keyword, leaves: &[ValuedToken]) -> Option<(Position
     }
 }
 
+fn name_of(text: &Text, position: Position) -> Result<Name, AllocError>
+    ensures { IfOk result (λ name. name ≡ record { text = text.now; position = position }) }
+{
+    let text = text.share()?;
+    Ok(Name { text, position })
+}
+
 /// The name at the front of the leaves.
 pub fn name(leaves: &[ValuedToken]) -> Read<'_, Name>
     ensures { Gives (first (λ t. spec.name_of t.position t.word) leaves.now) result }
 {
     match leaves {
         [leaf, rest @ ..] => match &leaf.word {
-            TokenValue::Name(text) => {
-                let text = text.share()?;
-                let position = leaf.position;
-                Ok(Some((Name { text, position }, rest)))
-            }
+            TokenValue::Name(text) => Ok(Some((name_of(text, leaf.position)?, rest))),
             _ => Ok(None),
         },
         [] => Ok(None),
@@ -137,9 +140,7 @@ pub fn atom(alloc: Global, leaves: &[ValuedToken]) -> Read<'_, Boxed<Expression>
     match leaves {
         [leaf, rest @ ..] => match &leaf.word {
             TokenValue::Name(text) => {
-                let text = text.share()?;
-                let position = leaf.position;
-                let found = Expression::Name(Name { text, position });
+                let found = Expression::Name(name_of(text, leaf.position)?);
                 Ok(Some((Boxed::new(alloc, found)?, rest)))
             }
             TokenValue::Int(value) => Ok(Some((Boxed::new(alloc, Expression::Int(*value))?, rest))),
@@ -245,34 +246,17 @@ impl<F: Fn(Global, u128, Level, &[ValuedToken]) -> Read<'_, Boxed<Expression>>> 
         self.nested(Level::Test, rest)
     }
 
-    /// `Test {',' Test}`
-    #[tactic(auto, unfolding(crate::specs::Expressions::list_of_tests), using(crate::proofs::Rounds::turns))]
-    pub fn list_of_tests<'a>(&self, leaves: &'a [ValuedToken]) -> Read<'a, Items<Expression>>
+    /// `{',' Test}`, after the tests that are found so far.
+    #[tactic(auto, using(crate::proofs::Rounds::turns))]
+    fn tests_after<'a>(
+        &self,
+        mut found: Items<Expression>,
+        leaves: &'a [ValuedToken],
+    ) -> Read<'a, Items<Expression>>
         requires { Nests self.now.depth (F.pre self.now.expression) (F.post self.now.expression) }
-        ensures { Gives (reads self.now.depth spec.list_of_tests leaves.now) result }
+        ensures { Gives (rounds spec.snoc (reads self.now.depth spec.next_test) (length leaves.now) found leaves.now)
+            result }
     {
-        let Some((first, mut rest)) = self.nested(Level::Test, leaves)? else {
-            return Ok(None);
-        };
-        let mut found = Items::new(self.alloc);
-        found.push(first.into_inner())?;
-        for _turn in 0..rest.len() {
-            let Some((next, after)) = self.next_test(rest)? else {
-                return Ok(Some((found, rest)));
-            };
-            found.push(next.into_inner())?;
-            rest = after;
-        }
-        Ok(Some((found, rest)))
-    }
-
-    /// `{',' Test}`
-    #[tactic(auto, unfolding(crate::specs::Expressions::further_tests), using(crate::proofs::Rounds::turns))]
-    pub fn further_tests<'a>(&self, leaves: &'a [ValuedToken]) -> Read<'a, Items<Expression>>
-        requires { Nests self.now.depth (F.pre self.now.expression) (F.post self.now.expression) }
-        ensures { Gives (reads self.now.depth spec.further_tests leaves.now) result }
-    {
-        let mut found = Items::new(self.alloc);
         let mut rest = leaves;
         for _turn in 0..leaves.len() {
             let Some((next, after)) = self.next_test(rest)? else {
@@ -282,6 +266,29 @@ impl<F: Fn(Global, u128, Level, &[ValuedToken]) -> Read<'_, Boxed<Expression>>> 
             rest = after;
         }
         Ok(Some((found, rest)))
+    }
+
+    /// `Test {',' Test}`
+    #[tactic(auto, unfolding(crate::specs::Expressions::list_of_tests))]
+    pub fn list_of_tests<'a>(&self, leaves: &'a [ValuedToken]) -> Read<'a, Items<Expression>>
+        requires { Nests self.now.depth (F.pre self.now.expression) (F.post self.now.expression) }
+        ensures { Gives (reads self.now.depth spec.list_of_tests leaves.now) result }
+    {
+        let Some((first, rest)) = self.nested(Level::Test, leaves)? else {
+            return Ok(None);
+        };
+        let mut found = Items::new(self.alloc);
+        found.push(first.into_inner())?;
+        self.tests_after(found, rest)
+    }
+
+    /// `{',' Test}`
+    #[tactic(auto, unfolding(crate::specs::Expressions::further_tests))]
+    pub fn further_tests<'a>(&self, leaves: &'a [ValuedToken]) -> Read<'a, Items<Expression>>
+        requires { Nests self.now.depth (F.pre self.now.expression) (F.post self.now.expression) }
+        ensures { Gives (reads self.now.depth spec.further_tests leaves.now) result }
+    {
+        self.tests_after(Items::new(self.alloc), leaves)
     }
 
     /// `Tests = Test {',' Test}`; several are a tuple.

@@ -5,7 +5,7 @@ use Rattle.star_meaning.specs.declared.story.Step.TheVariants as step
 use Rattle.star_reading.specs.Readings.{Row, read_at}
 use Rattle.star_reading.specs.declared.reading.Read.{Read}
 use Rattle.star_reading.specs.declared.reading.Read.TheVariants as read
-use Rattle.star_scope.specs.Syntax.{StatementForm, form_of, position_of}
+use Rattle.star_outline.specs.Syntax.{StatementForm, form_of, position_of}
 use Rattle.star_tree.specs.declared.tree.Arm.{Arm, out-Arm}
 use Rattle.star_tree.specs.declared.tree.Form.TheOpen as form
 use Rattle.star_tree.specs.declared.tree.Statement.{Statement}
@@ -16,17 +16,10 @@ bodies [] = []
 bodies (a ∷ arms) = (out-Arm a).body ++ bodies arms
 
 abbrev pub within_form : StatementForm → List Statement
-within_form (form.Expression e) = []
-within_form (form.Assign t e) = []
-within_form (form.Augment t op e) = []
-within_form form.Pass = []
-within_form form.Break = []
-within_form form.Continue = []
-within_form (form.Return e) = []
-within_form (form.Load l ns) = []
 within_form (form.If arms otherwise) = bodies arms ++ otherwise
 within_form (form.For t e body) = body
 within_form (form.Def n ps body) = body
+within_form _ = []
 
 -- the statements directly within a statement
 abbrev pub within : Statement → List Statement

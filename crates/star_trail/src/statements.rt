@@ -1,7 +1,7 @@
 //! Finds a statement of a file by its first token.
 
 ghost use Rattle.std.specs.Prelude.{◌≡◌, Contains, IfSome, true};
-ghost use Rattle.star_scope.specs.Syntax.{position_of};
+ghost use Rattle.star_outline.specs.Syntax.{position_of};
 ghost use Rattle.star_trail.specs.Trails.{Begins, IsStatementOf, bodies, within};
 
 use star_tree::tree::{Arm, Form, Statement};

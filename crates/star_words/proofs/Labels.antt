@@ -1,10 +1,10 @@
 -- Labels among texts.
-use Rattle.std.proofs.Common.{◌≡◌, ◌⊎◌, inl, inr, ℕ, List, [], ◌∷◌, ◌++◌, true, Some, None, ap, sym, ◌∙◌}
+use Rattle.std.proofs.Common.{◌≡◌, ◌⊎◌, inl, inr, ℕ, ◌+◌, ◌<◌, List, [], ◌∷◌, ◌++◌, String, Global, get_or, length, take, string_bytes, true, Some, None, ap, subst, sym, ◌∙◌}
 use Rattle.std.specs.Prelude.{◌↔◌}
 use Rattle.star_bundle.specs.Bundle.{is_label}
-use Rattle.star_words.specs.Named.{AllLabels, AreAsked, Names, AreNamed}
+use Rattle.star_words.specs.Named.{AllLabels, AreAsked, Names, AreNamed, texts_of}
 use Rattle.star_words.specs.Rows.{IsIn}
-use Rattle.star_words.proofs.Members.{in_back, in_either, in_front}
+use Rattle.star_words.proofs.Members.{in_back, in_either, in_front, texts_more}
 
 -- one text more
 pub all_more : (ts : List (List ℕ)) (t : List ℕ) → AllLabels ts → is_label t ≡ true → AllLabels (ts ++ t ∷ [])
@@ -28,6 +28,13 @@ are_more ls ms ts t same more m = (
     | inr j ↦ elim j [ inl e ↦ inr (sym e) | inr k ↦ absurd k ]
   ])),
 )
+
+-- .. and the text is that of the next word
+pub all_next : (words : List (String Global)) (i : ℕ) (word : String Global) → i < length words → word ≡ get_or words i word → AllLabels (texts_of (take i words)) → is_label (string_bytes word) ≡ true → AllLabels (texts_of (take (i + 1) words))
+all_next words i word low at all is = subst AllLabels (sym (texts_more words i word low at)) (all_more (texts_of (take i words)) (string_bytes word) all is)
+
+pub are_next : (words : List (String Global)) (i : ℕ) (word : String Global) → i < length words → word ≡ get_or words i word → (ls ms : List (List ℕ)) → ((m : List ℕ) → IsIn m ls ↔ IsIn m (texts_of (take i words))) → ((m : List ℕ) → IsIn m ms ↔ (IsIn m ls ⊎ (m ≡ string_bytes word))) → (m : List ℕ) → IsIn m ms ↔ IsIn m (texts_of (take (i + 1) words))
+are_next words i word low at ls ms same more = subst (λ ts. (m : List ℕ) → IsIn m ms ↔ IsIn m ts) (sym (texts_more words i word low at)) (are_more ls ms (texts_of (take i words)) (string_bytes word) same more)
 
 -- the labels that are asked for without a prelude, and with one
 pub without_prelude : (ts ls : List (List ℕ)) → AllLabels ts → ((m : List ℕ) → IsIn m ls ↔ IsIn m ts) → AreAsked ts None ls

@@ -1,11 +1,11 @@
 -- Where the parts of a path lead.
-use Rattle.std.proofs.Common.{◌≡◌, ◌-◌, ◌+◌, ℕ, List, [], ◌∷◌, ◌++◌, length, length-append, map, take, Bool, ◌&&◌, true, false, Option, Some, None, refl, ap, sym, ◌∙◌, arith, Bor}
+use Rattle.std.proofs.Common.{◌≡◌, ◌-◌, ◌+◌, ℕ, List, [], ◌∷◌, ◌++◌, length, length-append, map, take, Bool, ◌&&◌, true, false, Option, Some, None, refl, ap, subst, sym, ◌∙◌, arith, Bor}
 use Rattle.std.proofs.Math.Seq.{get_or-append_seam, take-append_seam}
 use Rattle.std.specs.Prelude.{if◌then◌else◌, slice_index_or}
 use Rattle.std.specs.List.{list_all}
 use Rattle.std.specs.Option.{option_and_then}
 use Rattle.star_label.specs.Label.{is_segment, joined, label_text, parts}
-use Rattle.star_words.specs.Words.{folders_of, label_of_parts, label_of_path, led, led_by}
+use Rattle.star_words.specs.Words.{Leads, folders_of, label_of_parts, label_of_path, led, led_by}
 
 pub led_both : (fs xs ys : List (List ℕ)) → led_by fs (xs ++ ys) ≡ option_and_then (λ gs. led_by gs ys) (led_by fs xs)
 led_both fs [] ys = refl
@@ -59,3 +59,16 @@ first_out here path e = ap (option_and_then label_of_parts) (led_both [] (parts 
 
 pub leads_to : (here path : List ℕ) (gs : List (List ℕ)) (o : Option (List (List ℕ))) → led_by [] (parts here) ≡ Some gs → led_by gs (parts path) ≡ o → label_of_path here path ≡ option_and_then label_of_parts o
 leads_to here path gs o e h = ap (option_and_then label_of_parts) (led_both [] (parts here) (parts path) ∙ ap (option_and_then (λ gs. led_by gs (parts path))) e ∙ h)
+
+-- .. where the walk to the package began at the top and went on
+pub walked : (here path : List ℕ) (top gs : List (Bor (List ℕ))) (there : Bool) (o : Option (List (List ℕ))) → top ≡ [] → there ≡ true → Leads (led_by (folders_of top) (parts here)) there (folders_of gs) → led_by (folders_of gs) (parts path) ≡ o → label_of_path here path ≡ option_and_then label_of_parts o
+walked here path top gs there o none goes leads h =
+    let e : led_by (folders_of top) (parts here) ≡ Some (folders_of gs) = subst (λ b. Leads (led_by (folders_of top) (parts here)) b (folders_of gs)) goes leads in
+    leads_to here path (folders_of gs) o (subst (λ (fs : List (Bor (List ℕ))). led_by (folders_of fs) (parts here) ≡ Some (folders_of gs)) none e) h
+
+-- .. and so did the walk by the path, to folders of which the last is the name
+pub walked_to_name : (here path : List ℕ) (top gs hs fs : List (Bor (List ℕ))) (n : Bor (List ℕ)) (there down : Bool) → top ≡ [] → there ≡ true → Leads (led_by (folders_of top) (parts here)) there (folders_of gs) → down ≡ true → Leads (led_by (folders_of gs) (parts path)) down (folders_of hs) → hs ≡ fs ++ n ∷ []
+    → label_of_path here path ≡ (if list_all is_segment (folders_of fs) && is_segment n.now then Some (label_text (joined (folders_of fs)) n.now) else None)
+walked_to_name here path top gs hs fs n there down none goes leads goes_down leads_down is =
+    walked here path top gs there (Some (folders_of hs)) none goes leads (subst (λ b. Leads (led_by (folders_of gs) (parts path)) b (folders_of hs)) goes_down leads_down)
+    ∙ ap (λ (xs : List (Bor (List ℕ))). label_of_parts (folders_of xs)) is ∙ ap label_of_parts (folders_last fs n) ∙ named_last (folders_of fs) n.now

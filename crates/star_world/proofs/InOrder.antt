@@ -10,14 +10,14 @@ use Rattle.std.proofs.lemmas.Grind.{common_steps}
 use Rattle.std.proofs.lemmas.List.{drop_more}
 use Rattle.std.proofs.Math.ListN.{drop_of_length-le}
 use Rattle.star_tree.specs.declared.tree.Parameter.{Parameter}
-use Rattle.star_scope.specs.declared.outline.Definition.{Definition as OneDefinition}
+use Rattle.star_outline.specs.declared.outline.Definition.{Definition as OneDefinition}
 use Rattle.star_scope.specs.declared.program.Program.{Program}
-use Rattle.star_scope.specs.Definitions.{Definition, definition_in, definition_of}
-use Rattle.star_scope.specs.Names.{Names}
-use Rattle.star_scope.specs.Outlines.{names_in}
+use Rattle.star_outline.specs.Definitions.{Definition, definition_in, definition_of}
+use Rattle.star_outline.specs.Names.{Names}
+use Rattle.star_outline.specs.Outlines.{names_in}
 use Rattle.star_scope.specs.Places.{Spots}
 use Rattle.star_scope.specs.Spots.{spot_at}
-use Rattle.star_scope.specs.Syntax.{parameter}
+use Rattle.star_outline.specs.Syntax.{parameter}
 use Rattle.star_world.specs.declared.layouts.Cursor.{Cursor}
 use Rattle.star_world.specs.Orders.{AreLaidOut, HasLayout, HaveLayouts, InOrder, Layout, MayEnd, StandsAt, after}
 

@@ -21,15 +21,8 @@ flat None = refl
 flat (Some o) = refl
 
 in_cell : (c : Option Cell) (slot : ℕ) → joined (option_and_then (λ f. slice_get f.slots slot) (frame_of c)) ≡ slot_value c slot
-in_cell None slot = refl
-in_cell (Some (cell.Text t)) slot = refl
-in_cell (Some (cell.Range r)) slot = refl
-in_cell (Some (cell.Tuple xs)) slot = refl
-in_cell (Some (cell.List xs)) slot = refl
-in_cell (Some (cell.Dict es)) slot = refl
-in_cell (Some (cell.Func f)) slot = refl
 in_cell (Some (cell.Frame f)) slot = flat (slice_get f.slots slot)
-in_cell (Some (cell.Bound m v)) slot = refl
+in_cell _ slot = refl
 
 own : (sp : Option Spot) (slot : ℕ) → own_spot sp ≡ Some slot → sp ≡ Some (spot.Frame zero slot)
 own (Some (spot.Frame zero slot)) other h = ap (λ o. elim o [ None ↦ Some (spot.Frame zero slot) | Some k ↦ Some (spot.Frame zero k) ]) h

@@ -6,11 +6,11 @@ use Rattle.std.proofs.lemmas.Option.{slice_get-map}
 use Rattle.std.proofs.lemmas.Map.Views.{any-filter_same}
 use Rattle.std.proofs.lemmas.Slice.Eq.{bytes_eq-Decides}
 use Rattle.star_scope.specs.declared.program.Program.{Program}
-use Rattle.star_scope.specs.Definitions.{Definition, definition_in}
-use Rattle.star_scope.specs.Names.{Names, has_name, once, same_name, slot_of}
-use Rattle.star_scope.specs.Outlines.{names_in, outline}
+use Rattle.star_outline.specs.Definitions.{Definition, definition_in}
+use Rattle.star_outline.specs.Names.{Names, has_name, once, same_name, slot_of}
+use Rattle.star_outline.specs.Outlines.{names_in, outline}
 use Rattle.star_scope.specs.Spots.{spot_at}
-use Rattle.star_scope.proofs.Numbers.{position_any}
+use Rattle.star_outline.proofs.Numbers.{position_any}
 use Rattle.star_meaning.specs.Local.{outlines}
 use Rattle.star_meaning.specs.Programs.{Files, IsOfFile, PlacedFile, file_in, outline_at, slots_in, spots_in, tables_of, trees_of}
 use Rattle.star_world.specs.declared.orders.Order.{Order}

@@ -9,9 +9,9 @@ use Rattle.star_tree.specs.declared.tree.Statement.{Statement}
 use Rattle.star_scope.specs.declared.error.ScopeFault.{ScopeFault}
 use Rattle.star_scope.specs.declared.program.Prelude.{Prelude}
 use Rattle.star_scope.specs.declared.program.Program.{Program}
-use Rattle.star_scope.specs.Definitions.{definition_in}
-use Rattle.star_scope.specs.Names.{has_name}
-use Rattle.star_scope.specs.Outlines.{names_in}
+use Rattle.star_outline.specs.Definitions.{definition_in}
+use Rattle.star_outline.specs.Names.{has_name}
+use Rattle.star_outline.specs.Outlines.{names_in}
 use Rattle.star_scope.specs.Resolve.{Resolves}
 use Rattle.star_meaning.specs.Module.{loaded_names}
 use Rattle.star_meaning.specs.Program.{Setting, blocks_in, definition_of, names_of, outline_of}

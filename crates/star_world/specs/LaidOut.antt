@@ -1,6 +1,6 @@
 -- A definition that is found is laid out as its order says.
 use Rattle.std.specs.Prelude.{◌≡◌, Option, Some}
-use Rattle.star_scope.specs.Definitions.{Definition}
+use Rattle.star_outline.specs.Definitions.{Definition}
 use Rattle.star_scope.specs.Places.{Spots}
 use Rattle.star_world.specs.declared.orders.Order.{Order}
 use Rattle.star_world.specs.Orders.{AreLaidOut}

@@ -6,12 +6,12 @@ use Rattle.star_tree.specs.declared.tree.Argument.TheOpen as tree
 use Rattle.star_tree.specs.declared.tree.Name.{Name}
 use Rattle.star_tree.specs.declared.tree.Parameter.{Parameter}
 use Rattle.star_scope.specs.declared.program.Program.{Program}
-use Rattle.star_scope.specs.Definitions.{Definition, definition_in}
-use Rattle.star_scope.specs.Names.{Names, slot_of}
-use Rattle.star_scope.specs.Outlines.{names_in}
+use Rattle.star_outline.specs.Definitions.{Definition, definition_in}
+use Rattle.star_outline.specs.Names.{Names, slot_of}
+use Rattle.star_outline.specs.Outlines.{names_in}
 use Rattle.star_scope.specs.Places.{Spots}
 use Rattle.star_scope.specs.Spots.{spot_at}
-use Rattle.star_scope.specs.Syntax.{ParameterForm, parameter}
+use Rattle.star_outline.specs.Syntax.{ParameterForm, parameter}
 use Rattle.star_meaning.specs.Places.{own_spot}
 use Rattle.star_world.specs.declared.layouts.Cursor.{Cursor}
 use Rattle.star_world.specs.declared.layouts.Stage.{Stage}

@@ -5,7 +5,7 @@
 
 ghost use Rattle.std.specs.Prelude.{◌≡◌, slice_get, IfOk, IfSome, IsTrue};
 ghost use Rattle.std.specs.Arc.{arc_slice_items};
-ghost use Rattle.star_scope.specs.Syntax as form;
+ghost use Rattle.star_outline.specs.Syntax as form;
 ghost use Rattle.star_world.specs.Orders.{IsBelow, IsBounded, after, is_at, takes_keyword, start};
 
 use star_tree::tree::Parameter;

@@ -10,7 +10,7 @@ ghost use Rattle.star_world.specs.World.{variables};
 
 use crate::variables::bind;
 use crate::world::World;
-use star_machine::fault::{Stop, faulted};
+use star_machine::fault::{EvalError, fault_at};
 use star_machine::machine::Machine;
 use star_meaning::fault::FaultCode;
 use star_meaning::site::Site;
@@ -45,12 +45,12 @@ fn load_name(
     place: &Site,
     published: Option<&Frozen>,
     name: &LoadedName,
-) -> Result<(), Stop>
+) -> Result<(), EvalError>
     ensures { Refines (spec.load_name (variables world.now) place.now (option_copied published.entry) name.now
         machine.old) result machine.new }
 {
     let Some(value) = global(published, name) else {
-        return Err(faulted(FaultCode::NoName, place.line));
+        return Err(fault_at(FaultCode::NoName, place.line));
     };
     bind(machine, world, place, &name.local, value)
 }
@@ -62,7 +62,7 @@ fn load_each(
     place: &Site,
     published: Option<&Frozen>,
     names: &[LoadedName],
-) -> Result<(), Stop>
+) -> Result<(), EvalError>
     ensures { Refines (all_of (spec.load_name (variables world.now) place.now (option_copied published.entry)) names.now
         machine.old) result machine.new }
 {
@@ -80,7 +80,7 @@ pub fn load_names(
     place: &Site,
     position: Position,
     names: &[LoadedName],
-) -> Result<(), Stop>
+) -> Result<(), EvalError>
     ensures { Refines (all_of (spec.load_name (variables world.now) place.now
         (spec.module_of world.now.setting position))
         names.now machine.old) result machine.new }

@@ -4,14 +4,14 @@ ghost use Rattle.std.specs.Prelude.{◌≡◌, ◌↔◌, ◌+◌, IfOk, IfSome,
 ghost use Rattle.std.specs.BTreeMap.{btree_map_len, get};
 ghost use Rattle.std.specs.Option.{option_copied};
 ghost use Rattle.std.specs.Ordering.{nat_cmp};
-ghost use Rattle.star_scope.specs.Outlines.{names_in};
+ghost use Rattle.star_outline.specs.Outlines.{names_in};
 ghost use Rattle.star_scope.specs.Spots.{spot_at};
-ghost use Rattle.star_scope.specs.Syntax as form;
+ghost use Rattle.star_outline.specs.Syntax as form;
 ghost use Rattle.star_world.specs.Orders.{AreLaidOut, HasLayout, HaveLayouts, InOrder, IsSlot, MayEnd, MayStand, PlacesAreOver, PlacesEnd, StandsAt, takes_keyword, start};
 
 use crate::layouts::{Cursor, Layout, Stage, is_at};
 use crate::variables::own_spot;
-use star_scope::blocks::BlockNames;
+use star_outline::blocks::BlockNames;
 use star_scope::program::Program;
 use star_tree::tree::{Name, Parameter};
 use std::alloc::{AllocError, Global};
@@ -81,20 +81,14 @@ fn may_end(layout: &Layout, cursor: Cursor) -> bool
 }
 
 /// Whether a name has the slot at a cursor, which gets one value.
-fn has_own_slot(
-    program: &Program<'_>,
-    names: &BlockNames<'_>,
-    layout: &Layout,
-    cursor: Cursor,
-    name: &Name,
-) -> bool
-    ensures may_stand { IsTrue result → MayStand layout.now cursor.stage cursor.slot }
-    ensures slot { IsTrue result → IsSlot (spot_at program.now.spots) names.now cursor.slot name.now }
-    ensures own { IsTrue result → IsTrue (takes_keyword layout.now cursor.slot) }
+fn has_own_slot(program: &Program<'_>, order: Order<'_, '_>, cursor: Cursor, name: &Name) -> bool
+    ensures may_stand { IsTrue result → MayStand order.entry.layout.now cursor.stage cursor.slot }
+    ensures slot { IsTrue result → IsSlot (spot_at program.now.spots) order.entry.names.now cursor.slot name.now }
+    ensures own { IsTrue result → IsTrue (takes_keyword order.entry.layout.now cursor.slot) }
 {
-    may_stand(layout, cursor)
-        && is_slot(program, names, cursor.slot, name)
-        && layout.takes_keyword(cursor.slot)
+    may_stand(order.layout, cursor)
+        && is_slot(program, order.names, cursor.slot, name)
+        && order.layout.takes_keyword(cursor.slot)
 }
 
 /// Whether the slot at a cursor is the next that needs a value.
@@ -107,23 +101,23 @@ fn is_needed(layout: &Layout, cursor: Cursor) -> bool
 /// Whether a parameter has the slot at a cursor.
 fn stands_at(
     program: &Program<'_>,
-    names: &BlockNames<'_>,
-    layout: &Layout,
+    order: Order<'_, '_>,
     cursor: Cursor,
     parameter: &Parameter,
 ) -> bool
-    ensures { IsTrue result → StandsAt (spot_at program.now.spots) names.now layout.now cursor
+    ensures { IsTrue result → StandsAt (spot_at program.now.spots) order.entry.names.now order.entry.layout.now cursor
         (form.parameter parameter.now) }
 {
+    let Order { layout, names } = order;
     let slot = cursor.slot;
     match parameter {
         Parameter::Plain(name) => {
-            has_own_slot(program, names, layout, cursor, name)
+            has_own_slot(program, order, cursor, name)
                 && layout.rank(slot) == Some(None)
                 && is_needed(layout, cursor)
         }
         Parameter::Default { name, .. } => {
-            has_own_slot(program, names, layout, cursor, name)
+            has_own_slot(program, order, cursor, name)
                 && layout.rank(slot) == Some(Some(cursor.rank))
                 && cursor.rank < layout.defaults()
         }
@@ -150,9 +144,10 @@ fn are_in_order(
 ) -> bool
     ensures { IsTrue result → InOrder (spot_at program.now.spots) names.now layout.now start parameters.now }
 {
+    let order = Order { layout, names };
     let mut cursor = Cursor::start();
     for parameter in parameters {
-        if !stands_at(program, names, layout, cursor, parameter) {
+        if !stands_at(program, order, cursor, parameter) {
             return false;
         }
         let Some(next) = cursor.after(parameter) else {

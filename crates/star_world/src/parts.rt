@@ -14,7 +14,7 @@ ghost use Rattle.star_world.specs.World.{variables};
 use crate::variables::paid_frame;
 use crate::world::World;
 use sqlite_items::Boxed;
-use star_machine::fault::Stop;
+use star_machine::fault::EvalError;
 use star_machine::machine::Machine;
 use star_meaning::site::{Flow, Site};
 use star_store::defaults::Defaults;
@@ -48,7 +48,7 @@ pub fn answer_of(flow: Flow) -> Value
 
 /// A new string of these bytes, which pays 1 and one for each.
 #[inline(never)]
-pub fn new_string(machine: &mut Machine, line: usize, text: &Text) -> Result<Value, Stop>
+pub fn new_string(machine: &mut Machine, line: usize, text: &Text) -> Result<Value, EvalError>
     ensures { Refines (new_text line text.now machine.old) result machine.new }
 {
     let copy = text.share()?;
@@ -62,11 +62,11 @@ pub fn new_closure(
     token: usize,
     name: &str,
     defaults: Defaults,
-) -> Result<Value, Stop>
+) -> Result<Value, EvalError>
     ensures { Refines (closure site.now token name.now defaults machine.old) result machine.new }
 {
     let Ok(definition) = u32::try_from(token) else {
-        return Err(Stop::Memory);
+        return Err(EvalError::Memory);
     };
     let function = Function {
         file: site.file,
@@ -80,7 +80,7 @@ pub fn new_closure(
 }
 
 /// A new list of no items, which pays 1.
-pub fn new_empty_list(machine: &mut Machine, line: usize) -> Result<Value, Stop>
+pub fn new_empty_list(machine: &mut Machine, line: usize) -> Result<Value, EvalError>
     ensures { Refines (build line 1 (cell.List []) machine.old) result machine.new }
 {
     let items = Values::new(Vec::new(machine.alloc()));
@@ -88,7 +88,7 @@ pub fn new_empty_list(machine: &mut Machine, line: usize) -> Result<Value, Stop>
 }
 
 /// A new dictionary of no entries, which pays 1.
-pub fn new_empty_dict(machine: &mut Machine, line: usize) -> Result<Value, Stop>
+pub fn new_empty_dict(machine: &mut Machine, line: usize) -> Result<Value, EvalError>
     ensures { Refines (build line 1 (cell.Dict []) machine.old) result machine.new }
 {
     let entries = Entries::new(machine.alloc());
@@ -96,11 +96,16 @@ pub fn new_empty_dict(machine: &mut Machine, line: usize) -> Result<Value, Stop>
 }
 
 /// The site inside of a comprehension: its frame, whose parent is the running one. 1 is paid.
-pub fn enter(machine: &mut Machine, world: &World, site: &Site, token: usize) -> Result<Site, Stop>
+pub fn enter(
+    machine: &mut Machine,
+    world: &World,
+    site: &Site,
+    token: usize,
+) -> Result<Site, EvalError>
     ensures { Refines (inner (variables world.now) site.now (1 + token) machine.old) result machine.new }
 {
     let Some(block) = token.checked_add(1) else {
-        return Err(Stop::Memory);
+        return Err(EvalError::Memory);
     };
     let frame = paid_frame(
         machine,

@@ -2,8 +2,8 @@
 
 ghost use Rattle.std.specs.Prelude.{◌≡◌, ◌+◌, IfOk, IfSome, MatchOption, ⊤};
 ghost use Rattle.std.specs.Option.{option_map};
-ghost use Rattle.star_scope.specs.Definitions.{definition_in};
-ghost use Rattle.star_scope.specs.Outlines.{names_in, outline};
+ghost use Rattle.star_outline.specs.Definitions.{definition_in};
+ghost use Rattle.star_outline.specs.Outlines.{names_in, outline};
 ghost use Rattle.star_scope.specs.Spots.{spot_at};
 ghost use Rattle.star_meaning.specs.Programs.{IsOfFile, placed_file};
 ghost use Rattle.star_world.specs.LaidOut.{IsLaidOut};
@@ -15,12 +15,12 @@ use std::marker::Model;
 
 /// The program of some file, and which of its definitions have parameters in order.
 #[derive(Drop)]
-pub struct Placed<'a, 't> {
+pub struct IndexedProgram<'a, 't> {
     program: &'a Program<'t>,
     orders: Orders,
 }
 
-impl<'a, 't> Model for Placed<'a, 't> {
+impl<'a, 't> Model for IndexedProgram<'a, 't> {
     ghost use Rattle.star_meaning.specs.Programs.{IsOfFile, PlacedFile, placed_file};
     ghost use Rattle.star_world.specs.Orders.{HaveLayouts};
 
@@ -36,14 +36,14 @@ impl<'a, 't> Model for Placed<'a, 't> {
     ghost invariant = { λ p. IsOfFile p.program.now × HaveLayouts p.program.now p.orders.layouts };
 }
 
-impl<'a, 't> Placed<'a, 't> {
+impl<'a, 't> IndexedProgram<'a, 't> {
     /// A program, whose definitions are gone through once.
-    fn new(alloc: Global, program: &'a Program<'t>) -> Result<Placed<'a, 't>, AllocError>
+    fn new(alloc: Global, program: &'a Program<'t>) -> Result<IndexedProgram<'a, 't>, AllocError>
         requires { IsOfFile program.now }
         ensures { IfOk result (λ placed. placed ≡ placed_file program.now) }
     {
         let orders = Orders::of(alloc, program)?;
-        Ok(Placed { program, orders })
+        Ok(IndexedProgram { program, orders })
     }
 
     /// The program.
@@ -72,15 +72,15 @@ impl<'a, 't> Placed<'a, 't> {
 }
 
 /// The program of a file, if it has one.
-pub(crate) fn place_program<'a, 't>(
+pub(crate) fn index_program<'a, 't>(
     alloc: Global,
     program: Option<&'a Program<'t>>,
-) -> Result<Option<Placed<'a, 't>>, AllocError>
+) -> Result<Option<IndexedProgram<'a, 't>>, AllocError>
     requires { MatchOption program ⊤ (λ p. IsOfFile p.now) }
     ensures { IfOk result (λ placed. placed ≡ option_map (λ p. placed_file p.now) program.entry) }
 {
     match program {
-        Some(program) => Ok(Some(Placed::new(alloc, program)?)),
+        Some(program) => Ok(Some(IndexedProgram::new(alloc, program)?)),
         None => Ok(None),
     }
 }

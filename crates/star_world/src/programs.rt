@@ -5,18 +5,18 @@
 
 ghost use Rattle.std.specs.Prelude.{◌≡◌, ◌+◌, ◌∷◌, ◌++◌, [], ⊤, length, IfSome, MatchOption, OnErr, OnOk};
 ghost use Rattle.std.specs.Option.{option_and_then, option_copied, option_map, unwrap_or};
-ghost use Rattle.star_scope.specs.Definitions.{definition_in, definition_of};
-ghost use Rattle.star_scope.specs.Names.{has_name};
-ghost use Rattle.star_scope.specs.Outlines.{names_in};
+ghost use Rattle.star_outline.specs.Definitions.{definition_in, definition_of};
+ghost use Rattle.star_outline.specs.Names.{has_name};
+ghost use Rattle.star_outline.specs.Outlines.{names_in};
 ghost use Rattle.star_meaning.specs.Module.{loaded_names};
 ghost use Rattle.star_meaning.specs.Program.{blocks_in};
 ghost use Rattle.star_meaning.specs.Programs.{IsOfFile, file_in, outline_at, placed_file, tables_of};
 ghost use Rattle.star_world.specs.LaidOut.{IsLaidOut};
 
 use crate::orders::Order;
-use crate::placed::{Placed, place_program};
-use star_scope::blocks::BlockNames;
-use star_scope::outline::Definition;
+use crate::placed::{IndexedProgram, index_program};
+use star_outline::blocks::BlockNames;
+use star_outline::outline::Definition;
 use star_scope::program::Program;
 use star_scope::spot::Spot;
 use std::alloc::{AllocError, Global};
@@ -27,7 +27,7 @@ use std::marker::Model;
 #[derive(Drop)]
 pub struct Programs<'a, 't> {
     alloc: Global,
-    programs: Vec<Option<Placed<'a, 't>>>,
+    programs: Vec<Option<IndexedProgram<'a, 't>>>,
     has_orders: bool,
 }
 
@@ -62,7 +62,7 @@ impl<'a, 't> Programs<'a, 't> {
         ensures pushed { OnOk result (self.new ≡ self.old ++ option_map (λ p. placed_file p.now) program.entry ∷ []) }
         ensures refused { OnErr result (self.new ≡ self.old) }
     {
-        let placed = place_program(self.alloc, program)?;
+        let placed = index_program(self.alloc, program)?;
         let has_orders = have_orders(&placed);
         self.programs.push(placed)?;
         self.has_orders = self.has_orders || has_orders;
@@ -155,9 +155,9 @@ impl<'a, 't> Programs<'a, 't> {
 
 /// The program of a file, if it has one.
 fn placed_at<'p, 'a, 't>(
-    programs: &'p [Option<Placed<'a, 't>>],
+    programs: &'p [Option<IndexedProgram<'a, 't>>],
     file: usize,
-) -> Option<&'p Placed<'a, 't>>
+) -> Option<&'p IndexedProgram<'a, 't>>
     ensures { option_copied result ≡ file_in programs.now file }
 {
     match programs.get(file) {
@@ -167,7 +167,7 @@ fn placed_at<'p, 'a, 't>(
 }
 
 /// Whether some definition of a program, if there is one, has many parameters in order.
-fn have_orders(placed: &Option<Placed<'_, '_>>) -> bool {
+fn have_orders(placed: &Option<IndexedProgram<'_, '_>>) -> bool {
     match placed {
         Some(placed) => placed.has_orders(),
         None => false,

@@ -13,7 +13,7 @@ ghost use Rattle.star_meaning.specs.declared.fault.FaultCode.TheVariants.{Unboun
 ghost use Rattle.star_meaning.specs.Variables.{built_ins, frame_of, outermost};
 
 use crate::world::World;
-use star_machine::fault::{Stop, faulted};
+use star_machine::fault::{EvalError, fault_at};
 use star_machine::machine::Machine;
 use star_machine::setting::Setting;
 use star_meaning::fault::FaultCode;
@@ -193,7 +193,7 @@ fn at_spot(
 /// The value of a name. `Unbound` if it has none.
 #[inline(always)]
 #[tactic(auto, unfolding(star_meaning::specs::Places::read_spot), using(crate::proofs::Near::near_spot))]
-pub fn read(machine: &Machine, world: &World, site: &Site, name: &Name) -> Result<Value, Stop>
+pub fn read(machine: &Machine, world: &World, site: &Site, name: &Name) -> Result<Value, EvalError>
     ensures { Refines (read_spot (tables_of world.now.files) world.now.setting site.now name.now machine.now)
         result machine.now }
 {
@@ -214,13 +214,13 @@ fn read_far(
     site: &Site,
     name: &Name,
     spot: Option<Spot>,
-) -> Result<Value, Stop>
+) -> Result<Value, EvalError>
     ensures { Refines (found Unbound site.now.line
         (at_spot world.now.setting machine.now site.now name.now.text spot) machine.now) result machine.now }
 {
     match at_spot(machine, world.setting(), site, name.text.as_str(), spot) {
         Some(value) => Ok(value),
-        None => Err(faulted(FaultCode::Unbound, site.line)),
+        None => Err(fault_at(FaultCode::Unbound, site.line)),
     }
 }
 
@@ -243,7 +243,7 @@ pub fn bind(
     site: &Site,
     name: &Name,
     value: Value,
-) -> Result<(), Stop>
+) -> Result<(), EvalError>
     ensures { Refines (bind_spot (tables_of world.now.files) site.now name.now value machine.old) result machine.new }
 {
     match own_spot(world.spot(site.file, name.position.token)) {
@@ -280,7 +280,7 @@ pub fn new_frame(
     file: u32,
     block: u32,
     parent: Option<Value>,
-) -> Result<Value, Stop>
+) -> Result<Value, EvalError>
     requires { length machine.old.store.cells + machine.old.steps + 1 < 2 ^ 32 }
     ensures { Refines (new_slots (tables_of world.now.files) file block parent machine.old) result machine.new }
 {
@@ -297,12 +297,12 @@ pub fn frame_with(
     block: usize,
     parent: Option<Value>,
     slots: Slots,
-) -> Result<Value, Stop>
+) -> Result<Value, EvalError>
     ensures { Refines (build line 1 (Cell.Frame (record { file = file; block = block; parent = parent; slots = slots }))
         machine.old) result machine.new }
 {
     let Ok(block) = u32::try_from(block) else {
-        return Err(Stop::Memory);
+        return Err(EvalError::Memory);
     };
     let cell = frame_cell(machine.alloc(), file, block, parent, slots)?;
     machine.build(line, 1, cell)
@@ -317,7 +317,7 @@ pub fn paid_frame(
     file: u32,
     block: usize,
     parent: Option<Value>,
-) -> Result<Value, Stop>
+) -> Result<Value, EvalError>
     ensures { Refines (and_then (pay line 1 machine.old) (λ _. new_slots (tables_of world.now.files) file block parent))
         result machine.new }
 {

@@ -11,7 +11,7 @@ use star_serve::serve::{Form, Options, Output, Wanted};
 use std::alloc::{AllocError, Global};
 
 /// The words of `--version` after the program's name: its version, and the kit that proved it.
-const VERSION: &str = "1.6.1 (rattle-kit-13f logic dac8208d650f15bf)";
+const VERSION: &str = "1.6.2 (rattle-kit-13f logic dac8208d650f15bf)";
 
 /// The end of the help, after the options.
 const EXAMPLE: &str =
@@ -27,48 +27,60 @@ file is not, and 2 where there is no report; then standard error says why.";
 /// The words that `--with` may have.
 const MORE: &[&str] = &["values", "loads", "steps"];
 
+/// An option that takes a value, which the help calls so.
+fn valued_arg<'a>(alloc: Global, name: &'a str, value: &'a str) -> Arg<'a> {
+    Arg::new(alloc, name).long(name).value_name(value)
+}
+
+/// An option that is given or not.
+fn flag_arg<'a>(alloc: Global, name: &'a str) -> Arg<'a> {
+    Arg::new(alloc, name).long(name).action(ArgAction::SetTrue)
+}
+
+/// An option that says when something is shown: always, if it has no value, and as seems best, if it is not given.
+fn when_arg<'a>(alloc: Global, name: &'a str, words: &'a [&'a str]) -> Arg<'a> {
+    valued_arg(alloc, name, "WHEN")
+        .value_parser(words)
+        .num_args(0..=1)
+        .require_equals(true)
+        .default_value("auto")
+        .default_missing_value("always")
+}
+
 fn loaders_arg<'a>(alloc: Global) -> Arg<'a> {
-    Arg::new(alloc, "loaders")
-        .long("loaders")
-        .value_name("N")
+    valued_arg(alloc, "loaders", "N")
         .help("How many files are loaded at once, from 1 to 64; the report does not depend on it")
         .value_parser(value_parser!(u8).range(1..=64))
         .default_value("4")
 }
 
+fn prelude_arg<'a>(alloc: Global) -> Arg<'a> {
+    valued_arg(alloc, "prelude", "LABEL").help(
+        "The file whose names every other file sees without loading it",
+    )
+}
+
+fn trace_arg<'a>(alloc: Global) -> Arg<'a> {
+    flag_arg(alloc, "trace").help(
+        "Says on standard error which loads were refused since they lie on a cycle",
+    )
+}
+
+fn dir_arg<'a>(alloc: Global) -> Arg<'a> {
+    valued_arg(alloc, "dir", "DIR").help(
+        "The folder that has the files; standard input is not read then",
+    )
+}
+
 fn steps_arg<'a>(alloc: Global) -> Arg<'a> {
-    Arg::new(alloc, "steps")
-        .long("steps")
-        .value_name("N")
+    valued_arg(alloc, "steps", "N")
         .help("How many steps each file may take, from 1 to 100000000")
         .value_parser(value_parser!(u32).range(1..=100_000_000))
         .default_value("1000000")
 }
 
-fn prelude_arg<'a>(alloc: Global) -> Arg<'a> {
-    Arg::new(alloc, "prelude")
-        .long("prelude")
-        .value_name("LABEL")
-        .help("The file whose names every other file sees without loading it")
-}
-
-fn trace_arg<'a>(alloc: Global) -> Arg<'a> {
-    Arg::new(alloc, "trace")
-        .long("trace")
-        .help("Says on standard error which loads were refused since they lie on a cycle")
-        .action(ArgAction::SetTrue)
-}
-
-fn dir_arg<'a>(alloc: Global) -> Arg<'a> {
-    Arg::new(alloc, "dir").long("dir").value_name("DIR").help(
-        "The folder that has the files; standard input is not read then",
-    )
-}
-
 fn repo_arg<'a>(alloc: Global) -> Result<Arg<'a>, AllocError> {
-    Arg::new(alloc, "repo")
-        .long("repo")
-        .value_name("DIR")
+    valued_arg(alloc, "repo", "DIR")
         .help(
             "The folder whose files are read as they are loaded, whatever their names; a ROOT may be a path then",
         )
@@ -76,9 +88,7 @@ fn repo_arg<'a>(alloc: Global) -> Result<Arg<'a>, AllocError> {
 }
 
 fn match_arg<'a>(alloc: Global) -> Result<Arg<'a>, AllocError> {
-    Arg::new(alloc, "match")
-        .long("match")
-        .value_name("GLOB")
+    valued_arg(alloc, "match", "GLOB")
         .help(
             "Which names //app/... stands for, where * is any text and ? one byte [default: *.star]",
         )
@@ -86,36 +96,25 @@ fn match_arg<'a>(alloc: Global) -> Result<Arg<'a>, AllocError> {
 }
 
 fn code_arg<'a>(alloc: Global) -> Arg<'a> {
-    Arg::new(alloc, "explain-code")
-        .long("explain-code")
-        .value_name("CODE")
-        .help("Says what a code of a fault means, or `all` of them, and loads nothing")
+    valued_arg(alloc, "explain-code", "CODE").help(
+        "Says what a code of a fault means, or `all` of them, and loads nothing",
+    )
 }
 
 /// The words that `--explain` may have.
 const WHEN: &[&str] = &["auto", "always", "never", "all"];
 
 fn explain_arg<'a>(alloc: Global) -> Arg<'a> {
-    Arg::new(alloc, "explain")
-        .long("explain")
-        .value_name("WHEN")
-        .help(
-            "Says on standard error, after the report, what is at fault and where: auto (where that is a terminal), always, never, or all (however many there are)",
-        )
-        .value_parser(WHEN)
-        .num_args(0..=1)
-        .require_equals(true)
-        .default_value("auto")
-        .default_missing_value("always")
+    when_arg(alloc, "explain", WHEN).help(
+        "Says on standard error, after the report, what is at fault and where: auto (where that is a terminal), always, never, or all (however many there are)",
+    )
 }
 
 /// The words that `--color` and `--progress` may have.
 const CHOICES: &[&str] = &["auto", "always", "never"];
 
 fn color_arg<'a>(alloc: Global) -> Arg<'a> {
-    Arg::new(alloc, "color")
-        .long("color")
-        .value_name("WHEN")
+    valued_arg(alloc, "color", "WHEN")
         .help(
             "Colours what --explain says: auto (where standard error is a terminal and NO_COLOR is not set), always or never",
         )
@@ -124,23 +123,13 @@ fn color_arg<'a>(alloc: Global) -> Arg<'a> {
 }
 
 fn progress_arg<'a>(alloc: Global) -> Arg<'a> {
-    Arg::new(alloc, "progress")
-        .long("progress")
-        .value_name("WHEN")
-        .help(
-            "Shows on standard error, once files have run for half a second, how many have: auto (where that is a terminal), always or never",
-        )
-        .value_parser(CHOICES)
-        .num_args(0..=1)
-        .require_equals(true)
-        .default_value("auto")
-        .default_missing_value("always")
+    when_arg(alloc, "progress", CHOICES).help(
+        "Shows on standard error, once files have run for half a second, how many have: auto (where that is a terminal), always or never",
+    )
 }
 
 fn with_arg<'a>(alloc: Global) -> Arg<'a> {
-    Arg::new(alloc, "with")
-        .long("with")
-        .value_name("WHAT")
+    valued_arg(alloc, "with", "WHAT")
         .help("What the report says more of each file: values (its globals as JSON), loads, steps")
         .value_parser(MORE)
         .value_delimiter(',')
@@ -148,16 +137,11 @@ fn with_arg<'a>(alloc: Global) -> Arg<'a> {
 }
 
 fn only_roots_arg<'a>(alloc: Global) -> Arg<'a> {
-    Arg::new(alloc, "only-roots")
-        .long("only-roots")
-        .help("Of the files that are ok, reports the roots alone")
-        .action(ArgAction::SetTrue)
+    flag_arg(alloc, "only-roots").help("Of the files that are ok, reports the roots alone")
 }
 
 fn get_arg<'a>(alloc: Global) -> Result<Arg<'a>, AllocError> {
-    Arg::new(alloc, "get")
-        .long("get")
-        .value_name("NAME")
+    valued_arg(alloc, "get", "NAME")
         .help("In place of the report writes the global NAME of each root as a line of JSON")
         .conflicts_with("graph")?
         .conflicts_with("with")?
@@ -165,21 +149,17 @@ fn get_arg<'a>(alloc: Global) -> Result<Arg<'a>, AllocError> {
 }
 
 fn graph_arg<'a>(alloc: Global) -> Result<Arg<'a>, AllocError> {
-    Arg::new(alloc, "graph")
-        .long("graph")
+    flag_arg(alloc, "graph")
         .help("In place of the report writes the graph of loads as DOT")
-        .action(ArgAction::SetTrue)
         .conflicts_with("with")?
         .conflicts_with("only-roots")
 }
 
 fn check_arg<'a>(alloc: Global) -> Result<Arg<'a>, AllocError> {
-    Arg::new(alloc, "check")
-        .long("check")
+    flag_arg(alloc, "check")
         .help(
             "Reads the files and runs none: in place of the report writes which have static faults, and which fail by their loads",
         )
-        .action(ArgAction::SetTrue)
         .conflicts_with("with")?
         .conflicts_with("get")?
         .conflicts_with("graph")?
@@ -187,12 +167,10 @@ fn check_arg<'a>(alloc: Global) -> Result<Arg<'a>, AllocError> {
 }
 
 fn requests_arg<'a>(alloc: Global) -> Result<Arg<'a>, AllocError> {
-    Arg::new(alloc, "requests")
-        .long("requests")
+    flag_arg(alloc, "requests")
         .help(
             "Answers requests on standard input, one JSON object a line, until it ends (docs/REQUESTS.md)",
         )
-        .action(ArgAction::SetTrue)
         .conflicts_with("ROOT")?
         .conflicts_with("dir")?
         .conflicts_with("match")?
@@ -206,9 +184,7 @@ fn requests_arg<'a>(alloc: Global) -> Result<Arg<'a>, AllocError> {
 
 // (`requires_arg` would be met by the default of a flag.)
 fn keep_arg<'a>(alloc: Global) -> Result<Arg<'a>, AllocError> {
-    Arg::new(alloc, "keep")
-        .long("keep")
-        .value_name("BYTES")
+    valued_arg(alloc, "keep", "BYTES")
         .help("The most bytes of texts of which anything is kept from request to request")
         .value_parser(value_parser!(u32))
         .default_value("268435456")
@@ -223,35 +199,51 @@ fn roots_arg<'a>(alloc: Global) -> Result<Arg<'a>, AllocError> {
         .required_unless_present("requests")
 }
 
+/// Adds the options of a run and of its files.
+fn with_input<'a>(alloc: Global, command: Command<'a>) -> Result<Command<'a>, AllocError> {
+    command
+        .arg(loaders_arg(alloc))?
+        .arg(steps_arg(alloc))?
+        .arg(prelude_arg(alloc))?
+        .arg(trace_arg(alloc))?
+        .arg(dir_arg(alloc))?
+        .arg(repo_arg(alloc)?)?
+        .arg(match_arg(alloc)?)
+}
+
+/// Adds the options of what is written.
+fn with_output<'a>(alloc: Global, command: Command<'a>) -> Result<Command<'a>, AllocError> {
+    command
+        .arg(with_arg(alloc))?
+        .arg(only_roots_arg(alloc))?
+        .arg(get_arg(alloc)?)?
+        .arg(graph_arg(alloc)?)?
+        .arg(check_arg(alloc)?)?
+        .arg(explain_arg(alloc))?
+        .arg(color_arg(alloc))?
+        .arg(progress_arg(alloc))?
+        .arg(code_arg(alloc))
+}
+
+/// Adds the options of requests, and the roots.
+fn with_requests<'a>(alloc: Global, command: Command<'a>) -> Result<Command<'a>, AllocError> {
+    command
+        .arg(requests_arg(alloc)?)?
+        .arg(keep_arg(alloc)?)?
+        .arg(roots_arg(alloc)?)
+}
+
 /// The command line.
 pub fn command<'a>(alloc: Global) -> Result<Command<'a>, clap::Error> {
-    Ok(
-        Command::new(alloc, "starload")
-            .about(
-                "Loads Starlark files and reports the globals, the printed lines or the fault of each",
-            )
-            .version(VERSION)
-            .after_help(EXAMPLE)
-            .arg(loaders_arg(alloc))?
-            .arg(steps_arg(alloc))?
-            .arg(prelude_arg(alloc))?
-            .arg(trace_arg(alloc))?
-            .arg(dir_arg(alloc))?
-            .arg(repo_arg(alloc)?)?
-            .arg(match_arg(alloc)?)?
-            .arg(with_arg(alloc))?
-            .arg(only_roots_arg(alloc))?
-            .arg(get_arg(alloc)?)?
-            .arg(graph_arg(alloc)?)?
-            .arg(check_arg(alloc)?)?
-            .arg(explain_arg(alloc))?
-            .arg(color_arg(alloc))?
-            .arg(progress_arg(alloc))?
-            .arg(code_arg(alloc))?
-            .arg(requests_arg(alloc)?)?
-            .arg(keep_arg(alloc)?)?
-            .arg(roots_arg(alloc)?)?,
-    )
+    let command = Command::new(alloc, "starload")
+        .about(
+            "Loads Starlark files and reports the globals, the printed lines or the fault of each",
+        )
+        .version(VERSION)
+        .after_help(EXAMPLE);
+    let command = with_input(alloc, command)?;
+    let command = with_output(alloc, command)?;
+    Ok(with_requests(alloc, command)?)
 }
 
 /// Words as texts of their own.

@@ -26,6 +26,7 @@ use repo::{RepoAsked, report_repo};
 use requests::answer_requests;
 use star_bundle::error::{ServeError, status};
 use star_folder::disk::DiskFolder;
+use star_folder::folder::Folder;
 use star_hint::bundle::about_bundle;
 use star_hint::folder::about_folder;
 use star_serve::dir::serve_dir;
@@ -37,7 +38,6 @@ use std::io::IsTerminal;
 use std::process::ExitCode;
 use std::sync::Wait;
 use std::thread::Threads;
-use std::time::Clock;
 use std::{env, io};
 
 /// Says why there is no report.
@@ -114,6 +114,20 @@ fn say_refusal(rt: &HostRuntime, error: ServeError, about: Result<String, AllocE
     }
 }
 
+/// More about why there is no report of a bundle, by those of its bytes that were kept.
+fn about_bytes(
+    alloc: Global,
+    kept: Option<&[u8]>,
+    options: &Options,
+    error: ServeError,
+) -> Result<String, AllocError> {
+    let Some(bytes) = kept else {
+        return Ok(String::new(alloc));
+    };
+    let (roots, prelude) = (options.roots.as_slice(), options.prelude.as_ref());
+    about_bundle(alloc, bytes, roots, prelude, error)
+}
+
 /// Writes the report of a bundle on standard input, or says why there is none. The loaders are threads of `threads`.
 fn report_bundle<H: Threads + Wait + Sync>(
     rt: &HostRuntime,
@@ -128,24 +142,26 @@ fn report_bundle<H: Threads + Wait + Sync>(
     let kept = options.explain.map(|_| Vec::new(alloc));
     let mut reader = KeptReader::new(CountedReader::new(rt.stdin()), kept);
     let mut writer = CountedWriter::new(rt.stdout());
-    let mut errors = CountedWriter::new(rt.stderr());
-    let outcome = serve(
-        threads,
-        alloc,
-        &mut reader,
-        &mut writer,
-        &mut errors,
-        options,
-    );
+    let mut said = CountedWriter::new(rt.stderr());
+    let outcome = serve(threads, alloc, &mut reader, &mut writer, &mut said, options);
     if let Err(error) = &outcome {
-        let (roots, prelude) = (options.roots.as_slice(), options.prelude.as_ref());
-        let about = match reader.kept() {
-            Some(bytes) => about_bundle(alloc, bytes, roots, prelude, *error),
-            None => Ok(String::new(alloc)),
-        };
+        let about = about_bytes(alloc, reader.kept(), options, *error);
         say_refusal(rt, *error, about);
     }
     outcome
+}
+
+/// More about why there is no report of a folder, if a person is told.
+fn about_files<F: Folder>(
+    alloc: Global,
+    folder: &mut F,
+    options: &Options,
+) -> Result<String, AllocError> {
+    if options.explain.is_none() {
+        return Ok(String::new(alloc));
+    }
+    let (roots, prelude) = (options.roots.as_slice(), options.prelude.as_ref());
+    about_folder(alloc, folder, roots, prelude)
 }
 
 /// Writes the report of the files of a folder, or says why there is none. The loaders are threads of `threads`.
@@ -161,23 +177,10 @@ fn report_folder<H: Threads + Wait + Sync>(
 {
     let mut folder = DiskFolder::new(rt, dir);
     let mut writer = CountedWriter::new(rt.stdout());
-    let mut errors = CountedWriter::new(rt.stderr());
-    let outcome = serve_dir(
-        threads,
-        alloc,
-        &mut folder,
-        &mut writer,
-        &mut errors,
-        options,
-    );
+    let mut said = CountedWriter::new(rt.stderr());
+    let outcome = serve_dir(threads, alloc, &mut folder, &mut writer, &mut said, options);
     if let Err(error) = &outcome {
-        let (roots, prelude) = (options.roots.as_slice(), options.prelude.as_ref());
-        let about = if options.explain.is_some() {
-            about_folder(alloc, &mut folder, roots, prelude)
-        } else {
-            Ok(String::new(alloc))
-        };
-        say_refusal(rt, *error, about);
+        say_refusal(rt, *error, about_files(alloc, &mut folder, options));
     }
     outcome
 }
@@ -203,28 +206,6 @@ fn report<H: Threads + Wait + Sync>(
         None => report_bundle(rt, threads, alloc, &options),
     };
     ExitCode::from(status(&outcome))
-}
-
-/// Writes the report, or says why there is none, and shows meanwhile how far the run is. The loaders, and what shows it,
-/// are threads of `threads`.
-fn report_shown<H: Threads + Wait + Clock + Copy + Send + Sync + 'static>(
-    rt: &HostRuntime,
-    threads: &H,
-    alloc: Global,
-    matches: &ArgMatches<'_>,
-    options: Options,
-) -> ExitCode
-    requires loaders { (1 ≤ options.loaders) × (options.loaders ≤ 64) }
-    requires steps { (1 ≤ options.steps) × (options.steps ≤ 100000000) }
-{
-    let Some(shown) = Shown::start(rt, threads, alloc) else {
-        return report(rt, threads, alloc, matches, options);
-    };
-    let mut options = options;
-    options.progress = shown.progress();
-    let status = report(rt, threads, alloc, matches, options);
-    shown.end(threads);
-    status
 }
 
 /// The facts about standard error. (https://no-color.org says what `NO_COLOR` means.)
@@ -271,8 +252,11 @@ fn main(rt: HostRuntime) -> ExitCode {
         let keep = matches.get_one::<u32>("keep").unwrap_or(268_435_456);
         return answer_requests(&rt, &rt, alloc, options, keep, matches.get_str("repo"));
     }
-    if is_shown(&matches, errors) {
-        return report_shown(&rt, &rt, alloc, &matches, options);
+    let shown = Shown::start(&rt, &rt, alloc, is_shown(&matches, errors));
+    options.progress = Shown::progress(shown.as_ref());
+    let status = report(&rt, &rt, alloc, &matches, options);
+    if let Some(shown) = shown {
+        shown.end(&rt);
     }
-    report(&rt, &rt, alloc, &matches, options)
+    status
 }

@@ -16,12 +16,16 @@ pub(crate) struct Shown {
 }
 
 impl Shown {
-    /// Starts such a thread, one of `threads`: none where there is no memory or no thread for it.
+    /// Starts such a thread, one of `threads`, if it is wanted: none where there is no memory or no thread for it.
     pub(crate) fn start<H: Threads + Wait + Clock + Copy + Send + 'static>(
         rt: &HostRuntime,
         threads: &H,
         alloc: Global,
+        is_wanted: bool,
     ) -> Option<Shown> {
+        if !is_wanted {
+            return None;
+        }
         let progress = Arc::new(alloc, Progress::new(alloc)).ok()?;
         let theirs = Arc::try_clone(&progress).ok()?;
         let clock = *threads;
@@ -33,9 +37,10 @@ impl Shown {
         Some(Shown { progress, thread })
     }
 
-    /// Where the loaders note how far the run is.
-    pub(crate) fn progress(&self) -> Option<Arc<Progress>> {
-        Arc::try_clone(&self.progress).ok()
+    /// Where the loaders note how far the run is, if that is shown.
+    pub(crate) fn progress(shown: Option<&Shown>) -> Option<Arc<Progress>> {
+        let shown = shown?;
+        Arc::try_clone(&shown.progress).ok()
     }
 
     /// Ends the thread.

@@ -11,7 +11,7 @@ use star_enter::calls::callee_of;
 use star_enter::ordered::{bound_of, enter_bound};
 use star_label::files::Files as Labels;
 use star_machine::content::Content;
-use star_machine::fault::Stop;
+use star_machine::fault::EvalError;
 use star_machine::machine::Machine;
 use star_meaning::given::Arguments;
 use star_meaning::site::Site;
@@ -115,7 +115,7 @@ fn a_callee_is_bound_by_its_layout(
 }
 
 /// The function, with its defaults.
-fn function(alloc: Global, machine: &mut Machine, world: &World) -> Result<Value, Stop> {
+fn function(alloc: Global, machine: &mut Machine, world: &World) -> Result<Value, EvalError> {
     let frame = paid_frame(machine, world, 1, 0, 0, None)?;
     let site = Site {
         file: 0,

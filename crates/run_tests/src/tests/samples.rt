@@ -7,7 +7,7 @@ use star_eval::evaluate::evaluate;
 use star_eval::execute::{execute, execute_each};
 use star_label::files::Files as Labels;
 use star_label::label::Label;
-use star_machine::fault::{Stop, faulted};
+use star_machine::fault::{EvalError, fault_at};
 use star_machine::machine::Machine;
 use star_meaning::fault::FaultCode;
 use star_meaning::site::Site;
@@ -49,7 +49,7 @@ struct Sample<'s> {
     source: &'s str,
     steps: u32,
     levels: u32,
-    want: Result<&'s str, Stop>,
+    want: Result<&'s str, EvalError>,
 }
 
 /// The text of the value of a program's last statement.
@@ -59,7 +59,7 @@ fn text_of_last(
     levels: u32,
     site: &Site,
     statement: &Statement,
-) -> Result<Text, Stop> {
+) -> Result<Text, EvalError> {
     let line = statement.position.line;
     match &statement.form {
         Form::Expression(expression) => {
@@ -85,12 +85,12 @@ fn text_of(
     levels: u32,
     site: &Site,
     statements: &[Statement],
-) -> Result<Text, Stop> {
+) -> Result<Text, EvalError> {
     let before = statements.len().saturating_sub(1);
     let _flow = execute_each(machine, world, levels, site, &statements[..before])?;
     match statements.get(before) {
         Some(last) => text_of_last(machine, world, levels, site, last),
-        None => Err(Stop::Memory),
+        None => Err(EvalError::Memory),
     }
 }
 
@@ -172,7 +172,7 @@ pub(crate) fn gives(
     alloc: Global,
     steps: u32,
     source: &str,
-    want: Result<&str, Stop>,
+    want: Result<&str, EvalError>,
 ) -> Result<(), Fail> {
     let sample = Sample {
         source,
@@ -192,7 +192,12 @@ pub(crate) enum Need {
 
 impl Need {
     /// A program, whose last statement is not an expression, with this number.
-    fn sample<'s>(self, source: &'s str, number: u32, want: Result<&'s str, Stop>) -> Sample<'s> {
+    fn sample<'s>(
+        self,
+        source: &'s str,
+        number: u32,
+        want: Result<&'s str, EvalError>,
+    ) -> Sample<'s> {
         let (steps, levels) = match self {
             Need::Steps => (number, 400),
             Need::Levels => (10_000, number),
@@ -206,10 +211,10 @@ impl Need {
     }
 
     /// How a program stops at a line if one is missing.
-    fn stop(self, line: usize) -> Stop {
+    fn stop(self, line: usize) -> EvalError {
         match self {
-            Need::Steps => faulted(FaultCode::Steps, line),
-            Need::Levels => faulted(FaultCode::Deep, line),
+            Need::Steps => fault_at(FaultCode::Steps, line),
+            Need::Levels => fault_at(FaultCode::Deep, line),
         }
     }
 }

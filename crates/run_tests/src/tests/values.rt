@@ -4,7 +4,7 @@
 //! contract. What else a file's text can show is in `tests/cases`.
 
 use crate::tests::samples::gives;
-use star_machine::fault::faulted;
+use star_machine::fault::fault_at;
 use star_meaning::fault::FaultCode;
 use std::test::Fail;
 
@@ -124,7 +124,7 @@ const FAULTS: &[(&'static str, FaultCode, usize)] = &[
 #[test]
 fn programs_end_in_faults(rt: HostRuntime) -> Result<(), Fail> {
     for (source, code, line) in FAULTS {
-        let stop = faulted(*code, *line);
+        let stop = fault_at(*code, *line);
         gives(&rt, rt.alloc(), 10_000, *source, Err(stop))?;
     }
     Ok(())

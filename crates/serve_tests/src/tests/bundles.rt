@@ -1,9 +1,8 @@
-//! Bundles of many files with their reports and traces, with a prelude, and those that are refused.
+//! Bundles with their reports and traces: of many files, with a prelude, with few steps, and with lines.
 
 use super::Case;
-use star_bundle::error::ServeError;
 
-pub(super) const BUNDLES: [Case; 30] = [
+pub(super) const BUNDLES: [Case<'static>; 28] = [
     Case {
         // no root
         bundle: "{\"//:a.star\":\"x = 1\"}",
@@ -23,26 +22,6 @@ pub(super) const BUNDLES: [Case; 30] = [
         trace: None,
         answer: Ok(false),
         report: "{\"begun\":2,\"modules\":[{\"fault\":\"no_name\",\"label\":\"//:a.star\",\"line\":1,\"lines\":[],\"status\":\"fault\"},{\"globals\":{},\"label\":\"//:b.star\",\"lines\":[],\"status\":\"ok\"}]}\n",
-    },
-    Case {
-        // cycle of three and one outside
-        bundle: "{\"//:a.star\":\"load(\\\":b.star\\\", \\\"x\\\")\",\"//:b.star\":\"load(\\\":c.star\\\", \\\"x\\\")\",\"//:c.star\":\"load(\\\":a.star\\\", \\\"x\\\")\",\"//:d.star\":\"load(\\\":a.star\\\", \\\"x\\\")\"}",
-        roots: &["//:a.star", "//:b.star", "//:c.star", "//:d.star"],
-        prelude: None,
-        steps: 1_000_000,
-        trace: None,
-        answer: Ok(false),
-        report: "{\"begun\":4,\"modules\":[{\"cycle\":[\"//:a.star\",\"//:b.star\",\"//:c.star\"],\"label\":\"//:a.star\",\"line\":1,\"lines\":[],\"status\":\"load\"},{\"cycle\":[\"//:b.star\",\"//:c.star\",\"//:a.star\"],\"label\":\"//:b.star\",\"line\":1,\"lines\":[],\"status\":\"load\"},{\"cycle\":[\"//:c.star\",\"//:a.star\",\"//:b.star\"],\"label\":\"//:c.star\",\"line\":1,\"lines\":[],\"status\":\"load\"},{\"cycle\":[\"//:a.star\",\"//:b.star\",\"//:c.star\"],\"label\":\"//:d.star\",\"line\":1,\"lines\":[],\"status\":\"load\"}]}\n",
-    },
-    Case {
-        // cycle of two
-        bundle: "{\"//:a.star\":\"load(\\\":b.star\\\", \\\"x\\\")\",\"//:b.star\":\"load(\\\":a.star\\\", \\\"y\\\")\"}",
-        roots: &["//:a.star", "//:b.star"],
-        prelude: None,
-        steps: 1_000_000,
-        trace: None,
-        answer: Ok(false),
-        report: "{\"begun\":2,\"modules\":[{\"cycle\":[\"//:a.star\",\"//:b.star\"],\"label\":\"//:a.star\",\"line\":1,\"lines\":[],\"status\":\"load\"},{\"cycle\":[\"//:b.star\",\"//:a.star\"],\"label\":\"//:b.star\",\"line\":1,\"lines\":[],\"status\":\"load\"}]}\n",
     },
     Case {
         // edges of 64 bits
@@ -204,7 +183,7 @@ pub(super) const BUNDLES: [Case; 30] = [
         report: "{\"begun\":3,\"modules\":[{\"cause\":\"//:c.star\",\"label\":\"//:a.star\",\"line\":2,\"lines\":[],\"status\":\"load\"},{\"globals\":{\"p\":\"1\"},\"label\":\"//:b.star\",\"lines\":[],\"status\":\"ok\"},{\"fault\":\"zero\",\"label\":\"//:c.star\",\"line\":2,\"lines\":[\"c\"],\"status\":\"fault\"}]}\n",
     },
     Case {
-        // trace of a cycle of three
+        // cycle of three and one outside
         bundle: "{\"//:a.star\":\"load(\\\":b.star\\\", \\\"x\\\")\",\"//:b.star\":\"load(\\\":c.star\\\", \\\"x\\\")\",\"//:c.star\":\"load(\\\":a.star\\\", \\\"x\\\")\",\"//:d.star\":\"load(\\\":a.star\\\", \\\"x\\\")\"}",
         roots: &["//:a.star", "//:b.star", "//:c.star", "//:d.star"],
         prelude: None,
@@ -214,7 +193,7 @@ pub(super) const BUNDLES: [Case; 30] = [
         report: "{\"begun\":4,\"modules\":[{\"cycle\":[\"//:a.star\",\"//:b.star\",\"//:c.star\"],\"label\":\"//:a.star\",\"line\":1,\"lines\":[],\"status\":\"load\"},{\"cycle\":[\"//:b.star\",\"//:c.star\",\"//:a.star\"],\"label\":\"//:b.star\",\"line\":1,\"lines\":[],\"status\":\"load\"},{\"cycle\":[\"//:c.star\",\"//:a.star\",\"//:b.star\"],\"label\":\"//:c.star\",\"line\":1,\"lines\":[],\"status\":\"load\"},{\"cycle\":[\"//:a.star\",\"//:b.star\",\"//:c.star\"],\"label\":\"//:d.star\",\"line\":1,\"lines\":[],\"status\":\"load\"}]}\n",
     },
     Case {
-        // trace of a cycle of two
+        // cycle of two
         bundle: "{\"//:a.star\":\"load(\\\":b.star\\\", \\\"x\\\")\",\"//:b.star\":\"load(\\\":a.star\\\", \\\"y\\\")\"}",
         roots: &["//:a.star", "//:b.star"],
         prelude: None,
@@ -224,7 +203,7 @@ pub(super) const BUNDLES: [Case; 30] = [
         report: "{\"begun\":2,\"modules\":[{\"cycle\":[\"//:a.star\",\"//:b.star\"],\"label\":\"//:a.star\",\"line\":1,\"lines\":[],\"status\":\"load\"},{\"cycle\":[\"//:b.star\",\"//:a.star\"],\"label\":\"//:b.star\",\"line\":1,\"lines\":[],\"status\":\"load\"}]}\n",
     },
     Case {
-        // trace of a file that loads itself
+        // file that loads itself
         bundle: "{\"//:a.star\":\"load(\\\"//:a.star\\\", \\\"x\\\")\"}",
         roots: &["//:a.star"],
         prelude: None,
@@ -244,73 +223,73 @@ pub(super) const BUNDLES: [Case; 30] = [
         report: "{\"begun\":3,\"modules\":[{\"globals\":{\"x\":\"(1,)\"},\"label\":\"//:a.star\",\"lines\":[],\"status\":\"ok\"},{\"globals\":{\"y\":\"[(1,), (1,)]\"},\"label\":\"//:b.star\",\"lines\":[],\"status\":\"ok\"},{\"globals\":{\"k\":\"(1,)\"},\"label\":\"//:c.star\",\"lines\":[\"once\"],\"status\":\"ok\"}]}\n",
     },
     Case {
-        // bundle is a list
-        bundle: "[]",
+        // print and add
+        bundle: "{\"//:a.star\":\"x = 1 + 2\\nprint(\\\"hi\\\", x)\"}",
         roots: &["//:a.star"],
         prelude: None,
         steps: 1_000_000,
         trace: None,
-        answer: Err(ServeError::BadBundle),
-        report: "",
+        answer: Ok(true),
+        report: "{\"begun\":1,\"modules\":[{\"globals\":{\"x\":\"3\"},\"label\":\"//:a.star\",\"lines\":[\"hi 3\"],\"status\":\"ok\"}]}\n",
     },
     Case {
-        // bundle key no label
-        bundle: "{\"a\":\"\"}",
+        // one step short of the line
+        bundle: "{\"//:a.star\":\"x = 1 + 2\\nprint(\\\"hi\\\", x)\"}",
+        roots: &["//:a.star"],
+        prelude: None,
+        steps: 18,
+        trace: None,
+        answer: Ok(false),
+        report: "{\"begun\":1,\"modules\":[{\"fault\":\"steps\",\"label\":\"//:a.star\",\"line\":2,\"lines\":[],\"status\":\"fault\"}]}\n",
+    },
+    Case {
+        // one step short of the text
+        bundle: "{\"//:a.star\":\"x = 1 + 2\\nprint(\\\"hi\\\", x)\"}",
+        roots: &["//:a.star"],
+        prelude: None,
+        steps: 21,
+        trace: None,
+        answer: Ok(false),
+        report: "{\"begun\":1,\"modules\":[{\"fault\":\"steps\",\"label\":\"//:a.star\",\"line\":2,\"lines\":[\"hi 3\"],\"status\":\"fault\"}]}\n",
+    },
+    Case {
+        // just enough steps
+        bundle: "{\"//:a.star\":\"x = 1 + 2\\nprint(\\\"hi\\\", x)\"}",
+        roots: &["//:a.star"],
+        prelude: None,
+        steps: 22,
+        trace: None,
+        answer: Ok(true),
+        report: "{\"begun\":1,\"modules\":[{\"globals\":{\"x\":\"3\"},\"label\":\"//:a.star\",\"lines\":[\"hi 3\"],\"status\":\"ok\"}]}\n",
+    },
+    Case {
+        // fail adds its line
+        bundle: "{\"//:a.star\":\"print(\\\"a\\\")\\nfail(\\\"no\\\", 7)\"}",
         roots: &["//:a.star"],
         prelude: None,
         steps: 1_000_000,
         trace: None,
-        answer: Err(ServeError::BadKey),
-        report: "",
+        answer: Ok(false),
+        report: "{\"begun\":1,\"modules\":[{\"fault\":\"fail\",\"label\":\"//:a.star\",\"line\":2,\"lines\":[\"a\",\"no 7\"],\"status\":\"fault\"}]}\n",
     },
     Case {
-        // bundle value no text
-        bundle: "{\"a\":1}",
+        // print then type fault
+        bundle: "{\"//:a.star\":\"print(\\\"a\\\")\\nx = 1 + \\\"b\\\"\"}",
         roots: &["//:a.star"],
         prelude: None,
         steps: 1_000_000,
         trace: None,
-        answer: Err(ServeError::BadBundle),
-        report: "",
+        answer: Ok(false),
+        report: "{\"begun\":1,\"modules\":[{\"fault\":\"type\",\"label\":\"//:a.star\",\"line\":2,\"lines\":[\"a\"],\"status\":\"fault\"}]}\n",
     },
     Case {
-        // prelude no label
-        bundle: "{\"//:a.star\":\"\"}",
-        roots: &["//:a.star"],
-        prelude: Some("p"),
-        steps: 1_000_000,
-        trace: None,
-        answer: Err(ServeError::BadPrelude),
-        report: "",
-    },
-    Case {
-        // prelude not there
-        bundle: "{\"//:a.star\":\"\"}",
-        roots: &["//:a.star"],
-        prelude: Some("//:z.star"),
-        steps: 1_000_000,
-        trace: None,
-        answer: Err(ServeError::NoPrelude),
-        report: "",
-    },
-    Case {
-        // root no label
-        bundle: "{\"//:a.star\":\"\"}",
-        roots: &["a.star"],
+        // root named twice
+        bundle: "{\"//:a.star\":\"x = 1 + 2\\nprint(\\\"hi\\\", x)\"}",
+        roots: &["//:a.star", "//:a.star"],
         prelude: None,
         steps: 1_000_000,
         trace: None,
-        answer: Err(ServeError::BadRoot),
-        report: "",
-    },
-    Case {
-        // root not there
-        bundle: "{\"//:a.star\":\"x = 1\"}",
-        roots: &["//:z.star"],
-        prelude: None,
-        steps: 1_000_000,
-        trace: None,
-        answer: Err(ServeError::NoRoot),
-        report: "",
+        answer: Ok(true),
+        report: "{\"begun\":1,\"modules\":[{\"globals\":{\"x\":\"3\"},\"label\":\"//:a.star\",\"lines\":[\"hi 3\"],\"status\":\"ok\"}]}\n",
     },
 ];

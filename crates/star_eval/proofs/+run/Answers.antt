@@ -8,7 +8,7 @@ use Rattle.star_meaning.specs.Values.{is_true}
 use Rattle.star_eval.specs.declared.open_clause.OpenClause.{OpenClause}
 use Rattle.star_enter.specs.Positional.{expression_of}
 use Rattle.star_world.specs.World.{semantics}
-use Rattle.star_eval.specs.Steps.{all_left, opened_left, turns_left}
+use Rattle.star_eval.specs.Steps.{all_left, opened_left, remaining_turns}
 use Rattle.star_call.proofs.Seen.{drop_next}
 use Rattle.star_method.proofs.Each.{each_more}
 use Rattle.star_enter.proofs.Positional.{call_gives}
@@ -16,7 +16,7 @@ use Rattle.star_eval.proofs.Clauses.{clause_ended, filled_ends, filled_well, fir
 use Rattle.star_eval.proofs.Spends.{expression_spends}
 use Rattle.star_call.specs.Callees.{function_of}
 use Rattle.star_meaning.specs.Values.{content}
-use Rattle.star_scope.specs.Definitions.{definition_of}
+use Rattle.star_outline.specs.Definitions.{definition_of}
 use Rattle.star_eval.proofs.Bound.{call_goes, call_stops}
 use Rattle.star_eval.proofs.+run.Goals as goal
 
@@ -67,7 +67,7 @@ comprehensions::run_turns-turns-preserved-in-Some-opened t c =
     let u = c.run_turn.new.machine in
     let g = c.in-Some-opened.inner in
     let fs = c.turns.outer.items in
-    ap (λ (xs : List OpenClause). and_then (turns_left w levels p o g u) (λ _. all_left w levels p o xs)) (c.in_ok-push.ensures.items ∙ ap (λ (f : OpenClause). fs ++ f ∷ []) c.past_item-clause.ensures)
+    ap (λ (xs : List OpenClause). and_then (remaining_turns w levels p o g u) (λ _. all_left w levels p o xs)) (c.in_ok-push.ensures.items ∙ ap (λ (f : OpenClause). fs ++ f ∷ []) c.past_item-clause.ensures)
     ∙ turn_opened w levels p o fs c.turns.clause g c.turns.machine u c.if-clause.false (c.in_ok-opened.ensures.turn ∙ ap (λ x. opened_left w levels p o x u) c.in-Some-opened.is)
     ∙ c.turns.invariant
 
@@ -79,7 +79,7 @@ comprehensions::run_turns-turns-preserved t c =
     let o = c.args.output in
     let u = c.run_turn.new.machine in
     let fs = c.turns.outer.items in
-    ap (λ (f : OpenClause). and_then (turns_left w levels p o f u) (λ _. all_left w levels p o fs)) c.past_item-clause.ensures
+    ap (λ (f : OpenClause). and_then (remaining_turns w levels p o f u) (λ _. all_left w levels p o fs)) c.past_item-clause.ensures
     ∙ turn_ended w levels p o fs c.turns.clause c.turns.machine u c.if-clause.false (c.in_ok-opened.ensures.turn ∙ ap (λ x. opened_left w levels p o x u) c.in_default-opened.is)
     ∙ c.turns.invariant
 
@@ -110,5 +110,5 @@ evaluate::run_bound-returns-in_err-site t c = λ shares b.
 pub evaluate::run_bound-returns : goal.evaluate::run_bound-returns
 evaluate::run_bound-returns t c = λ shares b.
     let f = function_of (content c.args.world.now.setting c.args.machine.now c.args.called.value) c.args.called in
-    call_goes c.args.world.now c.args.levels c.args.site.now f (definition_of c.args.called.definition) c.args.bound c.args.machine.now c.enter_bound.new.machine c.run_left.new.machine c.in_ok-site.site c.run_left.result
-    (omega (arith, c.if-levels-eq0.false)) c.in_ok-site.ensures c.run_left.ensures shares b
+    call_goes c.args.world.now c.args.levels c.args.site.now f (definition_of c.args.called.definition) c.args.bound c.args.machine.now c.enter_bound.new.machine c.finish_call.new.machine c.in_ok-site.site c.finish_call.result
+    (omega (arith, c.if-levels-eq0.false)) c.in_ok-site.ensures c.finish_call.ensures shares b

@@ -12,7 +12,7 @@ use Rattle.star_meaning.specs.Statements.{arms}
 use Rattle.star_meaning.specs.Targets.{to_each}
 use Rattle.star_world.specs.World.{semantics, variables}
 use Rattle.star_enter.specs.Positional.{expression_of}
-use Rattle.star_eval.specs.Steps.{all_left, after, turn_in, turns_left}
+use Rattle.star_eval.specs.Steps.{all_left, after, turn_in, remaining_turns}
 use Rattle.star_call.specs.EvaluatedArgument.{all_shown}
 use Rattle.star_eval.proofs.+run.Given as goal
 
@@ -55,8 +55,8 @@ decreases-execute::assign_to l = 2 ^ 70 * l.levels + 1
 abbrev pub decreases-evaluate::run_body : goal.decreases-evaluate::run_body
 decreases-evaluate::run_body l = 2 ^ 70 * l.levels + 2
 
-abbrev pub decreases-evaluate::run_left : goal.decreases-evaluate::run_left
-decreases-evaluate::run_left l = 2 ^ 70 * l.levels + 3
+abbrev pub decreases-evaluate::finish_call : goal.decreases-evaluate::finish_call
+decreases-evaluate::finish_call l = 2 ^ 70 * l.levels + 3
 
 abbrev pub decreases-evaluate::evaluate_entries : goal.decreases-evaluate::evaluate_entries
 decreases-evaluate::evaluate_entries l = 2 ^ 70 * l.levels + 2
@@ -248,7 +248,7 @@ invariant-comprehensions::run_turns-turns l =
     let c = l.world in
     let levels = l.levels in
     let p = l.site in
-    and_then (turns_left c levels p l.output l.clause l.machine) (λ _. all_left c levels p l.output l.outer.items) ≡ turns_left c levels p l.output l.fn.first l.fn.machine
+    and_then (remaining_turns c levels p l.output l.clause l.machine) (λ _. all_left c levels p l.output l.outer.items) ≡ remaining_turns c levels p l.output l.fn.first l.fn.machine
 
 -- each turn pays, and opens one clause at most
 abbrev pub decreases-comprehensions::run_turns-turns : goal.decreases-comprehensions::run_turns-turns

@@ -6,9 +6,9 @@
 //! (`tables.rt`).
 
 ghost use Rattle.std.specs.Prelude.{◌≡◌, IfSome, Some, length, option_and_then, slice_get};
-ghost use Rattle.std.specs.Option.{option_copied, option_map};
+ghost use Rattle.std.specs.Option.{option_copied};
 ghost use Rattle.star_store.specs.Content.{content};
-ghost use Rattle.star_store.specs.Index.{IsIndexed, IsKnown, Places, PlacesAt, beside, entries_of, index_at, place_by, place_told, value_at};
+ghost use Rattle.star_store.specs.Index.{IsIndexed, IsKnown, Places, PlacesAt, beside_at, entries_of, index_at, place_by, place_of_key, value_at};
 ghost use Rattle.star_store.specs.Key.{key_levels, place_of, value_of};
 ghost use Rattle.star_store.specs.Store.{look};
 ghost use Rattle.star_store.specs.declared.values.Cell.TheVariants as cell;
@@ -80,9 +80,7 @@ impl Arena {
     /// The place of a key in an index with keys of other files, if it can be told; the inner one is `None` if the value
     /// is not a key.
     fn far_place(&self, homes: &Homes, index: &KeyIndex, key: Value) -> Option<Option<usize>>
-        ensures { IfSome result (λ place. place ≡ option_and_then
-            (λ atoms. place_told (look self.now homes.now) atoms index.now)
-            (content (look self.now homes.now) key_levels key)) }
+        ensures { IfSome result (λ place. place ≡ place_of_key (look self.now homes.now) key index.now) }
     {
         if index.keys().len() < FEW_FAR {
             return None;
@@ -95,7 +93,7 @@ impl Arena {
     }
 
     /// The number of a dictionary's entries; 0 if the value is not a dictionary.
-    pub(crate) fn dict_len(&self, homes: &Homes, dict: Value) -> usize
+    pub fn dict_len(&self, homes: &Homes, dict: Value) -> usize
         ensures { result ≡ length (entries_of (look self.now homes.now dict)) }
     {
         match self.read(homes, dict) {
@@ -115,15 +113,14 @@ impl Arena {
     }
 
     /// The value of the entry of a dictionary at a place, and the value that another has for its key.
-    pub(crate) fn beside(
+    pub fn beside(
         &self,
         homes: &Homes,
         dict: Value,
         at: usize,
         other: Value,
     ) -> Option<(Value, Option<Value>)>
-        ensures { result ≡ option_map (beside (look self.now homes.now) (look self.now homes.now other))
-            (slice_get (entries_of (look self.now homes.now dict)) at) }
+        ensures { result ≡ beside_at (look self.now homes.now) dict at other }
     {
         let (key, value) = self.dict_entry(homes, dict, at)?;
         if let Some(place) = self.indexed_beside(homes, dict, at, other) {

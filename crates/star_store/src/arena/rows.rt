@@ -3,11 +3,10 @@
 //! An index is tried when a cell is made, and when a new key makes the number of entries a power of two. Each new key
 //! allows the arena to go through eight entries more, so all attempts together cost no more than the keys do.
 
-ghost use Rattle.std.specs.Prelude.{◌≡◌, ◌≤◌, ◌+◌, ℕ, List, [], Some, None, map, max, length, IfSome, OnOk, ◌⊎◌, option_and_then};
+ghost use Rattle.std.specs.Prelude.{◌≡◌, ◌≤◌, ◌+◌, ℕ, [], Some, None, map, max, length, IfSome, OnOk, option_and_then};
 ghost use Rattle.std.specs.Bool.{OnTrue};
-ghost use Rattle.star_store.specs.Index.{AreChanged, IsIndexed, entries_by, index_after, index_at, key_entry};
+ghost use Rattle.star_store.specs.Index.{AreChanged, IsIndexed, IsPutAt, entries_by, index_after, index_at, key_entry};
 ghost use Rattle.star_store.specs.Write.{cell_at, key_of};
-ghost use Rattle.star_store.specs.declared.content.Atom.{Atom as AnyAtom};
 
 use crate::arena::write::Change;
 use crate::arena::{Arena, Homes};
@@ -152,8 +151,7 @@ fn put_index(
     at: u32,
     index: Box<KeyIndex>,
 ) -> Result<(), AllocError>
-    ensures each { (i : ℕ) (found : List (List AnyAtom)) → index_at rows.new.items i ≡ Some found
-        → (index_at rows.old.items i ≡ Some found) ⊎ ((i ≡ at) × (found ≡ index.value)) }
+    ensures each { IsPutAt at index.value rows.old.items rows.new.items }
     ensures within { length rows.new.items ≤ max (length rows.old.items) (at + 1) }
 {
     widen(rows, at)?;

@@ -13,11 +13,11 @@ use Rattle.star_cache.proofs.cache.LoadCache.TheSendSync as of_cache
 use Rattle.star_outcome.specs.contracts.told.Told as told
 use Rattle.star_outcome.specs.contracts.told.ToldProduct.TheImpl as product
 use Rattle.star_outcome.specs.contracts.trace.Trace as trace
-use Rattle.star_outcome.specs.declared.naming.Naming
+use Rattle.star_outcome.specs.declared.naming.RunId
 use Rattle.star_outcome.proofs.told.Told.TheSendSync as of_told
 use Rattle.star_outcome.proofs.trace.Trace.TheSendSync as of_trace
 use Rattle.star_reading.proofs.Closures.{tuple_sync}
-use Rattle.star_host.specs.contracts.common.Common as common
+use Rattle.star_host.specs.contracts.common.LoadContext as common
 use Rattle.star_host.proofs.Sharing.{common_sync}
 use Rattle.host_tests.specs.contracts.meeting.Meeting as meeting
 use Rattle.host_tests.proofs.meeting.Meeting.TheSendSync as of_meeting
@@ -27,7 +27,7 @@ use denote.Param.Send.{param_sync, arg_sync}
 use Rattle.host_tests.proofs.held.read_and_load.Goals as goal
 
 -- a loader's closure: it captures the runtime R, what the loaders share, the gate, the cache, the roots and the trace
-module _ (J : RattleType) (n : Naming.Ghosts J.Denot) (l : Ledger.Ghosts J.Denot) (R : RattleType) (α β γ δ ε ζ η θ κ ξ : NamedLft) where
+module _ (J : RattleType) (n : RunId.Ghosts J.Denot) (l : Ledger.Ghosts J.Denot) (R : RattleType) (α β γ δ ε ζ η θ κ ξ : NamedLft) where
   abbrev the_cache : RattleType
   the_cache = cache.the_row (told.the_row J n l) J (product.ghosts J n product.no_dict l product.no_dict) l
 
@@ -42,5 +42,5 @@ module _ (J : RattleType) (n : Naming.Ghosts J.Denot) (l : Ledger.Ghosts J.Denot
 
 pub map_vec-requires-sync-F : goal.map_vec-requires-sync-F
 map_vec-requires-sync-F g c κs within =
-    let all = reader_sync (param 0 g.row.J) g.J.Naming g.J.Ledger (param 1 g.row.R) _ _ _ _ _ _ _ _ _ _ c.type_bounds.sync-R _ in
+    let all = reader_sync (param 0 g.row.J) g.J.RunId g.J.Ledger (param 1 g.row.R) _ _ _ _ _ _ _ _ _ _ c.type_bounds.sync-R _ in
     param_sync 4 _ (arg_sync _ no _ all)

@@ -5,5 +5,5 @@ use Rattle.host_tests.proofs.traces.two_of_a_ring.Given as goal
 abbrev pub ghosts-two_are_read-J-Ledger : goal.ghosts-two_are_read-J-Ledger
 ghosts-two_are_read-J-Ledger g a = record { name = 0; parts = 1 }
 
-abbrev pub ghosts-two_are_read-J-Naming : goal.ghosts-two_are_read-J-Naming
-ghosts-two_are_read-J-Naming g a = record { files = []; plan = twice; shelf = [] }
+abbrev pub ghosts-two_are_read-J-RunId : goal.ghosts-two_are_read-J-RunId
+ghosts-two_are_read-J-RunId g a = record { files = []; plan = twice; shelf = [] }

@@ -9,7 +9,7 @@ pub ended_of-requires-clause-ended : goal.ended_of-requires-clause-ended
 ended_of-requires-clause-ended g c =
     let P : ℕ → Type 0 = λ n. HasEnded c.into_parts-book.result.0 n in
     let found = subst (All (HasEnded c.load_each.new.cache)) c.deref.ensures.value (c.have_ended.ensures c.if-not-have_ended.false) in
-    of_reached P g.J.Naming.files g.J.Naming.plan c.args.common.now.reads.now c.in_ok-reached.reached.items c.requires.world.row_is c.requires.world.planned c.in_ok-reached.ensures
+    of_reached P g.J.RunId.files g.J.RunId.plan c.args.common.now.reads.now c.in_ok-reached.reached.items c.requires.world.row_is c.requires.world.planned c.in_ok-reached.ensures
     (subst (λ (b : BookState ToldView). All (HasEnded b) c.in_ok-reached.reached.items) (sym c.into_parts-book.ensures.book) found)
 
 pub returns-clause-kept : goal.returns-clause-kept

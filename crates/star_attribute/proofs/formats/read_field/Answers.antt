@@ -5,7 +5,7 @@ use Rattle.star_attribute.proofs.formats.read_field.Goals as goal
 
 pub returns-in_default-clause-reads : goal.returns-in_default-clause-reads
 returns-in_default-clause-reads c =
-    rw c.faulted.ensures (field_open c.args.call.setting.now c.args.call.levels c.args.call.line c.args.call.given.now c.args.after.now (as_numbering c.args.numbering) (string_bytes c.args.out.now) c.args.machine.now c.in_default.ensures)
+    rw c.fault_at.ensures (field_open c.args.call.setting.now c.args.call.levels c.args.call.line c.args.call.given.now c.args.after.now (as_numbering c.args.numbering) (string_bytes c.args.out.now) c.args.machine.now c.in_default.ensures)
 
 pub returns-in_err-text-clause-reads : goal.returns-in_err-text-clause-reads
 returns-in_err-text-clause-reads c =

@@ -1,6 +1,6 @@
 use Rattle.std.proofs.Common.{◌≡◌, drop}
 use Rattle.std.specs.List.{find}
-use Rattle.star_scope.specs.Names.{same_name}
+use Rattle.star_outline.specs.Names.{same_name}
 use Rattle.star_store.specs.Names.{method_name}
 use Rattle.star_store.specs.declared.names.Method.{Method}
 use Rattle.star_attribute.proofs.methods.named.Given as goal

@@ -1,7 +1,7 @@
 use Rattle.std.proofs.Common.{ℕ, ◌+◌, ◌||◌, List, drop, ap, sym, ◌∙◌}
 use Rattle.std.specs.List.{list_any}
-use Rattle.star_scope.specs.Names.{same_name}
-use Rattle.star_scope.specs.Syntax.{parameter}
+use Rattle.star_outline.specs.Names.{same_name}
+use Rattle.star_outline.specs.Syntax.{parameter}
 use Rattle.star_meaning.specs.Binding.{keyword_of, keywords_of}
 use Rattle.star_call.specs.Seen.{has}
 use Rattle.star_call.proofs.Found.{no_name, one_name}

@@ -1,6 +1,6 @@
 use Rattle.std.proofs.Common.{◌≡◌, ℕ, ◌||◌, List, drop}
 use Rattle.std.specs.List.{list_any}
-use Rattle.star_scope.specs.Names.{same_name}
+use Rattle.star_outline.specs.Names.{same_name}
 use Rattle.star_meaning.specs.Binding.{keywords_of}
 use Rattle.star_call.specs.Seen.{has}
 use Rattle.star_call.proofs.binding.names_of.Given as goal

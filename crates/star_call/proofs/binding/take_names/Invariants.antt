@@ -1,7 +1,7 @@
 use Rattle.std.proofs.Common.{◌≡◌, drop}
 use Rattle.std.specs.List.{list_any}
 use Rattle.star_tree.specs.declared.tree.Parameter.{Parameter}
-use Rattle.star_scope.specs.Syntax.{parameter}
+use Rattle.star_outline.specs.Syntax.{parameter}
 use Rattle.star_meaning.specs.Binding.{takes_names}
 use Rattle.star_call.proofs.binding.take_names.Given as goal
 

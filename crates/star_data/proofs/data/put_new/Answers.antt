@@ -24,20 +24,15 @@ returns-in-Less c =
 
 pub returns-in-Equal : goal.returns-in-Equal
 returns-in-Equal c =
-    let es = c.args.row.now.items in
-    let i = c.loop-i.i in
-    let e = c.index.result.now in
-    let less : i < length es = search rules in
-    let at = entry_at c.loop-i.row.items es i e less c.loop-i.invariant.row c.index.ensures in
-    sym (put_never c.args.key c.args.value es i e c.loop-i.invariant.after at (sym c.cmp.ensures ∙ c.in-Equal.is))
+    let at = entry_at c.loop-i.row.items c.args.row.now.items c.loop-i.i c.index.result.now (search rules) c.loop-i.invariant.row c.index.ensures in
+    sym (put_never c.args.key c.args.value c.args.row.now.items c.loop-i.i c.index.result.now c.loop-i.invariant.after at (sym c.cmp.ensures ∙ c.in-Equal.is))
 
 pub loop-i-preserved : goal.loop-i-preserved
 loop-i-preserved c =
     let es = c.args.row.now.items in
     let i = c.loop-i.i in
     let e = c.index.result.now in
-    let less : i < length es = search rules in
-    let at = entry_at c.loop-i.row.items es i e less c.loop-i.invariant.row c.index.ensures in
+    let at = entry_at c.loop-i.row.items es i e (search rules) c.loop-i.invariant.row c.index.ensures in
     let next : suc i ≡ i + 1 = omega arith in
     record {
       row = c.loop-i.invariant.row;

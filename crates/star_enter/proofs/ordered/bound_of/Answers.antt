@@ -1,6 +1,6 @@
 use Rattle.std.proofs.Common.{◌≡◌, ap, sym, ◌∙◌}
 use Rattle.star_store.specs.declared.values.Cell.TheVariants as cell
-use Rattle.star_scope.specs.Definitions.{definition_of}
+use Rattle.star_outline.specs.Definitions.{definition_of}
 use Rattle.star_meaning.specs.Values.{Held, content}
 use Rattle.star_call.specs.Callees.{defaults_in}
 use Rattle.star_enter.proofs.OrderedFrames.{bound_there}

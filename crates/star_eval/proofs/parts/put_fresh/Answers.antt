@@ -7,4 +7,4 @@ returns-then-new-clause-put c =
 
 pub returns-else-new-clause-put : goal.returns-else-new-clause-put
 returns-else-new-clause-put c =
-    fresh_there _ _ _ _ _ _ _ c.check_key.new.self c.in_ok-new.new _ c.setting-setting.ensures c.in_ok-check_key.ensures.answer c.in_ok-new.ensures.new c.if-new.false c.faulted.ensures
+    fresh_there _ _ _ _ _ _ _ c.check_key.new.self c.in_ok-new.new _ c.setting-setting.ensures c.in_ok-check_key.ensures.answer c.in_ok-new.ensures.new c.if-new.false c.fault_at.ensures

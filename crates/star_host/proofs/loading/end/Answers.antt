@@ -3,4 +3,4 @@ use Rattle.star_outcome.specs.Views.{IsTold}
 use Rattle.star_host.proofs.loading.end.Goals as goal
 
 pub finish-requires : goal.finish-requires
-finish-requires g c = record { right = subst (λ n. IsTold g.J.Naming.files g.J.Naming.plan n c.in_ok-told.told) (sym c.number-n.ensures.number) c.in_ok-told.ensures }
+finish-requires g c = record { right = subst (λ n. IsTold g.J.RunId.files g.J.RunId.plan n c.in_ok-told.told) (sym c.number-n.ensures.number) c.in_ok-told.ensures }

@@ -4,8 +4,8 @@ use Rattle.star_host.proofs.running.run_over.Given as goal
 abbrev pub ghosts-run_named-J-Ledger : goal.ghosts-run_named-J-Ledger
 ghosts-run_named-J-Ledger g a = record { name = a.blank.name; parts = a.blank.parts }
 
-abbrev pub ghosts-run_named-J-Naming : goal.ghosts-run_named-J-Naming
-ghosts-run_named-J-Naming g a = record {
+abbrev pub ghosts-run_named-J-RunId : goal.ghosts-run_named-J-RunId
+ghosts-run_named-J-RunId g a = record {
   files = a.common.now.files.now;
   plan = plan_in a.common.now;
   shelf = a.common.now.modules.now;

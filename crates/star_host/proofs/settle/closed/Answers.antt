@@ -9,7 +9,7 @@ use Rattle.star_host.proofs.settle.closed.Goals as goal
 pub returns-in-Ok-clause-ended : goal.returns-in-Ok-clause-ended
 returns-in-Ok-clause-ended g c =
     let P : ℕ → Type 0 = λ n. HasEnded c.in-Ok.closed.0 n in
-    of_reached P g.J.Naming.files g.J.Naming.plan c.args.common.now.reads.now c.in_ok-reached.reached.items c.requires.world.row_is c.requires.world.planned c.in_ok-reached.ensures (subst (All P) c.deref.ensures.value c.in-Ok.ensures.ended)
+    of_reached P g.J.RunId.files g.J.RunId.plan c.args.common.now.reads.now c.in_ok-reached.reached.items c.requires.world.row_is c.requires.world.planned c.in_ok-reached.ensures (subst (All P) c.deref.ensures.value c.in-Ok.ensures.ended)
 
 pub close_ended-requires-2 : goal.close_ended-requires-2
 close_ended-requires-2 g c =
@@ -25,4 +25,4 @@ returns-in-Ok-close_ended-clause-loaders g c =
 pub returns-in-Ok-close_ended-clause-ended : goal.returns-in-Ok-close_ended-clause-ended
 returns-in-Ok-close_ended-clause-ended g c =
     let P : ℕ → Type 0 = λ n. HasEnded c.in-Ok-close_ended.closed.0 n in
-    of_reached P g.J.Naming.files g.J.Naming.plan c.args.common.now.reads.now c.in_ok-reached.reached.items c.requires.world.row_is c.requires.world.planned c.in_ok-reached.ensures (subst (All P) c.deref-2.ensures.value c.in-Ok-close_ended.ensures.ended)
+    of_reached P g.J.RunId.files g.J.RunId.plan c.args.common.now.reads.now c.in_ok-reached.reached.items c.requires.world.row_is c.requires.world.planned c.in_ok-reached.ensures (subst (All P) c.deref-2.ensures.value c.in-Ok-close_ended.ensures.ended)

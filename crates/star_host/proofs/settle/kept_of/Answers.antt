@@ -46,5 +46,5 @@ returns-clause-modules g c =
     let size = c.into_entries-entries.ensures.size in
     let same : length c.loop-n.entries.items ≡ length c.into_entries-entries.result.items = ap length c.loop-n.invariant.same in
     let count = c.len-n-end.ensures in
-    let end : c.loop-n.n ≡ length g.J.Naming.files = omega (arith, size, same, count) in
-    all_kept g.J.Naming.files g.J.Naming.plan c.loop-n.n c.loop-n.kept.items c.requires.within end c.loop-n.invariant.modules
+    let end : c.loop-n.n ≡ length g.J.RunId.files = omega (arith, size, same, count) in
+    all_kept g.J.RunId.files g.J.RunId.plan c.loop-n.n c.loop-n.kept.items c.requires.within end c.loop-n.invariant.modules

@@ -7,5 +7,5 @@ use Rattle.star_host.proofs.work.ended_of.Goals as goal
 pub returns-in_ok-body-in-Good : goal.returns-in_ok-body-in-Good
 returns-in_ok-body-in-Good g c =
     let body : Body = record { stores = c.in_ok-stores-in-Good.stores; shown = c.in-Good.shown; lines = c.in-Good.lines; paid = c.saturating_sub.result } in
-    subst (IsBody g.J.Naming.plan c.args.home) (sym c.in_ok-body-in-Good.ensures.ok)
-    (body_is g.J.Naming.plan c.args.home c.args.outcome c.in-Good.frozen c.in-Good.left body c.in-Good.is (search rules) c.requires.ran c.in_ok-stores-in-Good.ensures)
+    subst (IsBody g.J.RunId.plan c.args.home) (sym c.in_ok-body-in-Good.ensures.ok)
+    (body_is g.J.RunId.plan c.args.home c.args.outcome c.in-Good.frozen c.in-Good.left body c.in-Good.is (search rules) c.requires.ran c.in_ok-stores-in-Good.ensures)

@@ -1,6 +1,6 @@
 use Rattle.std.proofs.Common.{◌||◌, ap, sym, ◌∙◌, rules}
 use Rattle.std.specs.List.{list_any}
-use Rattle.star_scope.specs.Names.{same_name}
+use Rattle.star_outline.specs.Names.{same_name}
 use Rattle.star_meaning.specs.Texts.{characters}
 use Rattle.star_method.specs.Sets.{has}
 use Rattle.star_method.proofs.Found.{one_found}

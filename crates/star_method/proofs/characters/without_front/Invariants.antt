@@ -6,10 +6,7 @@ use Rattle.star_method.specs.Sets.{test_of}
 use Rattle.star_method.proofs.characters.without_front.Given as goal
 
 abbrev pub invariant-loop-first : goal.invariant-loop-first
-invariant-loop-first l = record {
-  rest : without_front (test_of l.set) (characters l.rest) ≡ without_front (test_of l.set) (characters l.text);
-  text : shadow (Utf8 l.rest);
-}
+invariant-loop-first l = record { rest : without_front (test_of l.set) (characters l.rest) ≡ without_front (test_of l.set) (characters l.text); text : shadow (Utf8 l.rest) }
 
 abbrev pub decreases-loop-first : goal.decreases-loop-first
 decreases-loop-first l = length l.rest

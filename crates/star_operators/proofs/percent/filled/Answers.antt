@@ -7,7 +7,7 @@ use Rattle.star_operators.proofs.percent.filled.Goals as goal
 pub returns-in_default-first_ascii : goal.returns-in_default-first_ascii
 returns-in_default-first_ascii c =
     let e = c.in-Some.ensures in
-    rw c.faulted.ensures (sym c.loop-before.invariant.rest ∙ filled_bad_turn c.args.setting.now c.args.levels _ _ _ _ _ _ _ _ e.0 e.1 e.2 c.in_default-first_ascii.ensures)
+    rw c.fault_at.ensures (sym c.loop-before.invariant.rest ∙ filled_bad_turn c.args.setting.now c.args.levels _ _ _ _ _ _ _ _ e.0 e.1 e.2 c.in_default-first_ascii.ensures)
 
 pub loop-before-preserved : goal.loop-before-preserved
 loop-before-preserved c =
@@ -21,7 +21,7 @@ loop-before-preserved c =
 pub returns-then-not-is_empty : goal.returns-then-not-is_empty
 returns-then-not-is_empty c =
     let k : 0 < length c.loop-before.left.now = search rules in
-    rw c.faulted-then-not-is_empty.ensures (sym c.loop-before.invariant.rest ∙ filled_too_few c.args.setting.now c.args.levels _ c.loop-before.rest.now _ (string_bytes c.loop-before.out) c.loop-before.machine c.in_default.ensures k)
+    rw c.fault_at-then-not-is_empty.ensures (sym c.loop-before.invariant.rest ∙ filled_too_few c.args.setting.now c.args.levels _ c.loop-before.rest.now _ (string_bytes c.loop-before.out) c.loop-before.machine c.in_default.ensures k)
 
 pub returns : goal.returns
 returns c =

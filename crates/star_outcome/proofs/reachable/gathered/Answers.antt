@@ -11,22 +11,22 @@ use Rattle.star_outcome.proofs.reachable.gathered.Goals as goal
 
 pub add_load-requires-clause-load : goal.add_load-requires-clause-load
 add_load-requires-clause-load g c =
-    subst (λ n. Loads (loaded g.J.Naming.plan) n c.it-item.result.now.number) (sym c.loop-it.invariant.file)
-    (load_is g.J.Naming.plan c.args.n c.loop-it.it-index c.args.modules.now c.it-item.result c.requires c.loop-it-test.true c.it-item.is)
+    subst (λ n. Loads (loaded g.J.RunId.plan) n c.it-item.result.now.number) (sym c.loop-it.invariant.file)
+    (load_is g.J.RunId.plan c.args.n c.loop-it.it-index c.args.modules.now c.it-item.result c.requires c.loop-it-test.true c.it-item.is)
 
 pub add_load-requires-clause-good : goal.add_load-requires-clause-good
-add_load-requires-clause-good g c = load_good g.J.Naming.plan c.args.n c.loop-it.it-index c.args.modules.now c.it-item.result c.requires c.loop-it-test.true c.it-item.is
+add_load-requires-clause-good g c = load_good g.J.RunId.plan c.args.n c.loop-it.it-index c.args.modules.now c.it-item.result c.requires c.loop-it-test.true c.it-item.is
 
 pub loop-it-preserved : goal.loop-it-preserved
 loop-it-preserved g c = record {
   file = c.in_ok-add_load.ensures.file ∙ c.loop-it.invariant.file;
-  there = more_loads g.J.Naming.plan c.args.n c.loop-it.it-index c.args.modules.now c.it-item.result c.loop-it.given.shelf c.add_load.new.self.shelf c.requires c.loop-it-test.true c.it-item.is c.in_ok-add_load.ensures.stays c.in_ok-add_load.ensures.there c.loop-it.invariant.there;
+  there = more_loads g.J.RunId.plan c.args.n c.loop-it.it-index c.args.modules.now c.it-item.result c.loop-it.given.shelf c.add_load.new.self.shelf c.requires c.loop-it-test.true c.it-item.is c.in_ok-add_load.ensures.stays c.in_ok-add_load.ensures.there c.loop-it.invariant.there;
 }
 
 pub all_needed-requires-clause-all : goal.all_needed-requires-clause-all
 all_needed-requires-clause-all g c = λ i m at.
-    let within = slice_get_within (loaded g.J.Naming.plan c.args.n) i m at in
-    let long = length-map (loads_of g.J.Naming.plan c.args.n) (λ (l : Load). l.file) in
+    let within = slice_get_within (loaded g.J.RunId.plan c.args.n) i m at in
+    let long = length-map (loads_of g.J.RunId.plan c.args.n) (λ (l : Load). l.file) in
     let width = length-map c.args.modules.now (λ (x : Bor Module). x.now) in
     let count = c.requires.count in
     let last = c.loop-it-test.false in

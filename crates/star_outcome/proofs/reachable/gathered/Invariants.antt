@@ -9,5 +9,5 @@ use Rattle.star_outcome.proofs.reachable.gathered.Given as goal
 abbrev pub invariant-loop-it : goal.invariant-loop-it
 invariant-loop-it g l = record {
   file : l.given.file ≡ l.n;
-  there : (i m : ℕ) → i < l.it-index → slice_get (loaded g.J.Naming.plan l.n) i ≡ Some m → (k : ℕ) → LeadsTo (Loads (loaded g.J.Naming.plan)) m k → HasStore l.given.shelf k;
+  there : (i m : ℕ) → i < l.it-index → slice_get (loaded g.J.RunId.plan l.n) i ≡ Some m → (k : ℕ) → LeadsTo (Loads (loaded g.J.RunId.plan)) m k → HasStore l.given.shelf k;
 }

@@ -24,34 +24,26 @@ rounds-preserved g c =
 pub rounds-smaller : goal.rounds-smaller
 rounds-smaller g c =
     let inv = c.rounds.invariant in
-    let words = words_of c.args.words.keys in
-    let says = g.F.Repo.says c.rounds.folder in
-    let turn = turned (g.F.Repo.says c.args.folder.now) says words inv.on_way.0 c.rounds.round _ _ inv.same inv.on_way.1 inv.all_read inv.fresh c.in-Ok-Next.ensures.turns c.in-Ok-Next.field-0-is in
+    let turn = turned (g.F.Repo.says c.args.folder.now) (g.F.Repo.says c.rounds.folder) (words_of c.args.words.keys) inv.on_way.0 c.rounds.round _ _ inv.same inv.on_way.1 inv.all_read inv.fresh c.in-Ok-Next.ensures.turns c.in-Ok-Next.field-0-is in
     omega (arith, turn.3, c.in-Ok-Next.next.found.few_files)
 
 pub ended-requires : goal.ended-requires
 ended-requires g c =
     let inv = c.rounds.invariant in
-    let words = words_of c.args.words.keys in
-    let says = g.F.Repo.says c.rounds.folder in
-    let turn = turned (g.F.Repo.says c.args.folder.now) says words inv.on_way.0 c.rounds.round _ _ inv.same inv.on_way.1 inv.all_read inv.fresh c.in-Ok-End.ensures.turns c.in-Ok-End.field-0-is in
-    (says, words, inv.on_way.0, turn.0, turn.2)
+    let turn = turned (g.F.Repo.says c.args.folder.now) (g.F.Repo.says c.rounds.folder) (words_of c.args.words.keys) inv.on_way.0 c.rounds.round _ _ inv.same inv.on_way.1 inv.all_read inv.fresh c.in-Ok-End.ensures.turns c.in-Ok-End.field-0-is in
+    (g.F.Repo.says c.rounds.folder, words_of c.args.words.keys, inv.on_way.0, turn.0, turn.2)
 
 pub returns-in-Ok-End-clause-files : goal.returns-in-Ok-End-clause-files
 returns-in-Ok-End-clause-files g c =
     let inv = c.rounds.invariant in
-    let words = words_of c.args.words.keys in
-    let says = g.F.Repo.says c.rounds.folder in
-    let turn = turned (g.F.Repo.says c.args.folder.now) says words inv.on_way.0 c.rounds.round _ _ inv.same inv.on_way.1 inv.all_read inv.fresh c.in-Ok-End.ensures.turns c.in-Ok-End.field-0-is in
+    let turn = turned (g.F.Repo.says c.args.folder.now) (g.F.Repo.says c.rounds.folder) (words_of c.args.words.keys) inv.on_way.0 c.rounds.round _ _ inv.same inv.on_way.1 inv.all_read inv.fresh c.in-Ok-End.ensures.turns c.in-Ok-End.field-0-is in
     let files = c.in_ok-ended-in-Ok-End.field-0.files in
-    subst (λ (s : Said). (held : Held) × Fits s held × AreReachedFiles held words files × Pass files) inv.same (c.in_ok-ended-in-Ok-End.ensures.files says words inv.on_way.0 turn.0 turn.2)
+    subst (λ (s : Said). (held : Held) × Fits s held × AreReachedFiles held (words_of c.args.words.keys) files × Pass files) inv.same (c.in_ok-ended-in-Ok-End.ensures.files (g.F.Repo.says c.rounds.folder) (words_of c.args.words.keys) inv.on_way.0 turn.0 turn.2)
 
 pub returns-in-Ok-End-clause-parsed : goal.returns-in-Ok-End-clause-parsed
 returns-in-Ok-End-clause-parsed g c =
     let inv = c.rounds.invariant in
-    let words = words_of c.args.words.keys in
-    let says = g.F.Repo.says c.rounds.folder in
-    let turn = turned (g.F.Repo.says c.args.folder.now) says words inv.on_way.0 c.rounds.round _ _ inv.same inv.on_way.1 inv.all_read inv.fresh c.in-Ok-End.ensures.turns c.in-Ok-End.field-0-is in
+    let turn = turned (g.F.Repo.says c.args.folder.now) (g.F.Repo.says c.rounds.folder) (words_of c.args.words.keys) inv.on_way.0 c.rounds.round _ _ inv.same inv.on_way.1 inv.all_read inv.fresh c.in-Ok-End.ensures.turns c.in-Ok-End.field-0-is in
     c.in_ok-ended-in-Ok-End.ensures.parsed turn.1
 
 pub returns-in-Err-clause-refused : goal.returns-in-Err-clause-refused

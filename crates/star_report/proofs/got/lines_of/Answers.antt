@@ -21,8 +21,8 @@ pub loop-root-preserved : goal.loop-root-preserved
 loop-root-preserved c = λ files plan planned size is roots.
     let all = c.args.roots.now in
     let i = c.loop-root.root-index in
-    let n : ℕ = get_or all i 0 in
     let less : i < length all = omega (arith, c.loop-root-test.true) in
+    let n : ℕ = get_or all i 0 in
     let at : (d : ℕ) → get_or all i d ≡ n = λ d. get_or_default all i d 0 less in
     let json = c.in_ok-json.ensures files plan planned size is (root_reached plan all i n roots less at) in
     let own : HasJson plan c.args.name.now n (Ok c.in-Ok.json) = subst (HasJson plan c.args.name.now n) c.in-Ok.is json in

@@ -23,13 +23,12 @@ returns-clause-values c =
 pub returns-clause-opaque : goal.returns-clause-opaque
 returns-clause-opaque c =
     let n = c.args.n in
-    let arena : Store = c.new-arena.result in
-    let homes = c.in_ok-homes.homes in
     let shown = c.deref.result.now in
+    let arena : Store = c.new-arena.result in
     let blank : arena ≡ record { home = c.args.files; cells = [] } = search rules in
     let names = λ (f : List ℕ → Option Data). ap (λ gs. map string (filter (is_opaque f) (map (λ g. string_bytes g.0) gs))) c.deref.ensures.value in
     IfOk-weaker c.values_among.result _ _ (λ v h.
     h
-    ∙ (ap (λ s. map string (filter (is_opaque (among_data s homes n)) (map (λ g. string_bytes g.0) shown))) blank
+    ∙ (ap (λ s. map string (filter (is_opaque (among_data s c.in_ok-homes.homes n)) (map (λ g. string_bytes g.0) shown))) blank
     ∙ (ap (λ s. map string (filter (is_opaque (among_data (record { home = c.args.files; cells = [] }) s n)) (map (λ g. string_bytes g.0) shown))) c.in_ok-homes.ensures
     ∙ names (stored_data c.args.files n c.args.body.now)))) c.values_among.ensures.opaque

@@ -1,5 +1,5 @@
 use Rattle.std.proofs.Common.{◌≡◌, length, map}
-use Rattle.star_scope.specs.Names.{has_name}
+use Rattle.star_outline.specs.Names.{has_name}
 use Rattle.star_scope.proofs.chain.is_among.Given as goal
 
 abbrev pub invariant-loop-names : goal.invariant-loop-names

@@ -1,9 +1,9 @@
 use Rattle.std.proofs.Common.{ap, sym, ◌∙◌, not, ◌&&◌}
 use Rattle.std.specs.Option.{is_some}
 use Rattle.star_scope.specs.Chains.{names_outside}
-use Rattle.star_scope.specs.Names.{has_name, same_name}
+use Rattle.star_outline.specs.Names.{has_name, same_name}
 use Rattle.star_scope.specs.Places.{prelude_has}
-use Rattle.star_scope.proofs.Numbers.{position_any}
+use Rattle.star_outline.proofs.Numbers.{position_any}
 use Rattle.star_scope.proofs.chain.prelude_has.Goals as goal
 
 pub returns-then-not-is_private : goal.returns-then-not-is_private

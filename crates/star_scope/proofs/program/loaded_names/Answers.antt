@@ -1,9 +1,9 @@
 use Rattle.std.proofs.Common.{refl, ◌∙◌}
 use Rattle.std.specs.List.{flat_map}
-use Rattle.star_scope.specs.Outlines.{loaded_by}
-use Rattle.star_scope.specs.Syntax.{form_of}
-use Rattle.star_scope.proofs.BoundNames.{names_done, names_turn}
-use Rattle.star_scope.proofs.FirstPlaces.{names_once}
+use Rattle.star_outline.specs.Outlines.{loaded_by}
+use Rattle.star_outline.specs.Syntax.{form_of}
+use Rattle.star_outline.proofs.BoundNames.{names_done, names_turn}
+use Rattle.star_outline.proofs.FirstPlaces.{names_once}
 use Rattle.star_scope.proofs.program.loaded_names.Goals as goal
 
 pub loop-statement-preserved : goal.loop-statement-preserved

@@ -1,8 +1,8 @@
 use Rattle.std.proofs.Common.{◌≡◌, [], drop}
 use Rattle.std.specs.List.{flat_map}
-use Rattle.star_scope.specs.Names.{with_names}
-use Rattle.star_scope.specs.Outlines.{loaded_by}
-use Rattle.star_scope.specs.Syntax.{form_of}
+use Rattle.star_outline.specs.Names.{with_names}
+use Rattle.star_outline.specs.Outlines.{loaded_by}
+use Rattle.star_outline.specs.Syntax.{form_of}
 use Rattle.star_scope.proofs.program.loaded_names.Given as goal
 
 abbrev pub invariant-loop-statement : goal.invariant-loop-statement

@@ -1,8 +1,8 @@
 use Rattle.std.proofs.Common.{rules, ◌≡◌, [], ap, sym, ◌∙◌, ◌++◌}
-use Rattle.star_scope.specs.Names.{with_names}
-use Rattle.star_scope.specs.Outlines.{block_names, loaded_names}
-use Rattle.star_scope.proofs.BoundNames.{with_joined}
-use Rattle.star_scope.proofs.FirstPlaces.{names_once}
+use Rattle.star_outline.specs.Names.{with_names}
+use Rattle.star_outline.specs.Outlines.{block_names, loaded_names}
+use Rattle.star_outline.proofs.BoundNames.{with_joined}
+use Rattle.star_outline.proofs.FirstPlaces.{names_once}
 use Rattle.star_scope.proofs.program.names_of_file.Goals as goal
 
 pub returns : goal.returns

@@ -1,5 +1,5 @@
 use Rattle.std.proofs.Common.{ap, ◌∙◌, [], ◌∷◌, ◌++◌}
-use Rattle.star_scope.specs.Outlines.{and, in_statements}
+use Rattle.star_outline.specs.Outlines.{and, in_statements}
 use Rattle.star_scope.proofs.program.outline_of.Goals as goal
 
 pub returns-clause-definitions : goal.returns-clause-definitions

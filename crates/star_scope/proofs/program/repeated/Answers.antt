@@ -1,6 +1,6 @@
 use Rattle.std.proofs.Common.{refl, ap, sym, ◌∙◌, map}
 use Rattle.star_scope.specs.Conflicts.{repeated_parameters}
-use Rattle.star_scope.specs.Definitions.{definition_of}
+use Rattle.star_outline.specs.Definitions.{definition_of}
 use Rattle.star_scope.specs.Faults.{first, first_of}
 use Rattle.star_scope.specs.Resolve.{repeated}
 use Rattle.star_scope.proofs.Faults.{turn, done}

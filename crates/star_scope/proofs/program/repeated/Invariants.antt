@@ -1,5 +1,5 @@
 use Rattle.std.proofs.Common.{◌≡◌, None, drop, map}
-use Rattle.star_scope.specs.Definitions.{definition_of}
+use Rattle.star_outline.specs.Definitions.{definition_of}
 use Rattle.star_scope.specs.Faults.{first_from}
 use Rattle.star_scope.specs.Resolve.{repeated}
 use Rattle.star_scope.proofs.program.repeated.Given as goal

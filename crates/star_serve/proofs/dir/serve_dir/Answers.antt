@@ -8,7 +8,7 @@ use Rattle.star_folder.proofs.StopKinds.{of_walk}
 use Rattle.star_serve.specs.Serve.{AsksForDir}
 use Rattle.star_serve.proofs.Traced.{if_ok_both}
 use Rattle.star_serve.proofs.Refusals.{IsOfWords, if_err, words_kind}
-use Rattle.star_serve.proofs.FolderRefusals.{run_counts, run_refused, stopped_refused, stopped_writes, words_failed, words_refused}
+use Rattle.star_serve.proofs.FolderRefusals.{run_counts, run_refused, stopped_refused, stopped_writes, words_among, words_refused}
 use Rattle.star_serve.proofs.Spoken.{same_by_words}
 use Rattle.star_serve.proofs.dir.serve_dir.Goals as goal
 
@@ -39,24 +39,15 @@ returns-in-Err-asked_in-clause-refused g c =
 
 pub returns-in-Err-asked_in-clause-listings : goal.returns-in-Err-asked_in-clause-listings
 returns-in-Err-asked_in-clause-listings g c =
-    let roots = map string_bytes c.as_slice.result.now in
-    let prelude = option_map (λ p. string_bytes p.now) c.as_ref.result in
-    let none = words_failed c.in-Err-asked_in.error (asked_among roots prelude c.in-Ok.files) c.in-Err-asked_in.ensures.asked (words_kind IsOfWords roots prelude c.in-Ok.files tt tt tt tt) in
-    omega (arith, none.0, c.in-Ok.ensures.listings)
+    omega (arith, (words_among (map string_bytes c.as_slice.result.now) (option_map (λ p. string_bytes p.now) c.as_ref.result) c.in-Ok.files c.in-Err-asked_in.error c.in-Err-asked_in.ensures.asked).0, c.in-Ok.ensures.listings)
 
 pub returns-in-Err-asked_in-clause-reads : goal.returns-in-Err-asked_in-clause-reads
 returns-in-Err-asked_in-clause-reads g c =
-    let roots = map string_bytes c.as_slice.result.now in
-    let prelude = option_map (λ p. string_bytes p.now) c.as_ref.result in
-    let none = words_failed c.in-Err-asked_in.error (asked_among roots prelude c.in-Ok.files) c.in-Err-asked_in.ensures.asked (words_kind IsOfWords roots prelude c.in-Ok.files tt tt tt tt) in
-    omega (arith, none.1, c.in-Ok.ensures.reads)
+    omega (arith, (words_among (map string_bytes c.as_slice.result.now) (option_map (λ p. string_bytes p.now) c.as_ref.result) c.in-Ok.files c.in-Err-asked_in.error c.in-Err-asked_in.ensures.asked).1, c.in-Ok.ensures.reads)
 
 pub returns-in-Err-asked_in-clause-writes : goal.returns-in-Err-asked_in-clause-writes
 returns-in-Err-asked_in-clause-writes g c =
-    let roots = map string_bytes c.as_slice.result.now in
-    let prelude = option_map (λ p. string_bytes p.now) c.as_ref.result in
-    let none = words_failed c.in-Err-asked_in.error (asked_among roots prelude c.in-Ok.files) c.in-Err-asked_in.ensures.asked (words_kind IsOfWords roots prelude c.in-Ok.files tt tt tt tt) in
-    omega (arith, none.2)
+    omega (arith, (words_among (map string_bytes c.as_slice.result.now) (option_map (λ p. string_bytes p.now) c.as_ref.result) c.in-Ok.files c.in-Err-asked_in.error c.in-Err-asked_in.ensures.asked).2)
 
 pub returns-clause-refused : goal.returns-clause-refused
 returns-clause-refused g c =

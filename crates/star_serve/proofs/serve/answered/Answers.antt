@@ -28,9 +28,8 @@ returns-clause-said g c =
 pub returns-clause-refused : goal.returns-clause-refused
 returns-clause-refused g c =
     let asked = c.args.job.now.asked.now in
-    let steps = c.args.options.now.steps in
-    subst (λ r. AreRefusalsOf asked.files asked.roots.items asked.prelude steps r.refused) (sym c.in_ok-written.ensures.same)
-    (subst (λ roots. AreRefusalsOf asked.files roots asked.prelude steps c.in-Ok.run'.refused) c.as_slice-roots.ensures.value c.in-Ok.ensures.refused)
+    subst (λ r. AreRefusalsOf asked.files asked.roots.items asked.prelude c.args.options.now.steps r.refused) (sym c.in_ok-written.ensures.same)
+    (subst (λ roots. AreRefusalsOf asked.files roots asked.prelude c.args.options.now.steps c.in-Ok.run'.refused) c.as_slice-roots.ensures.value c.in-Ok.ensures.refused)
 
 pub run_in-outcome-requires-clause-ends : goal.run_in-outcome-requires-clause-ends
 run_in-outcome-requires-clause-ends g c =
@@ -43,6 +42,5 @@ returns-clause-cells g c = ap (λ r. length r.cells) c.in_ok-written.ensures.sam
 pub returns-clause-modules : goal.returns-clause-modules
 returns-clause-modules g c =
     let asked = c.args.job.now.asked.now in
-    let steps = c.args.options.now.steps in
-    subst (λ r. AreModulesOf asked.files asked.roots.items asked.prelude steps r.kept) (sym c.in_ok-written.ensures.same)
-    (subst (λ roots. AreModulesOf asked.files roots asked.prelude steps c.in-Ok.run'.kept) c.as_slice-roots.ensures.value c.in-Ok.ensures.modules)
+    subst (λ r. AreModulesOf asked.files asked.roots.items asked.prelude c.args.options.now.steps r.kept) (sym c.in_ok-written.ensures.same)
+    (subst (λ roots. AreModulesOf asked.files roots asked.prelude c.args.options.now.steps c.in-Ok.run'.kept) c.as_slice-roots.ensures.value c.in-Ok.ensures.modules)

@@ -3,10 +3,6 @@ use Rattle.star_serve.specs.Written.{IsRunOf}
 use Rattle.star_serve.proofs.WrittenTexts.{if_ok-map}
 use Rattle.star_serve.proofs.written.written_of.Goals as goal
 
-pub returns-in-Report-clause-said : goal.returns-in-Report-clause-said
-returns-in-Report-clause-said g c =
-    if_ok-map c.report_written.result (λ w h plan of. rw c.in-Report.is (h plan)) c.report_written.ensures.said
-
 pub returns-in-Global-clause-text : goal.returns-in-Global-clause-text
 returns-in-Global-clause-text g c =
     let row = c.args.reads.now.all.items in
@@ -24,6 +20,10 @@ returns-in-Graph-clause-text g c =
 pub returns-in-Graph-clause-said : goal.returns-in-Graph-clause-said
 returns-in-Graph-clause-said g c =
     if_ok-map c.graph_written.result (λ w h plan of. rw c.in-Graph.is (h plan)) c.graph_written.ensures.said
+
+pub returns-in-Report-clause-said : goal.returns-in-Report-clause-said
+returns-in-Report-clause-said g c =
+    if_ok-map c.report_written.result (λ w h plan of. rw c.in-Report.is (h plan)) c.report_written.ensures.said
 
 pub returns-in-Check-clause-text : goal.returns-in-Check-clause-text
 returns-in-Check-clause-text g c =

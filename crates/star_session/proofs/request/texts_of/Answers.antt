@@ -1,22 +1,23 @@
 use Rattle.std.proofs.Common.{◌≡◌, ◌≤◌, ◌+◌, ◌++◌, ◌∷◌, [], ap, drop, arith, length, map, string_bytes, sym, ◌∙◌}
-use Rattle.std.proofs.lemmas.List.{drop_all, drop_more, map-append}
+use Rattle.std.proofs.lemmas.List.{drop_all, map-append}
 use Rattle.serde_json.specs.View.{items_view}
 use Rattle.star_session.specs.Requests.{texts_in}
 use Rattle.star_session.proofs.Asked.{after, texts_done, texts_next, texts_stop}
+use Rattle.star_session.proofs.Items.{next_item}
 use Rattle.star_session.proofs.request.texts_of.Goals as goal
 
 pub returns-in_default : goal.returns-in_default
 returns-in_default c =
-    let next = drop_more c.args.items.now c.loop-item.item-index c.item-item.result c.loop-item-test.true ∙ ap (λ x. x ∷ drop (c.loop-item.item-index + 1) c.args.items.now) (sym c.item-item.is) in
     let front = map string_bytes c.loop-item.texts.items in
+    let next = next_item c.args.items.now c.loop-item.item-index c.item-item.result c.loop-item-test.true c.item-item.is in
     sym (c.loop-item.invariant
     ∙ ap (λ vs. after front (texts_in (items_view vs))) next
     ∙ ap (after front) (texts_stop _ _ (sym c.in_default.ensures)))
 
 pub loop-item-preserved : goal.loop-item-preserved
 loop-item-preserved c =
-    let next = drop_more c.args.items.now c.loop-item.item-index c.item-item.result c.loop-item-test.true ∙ ap (λ x. x ∷ drop (c.loop-item.item-index + 1) c.args.items.now) (sym c.item-item.is) in
     let front = map string_bytes c.loop-item.texts.items in
+    let next = next_item c.args.items.now c.loop-item.item-index c.item-item.result c.loop-item-test.true c.item-item.is in
     let text = c.in_ok-from_str.field-0 in
     let pushed : map string_bytes c.push.new.self.items ≡ front ++ string_bytes text ∷ [] =
     ap (map string_bytes) c.in_ok-push.ensures.items ∙ map-append string_bytes c.loop-item.texts.items (text ∷ []) in

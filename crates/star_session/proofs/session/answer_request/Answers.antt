@@ -12,12 +12,12 @@ returns-in-Sent-clause-lost g c =
     let d = c.args.settings.now.defaults in
     lost_sent c.answer_sent.result d.origin (g.F.Repo.says c.args.folder.now) d c.args.standing.now.files c.answer_sent.new.standing.files (asked_by c.args.request) c.answer_sent.ensures.same
 
-pub returns-in-Folder-clause-answered : goal.returns-in-Folder-clause-answered
-returns-in-Folder-clause-answered g c =
-    let d = c.args.settings.now.defaults in
-    by_folder c.answered_from.result (λ l. l.items) d.origin (g.F.Repo.says c.args.folder.now) d c.args.standing.now.files c.answered_from.new.standing.files c.args.id.now (asked_by c.args.request) c.in-Folder.is c.answered_from.ensures.answered
-
 pub returns-in-Folder-clause-lost : goal.returns-in-Folder-clause-lost
 returns-in-Folder-clause-lost g c =
     let d = c.args.settings.now.defaults in
     lost_folder c.answered_from.result d.origin (g.F.Repo.says c.args.folder.now) d c.args.standing.now.files c.answered_from.new.standing.files (asked_by c.args.request) c.in-Folder.is c.answered_from.ensures.known
+
+pub returns-in-Folder-clause-answered : goal.returns-in-Folder-clause-answered
+returns-in-Folder-clause-answered g c =
+    let d = c.args.settings.now.defaults in
+    by_folder c.answered_from.result (λ l. l.items) d.origin (g.F.Repo.says c.args.folder.now) d c.args.standing.now.files c.answered_from.new.standing.files c.args.id.now (asked_by c.args.request) c.in-Folder.is c.answered_from.ensures.answered

@@ -1,14 +1,15 @@
-use Rattle.std.proofs.Common.{◌≤◌, ◌+◌, ◌∷◌, ap, arith, drop, length, map, sym, ◌∙◌}
-use Rattle.std.proofs.lemmas.List.{drop_all, drop_more}
+use Rattle.std.proofs.Common.{◌≤◌, ◌+◌, ap, arith, drop, length, map, ◌∙◌}
+use Rattle.std.proofs.lemmas.List.{drop_all}
 use Rattle.star_session.specs.Changes.{change_of, files_after}
 use Rattle.star_session.proofs.Changes.{after_none, after_same}
+use Rattle.star_session.proofs.Items.{next_item}
 use Rattle.star_session.proofs.standing.are_as.Goals as goal
 
 pub loop-change-preserved : goal.loop-change-preserved
 loop-change-preserved c =
     let files = c.args.files.now in
     let rest = drop (c.loop-change.change-index + 1) c.args.changes.now in
-    let next = drop_more c.args.changes.now c.loop-change.change-index c.change-item.result c.loop-change-test.true ∙ ap (λ x. x ∷ rest) (sym c.change-item.is) in
+    let next = next_item c.args.changes.now c.loop-change.change-index c.change-item.result c.loop-change-test.true c.change-item.is in
     c.loop-change.invariant
     ∙ ap (λ cs. files_after files (map change_of cs)) next
     ∙ after_same files (change_of c.change-item.result) (map change_of rest) (c.is_as.ensures c.if-not-is_as.false)

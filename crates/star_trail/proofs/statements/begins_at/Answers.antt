@@ -1,4 +1,4 @@
-use Rattle.star_scope.specs.Syntax.{position_of}
+use Rattle.star_outline.specs.Syntax.{position_of}
 use Rattle.star_trail.proofs.Within.{at_position}
 use Rattle.star_trail.proofs.statements.begins_at.Goals as goal
 

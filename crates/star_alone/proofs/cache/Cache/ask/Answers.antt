@@ -9,5 +9,5 @@ use Rattle.star_alone.proofs.cache.Cache.ask.Goals as goal
 
 pub returns : goal.returns
 returns g c = record {
-  tells = no_wait (IsTold g.J.Naming.files g.J.Naming.plan) (IsGood g.J.Naming.plan) (IsCyclic (loaded g.J.Naming.plan) c.args.parent c.args.target) (awaited_by c.ask.new.self 0 ≡ Some c.args.target) c.args.target c.ask.result (c.ask.ensures.alone c.self.invariant.0) c.ask.ensures.tells;
+  tells = no_wait (IsTold g.J.RunId.files g.J.RunId.plan) (IsGood g.J.RunId.plan) (IsCyclic (loaded g.J.RunId.plan) c.args.parent c.args.target) (awaited_by c.ask.new.self 0 ≡ Some c.args.target) c.args.target c.ask.result (c.ask.ensures.alone c.self.invariant.0) c.ask.ensures.tells;
 }

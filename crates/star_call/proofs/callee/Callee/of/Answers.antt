@@ -1,6 +1,6 @@
 use Rattle.std.proofs.Common.{◌≡◌, ap, sym, ◌∙◌}
 use Rattle.star_store.specs.declared.values.Cell.TheVariants as cell
-use Rattle.star_scope.specs.Definitions.{definition_of}
+use Rattle.star_outline.specs.Definitions.{definition_of}
 use Rattle.star_meaning.specs.Calls.{callee}
 use Rattle.star_meaning.specs.Program.{definition_of as in_setting}
 use Rattle.star_meaning.specs.Values.{Held, content}

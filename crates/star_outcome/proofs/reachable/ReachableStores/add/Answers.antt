@@ -13,20 +13,20 @@ returns-then-is_some-clause-there g c =
 
 pub invariant_of-self : goal.invariant_of-self
 invariant_of-self g c =
-    subst (λ (s : StoreRowView). IsGathered g.J.Naming.plan c.self.inside.file c.self.inside.homes (row_of s)) (sym c.in_err-push_again.ensures.refused) c.self.invariant
+    subst (λ (s : StoreRowView). IsGathered g.J.RunId.plan c.self.inside.file c.self.inside.homes (row_of s)) (sym c.in_err-push_again.ensures.refused) c.self.invariant
 
 pub invariant_of-self-in_err-add : goal.invariant_of-self-in_err-add
 invariant_of-self-in_err-add g c =
     let file : c.args.self.now.file ≡ c.self.inside.file = sym (ap (λ (v : GivenView). v.file) c.self.view_is) in
-    row_by g.J.Naming.plan c.self.inside.file c.self.inside.homes c.add.new.self (row_of c.self.inside.reaches) (row_of c.push_again.new.self) c.args.reach.now c.in_err-add.ensures.refused c.in_ok-push_again.ensures.added c.self.invariant
-    (subst (λ n. Needs g.J.Naming.plan n c.args.reach.now.number) file c.requires.needed) c.requires.own
+    row_by g.J.RunId.plan c.self.inside.file c.self.inside.homes c.add.new.self (row_of c.self.inside.reaches) (row_of c.push_again.new.self) c.args.reach.now c.in_err-add.ensures.refused c.in_ok-push_again.ensures.added c.self.invariant
+    (subst (λ n. Needs g.J.RunId.plan n c.args.reach.now.number) file c.requires.needed) c.requires.own
 
 pub invariant_of-self-2 : goal.invariant_of-self-2
 invariant_of-self-2 g c =
     let file : c.args.self.now.file ≡ c.self.inside.file = sym (ap (λ (v : GivenView). v.file) c.self.view_is) in
-    both_by g.J.Naming.plan c.self.inside.file c.self.inside.homes c.add.new.self (row_of c.self.inside.reaches) (row_of c.push_again.new.self) c.args.reach.now c.number-number.result c.store.result.now c.number-number.ensures c.store.ensures
+    both_by g.J.RunId.plan c.self.inside.file c.self.inside.homes c.add.new.self (row_of c.self.inside.reaches) (row_of c.push_again.new.self) c.args.reach.now c.number-number.result c.store.result.now c.number-number.ensures c.store.ensures
     c.in_ok-add.ensures.added c.in_ok-push_again.ensures.added c.self.invariant
-    (subst (λ n. Needs g.J.Naming.plan n c.args.reach.now.number) file c.requires.needed) c.requires.own
+    (subst (λ n. Needs g.J.RunId.plan n c.args.reach.now.number) file c.requires.needed) c.requires.own
 
 pub returns-clause-stays : goal.returns-clause-stays
 returns-clause-stays g c =

@@ -4,11 +4,11 @@ use Rattle.star_outcome.proofs.reachable.ReachableStores.add_load.Goals as goal
 
 pub add_row-requires : goal.add_row-requires
 add_row-requires g c =
-    needed_of g.J.Naming.plan c.args.self.now.file c.args.it.now.number (row_of c.deref.result.now.stores) c.requires.load
-    (good_stores g.J.Naming.plan c.args.it.now.number c.args.it.now c.in-Good.body c.deref.result.now c.in-Good.is c.deref.ensures c.requires.good.0)
+    needed_of g.J.RunId.plan c.args.self.now.file c.args.it.now.number (row_of c.deref.result.now.stores) c.requires.load
+    (good_stores g.J.RunId.plan c.args.it.now.number c.args.it.now c.in-Good.body c.deref.result.now c.in-Good.is c.deref.ensures c.requires.good.0)
 
 pub returns-clause-there : goal.returns-clause-there
 returns-clause-there g c = on_ok c.add_row.result
-    (λ all. all_there g.J.Naming.plan c.args.it.now.number (row_of c.deref.result.now.stores) c.add_row.new.self.shelf
-    (good_stores g.J.Naming.plan c.args.it.now.number c.args.it.now c.in-Good.body c.deref.result.now c.in-Good.is c.deref.ensures c.requires.good.0) all)
+    (λ all. all_there g.J.RunId.plan c.args.it.now.number (row_of c.deref.result.now.stores) c.add_row.new.self.shelf
+    (good_stores g.J.RunId.plan c.args.it.now.number c.args.it.now c.in-Good.body c.deref.result.now c.in-Good.is c.deref.ensures c.requires.good.0) all)
     c.add_row.ensures.there

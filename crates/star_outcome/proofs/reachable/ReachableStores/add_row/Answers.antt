@@ -9,14 +9,14 @@ use Rattle.star_outcome.proofs.reachable.ReachableStores.add_row.Goals as goal
 
 pub add_blocks-requires : goal.add_blocks-requires
 add_blocks-requires g c =
-    subst (AreNeeded g.J.Naming.plan c.args.self.now.file) (sym c.blocks-2.ensures)
-    (front_of (λ (r : ReachView). Needs g.J.Naming.plan c.args.self.now.file r.number × IsOwn g.J.Naming.plan r.number r.store) c.args.stores.now.base c.args.stores.now.more c.requires)
+    subst (AreNeeded g.J.RunId.plan c.args.self.now.file) (sym c.blocks-2.ensures)
+    (front_of (λ (r : ReachView). Needs g.J.RunId.plan c.args.self.now.file r.number × IsOwn g.J.RunId.plan r.number r.store) c.args.stores.now.base c.args.stores.now.more c.requires)
 
 pub add_each-requires : goal.add_each-requires
 add_each-requires g c =
-    subst (λ n. AreNeeded g.J.Naming.plan n c.more.result.now) (sym c.in_ok-add_blocks.ensures.file)
-    (subst (AreNeeded g.J.Naming.plan c.args.self.now.file) (sym c.more.ensures)
-    (back_of (λ (r : ReachView). Needs g.J.Naming.plan c.args.self.now.file r.number × IsOwn g.J.Naming.plan r.number r.store) c.args.stores.now.base c.args.stores.now.more c.requires))
+    subst (λ n. AreNeeded g.J.RunId.plan n c.more.result.now) (sym c.in_ok-add_blocks.ensures.file)
+    (subst (AreNeeded g.J.RunId.plan c.args.self.now.file) (sym c.more.ensures)
+    (back_of (λ (r : ReachView). Needs g.J.RunId.plan c.args.self.now.file r.number × IsOwn g.J.RunId.plan r.number r.store) c.args.stores.now.base c.args.stores.now.more c.requires))
 
 pub returns-clause-there : goal.returns-clause-there
 returns-clause-there g c =

@@ -4,5 +4,5 @@ use Rattle.star_outcome.proofs.reachable.ReachableStores.over.Goals as goal
 
 pub over_row-requires : goal.over_row-requires
 over_row-requires g c =
-    needed_of g.J.Naming.plan c.args.file c.args.it.now.number (row_of c.deref.result.now.stores) c.requires.load
-    (good_stores g.J.Naming.plan c.args.it.now.number c.args.it.now c.in-Good.body c.deref.result.now c.in-Good.is c.deref.ensures c.requires.good.0)
+    needed_of g.J.RunId.plan c.args.file c.args.it.now.number (row_of c.deref.result.now.stores) c.requires.load
+    (good_stores g.J.RunId.plan c.args.it.now.number c.args.it.now c.in-Good.body c.deref.result.now c.in-Good.is c.deref.ensures c.requires.good.0)

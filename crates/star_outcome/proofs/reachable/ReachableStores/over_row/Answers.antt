@@ -9,14 +9,14 @@ use Rattle.star_outcome.proofs.reachable.ReachableStores.over_row.Goals as goal
 pub invariant_of-given : goal.invariant_of-given
 invariant_of-given g c =
     let base : List ReachView = c.args.stores.now.base in
-    subst (λ s. IsGathered g.J.Naming.plan c.args.file s (row_of c.in_ok-reaches.reaches)) (sym c.new.ensures)
-    (subst (λ (r : StoreRowView). IsGathered g.J.Naming.plan c.args.file [] (row_of r)) (sym c.in_ok-reaches.ensures)
-    (gathered_over g.J.Naming.plan c.args.file (base ++ []) (needed_front g.J.Naming.plan c.args.file base c.args.stores.now.more c.requires)))
+    subst (λ s. IsGathered g.J.RunId.plan c.args.file s (row_of c.in_ok-reaches.reaches)) (sym c.new.ensures)
+    (subst (λ (r : StoreRowView). IsGathered g.J.RunId.plan c.args.file [] (row_of r)) (sym c.in_ok-reaches.ensures)
+    (gathered_over g.J.RunId.plan c.args.file (base ++ []) (needed_front g.J.RunId.plan c.args.file base c.args.stores.now.more c.requires)))
 
 pub seat_blocks-requires-clause-needed : goal.seat_blocks-requires-clause-needed
 seat_blocks-requires-clause-needed g c =
-    subst (AreNeeded g.J.Naming.plan c.args.file) (sym c.blocks-2.ensures)
-    (front_of (λ (r : ReachView). Needs g.J.Naming.plan c.args.file r.number × IsOwn g.J.Naming.plan r.number r.store) c.args.stores.now.base c.args.stores.now.more c.requires)
+    subst (AreNeeded g.J.RunId.plan c.args.file) (sym c.blocks-2.ensures)
+    (front_of (λ (r : ReachView). Needs g.J.RunId.plan c.args.file r.number × IsOwn g.J.RunId.plan r.number r.store) c.args.stores.now.base c.args.stores.now.more c.requires)
 
 pub seat_blocks-requires-clause-listed : goal.seat_blocks-requires-clause-listed
 seat_blocks-requires-clause-listed g c =

@@ -10,5 +10,5 @@ pub invariant_of-self-2 : goal.invariant_of-self-2
 invariant_of-self-2 g c =
     let file : c.args.self.now.file ≡ c.self.inside.file = sym (ap (λ (v : GivenView). v.file) c.self.view_is) in
     let row : c.args.self.now.reaches ≡ row_of c.self.inside.reaches = sym (ap (λ (v : GivenView). v.reaches) c.self.view_is) in
-    seat_by g.J.Naming.plan c.self.inside.file c.self.inside.homes c.add.new.self (row_of c.self.inside.reaches) c.args.reach.now c.number.result c.store.result.now c.number.ensures c.store.ensures c.in_ok-add.ensures.added c.self.invariant
-    (subst (λ n. Needs g.J.Naming.plan n c.args.reach.now.number) file c.requires.needed) c.requires.own (subst (λ rs. Contains (map (λ (r : ReachView). r.number) rs) c.args.reach.now.number) row c.requires.listed)
+    seat_by g.J.RunId.plan c.self.inside.file c.self.inside.homes c.add.new.self (row_of c.self.inside.reaches) c.args.reach.now c.number.result c.store.result.now c.number.ensures c.store.ensures c.in_ok-add.ensures.added c.self.invariant
+    (subst (λ n. Needs g.J.RunId.plan n c.args.reach.now.number) file c.requires.needed) c.requires.own (subst (λ rs. Contains (map (λ (r : ReachView). r.number) rs) c.args.reach.now.number) row c.requires.listed)

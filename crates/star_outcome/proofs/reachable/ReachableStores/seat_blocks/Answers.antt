@@ -9,9 +9,9 @@ use Rattle.star_outcome.proofs.reachable.ReachableStores.seat_blocks.Goals as go
 pub seat_each-requires-clause-needed : goal.seat_each-requires-clause-needed
 seat_each-requires-clause-needed g c =
     let same : c.as_slice.result.now ≡ block_stores c.block-item.result = c.as_slice.ensures.value ∙ ap (λ v. v.items) c.deref.ensures in
-    subst (λ n. AreNeeded g.J.Naming.plan n c.as_slice.result.now) (sym c.loop-block.invariant.file)
-    (subst (AreNeeded g.J.Naming.plan c.args.self.now.file) (sym same)
-    (of_block (λ (r : ReachView). Needs g.J.Naming.plan c.args.self.now.file r.number × IsOwn g.J.Naming.plan r.number r.store) c.args.blocks.now c.loop-block.block-index c.block-item.result c.loop-block-test.true c.block-item.is c.requires.needed))
+    subst (λ n. AreNeeded g.J.RunId.plan n c.as_slice.result.now) (sym c.loop-block.invariant.file)
+    (subst (AreNeeded g.J.RunId.plan c.args.self.now.file) (sym same)
+    (of_block (λ (r : ReachView). Needs g.J.RunId.plan c.args.self.now.file r.number × IsOwn g.J.RunId.plan r.number r.store) c.args.blocks.now c.loop-block.block-index c.block-item.result c.loop-block-test.true c.block-item.is c.requires.needed))
 
 pub seat_each-requires-clause-listed : goal.seat_each-requires-clause-listed
 seat_each-requires-clause-listed g c =

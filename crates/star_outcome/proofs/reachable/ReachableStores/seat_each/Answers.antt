@@ -7,8 +7,8 @@ use Rattle.star_outcome.proofs.reachable.ReachableStores.seat_each.Goals as goal
 
 pub seat-requires-clause-needed : goal.seat-requires-clause-needed
 seat-requires-clause-needed g c =
-    subst (λ n. Needs g.J.Naming.plan n c.reach-item.result.number) (sym c.loop-reach.invariant.file)
-    (at_place (λ (r : ReachView). Needs g.J.Naming.plan c.args.self.now.file r.number) c.args.stores.now c.loop-reach.reach-index c.reach-item.result c.loop-reach-test.true c.reach-item.is (λ i d lt. (c.requires.needed i d lt).0))
+    subst (λ n. Needs g.J.RunId.plan n c.reach-item.result.number) (sym c.loop-reach.invariant.file)
+    (at_place (λ (r : ReachView). Needs g.J.RunId.plan c.args.self.now.file r.number) c.args.stores.now c.loop-reach.reach-index c.reach-item.result c.loop-reach-test.true c.reach-item.is (λ i d lt. (c.requires.needed i d lt).0))
 
 pub seat-requires-clause-listed : goal.seat-requires-clause-listed
 seat-requires-clause-listed g c =

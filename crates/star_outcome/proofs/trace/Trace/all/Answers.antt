@@ -5,5 +5,5 @@ use Rattle.star_outcome.proofs.trace.Trace.all.Goals as goal
 
 pub loop-item-preserved : goal.loop-item-preserved
 loop-item-preserved g c =
-    let here : IsRefusal g.J.Naming.plan c.in-Some.item.now = search rules in
-    subst (AreRefusals g.J.Naming.plan) (sym c.in_ok-push.ensures.items) (one_refused g.J.Naming.plan c.loop-item.all.items c.in-Some.item.now c.loop-item.invariant here)
+    let here : IsRefusal g.J.RunId.plan c.in-Some.item.now = search rules in
+    subst (AreRefusals g.J.RunId.plan) (sym c.in_ok-push.ensures.items) (one_refused g.J.RunId.plan c.loop-item.all.items c.in-Some.item.now c.loop-item.invariant here)

@@ -1,6 +1,6 @@
 use Rattle.std.proofs.Common.{◌∙◌, ap}
 use Rattle.std.specs.Option.{option_and_then}
-use Rattle.star_scope.specs.Definitions.{definition_in}
+use Rattle.star_outline.specs.Definitions.{definition_in}
 use Rattle.star_meaning.specs.Program as program
 use Rattle.star_meaning.specs.Programs.{outline_at}
 use Rattle.star_world.proofs.Rows.{definition_there}

@@ -1,7 +1,7 @@
 use Rattle.std.proofs.Common.{subst}
 use Rattle.std.specs.Prelude.{IfSome}
 use Rattle.std.specs.Option.{option_and_then}
-use Rattle.star_scope.specs.Definitions.{definition_in}
+use Rattle.star_outline.specs.Definitions.{definition_in}
 use Rattle.star_meaning.specs.Program.{definition_of}
 use Rattle.star_meaning.specs.Programs.{Files, outline_at, tables_of}
 use Rattle.star_world.specs.LaidOut.{IsLaidOut}

@@ -1,8 +1,0 @@
-use Rattle.std.proofs.Common.{◌≡◌, drop}
-use Rattle.star_machine.specs.Refines.{with_front}
-use Rattle.star_meaning.specs.Run.{each}
-use Rattle.star_meaning.specs.Pairs.{pair_of}
-use Rattle.star_builtin.proofs.dicts.pairs_among.Given as goal
-
-abbrev pub invariant-loop-value : goal.invariant-loop-value
-invariant-loop-value l = let f = pair_of l.setting l.line in with_front l.pairs.items (each f (drop l.value-index l.values) l.machine) ≡ each f l.values l.fn.machine

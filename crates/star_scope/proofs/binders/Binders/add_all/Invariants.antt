@@ -1,9 +1,0 @@
-use Rattle.std.proofs.Common.{take}
-use Rattle.star_scope.proofs.Noted.{Kept, NamesNoted}
-use Rattle.star_scope.proofs.binders.Binders.add_all.Given as goal
-
-abbrev pub invariant-loop-name : goal.invariant-loop-name
-invariant-loop-name l = record {
-  noted : NamesNoted (take l.name-index l.names) l.number l.self;
-  kept : Kept l.fn.self l.self;
-}

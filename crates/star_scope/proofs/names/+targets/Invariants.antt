@@ -1,7 +1,0 @@
-use Rattle.std.proofs.Common.{◌≡◌, drop}
-use Rattle.star_scope.specs.Names.{with_names}
-use Rattle.star_scope.specs.Outlines.{targets_names}
-use Rattle.star_scope.proofs.names.+targets.Given as goal
-
-abbrev pub invariant-add_targets-loop-target : goal.invariant-add_targets-loop-target
-invariant-add_targets-loop-target l = with_names l.names (targets_names (drop l.target-index l.targets)) ≡ with_names l.fn.names (targets_names l.targets)

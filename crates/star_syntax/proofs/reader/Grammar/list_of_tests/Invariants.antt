@@ -1,8 +1,0 @@
-use Rattle.std.proofs.Common.{◌≡◌, ◌-◌}
-use Rattle.star_syntax.specs.Grammar.{rounds}
-use Rattle.star_syntax.specs.Language.{reads}
-use Rattle.star_syntax.specs.Expressions.{list_of_tests, next_test, snoc}
-use Rattle.star_syntax.proofs.reader.Grammar.list_of_tests.Given as goal
-
-abbrev pub invariant-loop-turn : goal.invariant-loop-turn
-invariant-loop-turn g l = reads l.self.depth list_of_tests l.fn.leaves ≡ rounds snoc (reads l.self.depth next_test) (l._turn-end - l._turn) l.found l.rest

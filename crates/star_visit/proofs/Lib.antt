@@ -1,0 +1,3 @@
+pub mod Equals
+pub mod Orders
+pub mod Texts

@@ -1,0 +1,31 @@
+use Rattle.std.proofs.Common.{◌≡◌, ◌≤◌, ◌+◌, ◌*◌, ◌-◌, length}
+use Rattle.std.specs.Ordering.{nat_cmp}
+use Rattle.star_store.specs.Equal.{same, same_place}
+use Rattle.star_store.specs.Order.{order, order_place, order_places}
+use Rattle.star_store.specs.Store.{look}
+use Rattle.star_visit.proofs.order.+order.Given as goal
+
+abbrev pub decreases-ordered : goal.decreases-ordered
+decreases-ordered l = 5 * l.levels
+
+abbrev pub decreases-order_values : goal.decreases-order_values
+decreases-order_values l = 5 * l.levels + 4
+
+abbrev pub decreases-order_cells : goal.decreases-order_cells
+decreases-order_cells l = 5 * l.levels + 3
+
+abbrev pub decreases-order_items : goal.decreases-order_items
+decreases-order_items l = 5 * l.levels + 2
+
+abbrev pub decreases-order_place : goal.decreases-order_place
+decreases-order_place l = 5 * l.levels + 1
+
+abbrev pub invariant-order_items-loop-i : goal.invariant-order_items-loop-i
+invariant-order_items-loop-i l =
+    let f = same_place (same (look l.arena l.homes) l.levels) l.xs l.ys in
+    let g = order_place (order (look l.arena l.homes) l.levels) l.xs l.ys in
+    let end = nat_cmp (length l.xs) (length l.ys) in
+    record {
+      rest : order_places f g end (l.count - l.i) l.i l.steps ≡ order_places f g end l.count 0 l.fn.steps;
+      less : l.steps ≤ l.fn.steps;
+    }

@@ -1,0 +1,57 @@
+use Rattle.std.proofs.Common.{◌≡◌, ◌≤◌, ◌+◌, ◌*◌, ◌-◌}
+use Rattle.star_store.specs.Text.{all_said, say_entry, say_place, text}
+use Rattle.std.specs.Prelude.{string_bytes}
+use Rattle.star_store.specs.Store.{look}
+use Rattle.star_visit.proofs.text.+text.Given as goal
+
+abbrev pub decreases-put_text : goal.decreases-put_text
+decreases-put_text l = 12 * l.levels
+
+abbrev pub decreases-put_value : goal.decreases-put_value
+decreases-put_value l = 12 * l.levels + 9
+
+abbrev pub decreases-put_cell : goal.decreases-put_cell
+decreases-put_cell l = 12 * l.levels + 8
+
+abbrev pub decreases-put_tuple : goal.decreases-put_tuple
+decreases-put_tuple l = 12 * l.levels + 7
+
+abbrev pub decreases-put_list : goal.decreases-put_list
+decreases-put_list l = 12 * l.levels + 7
+
+abbrev pub decreases-put_dict : goal.decreases-put_dict
+decreases-put_dict l = 12 * l.levels + 7
+
+abbrev pub decreases-put_items : goal.decreases-put_items
+decreases-put_items l = 12 * l.levels + 4
+
+abbrev pub decreases-put_place : goal.decreases-put_place
+decreases-put_place l = 12 * l.levels + 3
+
+abbrev pub decreases-put_entries : goal.decreases-put_entries
+decreases-put_entries l = 12 * l.levels + 4
+
+abbrev pub decreases-put_entry : goal.decreases-put_entry
+decreases-put_entry l = 12 * l.levels + 3
+
+abbrev pub decreases-put_inner_items : goal.decreases-put_inner_items
+decreases-put_inner_items l = 12 * l.levels + 5
+
+abbrev pub decreases-put_inner_entries : goal.decreases-put_inner_entries
+decreases-put_inner_entries l = 12 * l.levels + 5
+
+abbrev pub decreases-put_new_list : goal.decreases-put_new_list
+decreases-put_new_list l = 12 * l.levels + 6
+
+abbrev pub decreases-put_new_dict : goal.decreases-put_new_dict
+decreases-put_new_dict l = 12 * l.levels + 6
+
+abbrev pub invariant-put_items-loop-i : goal.invariant-put_items-loop-i
+invariant-put_items-loop-i l =
+    let f = say_place (text (look l.arena l.homes) l.levels l.fn.page.path.items) l.items in
+    record { rest : all_said f (l.count - l.i) l.i (string_bytes l.page.out) l.page.steps ≡ all_said f l.count 0 (string_bytes l.fn.page.out) l.fn.page.steps; less : l.page.steps ≤ l.fn.page.steps; path : l.page.path.items ≡ l.fn.page.path.items }
+
+abbrev pub invariant-put_entries-loop-i : goal.invariant-put_entries-loop-i
+invariant-put_entries-loop-i l =
+    let f = say_entry (text (look l.arena l.homes) l.levels l.fn.page.path.items) l.entries in
+    record { rest : all_said f (l.count - l.i) l.i (string_bytes l.page.out) l.page.steps ≡ all_said f l.count 0 (string_bytes l.fn.page.out) l.fn.page.steps; less : l.page.steps ≤ l.fn.page.steps; path : l.page.path.items ≡ l.fn.page.path.items }
