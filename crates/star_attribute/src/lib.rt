@@ -1,7 +1,7 @@
 //! Attributes: `x.m`, a call of a bound method, and the method `format`.
 //!
 //! - `methods` has the methods of each type by name (`attribute` looks one up), and the `match` that calls a bound
-//!   method (`call_method`).
+//!   method (`run_method`, which `call_method` calls).
 //! - `formats` cuts the string of `format` at its braces, and `fields` finds the value that the text between two braces
 //!   names.
 //!

@@ -1,6 +1,6 @@
 //! The built-in functions (`docs/LANGUAGE.md`, "Built-in functions").
 //!
-//! Begin at `calls::call_built_in`, the `match` over all of them. Each other file has one function or a group. In a
+//! Begin at `calls::run_built_in`, the `match` over all of them. Each other file has one function or a group. In a
 //! file the work on values comes first, and the functions `call_..` at its end unpack the arguments and do that work.
 //! Two that differ in one step are one function, which is told which of them is called.
 //!

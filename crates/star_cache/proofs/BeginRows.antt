@@ -4,7 +4,7 @@ use Rattle.std.proofs.lemmas.List.{length-map, length-set, get_or-set_same, get_
 use Rattle.star_cache.specs.declared.entry.Entry.{Entry}
 use Rattle.star_cache.specs.declared.entry.Entry.TheVariants.{Fresh, Running}
 use Rattle.star_cache.specs.declared.book.Loader.{Loader}
-use Rattle.star_cache.specs.State.{LoaderState, Loads, IsIn, top_of, idle, entry_at, loader_at, stack_of, awaited_by, is_begun, begun_count}
+use Rattle.star_cache.specs.State.{BookState, LoaderState, Loads, IsIn, top_of, idle, entry_at, loader_at, stack_of, awaited_by, is_begun, begun_count}
 use Rattle.star_cache.specs.Rows.{book_state, loader_state, parent_of, IsChain, IsKept}
 use Rattle.star_cache.specs.Step.{after_begin}
 use Rattle.std.proofs.lemmas.List.Sums.{get_or-le-sum_by}
@@ -82,8 +82,8 @@ module _ {P : Type 0} (loads : ℕ → List ℕ) (Reached : ℕ → Type 0) (Rig
             get_or-set_other owners n e s 0 apart ∙ kept.owned t e old
       ]
 
-  pub StandsFor-begin : Reached n → ((x : ℕ) → top_of (stack_of (book_state entries parents loaders) s) ≡ Some x → Loads loads x n) → StandsFor loads Reached Right files (set entries n Running) (set parents n row.top) (set owners n s) (set loaders s (begun_row row n)) (after_begin (book_state entries parents loaders) s n)
-  StandsFor-begin reached loaded =
+  stands : Reached n → ((x : ℕ) → top_of (stack_of (book_state entries parents loaders) s) ≡ Some x → Loads loads x n) → StandsFor loads Reached Right files (set entries n Running) (set parents n row.top) (set owners n s) (set loaders s (begun_row row n)) (after_begin (book_state entries parents loaders) s n)
+  stands reached loaded =
       let e = length-set entries n Running in
       let p = length-set parents n row.top in
       let o = length-set owners n s in
@@ -117,3 +117,9 @@ module _ {P : Type 0} (loads : ℕ → List ℕ) (Reached : ℕ → Type 0) (Rig
   -- one more is begun
   pub begun_more : (k : ℕ) → k ≡ begun_count (book_state entries parents loaders) → k + 1 ≡ begun_count (after_begin (book_state entries parents loaders) s n)
   begun_more k is = let more = count_by-set_more is_begun entries n Running Fresh known (ap is_begun fresh) refl in omega (arith, more, is)
+
+-- the seat begins n
+pub StandsFor-begin : {P : Type 0} (loads : ℕ → List ℕ) (Reached : ℕ → Type 0) (Right : ℕ → P → Type 0) (files : ℕ) (entries : List (Entry P)) (parents : List (Option ℕ)) (owners : List ℕ) (loaders : List Loader) (kept : IsKept loads Reached Right files entries parents owners loaders) (s n : ℕ) (row : Loader) (b : BookState P) → book_state entries parents loaders ≡ b → s < length b.loaders → row ≡ get_or loaders s row → awaited_by b s ≡ None → entry_at b n ≡ Fresh → n < length b.entries → Reached n → ((x : ℕ) → top_of (stack_of b s) ≡ Some x → Loads loads x n) → StandsFor loads Reached Right files (set entries n Running) (set parents n row.top) (set owners n s) (set loaders s (begun_row row n)) (after_begin b s n)
+StandsFor-begin loads Reached Right files entries parents owners loaders kept s n row b is there read =
+    subst (λ v. s < length v.loaders → awaited_by v s ≡ None → entry_at v n ≡ Fresh → n < length v.entries → Reached n → ((x : ℕ) → top_of (stack_of v s) ≡ Some x → Loads loads x n) → StandsFor loads Reached Right files (set entries n Running) (set parents n row.top) (set owners n s) (set loaders s (begun_row row n)) (after_begin v s n)) is
+    (λ here free fresh known. stands loads Reached Right files entries parents owners loaders kept s n row (omega (arith, here, length-map loaders (loader_state parents))) read free fresh known) there

@@ -208,8 +208,8 @@ module _ {P : Type 0} (loads : ℕ → List ℕ) (Reached : ℕ → Type 0) (Rig
             omega (arith, old, new, same_count)
       ]
 
-  pub StandsFor-end : ((p : P) → v ≡ Done p → Right n p) → StandsFor loads Reached Right files (set entries n v) parents owners (set loaders s (ended_row row below)) (after_end (book_state entries parents loaders) s n v)
-  StandsFor-end is_right =
+  stands : ((p : P) → v ≡ Done p → Right n p) → StandsFor loads Reached Right files (set entries n v) parents owners (set loaders s (ended_row row below)) (after_end (book_state entries parents loaders) s n v)
+  stands is_right =
       let e = length-set entries n v in
       let l = length-set loaders s (ended_row row below) in
       record {
@@ -225,3 +225,9 @@ module _ {P : Type 0} (loads : ℕ → List ℕ) (Reached : ℕ → Type 0) (Rig
         owned = λ t u h. kept.owned t u (member_old loads Reached Right (book_state entries parents loaders) s n v kept.lawful there_in free on_top not_fresh not_running t u h);
         lawful = IsLawful-end loads Reached Right (book_state entries parents loaders) s n v kept.lawful there_in free on_top not_fresh not_running is_right;
       }
+
+-- the top of the seat's stack ends
+pub StandsFor-end : {P : Type 0} (loads : ℕ → List ℕ) (Reached : ℕ → Type 0) (Right : ℕ → P → Type 0) (files : ℕ) (entries : List (Entry P)) (parents : List (Option ℕ)) (owners : List ℕ) (loaders : List Loader) (kept : IsKept loads Reached Right files entries parents owners loaders) (s n : ℕ) (v : Entry P) (row : Loader) (below : Option ℕ) (b : BookState P) → book_state entries parents loaders ≡ b → s < length b.loaders → row ≡ get_or loaders s row → below ≡ get_or parents n below → awaited_by b s ≡ None → top_of (stack_of b s) ≡ Some n → v ≢ Fresh → v ≢ Running → ((p : P) → v ≡ Done p → Right n p) → StandsFor loads Reached Right files (set entries n v) parents owners (set loaders s (ended_row row below)) (after_end b s n v)
+StandsFor-end {P} loads Reached Right files entries parents owners loaders kept s n v row below b is there read read_below =
+    subst (λ w. s < length w.loaders → awaited_by w s ≡ None → top_of (stack_of w s) ≡ Some n → v ≢ Fresh → v ≢ Running → ((p : P) → v ≡ Done p → Right n p) → StandsFor loads Reached Right files (set entries n v) parents owners (set loaders s (ended_row row below)) (after_end w s n v)) is
+    (λ here free on_top not_fresh not_running. stands loads Reached Right files entries parents owners loaders kept s n v row below (omega (arith, here, length-map loaders (loader_state parents))) read read_below free on_top not_fresh not_running) there

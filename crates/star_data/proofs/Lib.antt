@@ -6,7 +6,7 @@ pub mod Sent
 pub mod Rows
 pub mod Ints
 pub mod Strings
-mod Rising
+pub mod Rising
 mod Equal
 mod Back
 mod Reading

@@ -3,7 +3,7 @@
 //! It is a thin wrapper of `fs::read_dir`, `file_type` and `File::open` with `take`, whose clauses are about its
 //! counts.
 
-ghost use Rattle.std.specs.Prelude.{◌≡◌, ◌+◌, ◌^◌, ◌<◌, ◌≤◌, IfOk, string_bytes, vec_len};
+ghost use Rattle.std.specs.Prelude.{◌≡◌, ◌+◌, ◌^◌, ◌<◌, ◌≤◌, Err, IfOk, string_bytes, vec_len};
 ghost use Rattle.std.specs.Fs.{dir_entry_name};
 ghost use Rattle.star_label.specs.Label.{name_of};
 ghost use Rattle.star_label.specs.View.{text_of};
@@ -91,6 +91,8 @@ pub fn refused(error: io::Error) -> FolderError
 pub fn counted<T>(error: io::Error, failures: &mut u64) -> Result<T, FolderError>
     requires { failures.old + 1 < 2 ^ 64 }
     ensures none { IfOk result (λ _. ⊥) }
+    ensures memory { result ≡ Err FolderError.Memory → IsOfMemory error }
+    ensures failed { result ≡ Err FolderError.Failed → IsOfMemory error → ⊥ }
     ensures failures { failures.new ≡ failures.old + has_failed result }
 {
     let why = refused(error);

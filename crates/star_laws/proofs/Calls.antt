@@ -1,5 +1,5 @@
 -- Calls: when the arguments of a call fit the parameters of a function.
-use Rattle.std.proofs.Common.{◌≡◌, ◌≢◌, ◌⊎◌, ◌↔◌, inl, inr, ℕ, zero, suc, ◌<◌, ◌≤◌, nat_eq, Bool, true, false, not, ◌&&◌, ◌||◌, List, [], ◌∷◌, length, take, slice_get, Option, Some, None, is_some, if◌then◌else◌, cond, refl, ap, sym, ◌∙◌, arith}
+use Rattle.std.proofs.Common.{◌≡◌, ◌≢◌, ◌⊎◌, ◌↔◌, inl, inr, ℕ, zero, suc, ◌+◌, ◌<◌, ◌≤◌, nat_eq, Bool, true, false, not, ◌&&◌, ◌||◌, List, [], ◌∷◌, length, take, slice_get, Option, Some, None, is_some, if◌then◌else◌, cond, refl, ap, sym, ◌∙◌, arith}
 use Rattle.std.specs.List.{list_any, filter, find}
 use Rattle.std.specs.Option.{option_map, option_and_then}
 use Rattle.std.proofs.lemmas.Bool.{eq-eqb, eqb-true}
@@ -105,31 +105,37 @@ no_star p ps h = ap (λ b. if b then [] else p ∷ before_star ps) h
 star : (p : Parameter) (ps : List Parameter) → is_star (parameter p) ≡ true → before_star (p ∷ ps) ≡ []
 star p ps h = ap (λ b. if b then [] else p ∷ before_star ps) h
 
-pub goes_taken : (p : Parameter) (ps : List Parameter) (v : Value) (vs : List Value) (name : List ℕ) → keyword_of (parameter p) ≡ Some name → is_star (parameter p) ≡ false → takes_rest (parameter p) ≡ false → Goes p ps false false (v ∷ vs) vs
+-- the room for what is left, past a parameter that takes no rest
+
+left_room : {A B : Type 0} (p : Parameter) (ps : List Parameter) → takes_rest (parameter p) ≡ false → (A → B) → A ⊎ (list_any (λ p. takes_rest (parameter p)) (p ∷ ps) ≡ true) → B ⊎ (list_any (λ p. takes_rest (parameter p)) ps ≡ true)
+left_room p ps t f (inl q) = inl (f q)
+left_room p ps t f (inr q) = inr (or_rest (takes_rest (parameter p)) (list_any (λ p. takes_rest (parameter p)) ps) q t)
+
+more_room : {A B : Type 0} (p : Parameter) (ps : List Parameter) → (A → B) → A ⊎ (list_any (λ p. takes_rest (parameter p)) ps ≡ true) → B ⊎ (list_any (λ p. takes_rest (parameter p)) (p ∷ ps) ≡ true)
+more_room p ps f (inl q) = inl (f q)
+more_room p ps f (inr q) = inr (or_right (takes_rest (parameter p)) (list_any (λ p. takes_rest (parameter p)) ps) q)
+
+-- past a parameter that is no star and takes no rest, and that has as many names as arguments go to it
+goes_along : (p : Parameter) (ps : List Parameter) (vs ws : List Value) (k : ℕ) → length vs ≡ k + length ws → ((xs : List (List ℕ)) → length (before_names (keyword_of (parameter p)) xs) ≡ k + length xs) → is_star (parameter p) ≡ false → takes_rest (parameter p) ≡ false → Goes p ps false false vs ws
 unfolding Placed Room open_of
-goes_taken p ps v vs name k h t = record {
-  down = λ i q. (omega (arith, a, q.0), omega (arith, c i, q.1));
-  up = λ i q. (omega (arith, a, q.0), omega (arith, c i, q.1));
-  lower = lower;
-  higher = higher;
+goes_along p ps vs ws k e named h t = record {
+  down = λ i q. (omega (arith, a, q.0), omega (arith, c i, e, q.1));
+  up = λ i q. (omega (arith, a, q.0), omega (arith, c i, e, q.1));
+  lower = left_room p ps t (λ q. omega (arith, d, e));
+  higher = more_room p ps (λ q. omega (arith, d, e));
 }
   where
     a : length (before_star (p ∷ ps)) ≡ suc (length (before_star ps))
     a = ap (λ (xs : List Parameter). length xs) (no_star p ps h)
 
-    c : (i : ℕ) → length (keywords_of (take (suc i) (p ∷ ps))) ≡ suc (length (keywords_of (take i ps)))
-    c i = ap (λ o. length (before_names o (keywords_of (take i ps)))) k
+    c : (i : ℕ) → length (keywords_of (take (suc i) (p ∷ ps))) ≡ k + length (keywords_of (take i ps))
+    c i = named (keywords_of (take i ps))
 
-    d : length (keywords_of (before_star (p ∷ ps))) ≡ suc (length (keywords_of (before_star ps)))
-    d = ap (λ xs. length (keywords_of xs)) (no_star p ps h) ∙ ap (λ o. length (before_names o (keywords_of (before_star ps)))) k
+    d : length (keywords_of (before_star (p ∷ ps))) ≡ k + length (keywords_of (before_star ps))
+    d = ap (λ xs. length (keywords_of xs)) (no_star p ps h) ∙ named (keywords_of (before_star ps))
 
-    lower : (length (v ∷ vs) ≤ length (keywords_of (before_star (p ∷ ps)))) ⊎ (list_any (λ p. takes_rest (parameter p)) (p ∷ ps) ≡ true) → (length vs ≤ length (keywords_of (before_star ps))) ⊎ (list_any (λ p. takes_rest (parameter p)) ps ≡ true)
-    lower (inl q) = inl (omega (arith, d))
-    lower (inr q) = inr (or_rest (takes_rest (parameter p)) (list_any (λ p. takes_rest (parameter p)) ps) q t)
-
-    higher : (length vs ≤ length (keywords_of (before_star ps))) ⊎ (list_any (λ p. takes_rest (parameter p)) ps ≡ true) → (length (v ∷ vs) ≤ length (keywords_of (before_star (p ∷ ps)))) ⊎ (list_any (λ p. takes_rest (parameter p)) (p ∷ ps) ≡ true)
-    higher (inl q) = inl (omega (arith, d))
-    higher (inr q) = inr (or_right (takes_rest (parameter p)) (list_any (λ p. takes_rest (parameter p)) ps) q)
+pub goes_taken : (p : Parameter) (ps : List Parameter) (v : Value) (vs : List Value) (name : List ℕ) → keyword_of (parameter p) ≡ Some name → is_star (parameter p) ≡ false → takes_rest (parameter p) ≡ false → Goes p ps false false (v ∷ vs) vs
+goes_taken p ps v vs name k h t = goes_along p ps (v ∷ vs) vs 1 (omega arith) (λ xs. let one : length (before_names (keyword_of (parameter p)) xs) ≡ suc (length xs) = ap (λ o. length (before_names o xs)) k in omega (arith, one)) h t
 
 pub goes_empty : (p : Parameter) (ps : List Parameter) (b : Bool) → Goes p ps b b [] []
 unfolding Placed Room
@@ -145,17 +151,9 @@ unfolding Placed Room open_of
 goes_closed p ps vs t = record {
   down = λ i q. absurd (omega (arith, q.0));
   up = λ i q. absurd (omega (arith, q.0));
-  lower = lower;
-  higher = higher;
+  lower = left_room p ps t (λ q. q);
+  higher = more_room p ps (λ q. q);
 }
-  where
-    lower : (length vs ≤ 0) ⊎ (list_any (λ p. takes_rest (parameter p)) (p ∷ ps) ≡ true) → (length vs ≤ 0) ⊎ (list_any (λ p. takes_rest (parameter p)) ps ≡ true)
-    lower (inl q) = inl q
-    lower (inr q) = inr (or_rest (takes_rest (parameter p)) (list_any (λ p. takes_rest (parameter p)) ps) q t)
-
-    higher : (length vs ≤ 0) ⊎ (list_any (λ p. takes_rest (parameter p)) ps ≡ true) → (length vs ≤ 0) ⊎ (list_any (λ p. takes_rest (parameter p)) (p ∷ ps) ≡ true)
-    higher (inl q) = inl q
-    higher (inr q) = inr (or_right (takes_rest (parameter p)) (list_any (λ p. takes_rest (parameter p)) ps) q)
 
 pub none_open : (b : Bool) (p : Parameter) (ps : List Parameter) → is_star (parameter p) ≡ true → length (open_of b (p ∷ ps)) ≡ 0
 unfolding open_of
@@ -176,46 +174,15 @@ unfolding Placed Room open_of
 goes_bare p ps vs h t = record {
   down = λ i q. absurd (omega (arith, none_open false p ps h, q.0));
   up = λ i q. absurd (omega (arith, q.0));
-  lower = lower;
-  higher = higher;
+  lower = left_room p ps t (λ q. omega (arith, d));
+  higher = more_room p ps (λ q. omega (arith, d));
 }
   where
     d : length (keywords_of (before_star (p ∷ ps))) ≡ 0
     d = ap (λ xs. length (keywords_of xs)) (star p ps h)
 
-    lower : (length vs ≤ length (keywords_of (before_star (p ∷ ps)))) ⊎ (list_any (λ p. takes_rest (parameter p)) (p ∷ ps) ≡ true) → (length vs ≤ 0) ⊎ (list_any (λ p. takes_rest (parameter p)) ps ≡ true)
-    lower (inl q) = inl (omega (arith, d))
-    lower (inr q) = inr (or_rest (takes_rest (parameter p)) (list_any (λ p. takes_rest (parameter p)) ps) q t)
-
-    higher : (length vs ≤ 0) ⊎ (list_any (λ p. takes_rest (parameter p)) ps ≡ true) → (length vs ≤ length (keywords_of (before_star (p ∷ ps)))) ⊎ (list_any (λ p. takes_rest (parameter p)) (p ∷ ps) ≡ true)
-    higher (inl q) = inl (omega (arith, d))
-    higher (inr q) = inr (or_right (takes_rest (parameter p)) (list_any (λ p. takes_rest (parameter p)) ps) q)
-
 pub goes_past : (p : Parameter) (ps : List Parameter) (vs : List Value) → keyword_of (parameter p) ≡ None → is_star (parameter p) ≡ false → takes_rest (parameter p) ≡ false → Goes p ps false false vs vs
-unfolding Placed Room open_of
-goes_past p ps vs k h t = record {
-  down = λ i q. (omega (arith, a, q.0), omega (arith, c i, q.1));
-  up = λ i q. (omega (arith, a, q.0), omega (arith, c i, q.1));
-  lower = lower;
-  higher = higher;
-}
-  where
-    a : length (before_star (p ∷ ps)) ≡ suc (length (before_star ps))
-    a = ap (λ (xs : List Parameter). length xs) (no_star p ps h)
-
-    c : (i : ℕ) → length (keywords_of (take (suc i) (p ∷ ps))) ≡ length (keywords_of (take i ps))
-    c i = ap (λ o. length (before_names o (keywords_of (take i ps)))) k
-
-    d : length (keywords_of (before_star (p ∷ ps))) ≡ length (keywords_of (before_star ps))
-    d = ap (λ xs. length (keywords_of xs)) (no_star p ps h) ∙ ap (λ o. length (before_names o (keywords_of (before_star ps)))) k
-
-    lower : (length vs ≤ length (keywords_of (before_star (p ∷ ps)))) ⊎ (list_any (λ p. takes_rest (parameter p)) (p ∷ ps) ≡ true) → (length vs ≤ length (keywords_of (before_star ps))) ⊎ (list_any (λ p. takes_rest (parameter p)) ps ≡ true)
-    lower (inl q) = inl (omega (arith, d))
-    lower (inr q) = inr (or_rest (takes_rest (parameter p)) (list_any (λ p. takes_rest (parameter p)) ps) q t)
-
-    higher : (length vs ≤ length (keywords_of (before_star ps))) ⊎ (list_any (λ p. takes_rest (parameter p)) ps ≡ true) → (length vs ≤ length (keywords_of (before_star (p ∷ ps)))) ⊎ (list_any (λ p. takes_rest (parameter p)) (p ∷ ps) ≡ true)
-    higher (inl q) = inl (omega (arith, d))
-    higher (inr q) = inr (or_right (takes_rest (parameter p)) (list_any (λ p. takes_rest (parameter p)) ps) q)
+goes_past p ps vs k h t = goes_along p ps vs vs 0 (omega arith) (λ xs. let none : length (before_names (keyword_of (parameter p)) xs) ≡ length xs = ap (λ o. length (before_names o xs)) k in omega (arith, none)) h t
 
 -- one parameter's share
 

@@ -1,19 +1,15 @@
 -- Open iterations: the counter of a cell counts the loops that are open over it.
-use Rattle.std.proofs.Common.{◌≡◌, ℕ, zero, suc, ◌+◌, ◌-◌, nat_eq, Bool, true, false, ◌&&◌, List, [], ◌∷◌, Option, Some, None, slice_get, if◌then◌else◌, refl, ap, sym, ◌∙◌, subst, arith}
+use Rattle.std.proofs.Common.{◌≡◌, ℕ, zero, suc, ◌+◌, nat_eq, Bool, true, false, ◌&&◌, List, ◌∷◌, Option, Some, None, slice_get, if◌then◌else◌, refl, ap, sym, ◌∙◌, subst, arith}
 use Rattle.star_store.specs.declared.values.Value.{Value}
 use Rattle.star_store.specs.declared.values.Value.TheVariants as value
 use Rattle.star_store.specs.declared.values.Cell.{Cell}
-use Rattle.star_store.specs.declared.values.Cell.TheVariants as cell
 use Rattle.star_store.specs.declared.values.HeapCell.{HeapCell}
-use Rattle.star_store.specs.Store.{Store, changed, closed, closed_in, counted_at, is_container, iterations_in, iterations_of, opened, opened_in}
-use Rattle.star_tree.specs.declared.tree.Expression.{Expression}
-use Rattle.star_tree.specs.declared.tree.Statement.{Statement}
-use Rattle.star_meaning.specs.declared.site.Flow.{Flow}
+use Rattle.star_store.specs.Store.{Store, changed, closed, closed_in, is_container, iterations_in, opened, opened_in}
 use Rattle.star_meaning.specs.declared.fault.FaultCode.TheVariants as code
 use Rattle.star_meaning.specs.Laws.{Kept}
-use Rattle.star_meaning.specs.Run.{State, Outcome, Done, Failed, Action, and_then, ◌>>=◌, found, give, storing}
+use Rattle.star_meaning.specs.Run.{State, Done, and_then, ◌>>=◌, found, give, storing}
 use Rattle.star_meaning.specs.Program.{Setting}
-use Rattle.star_meaning.specs.Values.{Content, content, count_in, count_of, iterate, leave}
+use Rattle.star_meaning.specs.Values.{content, count_in, count_of, iterate, leave}
 use Rattle.star_meaning.proofs.Kept.{runs_keep}
 use Rattle.star_meaning.proofs.Stays.{changed_home, get_in_changed, is_at, kind_container, none_in_changed, one_place, same_place}
 use Rattle.std.proofs.lemmas.Bool.{eq-eqb, eqb-true, ne_eqb}

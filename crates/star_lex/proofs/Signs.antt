@@ -36,9 +36,9 @@ unfolding sign operator
 slashes [] = refl
 slashes (c ∷ z) = at_or 47 c (λ c. sign (47 ∷ c ∷ z) ≡ operator 47 (c ∷ z)) (slashes_then (begins (61 ∷ []) z)) (λ n. rw n refl)
 
-shift_then : (q : Bool) (short shift assigned : Punctuator) → longer true (shift, 2) (longer true (short, 1) (longer q (assigned, 3) None)) ≡ Some (cond q (assigned, 3) (shift, 2))
-shift_then true short shift assigned = refl
-shift_then false short shift assigned = refl
+shift_then : (q : Bool) (short shift longest : Punctuator) → longer true (shift, 2) (longer true (short, 1) (longer q (longest, 3) None)) ≡ Some (cond q (longest, 3) (shift, 2))
+shift_then true short shift longest = refl
+shift_then false short shift longest = refl
 
 shift_left : (z : Text) → sign (60 ∷ z) ≡ operator 60 z
 unfolding sign operator

@@ -34,11 +34,12 @@ use Rattle.star_meaning.proofs.Agree.{Agree, Every, Good, agree_all_of, agree_bi
 use Rattle.star_meaning.proofs.AgreeParts.{AllAgree, Known, Scene, body_uses}
 use Rattle.star_meaning.proofs.UsesOf.{Sub, argument_level, by, every, first, inner_level, left, of_argument, of_inner, right}
 use Rattle.star_meaning.proofs.Quiet as quiet
+use Rattle.star_meaning.proofs.Keeps.{kept_by}
 use Rattle.star_meaning.proofs.KeepsArguments.{keeps-given}
 use Rattle.star_meaning.proofs.KeepsBinding.{keeps-build_arguments}
 use Rattle.star_meaning.proofs.KeepsBuiltIns.{keeps-call_built_in}
-use Rattle.star_meaning.proofs.KeepsMethods.{keeps-call_method}
-use Rattle.star_meaning.proofs.KeepsCallee.{keeps-callee}
+use Rattle.star_meaning.proofs.KeepsMethods.{respects-call_method}
+use Rattle.star_meaning.proofs.KeepsCallee.{respects-callee}
 
 -- ---- the effects of an action that ends well
 
@@ -208,11 +209,11 @@ called_then tables trees w m n p ss chain h levels ps s fit fits v (Done (ABuilt
     let r = (agree_then trees w p.file chain (Some p.frame) _ _ _ _ (agree_kept trees w p.file chain (Some p.frame) _ (keeps-given w p.line ps)) (λ g. agree_kept trees w p.file chain (Some p.frame) _ (keeps-call_built_in w levels p.line b g))).holds t (fit_follows trees w s t k fit) (chain_carries w s t (carries_follows s t k) p.file chain (Some p.frame) fits) in
     (r.0, good_on trees w s t (carries_follows s t k) _ r.1)
 called_then tables trees w m n p ss chain h levels ps s fit fits v (Done (AMethod b x) t) is k =
-    let r = (agree_then trees w p.file chain (Some p.frame) _ _ _ _ (agree_kept trees w p.file chain (Some p.frame) _ (keeps-given w p.line ps)) (λ g. agree_kept trees w p.file chain (Some p.frame) _ (keeps-call_method w levels p.line b x g))).holds t (fit_follows trees w s t k fit) (chain_carries w s t (carries_follows s t k) p.file chain (Some p.frame) fits) in
+    let r = (agree_then trees w p.file chain (Some p.frame) _ _ _ _ (agree_kept trees w p.file chain (Some p.frame) _ (keeps-given w p.line ps)) (λ g. agree_kept trees w p.file chain (Some p.frame) _ (kept_by w (respects-call_method w levels p.line b x g)))).holds t (fit_follows trees w s t k fit) (chain_carries w s t (carries_follows s t k) p.file chain (Some p.frame) fits) in
     (r.0, good_on trees w s t (carries_follows s t k) _ r.1)
 
 pub agree-callee : (tables : Tables) (trees : Trees) (w : Setting) (m n : Semantics) (p : Site) (ss : List Statement) (chain : List ℕ) → Scene tables trees w m n p ss chain → (levels : ℕ) (ps : List EvaluatedArgument) (v : Value) → Agree trees w p.file chain (Some p.frame) (callee w p.line v >>= after w levels m p ps) (callee w p.line v >>= after w levels n p ps)
-agree-callee tables trees w m n p ss chain h levels ps v = record { holds = λ s fit fits. called_then tables trees w m n p ss chain h levels ps s fit fits v (callee w p.line v s) refl (((keeps-callee w p.line v).follows refl).holds s) }
+agree-callee tables trees w m n p ss chain h levels ps v = record { holds = λ s fit fits. called_then tables trees w m n p ss chain h levels ps s fit fits v (callee w p.line v s) refl (((kept_by w (respects-callee w p.line v)).follows refl).holds s) }
 
 pub agree-call_node : (tables : Tables) (trees : Trees) (w : Setting) (m n : Semantics) (p : Site) (ss : List Statement) (chain : List ℕ) → Scene tables trees w m n p ss chain → (levels : ℕ) (f : Expression) (es : List Argument) → Sub (in_expression f chain) (uses ss) → Sub (all_uses in_argument es chain) (uses ss) → Agree trees w p.file chain (Some p.frame) (call_node w levels m p f es) (call_node w levels n p f es)
 agree-call_node tables trees w m n p ss chain h levels f es k l = agree_then trees w p.file chain (Some p.frame) _ _ _ _ (h.parts.expr p f ss chain h.stands (k)) (λ v. agree_then trees w p.file chain (Some p.frame) _ _ _ _ (agree_each trees w p.file chain (Some p.frame) (λ a. Sub (in_argument a chain) (uses ss)) _ _ (λ a j. agree-pass tables trees w m n p ss chain h a j) es (every in_argument es chain (uses ss) l)) (λ ps. agree-callee tables trees w m n p ss chain h levels ps v))

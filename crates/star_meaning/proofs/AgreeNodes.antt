@@ -35,38 +35,39 @@ use Rattle.star_meaning.proofs.AgreeParts.{Scene, agree-dict_comprehension, agre
 use Rattle.star_meaning.proofs.AgreeCalls.{agree-call_node}
 use Rattle.star_meaning.proofs.UsesOf.{Sub, by, every, first, left, of_target, parameters_are, rest, right, target_level}
 use Rattle.star_meaning.proofs.Quiet as quiet
-use Rattle.star_meaning.proofs.KeepsValues.{keeps-is_true, keeps-new_dict, keeps-new_list, keeps-new_text, keeps-new_tuple, keeps-take_item}
-use Rattle.star_meaning.proofs.KeepsOperators.{keeps-compared, keeps-operate, keeps-prefix}
-use Rattle.star_meaning.proofs.KeepsSubscript.{keeps-index, keeps-set_index, keeps-slice}
-use Rattle.star_meaning.proofs.KeepsMethods.{keeps-attribute}
+use Rattle.star_meaning.proofs.Keeps.{kept_by}
+use Rattle.star_meaning.proofs.KeepsValues.{respects-is_true, keeps-new_dict, respects-new_list, respects-new_text, respects-new_tuple, respects-take_item}
+use Rattle.star_meaning.proofs.KeepsOperators.{respects-compared, keeps-operate, respects-prefix}
+use Rattle.star_meaning.proofs.KeepsSubscript.{respects-index, respects-set_index, respects-slice}
+use Rattle.star_meaning.proofs.KeepsMethods.{respects-attribute}
 use Rattle.star_meaning.proofs.KeepsEntries.{keeps-augmented, keeps-fresh_entries}
 
 pub agree-node : (tables : Tables) (trees : Trees) (w : Setting) (m n : Semantics) (p : Site) (ss : List Statement) (chain : List ℕ) → Scene tables trees w m n p ss chain → (levels : ℕ) (x : ExpressionForm) → Sub (expression_level x chain) (uses ss) → Agree trees w p.file chain (Some p.frame) (node (by_places tables w) w levels m p x) (node (by_names w) w levels n p x)
 agree-node tables trees w m n p ss chain h levels (tree.Expression-F.Expression::Name x) k = agree_read tables trees w h.known.resolved p x ss chain h.stands (first _ _ (uses ss) k)
 agree-node tables trees w m n p ss chain h levels (tree.Int i) k = agree_give trees w p.file chain (Some p.frame) (value.Int i)
-agree-node tables trees w m n p ss chain h levels (tree.Text t) k = agree_kept trees w p.file chain (Some p.frame) _ (keeps-new_text p.line t)
-agree-node tables trees w m n p ss chain h levels (tree.Expression-F.Expression::Tuple es) k = agree_then trees w p.file chain (Some p.frame) _ _ _ _ (agree_each trees w p.file chain (Some p.frame) (λ e. Sub (in_expression e chain) (uses ss)) _ _ (λ e j. h.parts.expr p e ss chain h.stands (j)) es (every in_expression es chain (uses ss) (k))) (λ xs. agree_kept trees w p.file chain (Some p.frame) _ (keeps-new_tuple p.line xs))
-agree-node tables trees w m n p ss chain h levels (tree.Expression-F.Expression::List es) k = agree_then trees w p.file chain (Some p.frame) _ _ _ _ (agree_each trees w p.file chain (Some p.frame) (λ e. Sub (in_expression e chain) (uses ss)) _ _ (λ e j. h.parts.expr p e ss chain h.stands (j)) es (every in_expression es chain (uses ss) (k))) (λ xs. agree_kept trees w p.file chain (Some p.frame) _ (keeps-new_list p.line xs))
+agree-node tables trees w m n p ss chain h levels (tree.Text t) k = agree_kept trees w p.file chain (Some p.frame) _ (kept_by w (respects-new_text p.line t))
+agree-node tables trees w m n p ss chain h levels (tree.Expression-F.Expression::Tuple es) k = agree_then trees w p.file chain (Some p.frame) _ _ _ _ (agree_each trees w p.file chain (Some p.frame) (λ e. Sub (in_expression e chain) (uses ss)) _ _ (λ e j. h.parts.expr p e ss chain h.stands (j)) es (every in_expression es chain (uses ss) (k))) (λ xs. agree_kept trees w p.file chain (Some p.frame) _ (kept_by w (respects-new_tuple p.line xs)))
+agree-node tables trees w m n p ss chain h levels (tree.Expression-F.Expression::List es) k = agree_then trees w p.file chain (Some p.frame) _ _ _ _ (agree_each trees w p.file chain (Some p.frame) (λ e. Sub (in_expression e chain) (uses ss)) _ _ (λ e j. h.parts.expr p e ss chain h.stands (j)) es (every in_expression es chain (uses ss) (k))) (λ xs. agree_kept trees w p.file chain (Some p.frame) _ (kept_by w (respects-new_list p.line xs)))
 agree-node tables trees w m n p ss chain h levels (tree.Dict es) k = agree_then trees w p.file chain (Some p.frame) _ _ _ _ (agree_then trees w p.file chain (Some p.frame) _ _ _ _ (agree_each trees w p.file chain (Some p.frame) (λ e. Sub (in_entry e chain) (uses ss)) _ _ (λ e j. agree-entry_of tables trees w m n p ss chain h e j) es (every in_entry es chain (uses ss) k)) (λ xs. agree_kept trees w p.file chain (Some p.frame) _ (keeps-fresh_entries w levels p.line [] xs))) (λ es'. agree_kept trees w p.file chain (Some p.frame) _ (keeps-new_dict p.line es'))
 agree-node tables trees w m n p ss chain h levels (tree.ListComprehension at e cs) k = agree-list_comprehension tables trees w m n p ss chain h at.token e cs (left _ _ (uses ss) (k)) (left _ _ (uses ss) (right _ _ (uses ss) (k))) (right _ _ (uses ss) (right _ _ (uses ss) (k)))
 agree-node tables trees w m n p ss chain h levels (tree.DictComprehension at e cs) k = agree-dict_comprehension tables trees w m n p ss chain h levels at.token e cs (left _ _ (uses ss) (k)) (left _ _ (uses ss) (right _ _ (uses ss) (k))) (right _ _ (uses ss) (right _ _ (uses ss) (k)))
-agree-node tables trees w m n p ss chain h levels (tree.Unary op e) k = agree_then trees w p.file chain (Some p.frame) _ _ _ _ (h.parts.expr p e ss chain h.stands (k)) (λ x. agree_kept trees w p.file chain (Some p.frame) _ (keeps-prefix w p.line op x))
+agree-node tables trees w m n p ss chain h levels (tree.Unary op e) k = agree_then trees w p.file chain (Some p.frame) _ _ _ _ (h.parts.expr p e ss chain h.stands (k)) (λ x. agree_kept trees w p.file chain (Some p.frame) _ (kept_by w (respects-prefix w p.line op x)))
 agree-node tables trees w m n p ss chain h levels (tree.Binary op a b) k = agree_then trees w p.file chain (Some p.frame) _ _ _ _ (h.parts.expr p a ss chain h.stands (left _ _ (uses ss) (k))) (λ x. agree_then trees w p.file chain (Some p.frame) _ _ _ _ (h.parts.expr p b ss chain h.stands (right _ _ (uses ss) (k))) (λ y. agree_kept trees w p.file chain (Some p.frame) _ (keeps-operate w levels p.line op x y)))
-agree-node tables trees w m n p ss chain h levels (tree.Compare c a b) k = agree_then trees w p.file chain (Some p.frame) _ _ _ _ (h.parts.expr p a ss chain h.stands (left _ _ (uses ss) (k))) (λ x. agree_then trees w p.file chain (Some p.frame) _ _ _ _ (h.parts.expr p b ss chain h.stands (right _ _ (uses ss) (k))) (λ y. agree_kept trees w p.file chain (Some p.frame) _ (keeps-compared w levels p.line c x y)))
-agree-node tables trees w m n p ss chain h levels (tree.And a b) k = agree_then trees w p.file chain (Some p.frame) _ _ _ _ (h.parts.expr p a ss chain h.stands (left _ _ (uses ss) (k))) (λ x. agree_then trees w p.file chain (Some p.frame) _ _ _ _ (agree_kept trees w p.file chain (Some p.frame) _ (keeps-is_true w x)) (λ t. agree_if trees w p.file chain (Some p.frame) t _ _ _ _ (h.parts.expr p b ss chain h.stands (right _ _ (uses ss) (k))) (agree_give trees w p.file chain (Some p.frame) x)))
-agree-node tables trees w m n p ss chain h levels (tree.Or a b) k = agree_then trees w p.file chain (Some p.frame) _ _ _ _ (h.parts.expr p a ss chain h.stands (left _ _ (uses ss) (k))) (λ x. agree_then trees w p.file chain (Some p.frame) _ _ _ _ (agree_kept trees w p.file chain (Some p.frame) _ (keeps-is_true w x)) (λ t. agree_if trees w p.file chain (Some p.frame) t _ _ _ _ (agree_give trees w p.file chain (Some p.frame) x) (h.parts.expr p b ss chain h.stands (right _ _ (uses ss) (k)))))
-agree-node tables trees w m n p ss chain h levels (tree.Conditional c a b) k = agree_then trees w p.file chain (Some p.frame) _ _ _ _ (h.parts.expr p c ss chain h.stands (left _ _ (uses ss) (k))) (λ x. agree_then trees w p.file chain (Some p.frame) _ _ _ _ (agree_kept trees w p.file chain (Some p.frame) _ (keeps-is_true w x)) (λ t. agree_if trees w p.file chain (Some p.frame) t _ _ _ _ (h.parts.expr p a ss chain h.stands (left _ _ (uses ss) (right _ _ (uses ss) (k)))) (h.parts.expr p b ss chain h.stands (right _ _ (uses ss) (right _ _ (uses ss) (k))))))
+agree-node tables trees w m n p ss chain h levels (tree.Compare c a b) k = agree_then trees w p.file chain (Some p.frame) _ _ _ _ (h.parts.expr p a ss chain h.stands (left _ _ (uses ss) (k))) (λ x. agree_then trees w p.file chain (Some p.frame) _ _ _ _ (h.parts.expr p b ss chain h.stands (right _ _ (uses ss) (k))) (λ y. agree_kept trees w p.file chain (Some p.frame) _ (kept_by w (respects-compared w levels p.line c x y))))
+agree-node tables trees w m n p ss chain h levels (tree.And a b) k = agree_then trees w p.file chain (Some p.frame) _ _ _ _ (h.parts.expr p a ss chain h.stands (left _ _ (uses ss) (k))) (λ x. agree_then trees w p.file chain (Some p.frame) _ _ _ _ (agree_kept trees w p.file chain (Some p.frame) _ (kept_by w (respects-is_true w x))) (λ t. agree_if trees w p.file chain (Some p.frame) t _ _ _ _ (h.parts.expr p b ss chain h.stands (right _ _ (uses ss) (k))) (agree_give trees w p.file chain (Some p.frame) x)))
+agree-node tables trees w m n p ss chain h levels (tree.Or a b) k = agree_then trees w p.file chain (Some p.frame) _ _ _ _ (h.parts.expr p a ss chain h.stands (left _ _ (uses ss) (k))) (λ x. agree_then trees w p.file chain (Some p.frame) _ _ _ _ (agree_kept trees w p.file chain (Some p.frame) _ (kept_by w (respects-is_true w x))) (λ t. agree_if trees w p.file chain (Some p.frame) t _ _ _ _ (agree_give trees w p.file chain (Some p.frame) x) (h.parts.expr p b ss chain h.stands (right _ _ (uses ss) (k)))))
+agree-node tables trees w m n p ss chain h levels (tree.Conditional c a b) k = agree_then trees w p.file chain (Some p.frame) _ _ _ _ (h.parts.expr p c ss chain h.stands (left _ _ (uses ss) (k))) (λ x. agree_then trees w p.file chain (Some p.frame) _ _ _ _ (agree_kept trees w p.file chain (Some p.frame) _ (kept_by w (respects-is_true w x))) (λ t. agree_if trees w p.file chain (Some p.frame) t _ _ _ _ (h.parts.expr p a ss chain h.stands (left _ _ (uses ss) (right _ _ (uses ss) (k)))) (h.parts.expr p b ss chain h.stands (right _ _ (uses ss) (right _ _ (uses ss) (k))))))
 agree-node tables trees w m n p ss chain h levels (tree.Lambda at ps e) k = agree-new_function tables trees w m n p ss chain h at.token (codes "lambda") ps (first _ _ (uses ss) k) (by _ _ (uses ss) (ap (λ us. outer_of us chain) (parameters_are ps)) (left _ _ (uses ss) (rest _ _ (uses ss) k)))
 agree-node tables trees w m n p ss chain h levels (tree.Call f es) k = agree-call_node tables trees w m n p ss chain h levels f es (left _ _ (uses ss) (k)) (right _ _ (uses ss) (k))
-agree-node tables trees w m n p ss chain h levels (tree.Attribute e x) k = agree_then trees w p.file chain (Some p.frame) _ _ _ _ (h.parts.expr p e ss chain h.stands (k)) (λ v. agree_kept trees w p.file chain (Some p.frame) _ (keeps-attribute w p.line v x.text))
-agree-node tables trees w m n p ss chain h levels (tree.Expression-F.Expression::Index e i) k = agree_then trees w p.file chain (Some p.frame) _ _ _ _ (h.parts.expr p e ss chain h.stands (left _ _ (uses ss) (k))) (λ x. agree_then trees w p.file chain (Some p.frame) _ _ _ _ (h.parts.expr p i ss chain h.stands (right _ _ (uses ss) (k))) (λ j. agree_kept trees w p.file chain (Some p.frame) _ (keeps-index w levels p.line x j)))
-agree-node tables trees w m n p ss chain h levels (tree.Slice e a b c) k = let r1 : Sub ((maybe_use (option_map in_expression a) chain) ++ ((maybe_use (option_map in_expression b) chain) ++ (maybe_use (option_map in_expression c) chain))) (uses ss) = right (in_expression e chain) ((maybe_use (option_map in_expression a) chain) ++ ((maybe_use (option_map in_expression b) chain) ++ (maybe_use (option_map in_expression c) chain))) (uses ss) k in let r2 : Sub ((maybe_use (option_map in_expression b) chain) ++ (maybe_use (option_map in_expression c) chain)) (uses ss) = right (maybe_use (option_map in_expression a) chain) ((maybe_use (option_map in_expression b) chain) ++ (maybe_use (option_map in_expression c) chain)) (uses ss) r1 in agree_then trees w p.file chain (Some p.frame) _ _ _ _ (h.parts.expr p e ss chain h.stands (left (in_expression e chain) ((maybe_use (option_map in_expression a) chain) ++ ((maybe_use (option_map in_expression b) chain) ++ (maybe_use (option_map in_expression c) chain))) (uses ss) k)) (λ x. agree_then trees w p.file chain (Some p.frame) _ _ _ _ (agree-maybe tables trees w m n p ss chain h a (left (maybe_use (option_map in_expression a) chain) ((maybe_use (option_map in_expression b) chain) ++ (maybe_use (option_map in_expression c) chain)) (uses ss) r1)) (λ i. agree_then trees w p.file chain (Some p.frame) _ _ _ _ (agree-maybe tables trees w m n p ss chain h b (left (maybe_use (option_map in_expression b) chain) (maybe_use (option_map in_expression c) chain) (uses ss) r2)) (λ j. agree_then trees w p.file chain (Some p.frame) _ _ _ _ (agree-maybe tables trees w m n p ss chain h c (right (maybe_use (option_map in_expression b) chain) (maybe_use (option_map in_expression c) chain) (uses ss) r2)) (λ l. agree_kept trees w p.file chain (Some p.frame) _ (keeps-slice w p.line x i j l)))))
+agree-node tables trees w m n p ss chain h levels (tree.Attribute e x) k = agree_then trees w p.file chain (Some p.frame) _ _ _ _ (h.parts.expr p e ss chain h.stands (k)) (λ v. agree_kept trees w p.file chain (Some p.frame) _ (kept_by w (respects-attribute w p.line v x.text)))
+agree-node tables trees w m n p ss chain h levels (tree.Expression-F.Expression::Index e i) k = agree_then trees w p.file chain (Some p.frame) _ _ _ _ (h.parts.expr p e ss chain h.stands (left _ _ (uses ss) (k))) (λ x. agree_then trees w p.file chain (Some p.frame) _ _ _ _ (h.parts.expr p i ss chain h.stands (right _ _ (uses ss) (k))) (λ j. agree_kept trees w p.file chain (Some p.frame) _ (kept_by w (respects-index w levels p.line x j))))
+agree-node tables trees w m n p ss chain h levels (tree.Slice e a b c) k = let r1 : Sub ((maybe_use (option_map in_expression a) chain) ++ ((maybe_use (option_map in_expression b) chain) ++ (maybe_use (option_map in_expression c) chain))) (uses ss) = right (in_expression e chain) ((maybe_use (option_map in_expression a) chain) ++ ((maybe_use (option_map in_expression b) chain) ++ (maybe_use (option_map in_expression c) chain))) (uses ss) k in let r2 : Sub ((maybe_use (option_map in_expression b) chain) ++ (maybe_use (option_map in_expression c) chain)) (uses ss) = right (maybe_use (option_map in_expression a) chain) ((maybe_use (option_map in_expression b) chain) ++ (maybe_use (option_map in_expression c) chain)) (uses ss) r1 in agree_then trees w p.file chain (Some p.frame) _ _ _ _ (h.parts.expr p e ss chain h.stands (left (in_expression e chain) ((maybe_use (option_map in_expression a) chain) ++ ((maybe_use (option_map in_expression b) chain) ++ (maybe_use (option_map in_expression c) chain))) (uses ss) k)) (λ x. agree_then trees w p.file chain (Some p.frame) _ _ _ _ (agree-maybe tables trees w m n p ss chain h a (left (maybe_use (option_map in_expression a) chain) ((maybe_use (option_map in_expression b) chain) ++ (maybe_use (option_map in_expression c) chain)) (uses ss) r1)) (λ i. agree_then trees w p.file chain (Some p.frame) _ _ _ _ (agree-maybe tables trees w m n p ss chain h b (left (maybe_use (option_map in_expression b) chain) (maybe_use (option_map in_expression c) chain) (uses ss) r2)) (λ j. agree_then trees w p.file chain (Some p.frame) _ _ _ _ (agree-maybe tables trees w m n p ss chain h c (right (maybe_use (option_map in_expression b) chain) (maybe_use (option_map in_expression c) chain) (uses ss) r2)) (λ l. agree_kept trees w p.file chain (Some p.frame) _ (kept_by w (respects-slice w p.line x i j l))))))
 
 -- ---- statements
 
 pub agree-augment : (tables : Tables) (trees : Trees) (w : Setting) (m n : Semantics) (p : Site) (ss : List Statement) (chain : List ℕ) → Scene tables trees w m n p ss chain → (levels : ℕ) (op : BinaryOperator) (e : Expression) (x : TargetForm) → Sub (target_level x chain) (uses ss) → Sub (in_expression e chain) (uses ss) → Agree trees w p.file chain (Some p.frame) (augment (by_places tables w) w levels m p op e x) (augment (by_names w) w levels n p op e x)
 agree-augment tables trees w m n p ss chain h levels op e (tree.Target-F.Target::Name x) k l = agree_then trees w p.file chain (Some p.frame) _ _ _ _ (agree_read tables trees w h.known.resolved p x ss chain h.stands (first _ _ (uses ss) k)) (λ u. agree_then trees w p.file chain (Some p.frame) _ _ _ _ (h.parts.expr p e ss chain h.stands (l)) (λ v. agree_then trees w p.file chain (Some p.frame) _ _ _ _ (agree_kept trees w p.file chain (Some p.frame) _ (keeps-augmented w levels p.line op u v)) (λ z. agree_bind tables trees w h.known.resolved p x z ss chain h.stands (first _ _ (uses ss) k))))
-agree-augment tables trees w m n p ss chain h levels op e (tree.Target-F.Target::Index b i) k l = agree_then trees w p.file chain (Some p.frame) _ _ _ _ (h.parts.parts p b i ss chain h.stands (left _ _ (uses ss) (k)) (right _ _ (uses ss) (k))) (λ r. agree_then trees w p.file chain (Some p.frame) _ _ _ _ (h.parts.expr p e ss chain h.stands (l)) (λ v. agree_then trees w p.file chain (Some p.frame) _ _ _ _ (agree_kept trees w p.file chain (Some p.frame) _ (keeps-augmented w levels p.line op r.old v)) (λ z. agree_kept trees w p.file chain (Some p.frame) _ (keeps-set_index w levels p.line r.base r.index z))))
+agree-augment tables trees w m n p ss chain h levels op e (tree.Target-F.Target::Index b i) k l = agree_then trees w p.file chain (Some p.frame) _ _ _ _ (h.parts.parts p b i ss chain h.stands (left _ _ (uses ss) (k)) (right _ _ (uses ss) (k))) (λ r. agree_then trees w p.file chain (Some p.frame) _ _ _ _ (h.parts.expr p e ss chain h.stands (l)) (λ v. agree_then trees w p.file chain (Some p.frame) _ _ _ _ (agree_kept trees w p.file chain (Some p.frame) _ (keeps-augmented w levels p.line op r.old v)) (λ z. agree_kept trees w p.file chain (Some p.frame) _ (kept_by w (respects-set_index w levels p.line r.base r.index z)))))
 agree-augment tables trees w m n p ss chain h levels op e (tree.Target-F.Target::Tuple ts) k l = agree_fail (Unit {0}) trees w p.file chain (Some p.frame) code.BadType p.line
 agree-augment tables trees w m n p ss chain h levels op e (tree.Target-F.Target::List ts) k l = agree_fail (Unit {0}) trees w p.file chain (Some p.frame) code.BadType p.line
 
@@ -74,11 +75,11 @@ pub agree-arms : (tables : Tables) (trees : Trees) (w : Setting) (m n : Semantic
 agree-arms tables trees w m n p ss chain h [] a b k r = r
 agree-arms tables trees w m n p ss chain h (x ∷ more) a b k r =
     let l : Sub (in_expression (out-Arm x).condition chain ++ all_uses in_statement (out-Arm x).body chain) (uses ss) = by _ _ (uses ss) (arm_opened x chain) (left _ _ (uses ss) (k)) in
-    agree_then trees w p.file chain (Some p.frame) _ _ _ _ (agree_then trees w p.file chain (Some p.frame) _ _ _ _ (h.parts.expr p (out-Arm x).condition ss chain h.stands (left _ _ (uses ss) (l))) (λ v. agree_kept trees w p.file chain (Some p.frame) _ (keeps-is_true w v))) (λ t. agree_if trees w p.file chain (Some p.frame) t _ _ _ _ (agree_block trees w p.file chain (Some p.frame) (λ x. Sub (in_statement x chain) (uses ss)) _ _ (λ x j. h.parts.stmt p x ss chain h.stands j) (out-Arm x).body (every in_statement (out-Arm x).body chain (uses ss) (right _ _ (uses ss) (l)))) (agree-arms tables trees w m n p ss chain h more a b (right _ _ (uses ss) (k)) r))
+    agree_then trees w p.file chain (Some p.frame) _ _ _ _ (agree_then trees w p.file chain (Some p.frame) _ _ _ _ (h.parts.expr p (out-Arm x).condition ss chain h.stands (left _ _ (uses ss) (l))) (λ v. agree_kept trees w p.file chain (Some p.frame) _ (kept_by w (respects-is_true w v)))) (λ t. agree_if trees w p.file chain (Some p.frame) t _ _ _ _ (agree_block trees w p.file chain (Some p.frame) (λ x. Sub (in_statement x chain) (uses ss)) _ _ (λ x j. h.parts.stmt p x ss chain h.stands j) (out-Arm x).body (every in_statement (out-Arm x).body chain (uses ss) (right _ _ (uses ss) (l)))) (agree-arms tables trees w m n p ss chain h more a b (right _ _ (uses ss) (k)) r))
 
 pub agree-loop : (tables : Tables) (trees : Trees) (w : Setting) (m n : Semantics) (p : Site) (ss : List Statement) (chain : List ℕ) → Scene tables trees w m n p ss chain → (t : Target) (body : List Statement) (v : Value) → Sub (in_target t chain) (uses ss) → Sub (all_uses in_statement body chain) (uses ss) → Agree trees w p.file chain (Some p.frame) (loop (by_places tables w) w m p t body v) (loop (by_names w) w n p t body v)
 agree-loop tables trees w m n p ss chain h t body v k l =
-    agree_then trees w p.file chain (Some p.frame) _ _ _ _ (agree_quiet trees w p.file chain (Some p.frame) _ (quiet.keeps_iterate w p.line v)) (λ c. agree_then trees w p.file chain (Some p.frame) _ _ _ _ (agree_turns trees w p.file chain (Some p.frame) _ _ c 0 (λ i. agree_then trees w p.file chain (Some p.frame) _ _ _ _ (agree_kept trees w p.file chain (Some p.frame) _ (keeps-take_item w p.line v i)) (λ x. agree_then trees w p.file chain (Some p.frame) _ _ _ _ (agree-to_target tables trees w m n p ss chain h t x k) (λ _. agree_block trees w p.file chain (Some p.frame) (λ x. Sub (in_statement x chain) (uses ss)) _ _ (λ x j. h.parts.stmt p x ss chain h.stands j) body (every in_statement body chain (uses ss) (l)))))) (λ f. agree_then trees w p.file chain (Some p.frame) _ _ _ _ (agree_quiet trees w p.file chain (Some p.frame) _ (quiet.keeps_leave v)) (λ _. agree_give trees w p.file chain (Some p.frame) f)))
+    agree_then trees w p.file chain (Some p.frame) _ _ _ _ (agree_quiet trees w p.file chain (Some p.frame) _ (quiet.keeps_iterate w p.line v)) (λ c. agree_then trees w p.file chain (Some p.frame) _ _ _ _ (agree_turns trees w p.file chain (Some p.frame) _ _ c 0 (λ i. agree_then trees w p.file chain (Some p.frame) _ _ _ _ (agree_kept trees w p.file chain (Some p.frame) _ (kept_by w (respects-take_item w p.line v i))) (λ x. agree_then trees w p.file chain (Some p.frame) _ _ _ _ (agree-to_target tables trees w m n p ss chain h t x k) (λ _. agree_block trees w p.file chain (Some p.frame) (λ x. Sub (in_statement x chain) (uses ss)) _ _ (λ x j. h.parts.stmt p x ss chain h.stands j) body (every in_statement body chain (uses ss) (l)))))) (λ f. agree_then trees w p.file chain (Some p.frame) _ _ _ _ (agree_quiet trees w p.file chain (Some p.frame) _ (quiet.keeps_leave v)) (λ _. agree_give trees w p.file chain (Some p.frame) f)))
 
 pub loaded_each : (xs : List LoadedName) (chain : List ℕ) (us : List Use) → Sub (loaded_uses xs chain) us → Every (λ x. Contains us (Named x.local chain)) xs
 loaded_each [] chain us h = tt

@@ -33,8 +33,9 @@ use Rattle.star_meaning.specs.Places.{Stands, Tables, by_places, new_slots}
 use Rattle.star_meaning.proofs.Agree.{Agree, Every, Good, Resolved, agree_bind, agree_fail, agree_frame, agree_function, agree_give, agree_if, agree_kept, agree_quiet, agree_repeat, agree_then}
 use Rattle.star_meaning.proofs.UsesOf.{Sub, by, first, left, of_clause, of_outer, of_target, outer_level, clause_level, target_level, right}
 use Rattle.star_meaning.proofs.Quiet as quiet
-use Rattle.star_meaning.proofs.KeepsValues.{keeps-is_true, keeps-take_all, keeps-take_item, keeps-check_key}
-use Rattle.star_meaning.proofs.KeepsSubscript.{keeps-index, keeps-set_index, keeps-put_entry}
+use Rattle.star_meaning.proofs.Keeps.{kept_by}
+use Rattle.star_meaning.proofs.KeepsValues.{respects-is_true, respects-take_all, respects-take_item, respects-check_key}
+use Rattle.star_meaning.proofs.KeepsSubscript.{respects-index, respects-set_index, respects-put_entry}
 
 -- the body of a call, as names and definitions
 abbrev pub body_uses : Body → Within
@@ -84,28 +85,28 @@ agree-to_each tables trees w m n p ss chain h (t ∷ ts) [] k = agree_fail (Unit
 agree-to_each tables trees w m n p ss chain h (t ∷ ts) (v ∷ xs) k = agree_then trees w p.file chain (Some p.frame) _ _ _ _ (agree-to_target tables trees w m n p ss chain h t v (left _ _ (uses ss) (k))) (λ _. agree-to_each tables trees w m n p ss chain h ts xs (right _ _ (uses ss) (k)))
 
 pub agree-unpack : (tables : Tables) (trees : Trees) (w : Setting) (m n : Semantics) (p : Site) (ss : List Statement) (chain : List ℕ) → Scene tables trees w m n p ss chain → (ts : List Target) (v : Value) → Sub (all_uses in_target ts chain) (uses ss) → Agree trees w p.file chain (Some p.frame) (unpack (by_places tables w) w m p ts v) (unpack (by_names w) w n p ts v)
-agree-unpack tables trees w m n p ss chain h ts v k = agree_then trees w p.file chain (Some p.frame) _ _ _ _ (agree_kept trees w p.file chain (Some p.frame) _ (keeps-take_all w p.line v)) (λ xs. agree_then trees w p.file chain (Some p.frame) _ _ _ _ (agree_quiet trees w p.file chain (Some p.frame) _ (quiet.keeps_check code.BadValue p.line (nat_eq (length xs) (length ts)))) (λ _. agree-to_each tables trees w m n p ss chain h ts xs k))
+agree-unpack tables trees w m n p ss chain h ts v k = agree_then trees w p.file chain (Some p.frame) _ _ _ _ (agree_kept trees w p.file chain (Some p.frame) _ (kept_by w (respects-take_all w p.line v))) (λ xs. agree_then trees w p.file chain (Some p.frame) _ _ _ _ (agree_quiet trees w p.file chain (Some p.frame) _ (quiet.keeps_check code.BadValue p.line (nat_eq (length xs) (length ts)))) (λ _. agree-to_each tables trees w m n p ss chain h ts xs k))
 
 pub agree-target_node : (tables : Tables) (trees : Trees) (w : Setting) (m n : Semantics) (p : Site) (ss : List Statement) (chain : List ℕ) → Scene tables trees w m n p ss chain → (levels : ℕ) (x : TargetForm) (v : Value) → Sub (target_level x chain) (uses ss) → Agree trees w p.file chain (Some p.frame) (target_node (by_places tables w) w levels m p x v) (target_node (by_names w) w levels n p x v)
 agree-target_node tables trees w m n p ss chain h levels (tree.Target-F.Target::Name x) v k = agree_bind tables trees w h.known.resolved p x v ss chain h.stands (first _ _ (uses ss) k)
-agree-target_node tables trees w m n p ss chain h levels (tree.Target-F.Target::Index e i) v k = agree_then trees w p.file chain (Some p.frame) _ _ _ _ (h.parts.expr p e ss chain h.stands (left _ _ (uses ss) (k))) (λ x. agree_then trees w p.file chain (Some p.frame) _ _ _ _ (h.parts.expr p i ss chain h.stands (right _ _ (uses ss) (k))) (λ j. agree_kept trees w p.file chain (Some p.frame) _ (keeps-set_index w levels p.line x j v)))
+agree-target_node tables trees w m n p ss chain h levels (tree.Target-F.Target::Index e i) v k = agree_then trees w p.file chain (Some p.frame) _ _ _ _ (h.parts.expr p e ss chain h.stands (left _ _ (uses ss) (k))) (λ x. agree_then trees w p.file chain (Some p.frame) _ _ _ _ (h.parts.expr p i ss chain h.stands (right _ _ (uses ss) (k))) (λ j. agree_kept trees w p.file chain (Some p.frame) _ (kept_by w (respects-set_index w levels p.line x j v))))
 agree-target_node tables trees w m n p ss chain h levels (tree.Target-F.Target::Tuple ts) v k = agree-unpack tables trees w m n p ss chain h ts v k
 agree-target_node tables trees w m n p ss chain h levels (tree.Target-F.Target::List ts) v k = agree-unpack tables trees w m n p ss chain h ts v k
 
 pub agree-parts_node : (tables : Tables) (trees : Trees) (w : Setting) (m n : Semantics) (p : Site) (ss : List Statement) (chain : List ℕ) → Scene tables trees w m n p ss chain → (levels : ℕ) (e i : Expression) → Sub (in_expression e chain) (uses ss) → Sub (in_expression i chain) (uses ss) → Agree trees w p.file chain (Some p.frame) (parts_node w levels m p e i) (parts_node w levels n p e i)
-agree-parts_node tables trees w m n p ss chain h levels e i k l = agree_then trees w p.file chain (Some p.frame) _ _ _ _ (h.parts.expr p e ss chain h.stands (k)) (λ x. agree_then trees w p.file chain (Some p.frame) _ _ _ _ (h.parts.expr p i ss chain h.stands (l)) (λ j. agree_then trees w p.file chain (Some p.frame) _ _ _ _ (agree_kept trees w p.file chain (Some p.frame) _ (keeps-index w levels p.line x j)) (λ v. agree_give trees w p.file chain (Some p.frame) (record { base = x; index = j; old = v }))))
+agree-parts_node tables trees w m n p ss chain h levels e i k l = agree_then trees w p.file chain (Some p.frame) _ _ _ _ (h.parts.expr p e ss chain h.stands (k)) (λ x. agree_then trees w p.file chain (Some p.frame) _ _ _ _ (h.parts.expr p i ss chain h.stands (l)) (λ j. agree_then trees w p.file chain (Some p.frame) _ _ _ _ (agree_kept trees w p.file chain (Some p.frame) _ (kept_by w (respects-index w levels p.line x j))) (λ v. agree_give trees w p.file chain (Some p.frame) (record { base = x; index = j; old = v }))))
 
 -- ---- comprehensions
 
 pub agree-clause_turn : (tables : Tables) (trees : Trees) (w : Setting) (m n : Semantics) (p : Site) (ss : List Statement) (chain : List ℕ) → Scene tables trees w m n p ss chain → (t : Target) (v : Value) (a b : Action (Unit {0})) (i : ℕ) → Sub (in_target t chain) (uses ss) → Agree trees w p.file chain (Some p.frame) (a) (b) → Agree trees w p.file chain (Some p.frame) (clause_turn (by_places tables w) w m p t v a i) (clause_turn (by_names w) w n p t v b i)
-agree-clause_turn tables trees w m n p ss chain h t v a b i k r = agree_then trees w p.file chain (Some p.frame) _ _ _ _ (agree_kept trees w p.file chain (Some p.frame) _ (keeps-take_item w p.line v i)) (λ x. agree_then trees w p.file chain (Some p.frame) _ _ _ _ (agree-to_target tables trees w m n p ss chain h t x k) (λ _. r))
+agree-clause_turn tables trees w m n p ss chain h t v a b i k r = agree_then trees w p.file chain (Some p.frame) _ _ _ _ (agree_kept trees w p.file chain (Some p.frame) _ (kept_by w (respects-take_item w p.line v i))) (λ x. agree_then trees w p.file chain (Some p.frame) _ _ _ _ (agree-to_target tables trees w m n p ss chain h t x k) (λ _. r))
 
 pub agree-over : (tables : Tables) (trees : Trees) (w : Setting) (m n : Semantics) (p : Site) (ss : List Statement) (chain : List ℕ) → Scene tables trees w m n p ss chain → (t : Target) (v : Value) (a b : Action (Unit {0})) → Sub (in_target t chain) (uses ss) → Agree trees w p.file chain (Some p.frame) (a) (b) → Agree trees w p.file chain (Some p.frame) (over (by_places tables w) w m p t v a) (over (by_names w) w n p t v b)
 agree-over tables trees w m n p ss chain h t v a b k r = agree_then trees w p.file chain (Some p.frame) _ _ _ _ (agree_quiet trees w p.file chain (Some p.frame) _ (quiet.keeps_iterate w p.line v)) (λ c. agree_then trees w p.file chain (Some p.frame) _ _ _ _ (agree_repeat trees w p.file chain (Some p.frame) _ _ c 0 (λ i. agree-clause_turn tables trees w m n p ss chain h t v a b i k r)) (λ _. agree_quiet trees w p.file chain (Some p.frame) _ (quiet.keeps_leave v)))
 
 pub agree-clause_node : (tables : Tables) (trees : Trees) (w : Setting) (m n : Semantics) (p : Site) (ss : List Statement) (chain : List ℕ) → Scene tables trees w m n p ss chain → (x : ClauseForm) (a b : Action (Unit {0})) → Sub (clause_level x chain) (uses ss) → Agree trees w p.file chain (Some p.frame) (a) (b) → Agree trees w p.file chain (Some p.frame) (clause_node (by_places tables w) w m p x a) (clause_node (by_names w) w n p x b)
 agree-clause_node tables trees w m n p ss chain h (tree.For t e) a b k r = agree_then trees w p.file chain (Some p.frame) _ _ _ _ (h.parts.expr p e ss chain h.stands (right _ _ (uses ss) (k))) (λ v. agree-over tables trees w m n p ss chain h t v a b (left _ _ (uses ss) (k)) r)
-agree-clause_node tables trees w m n p ss chain h (tree.If e) a b k r = agree_then trees w p.file chain (Some p.frame) _ _ _ _ (agree_then trees w p.file chain (Some p.frame) _ _ _ _ (h.parts.expr p e ss chain h.stands (k)) (λ x. agree_kept trees w p.file chain (Some p.frame) _ (keeps-is_true w x))) (λ t. agree_if trees w p.file chain (Some p.frame) t _ _ _ _ (r) (agree_give {A = Unit {0}} trees w p.file chain (Some p.frame) tt))
+agree-clause_node tables trees w m n p ss chain h (tree.If e) a b k r = agree_then trees w p.file chain (Some p.frame) _ _ _ _ (agree_then trees w p.file chain (Some p.frame) _ _ _ _ (h.parts.expr p e ss chain h.stands (k)) (λ x. agree_kept trees w p.file chain (Some p.frame) _ (kept_by w (respects-is_true w x)))) (λ t. agree_if trees w p.file chain (Some p.frame) t _ _ _ _ (r) (agree_give {A = Unit {0}} trees w p.file chain (Some p.frame) tt))
 
 pub agree-clauses : (tables : Tables) (trees : Trees) (w : Setting) (m n : Semantics) (p : Site) (ss : List Statement) (chain : List ℕ) → Scene tables trees w m n p ss chain → (cs : List Clause) (a b : Action (Unit {0})) → Sub (all_uses in_clause cs chain) (uses ss) → Agree trees w p.file chain (Some p.frame) (a) (b) → Agree trees w p.file chain (Some p.frame) (clauses (by_places tables w) w m p cs a) (clauses (by_names w) w n p cs b)
 agree-clauses tables trees w m n p ss chain h [] a b k r = r
@@ -122,7 +123,7 @@ agree-add_element tables trees w m n p ss chain h e l k = agree_then trees w p.f
 pub agree-add_entry : (tables : Tables) (trees : Trees) (w : Setting) (m n : Semantics) (p : Site) (ss : List Statement) (chain : List ℕ) → Scene tables trees w m n p ss chain → (levels : ℕ) (e : Entry) (d : Value) → Sub (in_entry e chain) (uses ss) → Agree trees w p.file chain (Some p.frame) (add_entry w levels m p e d) (add_entry w levels n p e d)
 agree-add_entry tables trees w m n p ss chain h levels e d k =
     let l : Sub (in_expression (out-Entry e).key chain ++ in_expression (out-Entry e).value chain) (uses ss) = by _ _ (uses ss) (of_entry e chain) k in
-    agree_then trees w p.file chain (Some p.frame) _ _ _ _ (h.parts.expr p (out-Entry e).key ss chain h.stands (left _ _ (uses ss) (l))) (λ x. agree_then trees w p.file chain (Some p.frame) _ _ _ _ (h.parts.expr p (out-Entry e).value ss chain h.stands (right _ _ (uses ss) (l))) (λ v. agree_then trees w p.file chain (Some p.frame) _ _ _ _ (agree_kept trees w p.file chain (Some p.frame) _ (keeps-check_key w levels p.line x)) (λ _. agree_kept trees w p.file chain (Some p.frame) _ (keeps-put_entry w p.line d x v))))
+    agree_then trees w p.file chain (Some p.frame) _ _ _ _ (h.parts.expr p (out-Entry e).key ss chain h.stands (left _ _ (uses ss) (l))) (λ x. agree_then trees w p.file chain (Some p.frame) _ _ _ _ (h.parts.expr p (out-Entry e).value ss chain h.stands (right _ _ (uses ss) (l))) (λ v. agree_then trees w p.file chain (Some p.frame) _ _ _ _ (agree_kept trees w p.file chain (Some p.frame) _ (kept_by w (respects-check_key w levels p.line x))) (λ _. agree_kept trees w p.file chain (Some p.frame) _ (kept_by w (respects-put_entry w p.line d x v)))))
 
 assoc : {A B C : Type 0} (o : Outcome A) (f : A → Action B) (g : B → Action C) → and_then (and_then o f) g ≡ and_then o (λ x. f x >>= g)
 assoc (Done x s) f g = refl

@@ -1,5 +1,5 @@
 -- An action that does not fail for want of steps does the same with more steps.
-use Rattle.std.proofs.Common.{◌≡◌, ◌≢◌, ℕ, ◌+◌, ◌-◌, ◌<◌, ◌≤◌, List, ◌++◌, length, Option, Some, None, Bool, true, false, if◌then◌else◌, refl, ap, sym, ◌∙◌, arith, subst, nat_lt, nat_eq, Result, Ok, Err}
+use Rattle.std.proofs.Common.{◌≡◌, ◌≢◌, ℕ, ◌+◌, ◌-◌, ◌≤◌, List, Option, Some, None, Bool, true, false, if◌then◌else◌, refl, ap, arith, nat_lt, Result, Ok, Err}
 use Rattle.star_store.specs.declared.values.Value.{Value}
 use Rattle.star_store.specs.declared.values.Cell.{Cell}
 use Rattle.star_store.specs.declared.values.Function.{Function}
@@ -9,18 +9,11 @@ use Rattle.star_store.specs.declared.fault.StoreFault.TheVariants as refused
 use Rattle.star_store.specs.Store.{Store}
 use Rattle.star_store.specs.Spend.{Spend, Spent, Enough, Lacks}
 use Rattle.star_store.specs.Write.{write}
-use Rattle.star_tree.specs.declared.tree.Expression.{Expression}
-use Rattle.star_tree.specs.declared.tree.Statement.{Statement}
-use Rattle.star_tree.specs.declared.tree.Target.{Target}
-use Rattle.star_tree.specs.declared.tree.Name.{Name}
 use Rattle.star_meaning.specs.declared.fault.FaultCode.{FaultCode}
 use Rattle.star_meaning.specs.declared.fault.FaultCode.TheVariants as code
-use Rattle.star_meaning.specs.declared.site.Site.{Site}
 use Rattle.star_meaning.specs.Run.{State, Outcome, Done, Failed, Action, and_then, ◌>>=◌, give, fail, pay, found, code_of, settled, visiting, seeing, storing, make, build, add_line}
-use Rattle.star_outline.specs.Definitions.{Definition}
-use Rattle.star_meaning.specs.Program.{Setting, Variables}
+use Rattle.star_meaning.specs.Program.{Setting}
 use Rattle.star_meaning.specs.Values.{written, change}
-use Rattle.star_meaning.specs.Binding.{BoundArgument}
 use Rattle.star_meaning.specs.Calls.{activate, deactivate}
 use Rattle.std.proofs.lemmas.Bool.{ltb-false}
 use Rattle.star_meaning.proofs.Reaches.{NotForWant, further, Reaches}

@@ -1,5 +1,5 @@
 -- Whatever an action does, the lines and the cells only grow in number, the steps only fall, and the module stays.
-use Rattle.std.proofs.Common.{◌≡◌, ℕ, zero, suc, ◌+◌, ◌-◌, ◌≤◌, List, [], ◌∷◌, ◌++◌, length, Option, Some, None, Bool, true, false, if◌then◌else◌, refl, ap, ◌∙◌, arith, nat_lt, nat_eq, Result, Ok, Err}
+use Rattle.std.proofs.Common.{◌≡◌, ℕ, zero, suc, ◌-◌, ◌≤◌, List, [], ◌∷◌, ◌++◌, length, Option, Some, None, Bool, true, false, if◌then◌else◌, refl, ap, ◌∙◌, arith, nat_lt, nat_eq, Result, Ok, Err}
 use Rattle.star_store.specs.declared.values.Value.{Value}
 use Rattle.star_store.specs.declared.values.Value.TheVariants as value
 use Rattle.star_store.specs.declared.values.Cell.{Cell}
@@ -10,18 +10,11 @@ use Rattle.star_store.specs.declared.fault.StoreFault.{StoreFault}
 use Rattle.star_store.specs.Store.{Store, made, changed, changed_at, bound, opened, closed}
 use Rattle.star_store.specs.Spend.{Spend, Spent, Enough, Lacks}
 use Rattle.star_store.specs.Write.{allowed, made_if, in_store}
-use Rattle.star_tree.specs.declared.tree.Expression.{Expression}
-use Rattle.star_tree.specs.declared.tree.Statement.{Statement}
-use Rattle.star_tree.specs.declared.tree.Target.{Target}
-use Rattle.star_tree.specs.declared.tree.Name.{Name}
 use Rattle.star_meaning.specs.declared.fault.FaultCode.{FaultCode}
 use Rattle.star_meaning.specs.declared.fault.FaultCode.TheVariants as code
-use Rattle.star_meaning.specs.declared.site.Site.{Site}
 use Rattle.star_meaning.specs.Run.{State, Outcome, Done, Failed, Action, and_then, ◌>>=◌, give, fail, pay, found, settled, visiting, seeing, storing, make, build, add_line}
-use Rattle.star_outline.specs.Definitions.{Definition}
-use Rattle.star_meaning.specs.Program.{Setting, Variables}
+use Rattle.star_meaning.specs.Program.{Setting}
 use Rattle.star_meaning.specs.Values.{written, change}
-use Rattle.star_meaning.specs.Binding.{BoundArgument}
 use Rattle.star_meaning.specs.Laws.{Grows, Grown}
 use Rattle.star_meaning.proofs.Lowers.{Falls, Lowers}
 use Rattle.star_meaning.specs.Calls.{activate, deactivate, rest_of}

@@ -21,12 +21,11 @@ use Rattle.star_outline.specs.Definitions.{Definition}
 use Rattle.star_meaning.specs.declared.fault.FaultCode.{FaultCode}
 use Rattle.star_meaning.specs.declared.site.Site.{Site}
 use Rattle.star_meaning.specs.declared.site.Flow.{Flow}
-use Rattle.star_meaning.specs.declared.site.Flow.TheVariants as flow
-use Rattle.star_meaning.specs.Run.{State, Action, ◌>>=◌, give, fail, pay, check, found, code_of, agreed, visiting, seeing, storing, make, build, each, all_of, collect, until, add_line}
+use Rattle.star_meaning.specs.Run.{State, Action, ◌>>=◌, give, fail, pay, check, found, agreed, visiting, seeing, storing, make, build, each, all_of, collect, until, add_line}
 use Rattle.star_meaning.specs.Program.{Setting, Variables}
 use Rattle.star_meaning.specs.Values.{change, count_of, iterate, leave}
 use Rattle.star_meaning.specs.Binding.{BoundArgument}
-use Rattle.star_meaning.specs.Semantics.{Semantics, block, then_go, then_turn, turns, repeat}
+use Rattle.star_meaning.specs.Semantics.{Semantics, block, turns, repeat}
 use Rattle.star_meaning.specs.Calls.{activate, deactivate}
 use Rattle.star_meaning.proofs.Spending.{Spends, spends-same, spends-order, spends-check, spends-text, spends-bare}
 use Rattle.star_meaning.proofs.Growth as growth
@@ -34,6 +33,7 @@ use Rattle.star_meaning.proofs.Stays as stays
 use Rattle.star_meaning.proofs.Extends as extends
 use Rattle.star_meaning.proofs.Extends.{with_more}
 use Rattle.star_meaning.proofs.Quiet as quiet
+use Rattle.star_meaning.proofs.Invariants.{Invariant, Respects, respects_agreed, respects_all_of, respects_block, respects_collect, respects_each, respects_repeat, respects_turns, respects_until}
 
 pub record Keeps {A : Type 0} (q : Bool) (m : Action A) : Type 0 where
   pub grows : growth.Keeps m
@@ -118,26 +118,6 @@ keeps_build_range line cost r = record { grows = growth.keeps_build line cost (c
 pub keeps_build_bound : {q : Bool} (line cost : ℕ) (m : Method) (v : Value) → Keeps q (build line cost (cell.Bound m v))
 keeps_build_bound line cost m v = record { grows = growth.keeps_build line cost (cell.Bound m v); stays = stays.keeps_build line cost (cell.Bound m v); extends = extends.extends_build line cost (cell.Bound m v); follows = λ h. quiet.keeps_build_bound line cost m v }
 
-pub keeps_each : {q : Bool} {A B : Type 0} (f : A → Action B) (xs : List A) → ((x : A) → Keeps q (f x)) → Keeps q (each f xs)
-keeps_each {B = B} f [] k = keeps_give {A = List B} []
-keeps_each {B = B} f (x ∷ xs) k = keeps_then _ _ (k x) (λ y. keeps_then _ _ (keeps_each f xs k) (λ ys. keeps_give (y ∷ ys)))
-
-pub keeps_all_of : {q : Bool} {A : Type 0} (f : A → Action (Unit {0})) (xs : List A) → ((x : A) → Keeps q (f x)) → Keeps q (all_of f xs)
-keeps_all_of f [] k = keeps_give {A = Unit {0}} tt
-keeps_all_of f (x ∷ xs) k = keeps_then _ _ (k x) (λ _. keeps_all_of f xs k)
-
-pub keeps_collect : {q : Bool} {B : Type 0} (f : ℕ → Action B) (n i : ℕ) → ((i : ℕ) → Keeps q (f i)) → Keeps q (collect f n i)
-keeps_collect {B = B} f zero i k = keeps_give {A = List B} []
-keeps_collect {B = B} f (suc n) i k = keeps_then _ _ (k i) (λ y. keeps_then _ _ (keeps_collect f n (i + 1) k) (λ ys. keeps_give (y ∷ ys)))
-
-pub keeps_until : {q : Bool} (f : ℕ → Action Bool) (n i : ℕ) → ((i : ℕ) → Keeps q (f i)) → Keeps q (until f n i)
-keeps_until f zero i k = keeps_give false
-keeps_until f (suc n) i k = keeps_then _ _ (k i) (λ stop. keeps_if stop _ _ (keeps_give true) (keeps_until f n (i + 1) k))
-
-pub keeps_agreed : {q : Bool} {A : Type 0} (line : ℕ) (r : Result A StoreFault) → Keeps q (agreed line r)
-keeps_agreed {A = A} line (Ok x) = keeps_give x
-keeps_agreed {A = A} line (Err f) = keeps_fail A (code_of f) line
-
 pub keeps_visiting : {q : Bool} {A : Type 0} (line : ℕ) (f : State → Spend A) → ((k : ℕ) (s : State) → f (with_more k s) ≡ f s) → ((s : State) → Spends (f s)) → Keeps q (visiting line f)
 keeps_visiting line f same k = record { grows = growth.keeps_visiting line f (λ s. (k s).lowers); stays = stays.keeps_visiting line f; extends = extends.extends_visiting line f same (λ s. (k s).reaches); follows = λ h. quiet.keeps_visiting line f }
 
@@ -177,29 +157,62 @@ keeps_looping w line v m k = record { grows = growth.keeps_then _ _ (grows_itera
 pub keeps_active : {q : Bool} {A : Type 0} (f : Function) (m : Action A) → Keeps q m → Keeps q (activate f >>= λ _. m >>= λ v. deactivate >>= λ _. give v)
 keeps_active f m k = record { grows = growth.keeps_then _ _ (growth.keeps_activate f) (λ _. growth.keeps_then _ _ k.grows (λ v. growth.keeps_then _ _ growth.keeps_deactivate (λ _. growth.keeps_give v))); stays = stays.keeps_active f m k.stays; extends = extends.extends_then _ _ (extends.extends_activate f) (λ _. extends.extends_then _ _ k.extends (λ v. extends.extends_then _ _ extends.extends_deactivate (λ _. extends.extends_give v))); follows = λ h. quiet.keeps_then _ _ (quiet.keeps_activate f) (λ _. quiet.keeps_then _ _ (k.follows h) (λ v. quiet.keeps_then _ _ quiet.keeps_deactivate (λ _. quiet.keeps_give v))) }
 
-keeps_then_go : (rest : Action Flow) (f : Flow) → Keeps false rest → Keeps false (then_go rest f)
-keeps_then_go rest flow.Next k = k
-keeps_then_go rest flow.Break k = keeps_give _
-keeps_then_go rest flow.Continue k = keeps_give _
-keeps_then_go rest (flow.Return v) k = keeps_give _
+-- these invariants as one that actions respect
+abbrev pub kept : (w : Setting) (q : Bool) → Invariant w
+kept w q = record {
+  Kept = λ {A} m. Keeps q m;
+  joins = keeps_then;
+  gives = keeps_give;
+  fails = keeps_fail;
+  pays = keeps_pay;
+  sees = keeps_seeing;
+  visits = keeps_visiting;
+  makes_text = keeps_make_text;
+  makes_tuple = keeps_make_tuple;
+  makes_list = keeps_make_list;
+  makes_empty = keeps_make_dict [];
+  makes_range = keeps_make_range;
+  makes_bound = keeps_make_bound;
+  changes = keeps_change w;
+  adds_line = keeps_add_line;
+  iterates = keeps_while w;
+  loops = keeps_looping w;
+}
+
+pub kept_by : (w : Setting) {q : Bool} {A : Type 0} {m : Action A} → Respects (kept w q) m → Keeps q m
+kept_by w k = k.kept
+
+-- ---- loops, which look at no setting
+
+nowhere : Setting
+nowhere = record { home = 0; outlines = []; shelf = []; loads = []; prelude = None }
+
+loop : {q : Bool} {A : Type 0} {m : Action A} → Respects (kept nowhere q) m → Keeps q m
+loop k = kept_by nowhere k
+
+pub keeps_each : {q : Bool} {A B : Type 0} (f : A → Action B) (xs : List A) → ((x : A) → Keeps q (f x)) → Keeps q (each f xs)
+keeps_each f xs k = loop (respects_each f xs (λ x. record { kept = k x }))
+
+pub keeps_all_of : {q : Bool} {A : Type 0} (f : A → Action (Unit {0})) (xs : List A) → ((x : A) → Keeps q (f x)) → Keeps q (all_of f xs)
+keeps_all_of f xs k = loop (respects_all_of f xs (λ x. record { kept = k x }))
+
+pub keeps_collect : {q : Bool} {B : Type 0} (f : ℕ → Action B) (n i : ℕ) → ((i : ℕ) → Keeps q (f i)) → Keeps q (collect f n i)
+keeps_collect f n i k = loop (respects_collect f n i (λ j. record { kept = k j }))
+
+pub keeps_until : {q : Bool} (f : ℕ → Action Bool) (n i : ℕ) → ((i : ℕ) → Keeps q (f i)) → Keeps q (until f n i)
+keeps_until f n i k = loop (respects_until f n i (λ j. record { kept = k j }))
 
 pub keeps_block : {A : Type 0} (f : A → Action Flow) (xs : List A) → ((x : A) → Keeps false (f x)) → Keeps false (block f xs)
-keeps_block f [] k = keeps_give _
-keeps_block f (x ∷ xs) k = keeps_then _ _ (k x) (λ y. keeps_then_go _ y (keeps_block f xs k))
-
-keeps_then_turn : (rest : Action Flow) (f : Flow) → Keeps false rest → Keeps false (then_turn rest f)
-keeps_then_turn rest flow.Next k = k
-keeps_then_turn rest flow.Break k = keeps_give _
-keeps_then_turn rest flow.Continue k = k
-keeps_then_turn rest (flow.Return v) k = keeps_give _
+keeps_block f xs k = loop (respects_block f xs (λ x. record { kept = k x }))
 
 pub keeps_turns : (f : ℕ → Action Flow) (n i : ℕ) → ((i : ℕ) → Keeps false (f i)) → Keeps false (turns f n i)
-keeps_turns f zero i k = keeps_give _
-keeps_turns f (suc n) i k = keeps_then _ _ (k i) (λ y. keeps_then_turn _ y (keeps_turns f n (i + 1) k))
+keeps_turns f n i k = loop (respects_turns f n i (λ j. record { kept = k j }))
 
 pub keeps_repeat : (f : ℕ → Action (Unit {0})) (n i : ℕ) → ((i : ℕ) → Keeps false (f i)) → Keeps false (repeat f n i)
-keeps_repeat f zero i k = keeps_give {A = Unit {0}} tt
-keeps_repeat f (suc n) i k = keeps_then _ _ (k i) (λ _. keeps_repeat f n (i + 1) k)
+keeps_repeat f n i k = loop (respects_repeat f n i (λ j. record { kept = k j }))
+
+pub keeps_agreed : {q : Bool} {A : Type 0} (line : ℕ) (r : Result A StoreFault) → Keeps q (agreed line r)
+keeps_agreed line r = loop (respects_agreed line r)
 
 -- the three actions on variables keep it
 pub record VariablesKeep (vs : Variables) : Type 0 where

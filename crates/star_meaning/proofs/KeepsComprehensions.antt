@@ -13,20 +13,20 @@ use Rattle.star_meaning.specs.Semantics.{Semantics}
 use Rattle.std.proofs.Common.{ℕ, List, [], ◌∷◌, false}
 use Rattle.star_meaning.specs.Run.{Action}
 use Rattle.star_meaning.specs.Comprehensions.{clause_turn, over, clause_node, clauses, all_clauses, add_element, add_entry, inner, list_comprehension, dict_comprehension}
-use Rattle.star_meaning.proofs.Keeps.{keeps, Keeps, AllKeep, VariablesKeep}
-use Rattle.star_meaning.proofs.KeepsValues.{keeps-take_item, keeps-is_true, keeps-check_key}
-use Rattle.star_meaning.proofs.KeepsSubscript.{keeps-put_entry}
+use Rattle.star_meaning.proofs.Keeps.{keeps, Keeps, AllKeep, VariablesKeep, kept_by}
+use Rattle.star_meaning.proofs.KeepsValues.{respects-take_item, respects-is_true, respects-check_key}
+use Rattle.star_meaning.proofs.KeepsSubscript.{respects-put_entry}
 use Rattle.star_meaning.proofs.KeepsTargets.{keeps-to_target}
 
 pub keeps-clause_turn : (vs : Variables) (w : Setting) (m : Semantics) (p : Site) (t : Target) (v : Value) (rest : Action (Unit {0})) (i : ℕ) → VariablesKeep vs → AllKeep m → Keeps false rest → Keeps false (clause_turn vs w m p t v rest i)
-keeps-clause_turn vs w m p t v rest i k0 k1 k2 = search (keeps, keeps-take_item, keeps-to_target) depth 14
+keeps-clause_turn vs w m p t v rest i k0 k1 k2 = search (keeps, kept_by w, respects-take_item, keeps-to_target) depth 14
 
 pub keeps-over : (vs : Variables) (w : Setting) (m : Semantics) (p : Site) (t : Target) (v : Value) (rest : Action (Unit {0})) → VariablesKeep vs → AllKeep m → Keeps false rest → Keeps false (over vs w m p t v rest)
 keeps-over vs w m p t v rest k0 k1 k2 = search (keeps, keeps-clause_turn) depth 14
 
 pub keeps-clause_node : (vs : Variables) (w : Setting) (m : Semantics) (p : Site) (a4 : ClauseForm) (rest : Action (Unit {0})) → VariablesKeep vs → AllKeep m → Keeps false rest → Keeps false (clause_node vs w m p a4 rest)
 keeps-clause_node vs w m p (tree.For t e) rest k0 k1 k2 = search (keeps, keeps-over) depth 14
-keeps-clause_node vs w m p (tree.If e) rest k0 k1 k2 = search (keeps, keeps-is_true) depth 14
+keeps-clause_node vs w m p (tree.If e) rest k0 k1 k2 = search (keeps, kept_by w, respects-is_true) depth 14
 
 pub keeps-clauses : (vs : Variables) (w : Setting) (m : Semantics) (p : Site) (a4 : List Clause) (last : Action (Unit {0})) → VariablesKeep vs → AllKeep m → Keeps false last → Keeps false (clauses vs w m p a4 last)
 keeps-clauses vs w m p [] last k0 k1 k2 = search keeps depth 14
@@ -39,7 +39,7 @@ pub keeps-add_element : (w : Setting) (m : Semantics) (p : Site) (e : Expression
 keeps-add_element w m p e l k0 = search keeps depth 14
 
 pub keeps-add_entry : (w : Setting) (levels : ℕ) (m : Semantics) (p : Site) (e : Entry) (d : Value) → AllKeep m → Keeps false (add_entry w levels m p e d)
-keeps-add_entry w levels m p e d k0 = search (keeps, keeps-check_key, keeps-put_entry) depth 14
+keeps-add_entry w levels m p e d k0 = search (keeps, kept_by w, respects-check_key, respects-put_entry) depth 14
 
 pub keeps-inner : (vs : Variables) (p : Site) (number : ℕ) → VariablesKeep vs → Keeps false (inner vs p number)
 keeps-inner vs p number k0 = search keeps depth 14

@@ -10,12 +10,12 @@ use Rattle.star_meaning.specs.Program.{Setting, Variables}
 use Rattle.star_meaning.specs.Semantics.{Semantics}
 use Rattle.std.proofs.Common.{ℕ, List, [], ◌∷◌, Option, Some, None, false}
 use Rattle.star_meaning.specs.Run.{Action}
-use Rattle.star_meaning.specs.Expressions.{defaults_after, defaults, new_function, entry_of, fresh_entry, fresh_entries, maybe, node}
-use Rattle.star_meaning.proofs.Keeps.{keeps, Keeps, AllKeep, VariablesKeep}
-use Rattle.star_meaning.proofs.KeepsValues.{keeps-new_text, keeps-new_tuple, keeps-new_list, keeps-new_dict, keeps-is_true, keeps-check_key}
-use Rattle.star_meaning.proofs.KeepsOperators.{keeps-operate, keeps-prefix, keeps-compared}
-use Rattle.star_meaning.proofs.KeepsSubscript.{keeps-index, keeps-slice}
-use Rattle.star_meaning.proofs.KeepsMethods.{keeps-attribute}
+use Rattle.star_meaning.specs.Expressions.{defaults_after, defaults, new_function, entry_of, maybe, node}
+use Rattle.star_meaning.proofs.Keeps.{keeps, Keeps, AllKeep, VariablesKeep, kept_by}
+use Rattle.star_meaning.proofs.KeepsValues.{respects-new_text, respects-new_tuple, respects-new_list, keeps-new_dict, respects-is_true}
+use Rattle.star_meaning.proofs.KeepsOperators.{keeps-operate, respects-prefix, respects-compared}
+use Rattle.star_meaning.proofs.KeepsSubscript.{respects-index, respects-slice}
+use Rattle.star_meaning.proofs.KeepsMethods.{respects-attribute}
 use Rattle.star_meaning.proofs.KeepsComprehensions.{keeps-list_comprehension, keeps-dict_comprehension}
 use Rattle.star_meaning.proofs.KeepsCalls.{keeps-call_node}
 use Rattle.star_meaning.proofs.KeepsEntries.{keeps-fresh_entries}
@@ -41,20 +41,20 @@ keeps-maybe m p (Some e) k0 = search keeps depth 14
 pub keeps-node : (vs : Variables) (w : Setting) (levels : ℕ) (m : Semantics) (p : Site) (a5 : ExpressionForm) → VariablesKeep vs → AllKeep m → Keeps false (node vs w levels m p a5)
 keeps-node vs w levels m p (tree.Expression-F.Expression::Name n) k0 k1 = search keeps depth 14
 keeps-node vs w levels m p (tree.Int n) k0 k1 = search keeps depth 14
-keeps-node vs w levels m p (tree.Text t) k0 k1 = search (keeps, keeps-new_text) depth 14
-keeps-node vs w levels m p (tree.Expression-F.Expression::Tuple es) k0 k1 = search (keeps, keeps-new_tuple) depth 14
-keeps-node vs w levels m p (tree.Expression-F.Expression::List es) k0 k1 = search (keeps, keeps-new_list) depth 14
+keeps-node vs w levels m p (tree.Text t) k0 k1 = search (keeps, kept_by w, respects-new_text) depth 14
+keeps-node vs w levels m p (tree.Expression-F.Expression::Tuple es) k0 k1 = search (keeps, kept_by w, respects-new_tuple) depth 14
+keeps-node vs w levels m p (tree.Expression-F.Expression::List es) k0 k1 = search (keeps, kept_by w, respects-new_list) depth 14
 keeps-node vs w levels m p (tree.Dict es) k0 k1 = search (keeps, keeps-new_dict, keeps-entry_of, keeps-fresh_entries) depth 14
 keeps-node vs w levels m p (tree.ListComprehension at e cs) k0 k1 = search (keeps, keeps-list_comprehension) depth 14
 keeps-node vs w levels m p (tree.DictComprehension at e cs) k0 k1 = search (keeps, keeps-dict_comprehension) depth 14
-keeps-node vs w levels m p (tree.Unary op e) k0 k1 = search (keeps, keeps-prefix) depth 14
+keeps-node vs w levels m p (tree.Unary op e) k0 k1 = search (keeps, kept_by w, respects-prefix) depth 14
 keeps-node vs w levels m p (tree.Binary op a b) k0 k1 = search (keeps, keeps-operate) depth 14
-keeps-node vs w levels m p (tree.Compare c a b) k0 k1 = search (keeps, keeps-compared) depth 14
-keeps-node vs w levels m p (tree.And a b) k0 k1 = search (keeps, keeps-is_true) depth 14
-keeps-node vs w levels m p (tree.Or a b) k0 k1 = search (keeps, keeps-is_true) depth 14
-keeps-node vs w levels m p (tree.Conditional c a b) k0 k1 = search (keeps, keeps-is_true) depth 14
+keeps-node vs w levels m p (tree.Compare c a b) k0 k1 = search (keeps, kept_by w, respects-compared) depth 14
+keeps-node vs w levels m p (tree.And a b) k0 k1 = search (keeps, kept_by w, respects-is_true) depth 14
+keeps-node vs w levels m p (tree.Or a b) k0 k1 = search (keeps, kept_by w, respects-is_true) depth 14
+keeps-node vs w levels m p (tree.Conditional c a b) k0 k1 = search (keeps, kept_by w, respects-is_true) depth 14
 keeps-node vs w levels m p (tree.Lambda at ps e) k0 k1 = search (keeps, keeps-new_function) depth 14
 keeps-node vs w levels m p (tree.Call f es) k0 k1 = search (keeps, keeps-call_node) depth 14
-keeps-node vs w levels m p (tree.Attribute e n) k0 k1 = search (keeps, keeps-attribute) depth 14
-keeps-node vs w levels m p (tree.Expression-F.Expression::Index e i) k0 k1 = search (keeps, keeps-index) depth 14
-keeps-node vs w levels m p (tree.Slice e a b c) k0 k1 = search (keeps, keeps-slice, keeps-maybe) depth 14
+keeps-node vs w levels m p (tree.Attribute e n) k0 k1 = search (keeps, kept_by w, respects-attribute) depth 14
+keeps-node vs w levels m p (tree.Expression-F.Expression::Index e i) k0 k1 = search (keeps, kept_by w, respects-index) depth 14
+keeps-node vs w levels m p (tree.Slice e a b c) k0 k1 = search (keeps, kept_by w, respects-slice, keeps-maybe) depth 14

@@ -1,35 +1,35 @@
--- The invariants of every run: the method format.
+-- What respects every invariant of runs: the method format.
 use Rattle.star_store.specs.declared.values.Value.{Value}
 use Rattle.star_meaning.specs.Program.{Setting}
 use Rattle.star_meaning.specs.declared.given.Arguments.{Arguments}
 use Rattle.star_meaning.specs.declared.given.KeywordArgument.{KeywordArgument}
-use Rattle.std.proofs.Common.{ℕ, List, [], ◌∷◌, Bool}
+use Rattle.std.proofs.Common.{ℕ, List, [], ◌∷◌}
 use Rattle.star_meaning.specs.Format.{next_place, numbered_place, placed_value, named_value, field_value, formatted, Numbering, Reading, Unused, Automatic, ByNumber, Outside, Field, Closing}
-use Rattle.star_meaning.proofs.Keeps.{keeps, Keeps}
-use Rattle.star_meaning.proofs.KeepsValues.{keeps-str}
+use Rattle.star_meaning.proofs.Invariants.{Invariant, Respects, respects}
+use Rattle.star_meaning.proofs.KeepsValues.{respects-str}
 
-pub keeps-next_place : {q : Bool} → (line : ℕ) (a1 : Numbering) → Keeps q (next_place line a1)
-keeps-next_place line Unused = search keeps depth 14
-keeps-next_place line (Automatic n) = search keeps depth 14
-keeps-next_place line ByNumber = search keeps depth 14
+pub respects-next_place : {w : Setting} {inv : Invariant w} → (line : ℕ) (a1 : Numbering) → Respects inv (next_place line a1)
+respects-next_place line Unused = search respects depth 14
+respects-next_place line (Automatic n) = search respects depth 14
+respects-next_place line ByNumber = search respects depth 14
 
-pub keeps-numbered_place : {q : Bool} → (line : ℕ) (n : ℕ) (a2 : Numbering) → Keeps q (numbered_place line n a2)
-keeps-numbered_place line n (Automatic m) = search keeps depth 14
-keeps-numbered_place line n _ = search keeps depth 14
+pub respects-numbered_place : {w : Setting} {inv : Invariant w} → (line : ℕ) (n : ℕ) (a2 : Numbering) → Respects inv (numbered_place line n a2)
+respects-numbered_place line n (Automatic m) = search respects depth 14
+respects-numbered_place line n _ = search respects depth 14
 
-pub keeps-placed_value : {q : Bool} → (line : ℕ) (xs : List Value) (p : ℕ × Numbering) → Keeps q (placed_value line xs p)
-keeps-placed_value line xs p = search keeps depth 14
+pub respects-placed_value : {w : Setting} {inv : Invariant w} → (line : ℕ) (xs : List Value) (p : ℕ × Numbering) → Respects inv (placed_value line xs p)
+respects-placed_value line xs p = search respects depth 14
 
-pub keeps-named_value : {q : Bool} → (line : ℕ) (ns : List KeywordArgument) (name : List ℕ) (k : Numbering) → Keeps q (named_value line ns name k)
-keeps-named_value line ns name k = search keeps depth 14
+pub respects-named_value : {w : Setting} {inv : Invariant w} → (line : ℕ) (ns : List KeywordArgument) (name : List ℕ) (k : Numbering) → Respects inv (named_value line ns name k)
+respects-named_value line ns name k = search respects depth 14
 
-pub keeps-field_value : {q : Bool} → (line : ℕ) (g : Arguments) (f : List ℕ) (k : Numbering) → Keeps q (field_value line g f k)
-keeps-field_value line g f k = search (keeps, keeps-next_place, keeps-numbered_place, keeps-placed_value, keeps-named_value) depth 14
+pub respects-field_value : {w : Setting} {inv : Invariant w} → (line : ℕ) (g : Arguments) (f : List ℕ) (k : Numbering) → Respects inv (field_value line g f k)
+respects-field_value line g f k = search (respects, respects-next_place, respects-numbered_place, respects-placed_value, respects-named_value) depth 14
 
-pub keeps-formatted : {q : Bool} → (w : Setting) (levels : ℕ) (line : ℕ) (g : Arguments) (a4 : List ℕ) (a5 : Reading) (k : Numbering) (out : List ℕ) → Keeps q (formatted w levels line g a4 a5 k out)
-keeps-formatted w levels line g [] Outside k out = search keeps depth 14
-keeps-formatted w levels line g [] (Field f) k out = search keeps depth 14
-keeps-formatted w levels line g [] Closing k out = search keeps depth 14
-keeps-formatted {q = q} w levels line g (b ∷ bs) Outside k out = let h1 : (z5 : Reading) → Keeps q (formatted w levels line g bs z5 k out) = λ z5. keeps-formatted w levels line g bs z5 k out in let h2 : (z0 : Setting) → Keeps q (formatted z0 levels line g bs Closing k out) = λ z0. keeps-formatted z0 levels line g bs Closing k out in let h3 : (z7 : List ℕ) → Keeps q (formatted w levels line g bs Outside k z7) = λ z7. keeps-formatted w levels line g bs Outside k z7 in search (keeps, h1, h2, h3) depth 14
-keeps-formatted {q = q} w levels line g (b ∷ bs) Closing k out = let h1 : (z7 : List ℕ) → Keeps q (formatted w levels line g bs Outside k z7) = λ z7. keeps-formatted w levels line g bs Outside k z7 in search (keeps, h1) depth 14
-keeps-formatted {q = q} w levels line g (b ∷ bs) (Field f) k out = let h1 : (z7 : List ℕ) → Keeps q (formatted w levels line g bs Outside k z7) = λ z7. keeps-formatted w levels line g bs Outside k z7 in let h2 : (z6 : Numbering) (z7 : List ℕ) → Keeps q (formatted w levels line g bs Outside z6 z7) = λ z6 z7. keeps-formatted w levels line g bs Outside z6 z7 in let h3 : (z5 : Reading) → Keeps q (formatted w levels line g bs z5 k out) = λ z5. keeps-formatted w levels line g bs z5 k out in search (keeps, keeps-str, keeps-field_value, h1, h2, h3) depth 14
+pub respects-formatted : (w : Setting) {inv : Invariant w} (levels : ℕ) (line : ℕ) (g : Arguments) (a4 : List ℕ) (a5 : Reading) (k : Numbering) (out : List ℕ) → Respects inv (formatted w levels line g a4 a5 k out)
+respects-formatted w levels line g [] Outside k out = search respects depth 14
+respects-formatted w levels line g [] (Field f) k out = search respects depth 14
+respects-formatted w levels line g [] Closing k out = search respects depth 14
+respects-formatted w {inv = inv} levels line g (b ∷ bs) Outside k out = let h1 : (z5 : Reading) → Respects inv (formatted w levels line g bs z5 k out) = λ z5. respects-formatted w levels line g bs z5 k out in let h2 : (z3 : Arguments) → Respects inv (formatted w levels line z3 bs Closing k out) = λ z3. respects-formatted w levels line z3 bs Closing k out in let h3 : (z7 : List ℕ) → Respects inv (formatted w levels line g bs Outside k z7) = λ z7. respects-formatted w levels line g bs Outside k z7 in search (respects, h1, h2, h3) depth 14
+respects-formatted w {inv = inv} levels line g (b ∷ bs) Closing k out = let h1 : (z7 : List ℕ) → Respects inv (formatted w levels line g bs Outside k z7) = λ z7. respects-formatted w levels line g bs Outside k z7 in search (respects, h1) depth 14
+respects-formatted w {inv = inv} levels line g (b ∷ bs) (Field f) k out = let h1 : (z7 : List ℕ) → Respects inv (formatted w levels line g bs Outside k z7) = λ z7. respects-formatted w levels line g bs Outside k z7 in let h2 : (z6 : Numbering) (z7 : List ℕ) → Respects inv (formatted w levels line g bs Outside z6 z7) = λ z6 z7. respects-formatted w levels line g bs Outside z6 z7 in let h3 : (z5 : Reading) → Respects inv (formatted w levels line g bs z5 k out) = λ z5. respects-formatted w levels line g bs z5 k out in search (respects, respects-str, respects-field_value, h1, h2, h3) depth 14

@@ -1,52 +1,52 @@
--- The invariants of every run: the methods of lists.
+-- What respects every invariant of runs: the methods of lists.
 use Rattle.star_store.specs.declared.values.Value.{Value}
 use Rattle.star_meaning.specs.Program.{Setting}
 use Rattle.star_meaning.specs.declared.given.Arguments.{Arguments}
-use Rattle.std.proofs.Common.{ℕ, List, [], ◌∷◌, Option, Some, None, Bool}
+use Rattle.std.proofs.Common.{ℕ, List, [], ◌∷◌, Option, Some, None}
 use Rattle.star_meaning.specs.Run.{Action}
 use Rattle.star_meaning.specs.ListMethods.{with_items, add_item, call_append, call_clear, extend, call_extend, equal_place, place_with, call_index, call_insert, want_last, call_pop, call_remove}
-use Rattle.star_meaning.proofs.Keeps.{keeps, Keeps}
-use Rattle.star_meaning.proofs.KeepsValues.{keeps-with_content, keeps-want_int, keeps-new_int, keeps-count_of, keeps-take_items, keeps-equal, keeps-guard}
-use Rattle.star_meaning.proofs.KeepsArguments.{keeps-positional, keeps-only_one, keeps-none_or_one, keeps-two, keeps-no_value}
+use Rattle.star_meaning.proofs.Invariants.{Invariant, Respects, respects}
+use Rattle.star_meaning.proofs.KeepsValues.{respects-with_content, respects-want_int, respects-new_int, respects-count_of, respects-take_items, respects-equal, respects-guard}
+use Rattle.star_meaning.proofs.KeepsArguments.{respects-positional, respects-only_one, respects-none_or_one, respects-two, respects-no_value}
 
-pub keeps-with_items : {q : Bool} → {A : Type 0} → (w : Setting) (l : Value) (f : (List Value → Action A)) → ((x0 : List Value) → Keeps q (f x0)) → Keeps q (with_items w l f)
-keeps-with_items w l f k0 = search (keeps, keeps-with_content) depth 14
+pub respects-with_items : {A : Type 0} → (w : Setting) {inv : Invariant w} (l : Value) (f : (List Value → Action A)) → ((x0 : List Value) → Respects inv (f x0)) → Respects inv (with_items w l f)
+respects-with_items w l f k0 = search (respects, respects-with_content) depth 14
 
-pub keeps-add_item : {q : Bool} → (w : Setting) (line : ℕ) (l : Value) (x : Value) → Keeps q (add_item w line l x)
-keeps-add_item w line l x = search keeps depth 14
+pub respects-add_item : (w : Setting) {inv : Invariant w} (line : ℕ) (l : Value) (x : Value) → Respects inv (add_item w line l x)
+respects-add_item w line l x = search respects depth 14
 
-pub keeps-call_append : {q : Bool} → (w : Setting) (line : ℕ) (l : Value) (g : Arguments) → Keeps q (call_append w line l g)
-keeps-call_append w line l g = search (keeps, keeps-guard, keeps-positional, keeps-only_one, keeps-add_item) depth 14
+pub respects-call_append : (w : Setting) {inv : Invariant w} (line : ℕ) (l : Value) (g : Arguments) → Respects inv (call_append w line l g)
+respects-call_append w line l g = search (respects, respects-guard, respects-positional, respects-only_one, respects-add_item) depth 14
 
-pub keeps-call_clear : {q : Bool} → (w : Setting) (line : ℕ) (l : Value) (g : Arguments) → Keeps q (call_clear w line l g)
-keeps-call_clear w line l g = search (keeps, keeps-guard, keeps-positional, keeps-no_value) depth 14
+pub respects-call_clear : (w : Setting) {inv : Invariant w} (line : ℕ) (l : Value) (g : Arguments) → Respects inv (call_clear w line l g)
+respects-call_clear w line l g = search (respects, respects-guard, respects-positional, respects-no_value) depth 14
 
-pub keeps-extend : {q : Bool} → (w : Setting) (line : ℕ) (l : Value) (it : Value) → Keeps q (extend w line l it)
+pub respects-extend : (w : Setting) {inv : Invariant w} (line : ℕ) (l : Value) (it : Value) → Respects inv (extend w line l it)
 unfolding extend
-keeps-extend w line l it = search (keeps, keeps-count_of, keeps-take_items, keeps-guard, keeps-add_item) depth 14
+respects-extend w line l it = search (respects, respects-count_of, respects-take_items, respects-guard, respects-add_item) depth 14
 
-pub keeps-call_extend : {q : Bool} → (w : Setting) (line : ℕ) (l : Value) (g : Arguments) → Keeps q (call_extend w line l g)
-keeps-call_extend w line l g = search (keeps, keeps-positional, keeps-only_one, keeps-extend) depth 14
+pub respects-call_extend : (w : Setting) {inv : Invariant w} (line : ℕ) (l : Value) (g : Arguments) → Respects inv (call_extend w line l g)
+respects-call_extend w line l g = search (respects, respects-positional, respects-only_one, respects-extend) depth 14
 
-pub keeps-equal_place : {q : Bool} → (w : Setting) (levels : ℕ) (line : ℕ) (x : Value) (i : ℕ) (a5 : List Value) → Keeps q (equal_place w levels line x i a5)
-keeps-equal_place w levels line x i [] = search keeps depth 14
-keeps-equal_place {q = q} w levels line x i (y ∷ ys) = let h1 : (z4 : ℕ) → Keeps q (equal_place w levels line x z4 ys) = λ z4. keeps-equal_place w levels line x z4 ys in search (keeps, keeps-equal, h1) depth 14
+pub respects-equal_place : (w : Setting) {inv : Invariant w} (levels : ℕ) (line : ℕ) (x : Value) (i : ℕ) (a5 : List Value) → Respects inv (equal_place w levels line x i a5)
+respects-equal_place w levels line x i [] = search respects depth 14
+respects-equal_place w {inv = inv} levels line x i (y ∷ ys) = let h1 : (z4 : ℕ) → Respects inv (equal_place w levels line x z4 ys) = λ z4. respects-equal_place w levels line x z4 ys in search (respects, respects-equal, h1) depth 14
 
-pub keeps-place_with : {q : Bool} → (w : Setting) (levels : ℕ) (line : ℕ) (l : Value) (x : Value) → Keeps q (place_with w levels line l x)
-keeps-place_with w levels line l x = search (keeps, keeps-with_items, keeps-equal_place) depth 14
+pub respects-place_with : (w : Setting) {inv : Invariant w} (levels : ℕ) (line : ℕ) (l : Value) (x : Value) → Respects inv (place_with w levels line l x)
+respects-place_with w levels line l x = search (respects, respects-with_items, respects-equal_place) depth 14
 
-pub keeps-call_index : {q : Bool} → (w : Setting) (levels : ℕ) (line : ℕ) (l : Value) (g : Arguments) → Keeps q (call_index w levels line l g)
-keeps-call_index w levels line l g = search (keeps, keeps-new_int, keeps-positional, keeps-only_one, keeps-place_with) depth 14
+pub respects-call_index : (w : Setting) {inv : Invariant w} (levels : ℕ) (line : ℕ) (l : Value) (g : Arguments) → Respects inv (call_index w levels line l g)
+respects-call_index w levels line l g = search (respects, respects-new_int, respects-positional, respects-only_one, respects-place_with) depth 14
 
-pub keeps-call_insert : {q : Bool} → (w : Setting) (line : ℕ) (l : Value) (g : Arguments) → Keeps q (call_insert w line l g)
-keeps-call_insert w line l g = search (keeps, keeps-want_int, keeps-guard, keeps-positional, keeps-two, keeps-with_items) depth 14
+pub respects-call_insert : (w : Setting) {inv : Invariant w} (line : ℕ) (l : Value) (g : Arguments) → Respects inv (call_insert w line l g)
+respects-call_insert w line l g = search (respects, respects-want_int, respects-guard, respects-positional, respects-two, respects-with_items) depth 14
 
-pub keeps-want_last : {q : Bool} → (w : Setting) (line : ℕ) (a2 : Option Value) → Keeps q (want_last w line a2)
-keeps-want_last w line None = search keeps depth 14
-keeps-want_last w line (Some v) = search (keeps, keeps-want_int) depth 14
+pub respects-want_last : (w : Setting) {inv : Invariant w} (line : ℕ) (a2 : Option Value) → Respects inv (want_last w line a2)
+respects-want_last w line None = search respects depth 14
+respects-want_last w line (Some v) = search (respects, respects-want_int) depth 14
 
-pub keeps-call_pop : {q : Bool} → (w : Setting) (line : ℕ) (l : Value) (g : Arguments) → Keeps q (call_pop w line l g)
-keeps-call_pop w line l g = search (keeps, keeps-guard, keeps-positional, keeps-none_or_one, keeps-with_items, keeps-want_last) depth 14
+pub respects-call_pop : (w : Setting) {inv : Invariant w} (line : ℕ) (l : Value) (g : Arguments) → Respects inv (call_pop w line l g)
+respects-call_pop w line l g = search (respects, respects-guard, respects-positional, respects-none_or_one, respects-with_items, respects-want_last) depth 14
 
-pub keeps-call_remove : {q : Bool} → (w : Setting) (levels : ℕ) (line : ℕ) (l : Value) (g : Arguments) → Keeps q (call_remove w levels line l g)
-keeps-call_remove w levels line l g = search (keeps, keeps-guard, keeps-positional, keeps-only_one, keeps-place_with) depth 14
+pub respects-call_remove : (w : Setting) {inv : Invariant w} (levels : ℕ) (line : ℕ) (l : Value) (g : Arguments) → Respects inv (call_remove w levels line l g)
+respects-call_remove w levels line l g = search (respects, respects-guard, respects-positional, respects-only_one, respects-place_with) depth 14

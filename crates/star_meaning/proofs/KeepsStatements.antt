@@ -1,9 +1,7 @@
 -- The invariants of every run: statements.
 use Rattle.star_store.specs.declared.values.Value.{Value}
-use Rattle.star_store.specs.declared.values.Cell.TheVariants as cell
 use Rattle.star_store.specs.Store.{Published}
 use Rattle.star_tree.specs.declared.tree.BinaryOperator.{BinaryOperator}
-use Rattle.star_tree.specs.declared.tree.BinaryOperator.TheVariants as binary
 use Rattle.star_tree.specs.declared.tree.Expression.{Expression}
 use Rattle.star_tree.specs.declared.tree.Target.{Target}
 use Rattle.star_tree.specs.declared.tree.Arm.{Arm}
@@ -16,32 +14,28 @@ use Rattle.star_meaning.specs.declared.site.Site.{Site}
 use Rattle.star_meaning.specs.declared.site.Flow.{Flow}
 use Rattle.star_outline.specs.Syntax.{StatementForm, TargetForm}
 use Rattle.star_meaning.specs.Program.{Setting, Variables}
-use Rattle.star_meaning.specs.Values.{Content, Held}
 use Rattle.star_meaning.specs.Semantics.{Semantics}
 use Rattle.std.proofs.Common.{ℕ, List, [], ◌∷◌, Option, Some, None, false}
 use Rattle.star_meaning.specs.Run.{Action}
-use Rattle.star_meaning.specs.Statements.{augment_content, augmented, augment, arms, loop_turn, loop, load_name, returned, statement}
-use Rattle.star_meaning.proofs.Keeps.{keeps, Keeps, AllKeep, VariablesKeep}
-use Rattle.star_meaning.proofs.KeepsValues.{keeps-with_content, keeps-take_item, keeps-is_true, keeps-guard}
-use Rattle.star_meaning.proofs.KeepsOperators.{keeps-operate}
-use Rattle.star_meaning.proofs.KeepsSubscript.{keeps-index, keeps-set_index}
-use Rattle.star_meaning.proofs.KeepsPairs.{keeps-update_with}
-use Rattle.star_meaning.proofs.KeepsListMethods.{keeps-extend}
+use Rattle.star_meaning.specs.Statements.{augment, arms, loop_turn, loop, load_name, returned, statement}
+use Rattle.star_meaning.proofs.Keeps.{keeps, Keeps, AllKeep, VariablesKeep, kept_by}
+use Rattle.star_meaning.proofs.KeepsValues.{respects-take_item, respects-is_true}
+use Rattle.star_meaning.proofs.KeepsSubscript.{respects-index, respects-set_index}
 use Rattle.star_meaning.proofs.KeepsTargets.{keeps-to_target}
 use Rattle.star_meaning.proofs.KeepsExpressions.{keeps-new_function}
 use Rattle.star_meaning.proofs.KeepsEntries.{keeps-augmented}
 
 pub keeps-augment : (vs : Variables) (w : Setting) (levels : ℕ) (m : Semantics) (p : Site) (op : BinaryOperator) (e : Expression) (a7 : TargetForm) → VariablesKeep vs → AllKeep m → Keeps false (augment vs w levels m p op e a7)
 keeps-augment vs w levels m p op e (tree.Target-F.Target::Name n) k0 k1 = search (keeps, keeps-augmented) depth 14
-keeps-augment vs w levels m p op e (tree.Target-F.Target::Index b i) k0 k1 = search (keeps, keeps-index, keeps-set_index, keeps-augmented) depth 14
+keeps-augment vs w levels m p op e (tree.Target-F.Target::Index b i) k0 k1 = search (keeps, kept_by w, respects-index, respects-set_index, keeps-augmented) depth 14
 keeps-augment vs w levels m p op e _ k0 k1 = search keeps depth 14
 
 pub keeps-arms : (w : Setting) (m : Semantics) (p : Site) (a3 : List Arm) (otherwise : Action Flow) → AllKeep m → Keeps false otherwise → Keeps false (arms w m p a3 otherwise)
 keeps-arms w m p [] otherwise k0 k1 = search keeps depth 14
-keeps-arms w m p (a ∷ more) otherwise k0 k1 = let h1 : (z0 : Setting) → Keeps false (arms z0 m p more otherwise) = λ z0. keeps-arms z0 m p more otherwise k0 k1 in search (keeps, keeps-is_true, h1) depth 14
+keeps-arms w m p (a ∷ more) otherwise k0 k1 = let h1 : (z0 : Setting) → Keeps false (arms z0 m p more otherwise) = λ z0. keeps-arms z0 m p more otherwise k0 k1 in search (keeps, kept_by w, respects-is_true, h1) depth 14
 
 pub keeps-loop_turn : (vs : Variables) (w : Setting) (m : Semantics) (p : Site) (t : Target) (body : List Statement) (v : Value) (i : ℕ) → VariablesKeep vs → AllKeep m → Keeps false (loop_turn vs w m p t body v i)
-keeps-loop_turn vs w m p t body v i k0 k1 = search (keeps, keeps-take_item, keeps-to_target) depth 14
+keeps-loop_turn vs w m p t body v i k0 k1 = search (keeps, kept_by w, respects-take_item, keeps-to_target) depth 14
 
 pub keeps-loop : (vs : Variables) (w : Setting) (m : Semantics) (p : Site) (t : Target) (body : List Statement) (v : Value) → VariablesKeep vs → AllKeep m → Keeps false (loop vs w m p t body v)
 keeps-loop vs w m p t body v k0 k1 = search (keeps, keeps-loop_turn) depth 14

@@ -1,71 +1,71 @@
--- The invariants of every run: subscripts.
+-- What respects every invariant of runs: subscripts.
 use Rattle.star_store.specs.declared.values.Value.{Value}
 use Rattle.star_store.specs.declared.values.Cell.TheVariants as cell
 use Rattle.star_store.specs.declared.range.Range.{Range}
 use Rattle.star_meaning.specs.Program.{Setting}
 use Rattle.star_meaning.specs.Values.{Content, Held}
-use Rattle.std.proofs.Common.{ℕ, List, Option, Some, None, Bool}
+use Rattle.std.proofs.Common.{ℕ, List, Option, Some, None}
 use Rattle.star_meaning.specs.Subscript.{row_item, byte_at, entry_value, item_of, index, pay_if_new, put_entry, set_item, set_entry, set_in, set_index, want_part, text_slice, sliced, slice}
-use Rattle.star_meaning.proofs.Keeps.{keeps, Keeps}
-use Rattle.star_meaning.proofs.KeepsValues.{keeps-with_content, keeps-want_int, keeps-new_text, keeps-new_tuple, keeps-new_list, keeps-check_key, keeps-guard}
+use Rattle.star_meaning.proofs.Invariants.{Invariant, Respects, respects}
+use Rattle.star_meaning.proofs.KeepsValues.{respects-with_content, respects-want_int, respects-new_text, respects-new_tuple, respects-new_list, respects-check_key, respects-guard}
 
-pub keeps-row_item : {q : Bool} → (w : Setting) (line : ℕ) (c : Content) (len : ℕ) (i : Value) → Keeps q (row_item w line c len i)
-keeps-row_item w line c len i = search (keeps, keeps-want_int) depth 14
+pub respects-row_item : (w : Setting) {inv : Invariant w} (line : ℕ) (c : Content) (len : ℕ) (i : Value) → Respects inv (row_item w line c len i)
+respects-row_item w line c len i = search (respects, respects-want_int) depth 14
 
-pub keeps-byte_at : {q : Bool} → (w : Setting) (line : ℕ) (t : List ℕ) (i : Value) → Keeps q (byte_at w line t i)
-keeps-byte_at w line t i = search (keeps, keeps-want_int, keeps-new_text) depth 14
+pub respects-byte_at : (w : Setting) {inv : Invariant w} (line : ℕ) (t : List ℕ) (i : Value) → Respects inv (byte_at w line t i)
+respects-byte_at w line t i = search (respects, respects-want_int, respects-new_text) depth 14
 
-pub keeps-entry_value : {q : Bool} → (w : Setting) (levels : ℕ) (line : ℕ) (es : List (Value × Value)) (k : Value) → Keeps q (entry_value w levels line es k)
-keeps-entry_value w levels line es k = search (keeps, keeps-check_key) depth 14
+pub respects-entry_value : (w : Setting) {inv : Invariant w} (levels : ℕ) (line : ℕ) (es : List (Value × Value)) (k : Value) → Respects inv (entry_value w levels line es k)
+respects-entry_value w levels line es k = search (respects, respects-check_key) depth 14
 
-pub keeps-item_of : {q : Bool} → (w : Setting) (levels : ℕ) (line : ℕ) (a3 : Content) (i : Value) → Keeps q (item_of w levels line a3 i)
-keeps-item_of w levels line (Held (cell.List xs)) i = search (keeps, keeps-row_item) depth 14
-keeps-item_of w levels line (Held (cell.Tuple xs)) i = search (keeps, keeps-row_item) depth 14
-keeps-item_of w levels line (Held (cell.Range r)) i = search (keeps, keeps-row_item) depth 14
-keeps-item_of w levels line (Held (cell.Text t)) i = search (keeps, keeps-byte_at) depth 14
-keeps-item_of w levels line (Held (cell.Dict es)) i = search (keeps, keeps-entry_value) depth 14
-keeps-item_of w levels line _ i = search keeps depth 14
+pub respects-item_of : (w : Setting) {inv : Invariant w} (levels : ℕ) (line : ℕ) (a3 : Content) (i : Value) → Respects inv (item_of w levels line a3 i)
+respects-item_of w levels line (Held (cell.List xs)) i = search (respects, respects-row_item) depth 14
+respects-item_of w levels line (Held (cell.Tuple xs)) i = search (respects, respects-row_item) depth 14
+respects-item_of w levels line (Held (cell.Range r)) i = search (respects, respects-row_item) depth 14
+respects-item_of w levels line (Held (cell.Text t)) i = search (respects, respects-byte_at) depth 14
+respects-item_of w levels line (Held (cell.Dict es)) i = search (respects, respects-entry_value) depth 14
+respects-item_of w levels line _ i = search respects depth 14
 
-pub keeps-index : {q : Bool} → (w : Setting) (levels : ℕ) (line : ℕ) (x : Value) (i : Value) → Keeps q (index w levels line x i)
+pub respects-index : (w : Setting) {inv : Invariant w} (levels : ℕ) (line : ℕ) (x : Value) (i : Value) → Respects inv (index w levels line x i)
 unfolding index
-keeps-index w levels line x i = search (keeps, keeps-with_content, keeps-item_of) depth 14
+respects-index w levels line x i = search (respects, respects-with_content, respects-item_of) depth 14
 
-pub keeps-pay_if_new : {q : Bool} → (line : ℕ) (a1 : Option ℕ) → Keeps q (pay_if_new line a1)
-keeps-pay_if_new line None = search keeps depth 14
-keeps-pay_if_new line (Some i) = search keeps depth 14
+pub respects-pay_if_new : {w : Setting} {inv : Invariant w} → (line : ℕ) (a1 : Option ℕ) → Respects inv (pay_if_new line a1)
+respects-pay_if_new line None = search respects depth 14
+respects-pay_if_new line (Some i) = search respects depth 14
 
-pub keeps-put_entry : {q : Bool} → (w : Setting) (line : ℕ) (d : Value) (k : Value) (v : Value) → Keeps q (put_entry w line d k v)
+pub respects-put_entry : (w : Setting) {inv : Invariant w} (line : ℕ) (d : Value) (k : Value) (v : Value) → Respects inv (put_entry w line d k v)
 unfolding put_entry
-keeps-put_entry w line d k v = search (keeps, keeps-pay_if_new) depth 14
+respects-put_entry w line d k v = search (respects, respects-pay_if_new) depth 14
 
-pub keeps-set_item : {q : Bool} → (w : Setting) (line : ℕ) (x : Value) (len : ℕ) (i : Value) (v : Value) → Keeps q (set_item w line x len i v)
-keeps-set_item w line x len i v = search (keeps, keeps-want_int, keeps-guard) depth 14
+pub respects-set_item : (w : Setting) {inv : Invariant w} (line : ℕ) (x : Value) (len : ℕ) (i : Value) (v : Value) → Respects inv (set_item w line x len i v)
+respects-set_item w line x len i v = search (respects, respects-want_int, respects-guard) depth 14
 
-pub keeps-set_entry : {q : Bool} → (w : Setting) (levels : ℕ) (line : ℕ) (x : Value) (k : Value) (v : Value) → Keeps q (set_entry w levels line x k v)
-keeps-set_entry w levels line x k v = search (keeps, keeps-check_key, keeps-guard, keeps-put_entry) depth 14
+pub respects-set_entry : (w : Setting) {inv : Invariant w} (levels : ℕ) (line : ℕ) (x : Value) (k : Value) (v : Value) → Respects inv (set_entry w levels line x k v)
+respects-set_entry w levels line x k v = search (respects, respects-check_key, respects-guard, respects-put_entry) depth 14
 
-pub keeps-set_in : {q : Bool} → (w : Setting) (levels : ℕ) (line : ℕ) (a3 : Content) (x : Value) (i : Value) (v : Value) → Keeps q (set_in w levels line a3 x i v)
-keeps-set_in w levels line (Held (cell.List xs)) x i v = search (keeps, keeps-set_item) depth 14
-keeps-set_in w levels line (Held (cell.Dict es)) x i v = search (keeps, keeps-set_entry) depth 14
-keeps-set_in w levels line _ x i v = search keeps depth 14
+pub respects-set_in : (w : Setting) {inv : Invariant w} (levels : ℕ) (line : ℕ) (a3 : Content) (x : Value) (i : Value) (v : Value) → Respects inv (set_in w levels line a3 x i v)
+respects-set_in w levels line (Held (cell.List xs)) x i v = search (respects, respects-set_item) depth 14
+respects-set_in w levels line (Held (cell.Dict es)) x i v = search (respects, respects-set_entry) depth 14
+respects-set_in w levels line _ x i v = search respects depth 14
 
-pub keeps-set_index : {q : Bool} → (w : Setting) (levels : ℕ) (line : ℕ) (x : Value) (i : Value) (v : Value) → Keeps q (set_index w levels line x i v)
+pub respects-set_index : (w : Setting) {inv : Invariant w} (levels : ℕ) (line : ℕ) (x : Value) (i : Value) (v : Value) → Respects inv (set_index w levels line x i v)
 unfolding set_index
-keeps-set_index w levels line x i v = search (keeps, keeps-with_content, keeps-set_in) depth 14
+respects-set_index w levels line x i v = search (respects, respects-with_content, respects-set_in) depth 14
 
-pub keeps-want_part : {q : Bool} → (w : Setting) (line : ℕ) (a2 : Option Value) → Keeps q (want_part w line a2)
-keeps-want_part w line None = search keeps depth 14
-keeps-want_part w line (Some v) = search (keeps, keeps-with_content) depth 14
+pub respects-want_part : (w : Setting) {inv : Invariant w} (line : ℕ) (a2 : Option Value) → Respects inv (want_part w line a2)
+respects-want_part w line None = search respects depth 14
+respects-want_part w line (Some v) = search (respects, respects-with_content) depth 14
 
-pub keeps-text_slice : {q : Bool} → (line : ℕ) (t : List ℕ) (r : Range) → Keeps q (text_slice line t r)
-keeps-text_slice line t r = search (keeps, keeps-new_text) depth 14
+pub respects-text_slice : {w : Setting} {inv : Invariant w} → (line : ℕ) (t : List ℕ) (r : Range) → Respects inv (text_slice line t r)
+respects-text_slice line t r = search (respects, respects-new_text) depth 14
 
-pub keeps-sliced : {q : Bool} → (line : ℕ) (a1 : Content) (r : (ℕ → Range)) → Keeps q (sliced line a1 r)
-keeps-sliced line (Held (cell.List xs)) r = search (keeps, keeps-new_list) depth 14
-keeps-sliced line (Held (cell.Tuple xs)) r = search (keeps, keeps-new_tuple) depth 14
-keeps-sliced line (Held (cell.Text t)) r = search (keeps, keeps-text_slice) depth 14
-keeps-sliced line _ r = search keeps depth 14
+pub respects-sliced : {w : Setting} {inv : Invariant w} → (line : ℕ) (a1 : Content) (r : (ℕ → Range)) → Respects inv (sliced line a1 r)
+respects-sliced line (Held (cell.List xs)) r = search (respects, respects-new_list) depth 14
+respects-sliced line (Held (cell.Tuple xs)) r = search (respects, respects-new_tuple) depth 14
+respects-sliced line (Held (cell.Text t)) r = search (respects, respects-text_slice) depth 14
+respects-sliced line _ r = search respects depth 14
 
-pub keeps-slice : {q : Bool} → (w : Setting) (line : ℕ) (x : Value) (a : Option Value) (b : Option Value) (c : Option Value) → Keeps q (slice w line x a b c)
+pub respects-slice : (w : Setting) {inv : Invariant w} (line : ℕ) (x : Value) (a : Option Value) (b : Option Value) (c : Option Value) → Respects inv (slice w line x a b c)
 unfolding slice
-keeps-slice w line x a b c = search (keeps, keeps-with_content, keeps-want_part, keeps-sliced) depth 14
+respects-slice w line x a b c = search (respects, respects-with_content, respects-want_part, respects-sliced) depth 14

@@ -1,80 +1,81 @@
--- The invariants of every run: values.
+-- What respects every invariant of runs: values.
 use Rattle.star_store.specs.declared.values.Value.{Value}
 use Rattle.star_meaning.specs.Program.{Setting}
 use Rattle.std.proofs.Common.{ℕ, List, Option, Some, None, ℤ, Bool}
 use Rattle.star_meaning.specs.Run.{Action}
 use Rattle.star_meaning.specs.Values.{with_content, want_int, want_bool, want_text, new_int, new_text, new_tuple, new_list, new_dict, count_of, take_item, take_items, take_all, is_true, equal, compare, check_key, repr, str_of, str, guard, Content}
+use Rattle.star_meaning.proofs.Invariants.{Invariant, Respects, respects}
 use Rattle.star_meaning.proofs.Keeps.{keeps, Keeps}
 
-pub keeps-with_content : {q : Bool} → {A : Type 0} → (w : Setting) (v : Value) (f : (Content → Action A)) → ((x0 : Content) → Keeps q (f x0)) → Keeps q (with_content w v f)
-keeps-with_content w v f k0 = search keeps depth 14
+pub respects-with_content : {A : Type 0} → (w : Setting) {inv : Invariant w} (v : Value) (f : (Content → Action A)) → ((x0 : Content) → Respects inv (f x0)) → Respects inv (with_content w v f)
+respects-with_content w v f k0 = search respects depth 14
 
-pub keeps-want_int : {q : Bool} → (w : Setting) (line : ℕ) (v : Value) → Keeps q (want_int w line v)
-keeps-want_int w line v = search (keeps, keeps-with_content) depth 14
+pub respects-want_int : (w : Setting) {inv : Invariant w} (line : ℕ) (v : Value) → Respects inv (want_int w line v)
+respects-want_int w line v = search (respects, respects-with_content) depth 14
 
-pub keeps-want_bool : {q : Bool} → (w : Setting) (line : ℕ) (v : Value) → Keeps q (want_bool w line v)
-keeps-want_bool w line v = search (keeps, keeps-with_content) depth 14
+pub respects-want_bool : (w : Setting) {inv : Invariant w} (line : ℕ) (v : Value) → Respects inv (want_bool w line v)
+respects-want_bool w line v = search (respects, respects-with_content) depth 14
 
-pub keeps-want_text : {q : Bool} → (w : Setting) (line : ℕ) (v : Value) → Keeps q (want_text w line v)
-keeps-want_text w line v = search (keeps, keeps-with_content) depth 14
+pub respects-want_text : (w : Setting) {inv : Invariant w} (line : ℕ) (v : Value) → Respects inv (want_text w line v)
+respects-want_text w line v = search (respects, respects-with_content) depth 14
 
-pub keeps-new_int : {q : Bool} → (line : ℕ) (z : ℤ) → Keeps q (new_int line z)
-keeps-new_int line z = search keeps depth 14
+pub respects-new_int : {w : Setting} {inv : Invariant w} → (line : ℕ) (z : ℤ) → Respects inv (new_int line z)
+respects-new_int line z = search respects depth 14
 
-pub keeps-new_text : {q : Bool} → (line : ℕ) (t : List ℕ) → Keeps q (new_text line t)
-keeps-new_text line t = search keeps depth 14
+pub respects-new_text : {w : Setting} {inv : Invariant w} → (line : ℕ) (t : List ℕ) → Respects inv (new_text line t)
+respects-new_text line t = search respects depth 14
 
-pub keeps-new_tuple : {q : Bool} → (line : ℕ) (xs : List Value) → Keeps q (new_tuple line xs)
-keeps-new_tuple line xs = search keeps depth 14
+pub respects-new_tuple : {w : Setting} {inv : Invariant w} → (line : ℕ) (xs : List Value) → Respects inv (new_tuple line xs)
+respects-new_tuple line xs = search respects depth 14
 
-pub keeps-new_list : {q : Bool} → (line : ℕ) (xs : List Value) → Keeps q (new_list line xs)
-keeps-new_list line xs = search keeps depth 14
+pub respects-new_list : {w : Setting} {inv : Invariant w} → (line : ℕ) (xs : List Value) → Respects inv (new_list line xs)
+respects-new_list line xs = search respects depth 14
+
+pub respects-count_of : (w : Setting) {inv : Invariant w} (line : ℕ) (v : Value) → Respects inv (count_of w line v)
+unfolding count_of
+respects-count_of w line v = search (respects, respects-with_content) depth 14
+
+pub respects-take_item : (w : Setting) {inv : Invariant w} (line : ℕ) (v : Value) (i : ℕ) → Respects inv (take_item w line v i)
+unfolding take_item
+respects-take_item w line v i = search (respects, respects-with_content) depth 14
+
+pub respects-take_items : (w : Setting) {inv : Invariant w} (line : ℕ) (v : Value) (n : ℕ) → Respects inv (take_items w line v n)
+respects-take_items w line v n = search (respects, respects-take_item) depth 14
+
+pub respects-take_all : (w : Setting) {inv : Invariant w} (line : ℕ) (v : Value) → Respects inv (take_all w line v)
+respects-take_all w line v = search (respects, respects-count_of, respects-take_items) depth 14
+
+pub respects-is_true : (w : Setting) {inv : Invariant w} (v : Value) → Respects inv (is_true w v)
+unfolding is_true
+respects-is_true w v = search respects depth 14
+
+pub respects-equal : (w : Setting) {inv : Invariant w} (levels : ℕ) (line : ℕ) (x : Value) (y : Value) → Respects inv (equal w levels line x y)
+unfolding equal
+respects-equal w levels line x y = search respects depth 14
+
+pub respects-compare : (w : Setting) {inv : Invariant w} (levels : ℕ) (line : ℕ) (x : Value) (y : Value) → Respects inv (compare w levels line x y)
+unfolding compare
+respects-compare w levels line x y = search respects depth 14
+
+pub respects-check_key : (w : Setting) {inv : Invariant w} (levels : ℕ) (line : ℕ) (k : Value) → Respects inv (check_key w levels line k)
+unfolding check_key
+respects-check_key w levels line k = search respects depth 14
+
+pub respects-repr : (w : Setting) {inv : Invariant w} (levels : ℕ) (line : ℕ) (v : Value) → Respects inv (repr w levels line v)
+unfolding repr
+respects-repr w levels line v = search respects depth 14
+
+pub respects-str_of : (w : Setting) {inv : Invariant w} (levels : ℕ) (line : ℕ) (v : Value) (a4 : Option (List ℕ)) → Respects inv (str_of w levels line v a4)
+respects-str_of w levels line v (Some t) = search respects depth 14
+respects-str_of w levels line v None = search (respects, respects-repr) depth 14
+
+pub respects-str : (w : Setting) {inv : Invariant w} (levels : ℕ) (line : ℕ) (v : Value) → Respects inv (str w levels line v)
+unfolding str
+respects-str w levels line v = search (respects, respects-with_content, respects-str_of) depth 14
+
+pub respects-guard : (w : Setting) {inv : Invariant w} (line : ℕ) (v : Value) → Respects inv (guard w line v)
+unfolding guard
+respects-guard w line v = search respects depth 14
 
 pub keeps-new_dict : {q : Bool} → (line : ℕ) (es : List (Value × Value)) → Keeps q (new_dict line es)
 keeps-new_dict line es = search keeps depth 14
-
-pub keeps-count_of : {q : Bool} → (w : Setting) (line : ℕ) (v : Value) → Keeps q (count_of w line v)
-unfolding count_of
-keeps-count_of w line v = search (keeps, keeps-with_content) depth 14
-
-pub keeps-take_item : {q : Bool} → (w : Setting) (line : ℕ) (v : Value) (i : ℕ) → Keeps q (take_item w line v i)
-unfolding take_item
-keeps-take_item w line v i = search (keeps, keeps-with_content) depth 14
-
-pub keeps-take_items : {q : Bool} → (w : Setting) (line : ℕ) (v : Value) (n : ℕ) → Keeps q (take_items w line v n)
-keeps-take_items w line v n = search (keeps, keeps-take_item) depth 14
-
-pub keeps-take_all : {q : Bool} → (w : Setting) (line : ℕ) (v : Value) → Keeps q (take_all w line v)
-keeps-take_all w line v = search (keeps, keeps-count_of, keeps-take_items) depth 14
-
-pub keeps-is_true : {q : Bool} → (w : Setting) (v : Value) → Keeps q (is_true w v)
-unfolding is_true
-keeps-is_true w v = search keeps depth 14
-
-pub keeps-equal : {q : Bool} → (w : Setting) (levels : ℕ) (line : ℕ) (x : Value) (y : Value) → Keeps q (equal w levels line x y)
-unfolding equal
-keeps-equal w levels line x y = search keeps depth 14
-
-pub keeps-compare : {q : Bool} → (w : Setting) (levels : ℕ) (line : ℕ) (x : Value) (y : Value) → Keeps q (compare w levels line x y)
-unfolding compare
-keeps-compare w levels line x y = search keeps depth 14
-
-pub keeps-check_key : {q : Bool} → (w : Setting) (levels : ℕ) (line : ℕ) (k : Value) → Keeps q (check_key w levels line k)
-unfolding check_key
-keeps-check_key w levels line k = search keeps depth 14
-
-pub keeps-repr : {q : Bool} → (w : Setting) (levels : ℕ) (line : ℕ) (v : Value) → Keeps q (repr w levels line v)
-unfolding repr
-keeps-repr w levels line v = search keeps depth 14
-
-pub keeps-str_of : {q : Bool} → (w : Setting) (levels : ℕ) (line : ℕ) (v : Value) (a4 : Option (List ℕ)) → Keeps q (str_of w levels line v a4)
-keeps-str_of w levels line v (Some t) = search keeps depth 14
-keeps-str_of w levels line v None = search (keeps, keeps-repr) depth 14
-
-pub keeps-str : {q : Bool} → (w : Setting) (levels : ℕ) (line : ℕ) (v : Value) → Keeps q (str w levels line v)
-unfolding str
-keeps-str w levels line v = search (keeps, keeps-with_content, keeps-str_of) depth 14
-
-pub keeps-guard : {q : Bool} → (w : Setting) (line : ℕ) (v : Value) → Keeps q (guard w line v)
-unfolding guard
-keeps-guard w line v = search keeps depth 14

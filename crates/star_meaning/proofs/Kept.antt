@@ -1,10 +1,5 @@
 -- Every run that ends well keeps its cells and its active definitions, by induction on the levels that may still be opened.
-use Rattle.std.proofs.Common.{ℕ, zero, suc}
-use Rattle.star_outline.specs.Syntax.{expression, target, position_of, form_of}
-use Rattle.star_meaning.specs.Program.{Setting, Variables}
 use Rattle.star_meaning.specs.Variables.{by_names}
-use Rattle.star_meaning.specs.Semantics.{Semantics}
-use Rattle.star_meaning.specs.Module.{meaning, nothing_opens, one_more, at_line}
 use Rattle.std.proofs.Common.{◌≡◌, subst}
 use Rattle.star_meaning.specs.Run.{State, Outcome, Done}
 use Rattle.star_meaning.specs.Laws.{Grows, Grown, Kept, RunsKeep}

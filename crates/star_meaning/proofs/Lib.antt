@@ -7,6 +7,7 @@ pub mod DefinedFiles
 pub mod DefinedParts
 pub mod Extends
 pub mod Growth
+pub mod Invariants
 pub mod Keeps
 pub mod KeepsArguments
 pub mod KeepsBinding
@@ -44,4 +45,5 @@ pub mod Rows
 pub mod Runs
 pub mod Spending
 pub mod Stays
+pub mod Through
 pub mod UsesOf

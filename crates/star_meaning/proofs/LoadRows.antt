@@ -12,7 +12,6 @@ use Rattle.star_tree.specs.declared.tree.Parameter.{out-Parameter}
 use Rattle.star_tree.specs.declared.tree.Statement.{Statement}
 use Rattle.star_tree.specs.declared.tree.Form.{out-Form}
 use Rattle.star_tree.specs.declared.tree.Form.TheVariants as f
-use Rattle.star_tree.specs.declared.tree.Name.{Name}
 use Rattle.star_store.specs.Store.{Shelf}
 use Rattle.star_outline.specs.Outlines.{Outline}
 use Rattle.star_meaning.specs.Module.{union, local, Local, Good, Stopped}

@@ -1,18 +1,8 @@
 -- Visits of values only lower the steps: equality, order, key checks and texts.
-use Rattle.star_store.specs.declared.values.Value.{Value}
-use Rattle.star_store.specs.declared.values.Value.TheVariants as value
-use Rattle.star_store.specs.declared.values.Cell.{Cell}
-use Rattle.star_store.specs.declared.values.Cell.TheVariants as cell
 use Rattle.star_store.specs.declared.fault.StoreFault.{StoreFault}
 use Rattle.star_store.specs.declared.fault.StoreFault.TheVariants as refused
-use Rattle.star_store.specs.Key.{check_each, check_cell, check_value, check}
-use Rattle.star_store.specs.Equal.{same_pair, same_place, same_items, same_found, same_pairs, same_entry, same_entries, same_cells, same_values, same}
-use Rattle.std.specs.declared.cmp.Ordering.{Ordering}
-use Rattle.star_store.specs.Order.{order_places, order_pair, order_place, order_items, order_cells, order_values, order}
-use Rattle.star_store.specs.Text.{say, say_parts, then_say, all_said, say_item, say_place, say_items, say_pair, say_entry, say_entries, say_tuple, say_new_list, say_new_dict, say_list, say_dict, say_cell, say_value, text}
-use Rattle.std.proofs.Common.{◌≤◌, ℕ, zero, suc, ◌+◌, ◌-◌, List, [], ◌∷◌, Option, Some, None, Bool, true, false, if◌then◌else◌, arith, nat_lt}
-use Rattle.star_store.specs.Spend.{Spend, Spent, Enough, Lacks, answer, spend_then, visited, all_places}
-use Rattle.star_meaning.specs.Values.{bare}
+use Rattle.std.proofs.Common.{◌≤◌, ℕ, ◌-◌, Bool, true, false, if◌then◌else◌, arith, nat_lt}
+use Rattle.star_store.specs.Spend.{Spend, Spent, Enough, Lacks, answer, spend_then, visited}
 
 -- after an answer no more steps are left than before it
 abbrev pub Falls : {A : Type 0} → ℕ → Spent A → Type 0
@@ -42,21 +32,9 @@ lowers_enough x n = omega arith
 pub lowers_lacks : (A : Type 0) (f : StoreFault) → Lowers {A = A} (λ n. Lacks f n)
 lowers_lacks A f n = tt
 
-pub lowers_if : {A : Type 0} (b : Bool) (o p : Spend A) → Lowers o → Lowers p → Lowers (if b then o else p)
-lowers_if true o p h k = h
-lowers_if false o p h k = k
-
-pub lowers_choice : {A : Type 0} (b : Bool) (o p : Spend A) → Lowers o → Lowers p → Lowers (λ n. if b then o n else p n)
-lowers_choice true o p h k = h
-lowers_choice false o p h k = k
-
 visited_if : {A : Type 0} (b : Bool) (n : ℕ) (o : Spend A) → Lowers o → Falls n (if b then Lacks refused.Steps n else o (n - 1))
 visited_if true n o h = tt
 visited_if false n o h = to_lower n (n - 1) (o (n - 1)) (omega arith) (h (n - 1))
 
 pub lowers_visited : {A : Type 0} (o : Spend A) → Lowers o → Lowers (visited o)
 lowers_visited o h n = visited_if (nat_lt n 1) n o h
-
-pub lowers_places : (f : ℕ → Spend Bool) (n i : ℕ) → ((i : ℕ) → Lowers (f i)) → Lowers (all_places f n i)
-lowers_places f zero i k = lowers_answer true
-lowers_places f (suc n) i k = lowers_then (f i) _ (k i) (λ b. lowers_if b _ _ (lowers_places f n (i + 1) k) (lowers_answer false))

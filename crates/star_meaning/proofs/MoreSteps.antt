@@ -1,13 +1,11 @@
 -- A file that does not end for want of steps means the same with more steps, by induction on the levels that may still be opened.
-use Rattle.std.proofs.Common.{◌≡◌, ℕ, zero, suc, ◌+◌, List, refl, false}
+use Rattle.std.proofs.Common.{◌≡◌, ℕ, ◌+◌, List, refl, false}
 use Rattle.star_store.specs.declared.values.Value.{Value}
 use Rattle.star_tree.specs.declared.tree.Statement.{Statement}
-use Rattle.star_outline.specs.Syntax.{expression, target, position_of, form_of}
 use Rattle.star_meaning.specs.Run.{Outcome, Done, Failed}
 use Rattle.star_meaning.specs.Program.{Setting, Variables}
 use Rattle.star_meaning.specs.Variables.{by_names}
-use Rattle.star_meaning.specs.Semantics.{Semantics}
-use Rattle.star_meaning.specs.Module.{meaning, nothing_opens, one_more, at_line, end, Ended, run_file, local, local_of, start, most_levels}
+use Rattle.star_meaning.specs.Module.{meaning, end, Ended, run_file, local, local_of, start, most_levels}
 use Rattle.star_meaning.specs.Laws.{IsNotForSteps}
 use Rattle.star_meaning.proofs.Extends.{NotForSteps, later}
 use Rattle.star_meaning.proofs.Keeps.{keeps, Keeps, AllKeep, VariablesKeep}

@@ -17,12 +17,13 @@ use Rattle.star_store.specs.Spend.{Spend, Spent, Enough, Lacks}
 use Rattle.star_store.specs.Write.{allowed, made_if, in_store, cell_at}
 use Rattle.star_meaning.specs.declared.fault.FaultCode.{FaultCode}
 use Rattle.star_meaning.specs.declared.fault.FaultCode.TheVariants as code
-use Rattle.star_meaning.specs.Run.{State, Outcome, Done, Failed, Action, and_then, ◌>>=◌, give, fail, pay, check, found, settled, visiting, seeing, storing, make, build, add_line}
+use Rattle.star_meaning.specs.Run.{State, Outcome, Done, Action, ◌>>=◌, give, fail, pay, check, found, settled, visiting, seeing, storing, make, build, add_line}
 use Rattle.star_meaning.specs.Program.{Setting}
 use Rattle.star_meaning.specs.Values.{written, change, iterate, leave, count_of}
 use Rattle.star_meaning.specs.Laws.{KeepsFrame, KeepsKind}
 use Rattle.star_meaning.specs.Calls.{activate, deactivate, rest_of}
 use Rattle.star_meaning.proofs.Stays as stays
+use Rattle.star_meaning.proofs.Through.{Through, through_then}
 
 -- after it all frames are the same frames, and no function is new
 pub record Follows (s t : State) : Type 0 where
@@ -31,8 +32,7 @@ pub record Follows (s t : State) : Type 0 where
   pub functions : (at : ℕ) (f : Function) → cell_at t.store.cells at ≡ Some (cell.Func f) → cell_at s.store.cells at ≡ Some (cell.Func f)
 
 abbrev pub Followed : {A : Type 0} → State → Outcome A → Type 0
-Followed s (Done x t) = Follows s t
-Followed s (Failed f lines) = Unit {0}
+Followed s o = Through Follows s o
 
 pub record Keeps {A : Type 0} (m : Action A) : Type 0 where
   pub holds : (s : State) → Followed s (m s)
@@ -54,16 +54,8 @@ follows_on s t u h k = record {
   functions = λ at f e. h.functions at f (k.functions at f e);
 }
 
-followed_on : {A : Type 0} (s u : State) → Follows s u → (o : Outcome A) → Followed u o → Followed s o
-followed_on s u h (Done x t) k = follows_on s u t h k
-followed_on s u h (Failed f lines) k = tt
-
-followed_then : {A B : Type 0} (s : State) (o : Outcome A) (f : A → Action B) → Followed s o → ((x : A) → Keeps (f x)) → Followed s (and_then o f)
-followed_then s (Done x u) f h k = followed_on s u h (f x u) ((k x).holds u)
-followed_then s (Failed e lines) f h k = tt
-
 pub keeps_then : {A B : Type 0} (m : Action A) (f : A → Action B) → Keeps m → ((x : A) → Keeps (f x)) → Keeps (m >>= f)
-keeps_then m f k l = record { holds = λ s. followed_then s (m s) f (k.holds s) l }
+keeps_then m f k l = record { holds = λ s. through_then Follows follows_on s (m s) f (k.holds s) (λ x u. (l x).holds u) }
 
 pub keeps_give : {A : Type 0} (x : A) → Keeps (give x)
 keeps_give x = record { holds = λ s. follows_same s s.active s.steps s.lines }

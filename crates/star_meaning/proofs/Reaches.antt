@@ -1,18 +1,8 @@
 -- Visits of values that are not refused for want of steps are the same with more steps.
-use Rattle.star_store.specs.declared.values.Value.{Value}
-use Rattle.star_store.specs.declared.values.Value.TheVariants as value
-use Rattle.star_store.specs.declared.values.Cell.{Cell}
-use Rattle.star_store.specs.declared.values.Cell.TheVariants as cell
 use Rattle.star_store.specs.declared.fault.StoreFault.{StoreFault}
 use Rattle.star_store.specs.declared.fault.StoreFault.TheVariants as refused
-use Rattle.star_store.specs.Key.{check_each, check_cell, check_value, check}
-use Rattle.star_store.specs.Equal.{same_pair, same_place, same_items, same_found, same_pairs, same_entry, same_entries, same_cells, same_values, same}
-use Rattle.std.specs.declared.cmp.Ordering.{Ordering}
-use Rattle.star_store.specs.Order.{order_places, order_pair, order_place, order_items, order_cells, order_values, order}
-use Rattle.star_store.specs.Text.{say, say_parts, then_say, all_said, say_item, say_place, say_items, say_pair, say_entry, say_entries, say_tuple, say_new_list, say_new_dict, say_list, say_dict, say_cell, say_value, text}
-use Rattle.std.proofs.Common.{◌≡◌, ◌≤◌, ◌≢◌, refl, ℕ, zero, suc, ◌+◌, ◌-◌, List, [], ◌∷◌, Option, Some, None, Bool, true, false, if◌then◌else◌, arith, nat_lt}
-use Rattle.star_store.specs.Spend.{Spend, Spent, Enough, Lacks, answer, spend_then, visited, all_places}
-use Rattle.star_meaning.specs.Values.{bare}
+use Rattle.std.proofs.Common.{◌≡◌, ◌≤◌, ◌≢◌, refl, ℕ, ◌+◌, ◌-◌, Bool, true, false, if◌then◌else◌, arith, nat_lt}
+use Rattle.star_store.specs.Spend.{Spend, Spent, Enough, Lacks, answer, spend_then, visited}
 use Rattle.std.proofs.lemmas.Bool.{ltb-false}
 
 -- a refusal for want of steps
@@ -44,14 +34,6 @@ reaches_enough x k n e = refl
 pub reaches_lacks : (A : Type 0) (f : StoreFault) → Reaches {A = A} (λ n. Lacks f n)
 reaches_lacks A f k n e = refl
 
-pub reaches_if : {A : Type 0} (b : Bool) (o p : Spend A) → Reaches o → Reaches p → Reaches (if b then o else p)
-reaches_if true o p h k = h
-reaches_if false o p h k = k
-
-pub reaches_choice : {A : Type 0} (b : Bool) (o p : Spend A) → Reaches o → Reaches p → Reaches (λ n. if b then o n else p n)
-reaches_choice true o p h k = h
-reaches_choice false o p h k = k
-
 visited_if : {A : Type 0} (b : Bool) (k n : ℕ) (o : Spend A) → nat_lt n 1 ≡ b → Reaches o → NotForWant (if b then Lacks refused.Steps n else o (n - 1)) → (if nat_lt (n + k) 1 then Lacks refused.Steps (n + k) else o (n + k - 1)) ≡ further k (if b then Lacks refused.Steps n else o (n - 1))
 visited_if true k n o e h c = absurd (c refl)
 visited_if false k n o e h c =
@@ -62,7 +44,3 @@ visited_if false k n o e h c =
 
 pub reaches_visited : {A : Type 0} (o : Spend A) → Reaches o → Reaches (visited o)
 reaches_visited o h k n c = visited_if (nat_lt n 1) k n o refl h c
-
-pub reaches_places : (f : ℕ → Spend Bool) (n i : ℕ) → ((i : ℕ) → Reaches (f i)) → Reaches (all_places f n i)
-reaches_places f zero i k = reaches_answer true
-reaches_places f (suc n) i k = reaches_then (f i) _ (k i) (λ b. reaches_if b _ _ (reaches_places f n (i + 1) k) (reaches_answer false))

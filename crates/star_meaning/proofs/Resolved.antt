@@ -1,23 +1,22 @@
 -- The tables that the programs of files give are right for each of these files.
-use Rattle.std.proofs.Common.{◌≡◌, ℕ, List, [], ◌∷◌, map, length, Option, Some, None, Bool, true, false, slice_get, if◌then◌else◌, nat_eq, refl, ap, sym, ◌∙◌, subst}
+use Rattle.std.proofs.Common.{◌≡◌, ℕ, List, map, length, Option, Some, None, Bool, true, false, slice_get, if◌then◌else◌, nat_eq, refl, ap, sym, ◌∙◌, subst}
 use Rattle.std.specs.Option.{option_map, option_flatten}
 use Rattle.std.proofs.lemmas.Option.{slice_get-map}
 use Rattle.star_tree.specs.declared.tree.Statement.{Statement}
 use Rattle.star_scope.specs.declared.program.Prelude.{Prelude}
 use Rattle.star_scope.specs.declared.program.Program.{Program}
-use Rattle.star_scope.specs.declared.spot.Spot.{Spot}
 use Rattle.star_outline.specs.declared.blocks.Block.{Block}
 use Rattle.star_outline.specs.Definitions.{AllDiffer, Definition}
 use Rattle.star_outline.specs.Names.{Names}
-use Rattle.star_outline.specs.Outlines.{Outline, names_in, outline, file_names}
+use Rattle.star_outline.specs.Outlines.{names_in, outline}
 use Rattle.star_scope.specs.Places.{AllPlaced, Spots}
-use Rattle.star_scope.specs.Resolve.{IsProgram, prelude_names, seen_by}
+use Rattle.star_scope.specs.Resolve.{prelude_names, seen_by}
 use Rattle.star_scope.specs.Spots.{spot_at}
 use Rattle.star_scope.specs.Uses.{uses}
 use Rattle.star_meaning.specs.Program.{Setting, blocks_in, blocks_of, names_of, outline_of}
 use Rattle.star_meaning.specs.Local.{Trees, outlines}
 use Rattle.star_meaning.specs.Places.{IsResolved, Stands, outer_names}
-use Rattle.star_meaning.specs.Programs.{ArePrograms, Files, PlacedFile, ProgramsPlaceNames, file_in, placed_file, prelude_in, slots_in, spots_in, tables_of, trees_of}
+use Rattle.star_meaning.specs.Programs.{Files, PlacedFile, ProgramsPlaceNames, file_in, placed_file, prelude_in, slots_in, spots_in, tables_of, trees_of}
 
 -- a file with statements is placed
 stands_by : (o : Option (Option PlacedFile)) (ss : List Statement) → option_map (option_map (λ f. f.statements)) o ≡ Some (Some ss) → (f : PlacedFile) × (option_flatten o ≡ Some f) × (f.statements ≡ ss)

@@ -5,14 +5,13 @@ use Rattle.star_store.specs.declared.values.Value.TheVariants as value
 use Rattle.star_store.specs.declared.values.Cell.{Cell}
 use Rattle.star_store.specs.declared.values.Cell.TheVariants as cell
 use Rattle.star_store.specs.declared.fault.StoreFault.{StoreFault}
-use Rattle.star_store.specs.declared.fault.StoreFault.TheVariants as refused
 use Rattle.star_store.specs.Key.{check_each, check_cell, check_value, check}
 use Rattle.star_store.specs.Equal.{same_pair, same_place, same_items, same_found, same_pairs, same_entry, same_entries, same_cells, same_values, same}
 use Rattle.std.specs.declared.cmp.Ordering.{Ordering}
 use Rattle.star_store.specs.Order.{order_places, order_pair, order_place, order_items, order_cells, order_values, order}
 use Rattle.star_store.specs.Text.{say, say_parts, then_say, all_said, say_item, say_place, say_items, say_pair, say_entry, say_entries, say_tuple, say_new_list, say_new_dict, say_list, say_dict, say_cell, say_value, text}
-use Rattle.std.proofs.Common.{◌≤◌, ℕ, zero, suc, ◌+◌, ◌-◌, List, [], ◌∷◌, Option, Some, None, Bool, true, false, if◌then◌else◌, arith, nat_lt}
-use Rattle.star_store.specs.Spend.{Spend, Spent, Enough, Lacks, answer, spend_then, visited, all_places}
+use Rattle.std.proofs.Common.{ℕ, zero, suc, ◌+◌, List, [], ◌∷◌, Option, Some, None, Bool, true, false, if◌then◌else◌}
+use Rattle.star_store.specs.Spend.{Spend, Enough, Lacks, answer, spend_then, visited, all_places}
 use Rattle.star_meaning.specs.Values.{bare}
 use Rattle.star_meaning.proofs.Lowers as down
 use Rattle.star_meaning.proofs.Reaches as far
@@ -34,16 +33,19 @@ spends_lacks : (A : Type 0) (f : StoreFault) → Spends {A = A} (λ n. Lacks f n
 spends_lacks A f = record { lowers = down.lowers_lacks A f; reaches = far.reaches_lacks A f }
 
 spends_if : {A : Type 0} (b : Bool) (o p : Spend A) → Spends o → Spends p → Spends (if b then o else p)
-spends_if b o p h k = record { lowers = down.lowers_if b o p h.lowers k.lowers; reaches = far.reaches_if b o p h.reaches k.reaches }
+spends_if true o p h k = h
+spends_if false o p h k = k
 
 spends_choice : {A : Type 0} (b : Bool) (o p : Spend A) → Spends o → Spends p → Spends (λ n. if b then o n else p n)
-spends_choice b o p h k = record { lowers = down.lowers_choice b o p h.lowers k.lowers; reaches = far.reaches_choice b o p h.reaches k.reaches }
+spends_choice true o p h k = h
+spends_choice false o p h k = k
 
 spends_visited : {A : Type 0} (o : Spend A) → Spends o → Spends (visited o)
 spends_visited o h = record { lowers = down.lowers_visited o h.lowers; reaches = far.reaches_visited o h.reaches }
 
 spends_places : (f : ℕ → Spend Bool) (n i : ℕ) → ((i : ℕ) → Spends (f i)) → Spends (all_places f n i)
-spends_places f n i k = record { lowers = down.lowers_places f n i (λ j. (k j).lowers); reaches = far.reaches_places f n i (λ j. (k j).reaches) }
+spends_places f zero i k = spends_answer true
+spends_places f (suc n) i k = spends_then (f i) _ (k i) (λ b. spends_if b _ _ (spends_places f n (i + 1) k) (spends_answer false))
 
 ruleset spends = (spends_then, spends_answer, spends_enough, spends_lacks, spends_if, spends_choice, spends_visited, spends_places)
 

@@ -13,22 +13,16 @@ use Rattle.star_store.specs.declared.fault.StoreFault.{StoreFault}
 use Rattle.star_store.specs.Store.{Store, Shelf, look, changed, changed_at, bound, bound_cell, opened, opened_in, closed, closed_in, is_container, iterations_in, iterations_of}
 use Rattle.star_store.specs.Spend.{Spend, Spent, Enough, Lacks}
 use Rattle.star_store.specs.Write.{allowed, made_if, in_store, in_cell, change_cell, change_items, change_entries}
-use Rattle.star_tree.specs.declared.tree.Expression.{Expression}
-use Rattle.star_tree.specs.declared.tree.Statement.{Statement}
-use Rattle.star_tree.specs.declared.tree.Target.{Target}
-use Rattle.star_tree.specs.declared.tree.Name.{Name}
 use Rattle.star_meaning.specs.declared.fault.FaultCode.{FaultCode}
 use Rattle.star_meaning.specs.declared.fault.FaultCode.TheVariants as code
-use Rattle.star_meaning.specs.declared.site.Site.{Site}
 use Rattle.star_meaning.specs.Run.{State, Outcome, Done, Failed, Action, and_then, ◌>>=◌, give, fail, pay, found, settled, visiting, seeing, storing, make, build, add_line}
-use Rattle.star_outline.specs.Definitions.{Definition}
-use Rattle.star_meaning.specs.Program.{Setting, Variables}
+use Rattle.star_meaning.specs.Program.{Setting}
 use Rattle.star_meaning.specs.Values.{written, change, iterate, leave, count_of, count_in, content}
 use Rattle.std.proofs.lemmas.Bool.{and_parts, eqb-true}
 use Rattle.star_store.specs.declared.fault.StoreFault.TheVariants as refused
-use Rattle.star_meaning.specs.Binding.{BoundArgument}
 use Rattle.star_meaning.specs.Laws.{KeepsFrame, KeepsKind, KeepsCell}
 use Rattle.star_meaning.specs.Calls.{activate, deactivate, rest_of}
+use Rattle.star_meaning.proofs.Through.{Through, through_then}
 
 kind_same : (c : Cell) → KeepsKind c c
 kind_same (cell.List xs) = (xs, refl)
@@ -71,8 +65,7 @@ pub record Stays (s t : State) : Type 0 where
   pub active : t.active ≡ s.active
 
 abbrev pub Preserved : {A : Type 0} → State → Outcome A → Type 0
-Preserved s (Done x t) = Stays s t
-Preserved s (Failed f lines) = Unit {0}
+Preserved s o = Through Stays s o
 
 pub record Keeps {A : Type 0} (m : Action A) : Type 0 where
   pub holds : (s : State) → Preserved s (m s)
@@ -96,16 +89,8 @@ stays_on s t u h k = record {
   active = k.active ∙ h.active;
 }
 
-preserved_on : {A : Type 0} (s u : State) → Stays s u → (o : Outcome A) → Preserved u o → Preserved s o
-preserved_on s u h (Done x t) k = stays_on s u t h k
-preserved_on s u h (Failed f lines) k = tt
-
-preserved_then : {A B : Type 0} (s : State) (o : Outcome A) (f : A → Action B) → Preserved s o → ((x : A) → Keeps (f x)) → Preserved s (and_then o f)
-preserved_then s (Done x u) f h k = preserved_on s u h (f x u) ((k x).holds u)
-preserved_then s (Failed e lines) f h k = tt
-
 pub keeps_then : {A B : Type 0} (m : Action A) (f : A → Action B) → Keeps m → ((x : A) → Keeps (f x)) → Keeps (m >>= f)
-keeps_then m f k l = record { holds = λ s. preserved_then s (m s) f (k.holds s) l }
+keeps_then m f k l = record { holds = λ s. through_then Stays stays_on s (m s) f (k.holds s) (λ x u. (l x).holds u) }
 
 pub keeps_give : {A : Type 0} (x : A) → Keeps (give x)
 keeps_give x = record { holds = λ s. stays_same s s.steps s.lines }

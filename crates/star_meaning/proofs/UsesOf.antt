@@ -1,5 +1,5 @@
 -- The names and definitions in a part of the tree, one level at a time.
-use Rattle.std.proofs.Common.{◌≡◌, ◌+◌, ℕ, List, [], ◌∷◌, ◌++◌, refl, ap, sym, ◌∙◌, map, arith, subst}
+use Rattle.std.proofs.Common.{◌≡◌, ℕ, List, [], ◌∷◌, ◌++◌, refl, ap, sym, ◌∙◌, map, arith, subst}
 use Rattle.std.specs.List.{Contains}
 use Rattle.std.proofs.lemmas.List.Elements.{Contains-append_left, Contains-append_right}
 use Rattle.star_tree.specs.declared.tree.Argument.{Argument, out-Argument, roll-Argument, roll-out-Argument}
@@ -10,10 +10,9 @@ use Rattle.star_tree.specs.declared.tree.Target.{Target, out-Target, roll-Target
 use Rattle.star_tree.specs.declared.tree.Argument.TheOpen as tree
 use Rattle.star_tree.specs.declared.tree.Argument.TheFolds.{fold-roll-Argument, fold-roll-Clause, fold-roll-Parameter, fold-roll-Target}
 use Rattle.star_tree.specs.declared.tree.Form.{Form, out-Form, roll-out-Form}
-use Rattle.star_tree.specs.declared.tree.Form.TheOpen as form
 use Rattle.star_tree.specs.declared.tree.Statement.{Statement, out-Statement}
 use Rattle.star_outline.specs.Syntax.{ArgumentForm, ClauseForm, ParameterForm, TargetForm, argument, clause, expression, form_of, parameter, position_of, target}
-use Rattle.star_scope.specs.Uses.{ClauseUses, Named, ParameterUses, Use, Within, all_uses, argument_uses, clause_uses, clauses_uses, each_use, entry_uses, expression_uses, in_argument, in_clause, in_expression, in_form, in_parameter, in_parameters, in_statement, in_target, one_use, parameter_uses, target_uses}
+use Rattle.star_scope.specs.Uses.{ClauseUses, ParameterUses, Use, Within, all_uses, argument_uses, clause_uses, clauses_uses, each_use, entry_uses, expression_uses, in_argument, in_clause, in_expression, in_form, in_parameter, in_parameters, in_statement, in_target, one_use, parameter_uses, target_uses}
 use Rattle.star_scope.proofs.UseForms.{expression_level, of as by_level}
 use Rattle.star_scope.proofs.StatementForms.{form_level, of as by_form, statement_opened}
 use Rattle.star_meaning.proofs.Agree.{Every}

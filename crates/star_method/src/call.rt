@@ -13,11 +13,13 @@ use star_store::values::Value;
 /// A call of a built-in function or of a method. A method's receiver is beside it.
 #[derive(Clone, Copy)]
 pub struct Call<'a> {
+    /// What the running file is given.
     pub setting: &'a Setting<'a>,
     /// How deep comparisons and texts may go.
     pub levels: u32,
     /// The line of the call, and of its faults.
     pub line: usize,
+    /// The evaluated arguments.
     pub given: &'a Arguments,
 }
 

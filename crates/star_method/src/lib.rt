@@ -1,14 +1,14 @@
 //! The methods of lists, dictionaries and strings, but for `format` (`docs/LANGUAGE.md`, "Methods").
 //!
-//! There is a function `call_..` for each method. In the order of its definition it unpacks the arguments, asks whether
-//! the receiver may be written, pays, and does the work.
+//! There is a function `call_..` for each method, or for two or three that differ in one step. In the order of its
+//! definition it unpacks the arguments, asks whether the receiver may be written, pays, and does the work.
 //!
 //! - `lists`, `dicts` and `texts` have the methods of a type; `parts` has `split` and `replace`.
-//! - `pairs` has the pairs that `update` takes, `characters` goes over strings character by character.
+//! - `pairs` has the pairs that `dict` and `update` take, `characters` goes over strings character by character.
 //!
 //! Begin at the function of the method that you look for. Which value has which methods is decided in `star_attribute`.
-//! Each is given a `Call`. The other types are helpers: `Pairs`, and `Set` and `Lookup` for the characters that `strip`
-//! takes off.
+//! Each function is given a `Call`. `Listed` and `Keyed` say which method is called; the other types are helpers:
+//! `Pairs`, and `Set` and `Lookup` for the characters that `strip` takes off.
 //!
 //! The promise of each `call_..` is `Refines` of `star_machine`: it has the result of its definition in `star_meaning`
 //! (`ListMethods`, `DictMethods`, `TextMethods`). `docs/EXTENDING.md` goes through the places that a new method

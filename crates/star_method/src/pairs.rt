@@ -78,7 +78,7 @@ fn taken_entries(
 ) -> Result<Entries, EvalError>
     ensures { Refines (spec.taken_entries line entries.now machine.old) result machine.new }
 {
-    let mut taken = Entries::new(machine.alloc());
+    let mut taken = Entries::with_capacity(machine.alloc(), entries.len())?;
     for entry in entries {
         let (key, value) = taken_entry(machine, line, *entry)?;
         taken.push(key, value)?;
@@ -147,7 +147,8 @@ pub fn pairs_count(
     }
 }
 
-/// The pairs of the argument with `count` items; no pairs without an argument.
+/// The pairs of the argument with `count` items; no pairs without an argument. `BadType` if an item is not iterable,
+/// `BadValue` for one without two items.
 #[tactic(auto, unfolding(star_meaning::specs::Pairs::pairs_of))]
 pub fn pairs_of(
     machine: &mut Machine,
@@ -167,7 +168,7 @@ pub fn pairs_of(
     }
 }
 
-/// Checks a key unless it is one already.
+/// Checks a key unless it is one already. `BadType` if it is not hashable.
 pub fn check_pair(
     machine: &mut Machine,
     setting: &Setting,

@@ -4,7 +4,8 @@ ghost use Rattle.std.specs.Prelude.{◌≡◌, ◌<◌, IfOk, length};
 ghost use Rattle.star_meaning.specs.BuiltIns.{joined};
 ghost use Rattle.star_machine.specs.Refines.{Refines, RefinesBy};
 ghost use Rattle.star_machine.specs.Kinds.{bytes_of};
-ghost use Rattle.star_meaning.specs.Run.{each};
+ghost use Rattle.star_meaning.specs.Arguments.{positional};
+ghost use Rattle.star_meaning.specs.Run.{and_then, each};
 ghost use Rattle.star_meaning.specs.TextMethods as spec;
 ghost use Rattle.star_meaning.specs.Texts as texts;
 ghost use Rattle.star_meaning.specs.Values.{content, new_text};
@@ -137,20 +138,16 @@ fn replaced(
     Text::of(made)
 }
 
-/// Two or three values. `Args` for fewer or more.
-fn two_or_three(
-    machine: &Machine,
-    line: usize,
-    values: &[Value],
-) -> Result<(Value, Value, Option<Value>), EvalError>
+/// Two or three values. `Args` for fewer or more, and for a keyword argument.
+fn two_or_three(machine: &Machine, call: &Call) -> Result<(Value, Value, Option<Value>), EvalError>
     ensures { RefinesBy (λ r. record { old = r.0; new = r.1; cuts = r.2 })
-        (spec.two_or_three line values.now machine.now)
+        (and_then (positional call.now.line call.now.given.now machine.now) (spec.two_or_three call.now.line))
         result machine.now }
 {
-    match values {
+    match machine.positional(call.line, call.given)? {
         [old, new] => Ok((*old, *new, None)),
         [old, new, cuts] => Ok((*old, *new, Some(*cuts))),
-        _ => Err(fault_at(FaultCode::Args, line)),
+        _ => Err(fault_at(FaultCode::Args, call.line)),
     }
 }
 
@@ -160,11 +157,7 @@ pub fn call_replace(machine: &mut Machine, text: Value, call: &Call) -> Result<V
     ensures { Refines (spec.call_replace call.now.setting.now call.now.line
         (bytes_of (content call.now.setting.now machine.old text)) call.now.given.now machine.old) result machine.new }
 {
-    let (old, new, cuts) = two_or_three(
-        machine,
-        call.line,
-        machine.positional(call.line, call.given)?,
-    )?;
+    let (old, new, cuts) = two_or_three(machine, call)?;
     machine.check_text(call.setting, call.line, old)?;
     machine.check_text(call.setting, call.line, new)?;
     let cuts = want_cuts(machine, call.setting, call.line, cuts)?;

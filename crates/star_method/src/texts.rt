@@ -5,7 +5,9 @@
 
 ghost use Rattle.std.specs.Prelude.{◌≡◌, ◌≤◌, ◌++◌, if◌then◌else◌, IfOk, OnOk, is_some, length, map, pos, string_bytes};
 ghost use Rattle.std.specs.List.{list_any};
+ghost use Rattle.star_meaning.specs.Arguments.{positional};
 ghost use Rattle.star_meaning.specs.BuiltIns.{joined};
+ghost use Rattle.star_meaning.specs.Run.{and_then};
 ghost use Rattle.star_machine.specs.Refines.{Refines, RefinesBy};
 ghost use Rattle.star_machine.specs.Kinds.{bytes_of};
 ghost use Rattle.star_meaning.specs.Operators as operators;
@@ -84,21 +86,20 @@ pub fn call_case(
     machine.new_text(call.line, made)
 }
 
-/// One to three values. `Args` for none or more.
+/// One to three values. `Args` for none or more, and for a keyword argument.
 fn one_to_three(
     machine: &Machine,
-    line: usize,
-    values: &[Value],
+    call: &Call,
 ) -> Result<(Value, Option<Value>, Option<Value>), EvalError>
     ensures { RefinesBy (λ r. record { what = r.0; from = r.1; to = r.2 })
-        (spec.one_to_three line values.now machine.now)
+        (and_then (positional call.now.line call.now.given.now machine.now) (spec.one_to_three call.now.line))
         result machine.now }
 {
-    match values {
+    match machine.positional(call.line, call.given)? {
         [what] => Ok((*what, None, None)),
         [what, from] => Ok((*what, Some(*from), None)),
         [what, from, to] => Ok((*what, Some(*from), Some(*to))),
-        _ => Err(fault_at(FaultCode::Args, line)),
+        _ => Err(fault_at(FaultCode::Args, call.line)),
     }
 }
 
@@ -147,11 +148,7 @@ pub fn call_find(machine: &mut Machine, text: Value, call: &Call) -> Result<Valu
     ensures { Refines (spec.call_find call.now.setting.now call.now.line
         (bytes_of (content call.now.setting.now machine.old text)) call.now.given.now machine.old) result machine.new }
 {
-    let (part, from, to) = one_to_three(
-        machine,
-        call.line,
-        machine.positional(call.line, call.given)?,
-    )?;
+    let (part, from, to) = one_to_three(machine, call)?;
     machine.check_text(call.setting, call.line, part)?;
     let from = want_part(machine, call.setting, call.line, from)?;
     let to = want_part(machine, call.setting, call.line, to)?;

@@ -1,6 +1,6 @@
 -- Two plans that agree on all that some files need have a part in common, and these files have the same runs, results,
 -- outcomes, modules and ends in each plan and in that part.
-use Rattle.std.proofs.Common.{◌≡◌, ℕ, zero, suc, ◌+◌, Bool, true, false, List, [], ◌∷◌, arith, map, Option, Some, None, refl, ap, sym, subst, ◌∙◌, if◌then◌else◌}
+use Rattle.std.proofs.Common.{◌≡◌, ◌↔◌, ℕ, zero, suc, ◌+◌, Bool, true, false, List, [], ◌∷◌, arith, map, Option, Some, None, refl, ap, sym, subst, ◌∙◌, if◌then◌else◌}
 use Rattle.std.specs.Prelude.{Contains, slice_get}
 use Rattle.std.specs.Option.{option_flatten}
 use Rattle.star_cache.specs.State.{Loads}
@@ -8,7 +8,9 @@ use Rattle.star_label.specs.Files.{File}
 use Rattle.star_meaning.specs.Module.{Local}
 use Rattle.star_plan.specs.Plan.{Plan, Reading, loaded, loads_in, read_of, tree_in}
 use Rattle.star_plan.specs.Reading.{IsPlanOf}
+use Rattle.star_plan.specs.Report.{IsEnded}
 use Rattle.star_plan.specs.Results.{AreGood, IsOutcome, Outcome, Ran}
+use Rattle.star_plan.specs.Shelves.{IsOwn}
 use Rattle.star_plan.proofs.Causes.{here, there}
 use Rattle.star_needs.specs.Agree.{AgreeAmong, IsPartOf}
 use Rattle.star_needs.specs.Laws.{OneEndByNeeds, OneModuleByNeeds, OneOutcomeByNeeds, OneResultByNeeds, OneRunByNeeds}
@@ -105,26 +107,20 @@ one_result_by_needs files others p q is also is_in a n h d =
     let two = same_two others p q also is_in a n h in
     sym (result_by_needs (common is_in p) p n one.0 one.1 d) ∙ result_by_needs (common is_in p) q n two.0 two.1 d
 
-pub one_outcome_by_needs : OneOutcomeByNeeds
-one_outcome_by_needs files others p q is also is_in a n h o =
+-- what agrees wherever all that it needs agrees is the same in both plans
+across : (files others : List File) (p q : Plan) → IsPlanOf files p → IsPlanOf others q → (is_in : ℕ → Bool) → AgreeAmong is_in p q → (n : ℕ) → is_in n ≡ true → (P : Plan → Type 0) → ((r s : Plan) → Agree r s n → AllRunsAgree r s n → P r ↔ P s) → P p ↔ P q
+across files others p q is also is_in a n h P by =
     let one = same_one files p q is is_in a n h in
     let two = same_two others p q also is_in a n h in
-    let x = outcome_by_needs (common is_in p) p n one.0 one.1 o in
-    let y = outcome_by_needs (common is_in p) q n two.0 two.1 o in
+    let x = by (common is_in p) p one.0 one.1 in
+    let y = by (common is_in p) q two.0 two.1 in
     (λ z. y.0 (x.1 z), λ z. x.0 (y.1 z))
+
+pub one_outcome_by_needs : OneOutcomeByNeeds
+one_outcome_by_needs files others p q is also is_in a n h o = across files others p q is also is_in a n h (λ r. IsOutcome r n o) (λ r s i j. outcome_by_needs r s n i j o)
 
 pub one_module_by_needs : OneModuleByNeeds
-one_module_by_needs files others p q is also is_in a n h m =
-    let one = same_one files p q is is_in a n h in
-    let two = same_two others p q also is_in a n h in
-    let x = own_by_needs (common is_in p) p n one.0 one.1 m in
-    let y = own_by_needs (common is_in p) q n two.0 two.1 m in
-    (λ z. y.0 (x.1 z), λ z. x.0 (y.1 z))
+one_module_by_needs files others p q is also is_in a n h m = across files others p q is also is_in a n h (λ r. IsOwn r n m) (λ r s i j. own_by_needs r s n i j m)
 
 pub one_end_by_needs : OneEndByNeeds
-one_end_by_needs files others p q is also is_in a n h e =
-    let one = same_one files p q is is_in a n h in
-    let two = same_two others p q also is_in a n h in
-    let x = ended_by_needs (common is_in p) p n one.0 one.1 e in
-    let y = ended_by_needs (common is_in p) q n two.0 two.1 e in
-    (λ z. y.0 (x.1 z), λ z. x.0 (y.1 z))
+one_end_by_needs files others p q is also is_in a n h e = across files others p q is also is_in a n h (λ r. IsEnded r n e) (λ r s i j. ended_by_needs r s n i j e)

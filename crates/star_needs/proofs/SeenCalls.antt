@@ -31,11 +31,12 @@ use Rattle.star_meaning.proofs.Agree.{Agree, Every, Good, agree_all_of, agree_bi
 use Rattle.star_meaning.proofs.AgreeParts.{AllAgree, Known, Scene, body_uses}
 use Rattle.star_meaning.proofs.UsesOf.{Sub, argument_level, by, every, of_argument}
 use Rattle.star_meaning.proofs.Quiet as quiet
+use Rattle.star_meaning.proofs.Keeps.{kept_by}
 use Rattle.star_meaning.proofs.KeepsArguments.{keeps-given}
 use Rattle.star_meaning.proofs.KeepsBinding.{keeps-build_arguments}
 use Rattle.star_meaning.proofs.KeepsBuiltIns.{keeps-call_built_in}
-use Rattle.star_meaning.proofs.KeepsMethods.{keeps-call_method}
-use Rattle.star_meaning.proofs.KeepsCallee.{keeps-callee}
+use Rattle.star_meaning.proofs.KeepsMethods.{respects-call_method}
+use Rattle.star_meaning.proofs.KeepsCallee.{respects-callee}
 use Rattle.star_meaning.proofs.AgreeCalls.{bound_in, made_in, content_is, callable, after}
 use Rattle.star_outline.specs.Outlines.{Outline}
 use Rattle.star_outline.specs.Definitions.{definition_in}
@@ -79,7 +80,7 @@ called_then tables trees w sight m n p ss chain h levels ps s fit fits v (Done (
     let r = (agree_then trees w p.file chain (Some p.frame) _ _ _ _ (alike trees w p.file chain (Some p.frame) _ _ (same-given sight.outlines w p.line ps) (keeps-given w p.line ps)) (λ g. alike trees w p.file chain (Some p.frame) _ _ (same-call_built_in sight.outlines w levels p.line b g) (keeps-call_built_in w levels p.line b g))).holds t (fit_follows trees w s t k fit) (chain_carries w s t (carries_follows s t k) p.file chain (Some p.frame) fits) in
     (r.0, good_on trees w s t (carries_follows s t k) _ r.1)
 called_then tables trees w sight m n p ss chain h levels ps s fit fits v (Done (AMethod b x) t) is k =
-    let r = (agree_then trees w p.file chain (Some p.frame) _ _ _ _ (alike trees w p.file chain (Some p.frame) _ _ (same-given sight.outlines w p.line ps) (keeps-given w p.line ps)) (λ g. alike trees w p.file chain (Some p.frame) _ _ (same-call_method sight.outlines w levels p.line b x g) (keeps-call_method w levels p.line b x g))).holds t (fit_follows trees w s t k fit) (chain_carries w s t (carries_follows s t k) p.file chain (Some p.frame) fits) in
+    let r = (agree_then trees w p.file chain (Some p.frame) _ _ _ _ (alike trees w p.file chain (Some p.frame) _ _ (same-given sight.outlines w p.line ps) (keeps-given w p.line ps)) (λ g. alike trees w p.file chain (Some p.frame) _ _ (same-call_method sight.outlines w levels p.line b x g) (kept_by w (respects-call_method w levels p.line b x g)))).holds t (fit_follows trees w s t k fit) (chain_carries w s t (carries_follows s t k) p.file chain (Some p.frame) fits) in
     (r.0, good_on trees w s t (carries_follows s t k) _ r.1)
 
 -- the same may be called
@@ -102,7 +103,7 @@ callee-same trees w sight s fit line v = callee-of trees w sight s fit line v (c
 
 pub agree-callee : (tables : Tables) (trees : Trees) (w : Setting) (sight : Sight trees w) (m n : Semantics) (p : Site) (ss : List Statement) (chain : List ℕ) → Scene tables trees w m n p ss chain → (levels : ℕ) (ps : List EvaluatedArgument) (v : Value) → Agree trees w p.file chain (Some p.frame) (callee (with_outlines sight.outlines w) p.line v >>= after (with_outlines sight.outlines w) levels m p ps) (callee w p.line v >>= after w levels n p ps)
 agree-callee tables trees w sight m n p ss chain h levels ps v = record {
-  holds = λ s fit fits. (let r = called_then tables trees w sight m n p ss chain h levels ps s fit fits v (callee w p.line v s) refl (((keeps-callee w p.line v).follows refl).holds s) in (ap (λ o. and_then o (after (with_outlines sight.outlines w) levels m p ps)) (callee-same trees w sight s fit p.line v) ∙ r.0, r.1));
+  holds = λ s fit fits. (let r = called_then tables trees w sight m n p ss chain h levels ps s fit fits v (callee w p.line v s) refl (((kept_by w (respects-callee w p.line v)).follows refl).holds s) in (ap (λ o. and_then o (after (with_outlines sight.outlines w) levels m p ps)) (callee-same trees w sight s fit p.line v) ∙ r.0, r.1));
 }
 
 pub agree-call_node : (tables : Tables) (trees : Trees) (w : Setting) (sight : Sight trees w) (m n : Semantics) (p : Site) (ss : List Statement) (chain : List ℕ) → Scene tables trees w m n p ss chain → (levels : ℕ) (f : Expression) (es : List Argument) → Sub (in_expression f chain) (uses ss) → Sub (all_uses in_argument es chain) (uses ss) → Agree trees w p.file chain (Some p.frame) (call_node (with_outlines sight.outlines w) levels m p f es) (call_node w levels n p f es)

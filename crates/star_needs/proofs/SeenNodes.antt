@@ -36,10 +36,11 @@ use Rattle.star_needs.proofs.SeenParts.{agree-dict_comprehension, agree-entry_of
 use Rattle.star_needs.proofs.SeenCalls.{agree-call_node}
 use Rattle.star_meaning.proofs.UsesOf.{Sub, by, every, first, left, of_target, parameters_are, rest, right, target_level}
 use Rattle.star_meaning.proofs.Quiet as quiet
-use Rattle.star_meaning.proofs.KeepsValues.{keeps-is_true, keeps-new_dict, keeps-new_list, keeps-new_text, keeps-new_tuple, keeps-take_item}
-use Rattle.star_meaning.proofs.KeepsOperators.{keeps-compared, keeps-operate, keeps-prefix}
-use Rattle.star_meaning.proofs.KeepsSubscript.{keeps-index, keeps-set_index, keeps-slice}
-use Rattle.star_meaning.proofs.KeepsMethods.{keeps-attribute}
+use Rattle.star_meaning.proofs.Keeps.{kept_by}
+use Rattle.star_meaning.proofs.KeepsValues.{respects-is_true, keeps-new_dict, respects-new_list, respects-new_text, respects-new_tuple, respects-take_item}
+use Rattle.star_meaning.proofs.KeepsOperators.{respects-compared, keeps-operate, respects-prefix}
+use Rattle.star_meaning.proofs.KeepsSubscript.{respects-index, respects-set_index, respects-slice}
+use Rattle.star_meaning.proofs.KeepsMethods.{respects-attribute}
 use Rattle.star_meaning.proofs.KeepsEntries.{keeps-augmented, keeps-fresh_entries}
 use Rattle.star_meaning.proofs.AgreeNodes.{loaded_each}
 use Rattle.star_needs.proofs.Outlines.{with_outlines}
@@ -49,29 +50,29 @@ use Rattle.star_needs.proofs.Same.{same-attribute, same-augmented, same-compared
 pub agree-node : (tables : Tables) (trees : Trees) (w : Setting) (sight : Sight trees w) (m n : Semantics) (p : Site) (ss : List Statement) (chain : List ℕ) → Scene tables trees w m n p ss chain → (levels : ℕ) (x : ExpressionForm) → Sub (expression_level x chain) (uses ss) → Agree trees w p.file chain (Some p.frame) (node (by_places tables (with_outlines sight.outlines w)) (with_outlines sight.outlines w) levels m p x) (node (by_names w) w levels n p x)
 agree-node tables trees w sight m n p ss chain h levels (tree.Expression-F.Expression::Name x) k = see_read tables trees w sight h.known.resolved p x ss chain h.stands (first _ _ (uses ss) k)
 agree-node tables trees w sight m n p ss chain h levels (tree.Int i) k = agree_give trees w p.file chain (Some p.frame) (value.Int i)
-agree-node tables trees w sight m n p ss chain h levels (tree.Text t) k = agree_kept trees w p.file chain (Some p.frame) _ (keeps-new_text p.line t)
-agree-node tables trees w sight m n p ss chain h levels (tree.Expression-F.Expression::Tuple es) k = agree_then trees w p.file chain (Some p.frame) _ _ _ _ (agree_each trees w p.file chain (Some p.frame) (λ e. Sub (in_expression e chain) (uses ss)) _ _ (λ e j. h.parts.expr p e ss chain h.stands (j)) es (every in_expression es chain (uses ss) (k))) (λ xs. agree_kept trees w p.file chain (Some p.frame) _ (keeps-new_tuple p.line xs))
-agree-node tables trees w sight m n p ss chain h levels (tree.Expression-F.Expression::List es) k = agree_then trees w p.file chain (Some p.frame) _ _ _ _ (agree_each trees w p.file chain (Some p.frame) (λ e. Sub (in_expression e chain) (uses ss)) _ _ (λ e j. h.parts.expr p e ss chain h.stands (j)) es (every in_expression es chain (uses ss) (k))) (λ xs. agree_kept trees w p.file chain (Some p.frame) _ (keeps-new_list p.line xs))
+agree-node tables trees w sight m n p ss chain h levels (tree.Text t) k = agree_kept trees w p.file chain (Some p.frame) _ (kept_by w (respects-new_text p.line t))
+agree-node tables trees w sight m n p ss chain h levels (tree.Expression-F.Expression::Tuple es) k = agree_then trees w p.file chain (Some p.frame) _ _ _ _ (agree_each trees w p.file chain (Some p.frame) (λ e. Sub (in_expression e chain) (uses ss)) _ _ (λ e j. h.parts.expr p e ss chain h.stands (j)) es (every in_expression es chain (uses ss) (k))) (λ xs. agree_kept trees w p.file chain (Some p.frame) _ (kept_by w (respects-new_tuple p.line xs)))
+agree-node tables trees w sight m n p ss chain h levels (tree.Expression-F.Expression::List es) k = agree_then trees w p.file chain (Some p.frame) _ _ _ _ (agree_each trees w p.file chain (Some p.frame) (λ e. Sub (in_expression e chain) (uses ss)) _ _ (λ e j. h.parts.expr p e ss chain h.stands (j)) es (every in_expression es chain (uses ss) (k))) (λ xs. agree_kept trees w p.file chain (Some p.frame) _ (kept_by w (respects-new_list p.line xs)))
 agree-node tables trees w sight m n p ss chain h levels (tree.Dict es) k = agree_then trees w p.file chain (Some p.frame) _ _ _ _ (agree_then trees w p.file chain (Some p.frame) _ _ _ _ (agree_each trees w p.file chain (Some p.frame) (λ e. Sub (in_entry e chain) (uses ss)) _ _ (λ e j. agree-entry_of tables trees w sight m n p ss chain h e j) es (every in_entry es chain (uses ss) k)) (λ xs. alike trees w p.file chain (Some p.frame) _ _ (same-fresh_entries sight.outlines w levels p.line [] xs) (keeps-fresh_entries w levels p.line [] xs))) (λ es'. agree_kept trees w p.file chain (Some p.frame) _ (keeps-new_dict p.line es'))
 agree-node tables trees w sight m n p ss chain h levels (tree.ListComprehension at e cs) k = agree-list_comprehension tables trees w sight m n p ss chain h at.token e cs (left _ _ (uses ss) (k)) (left _ _ (uses ss) (right _ _ (uses ss) (k))) (right _ _ (uses ss) (right _ _ (uses ss) (k)))
 agree-node tables trees w sight m n p ss chain h levels (tree.DictComprehension at e cs) k = agree-dict_comprehension tables trees w sight m n p ss chain h levels at.token e cs (left _ _ (uses ss) (k)) (left _ _ (uses ss) (right _ _ (uses ss) (k))) (right _ _ (uses ss) (right _ _ (uses ss) (k)))
-agree-node tables trees w sight m n p ss chain h levels (tree.Unary op e) k = agree_then trees w p.file chain (Some p.frame) _ _ _ _ (h.parts.expr p e ss chain h.stands (k)) (λ x. alike trees w p.file chain (Some p.frame) _ _ (same-prefix sight.outlines w p.line op x) (keeps-prefix w p.line op x))
+agree-node tables trees w sight m n p ss chain h levels (tree.Unary op e) k = agree_then trees w p.file chain (Some p.frame) _ _ _ _ (h.parts.expr p e ss chain h.stands (k)) (λ x. alike trees w p.file chain (Some p.frame) _ _ (same-prefix sight.outlines w p.line op x) (kept_by w (respects-prefix w p.line op x)))
 agree-node tables trees w sight m n p ss chain h levels (tree.Binary op a b) k = agree_then trees w p.file chain (Some p.frame) _ _ _ _ (h.parts.expr p a ss chain h.stands (left _ _ (uses ss) (k))) (λ x. agree_then trees w p.file chain (Some p.frame) _ _ _ _ (h.parts.expr p b ss chain h.stands (right _ _ (uses ss) (k))) (λ y. alike trees w p.file chain (Some p.frame) _ _ (same-operate sight.outlines w levels p.line op x y) (keeps-operate w levels p.line op x y)))
-agree-node tables trees w sight m n p ss chain h levels (tree.Compare c a b) k = agree_then trees w p.file chain (Some p.frame) _ _ _ _ (h.parts.expr p a ss chain h.stands (left _ _ (uses ss) (k))) (λ x. agree_then trees w p.file chain (Some p.frame) _ _ _ _ (h.parts.expr p b ss chain h.stands (right _ _ (uses ss) (k))) (λ y. alike trees w p.file chain (Some p.frame) _ _ (same-compared sight.outlines w levels p.line c x y) (keeps-compared w levels p.line c x y)))
-agree-node tables trees w sight m n p ss chain h levels (tree.And a b) k = agree_then trees w p.file chain (Some p.frame) _ _ _ _ (h.parts.expr p a ss chain h.stands (left _ _ (uses ss) (k))) (λ x. agree_then trees w p.file chain (Some p.frame) _ _ _ _ (alike trees w p.file chain (Some p.frame) _ _ (same-is_true sight.outlines w x) (keeps-is_true w x)) (λ t. agree_if trees w p.file chain (Some p.frame) t _ _ _ _ (h.parts.expr p b ss chain h.stands (right _ _ (uses ss) (k))) (agree_give trees w p.file chain (Some p.frame) x)))
-agree-node tables trees w sight m n p ss chain h levels (tree.Or a b) k = agree_then trees w p.file chain (Some p.frame) _ _ _ _ (h.parts.expr p a ss chain h.stands (left _ _ (uses ss) (k))) (λ x. agree_then trees w p.file chain (Some p.frame) _ _ _ _ (alike trees w p.file chain (Some p.frame) _ _ (same-is_true sight.outlines w x) (keeps-is_true w x)) (λ t. agree_if trees w p.file chain (Some p.frame) t _ _ _ _ (agree_give trees w p.file chain (Some p.frame) x) (h.parts.expr p b ss chain h.stands (right _ _ (uses ss) (k)))))
-agree-node tables trees w sight m n p ss chain h levels (tree.Conditional c a b) k = agree_then trees w p.file chain (Some p.frame) _ _ _ _ (h.parts.expr p c ss chain h.stands (left _ _ (uses ss) (k))) (λ x. agree_then trees w p.file chain (Some p.frame) _ _ _ _ (alike trees w p.file chain (Some p.frame) _ _ (same-is_true sight.outlines w x) (keeps-is_true w x)) (λ t. agree_if trees w p.file chain (Some p.frame) t _ _ _ _ (h.parts.expr p a ss chain h.stands (left _ _ (uses ss) (right _ _ (uses ss) (k)))) (h.parts.expr p b ss chain h.stands (right _ _ (uses ss) (right _ _ (uses ss) (k))))))
+agree-node tables trees w sight m n p ss chain h levels (tree.Compare c a b) k = agree_then trees w p.file chain (Some p.frame) _ _ _ _ (h.parts.expr p a ss chain h.stands (left _ _ (uses ss) (k))) (λ x. agree_then trees w p.file chain (Some p.frame) _ _ _ _ (h.parts.expr p b ss chain h.stands (right _ _ (uses ss) (k))) (λ y. alike trees w p.file chain (Some p.frame) _ _ (same-compared sight.outlines w levels p.line c x y) (kept_by w (respects-compared w levels p.line c x y))))
+agree-node tables trees w sight m n p ss chain h levels (tree.And a b) k = agree_then trees w p.file chain (Some p.frame) _ _ _ _ (h.parts.expr p a ss chain h.stands (left _ _ (uses ss) (k))) (λ x. agree_then trees w p.file chain (Some p.frame) _ _ _ _ (alike trees w p.file chain (Some p.frame) _ _ (same-is_true sight.outlines w x) (kept_by w (respects-is_true w x))) (λ t. agree_if trees w p.file chain (Some p.frame) t _ _ _ _ (h.parts.expr p b ss chain h.stands (right _ _ (uses ss) (k))) (agree_give trees w p.file chain (Some p.frame) x)))
+agree-node tables trees w sight m n p ss chain h levels (tree.Or a b) k = agree_then trees w p.file chain (Some p.frame) _ _ _ _ (h.parts.expr p a ss chain h.stands (left _ _ (uses ss) (k))) (λ x. agree_then trees w p.file chain (Some p.frame) _ _ _ _ (alike trees w p.file chain (Some p.frame) _ _ (same-is_true sight.outlines w x) (kept_by w (respects-is_true w x))) (λ t. agree_if trees w p.file chain (Some p.frame) t _ _ _ _ (agree_give trees w p.file chain (Some p.frame) x) (h.parts.expr p b ss chain h.stands (right _ _ (uses ss) (k)))))
+agree-node tables trees w sight m n p ss chain h levels (tree.Conditional c a b) k = agree_then trees w p.file chain (Some p.frame) _ _ _ _ (h.parts.expr p c ss chain h.stands (left _ _ (uses ss) (k))) (λ x. agree_then trees w p.file chain (Some p.frame) _ _ _ _ (alike trees w p.file chain (Some p.frame) _ _ (same-is_true sight.outlines w x) (kept_by w (respects-is_true w x))) (λ t. agree_if trees w p.file chain (Some p.frame) t _ _ _ _ (h.parts.expr p a ss chain h.stands (left _ _ (uses ss) (right _ _ (uses ss) (k)))) (h.parts.expr p b ss chain h.stands (right _ _ (uses ss) (right _ _ (uses ss) (k))))))
 agree-node tables trees w sight m n p ss chain h levels (tree.Lambda at ps e) k = agree-new_function tables trees w sight m n p ss chain h at.token (codes "lambda") ps (first _ _ (uses ss) k) (by _ _ (uses ss) (ap (λ us. outer_of us chain) (parameters_are ps)) (left _ _ (uses ss) (rest _ _ (uses ss) k)))
 agree-node tables trees w sight m n p ss chain h levels (tree.Call f es) k = agree-call_node tables trees w sight m n p ss chain h levels f es (left _ _ (uses ss) (k)) (right _ _ (uses ss) (k))
-agree-node tables trees w sight m n p ss chain h levels (tree.Attribute e x) k = agree_then trees w p.file chain (Some p.frame) _ _ _ _ (h.parts.expr p e ss chain h.stands (k)) (λ v. alike trees w p.file chain (Some p.frame) _ _ (same-attribute sight.outlines w p.line v x.text) (keeps-attribute w p.line v x.text))
-agree-node tables trees w sight m n p ss chain h levels (tree.Expression-F.Expression::Index e i) k = agree_then trees w p.file chain (Some p.frame) _ _ _ _ (h.parts.expr p e ss chain h.stands (left _ _ (uses ss) (k))) (λ x. agree_then trees w p.file chain (Some p.frame) _ _ _ _ (h.parts.expr p i ss chain h.stands (right _ _ (uses ss) (k))) (λ j. alike trees w p.file chain (Some p.frame) _ _ (same-index sight.outlines w levels p.line x j) (keeps-index w levels p.line x j)))
-agree-node tables trees w sight m n p ss chain h levels (tree.Slice e a b c) k = let r1 : Sub ((maybe_use (option_map in_expression a) chain) ++ ((maybe_use (option_map in_expression b) chain) ++ (maybe_use (option_map in_expression c) chain))) (uses ss) = right (in_expression e chain) ((maybe_use (option_map in_expression a) chain) ++ ((maybe_use (option_map in_expression b) chain) ++ (maybe_use (option_map in_expression c) chain))) (uses ss) k in let r2 : Sub ((maybe_use (option_map in_expression b) chain) ++ (maybe_use (option_map in_expression c) chain)) (uses ss) = right (maybe_use (option_map in_expression a) chain) ((maybe_use (option_map in_expression b) chain) ++ (maybe_use (option_map in_expression c) chain)) (uses ss) r1 in agree_then trees w p.file chain (Some p.frame) _ _ _ _ (h.parts.expr p e ss chain h.stands (left (in_expression e chain) ((maybe_use (option_map in_expression a) chain) ++ ((maybe_use (option_map in_expression b) chain) ++ (maybe_use (option_map in_expression c) chain))) (uses ss) k)) (λ x. agree_then trees w p.file chain (Some p.frame) _ _ _ _ (agree-maybe tables trees w sight m n p ss chain h a (left (maybe_use (option_map in_expression a) chain) ((maybe_use (option_map in_expression b) chain) ++ (maybe_use (option_map in_expression c) chain)) (uses ss) r1)) (λ i. agree_then trees w p.file chain (Some p.frame) _ _ _ _ (agree-maybe tables trees w sight m n p ss chain h b (left (maybe_use (option_map in_expression b) chain) (maybe_use (option_map in_expression c) chain) (uses ss) r2)) (λ j. agree_then trees w p.file chain (Some p.frame) _ _ _ _ (agree-maybe tables trees w sight m n p ss chain h c (right (maybe_use (option_map in_expression b) chain) (maybe_use (option_map in_expression c) chain) (uses ss) r2)) (λ l. alike trees w p.file chain (Some p.frame) _ _ (same-slice sight.outlines w p.line x i j l) (keeps-slice w p.line x i j l)))))
+agree-node tables trees w sight m n p ss chain h levels (tree.Attribute e x) k = agree_then trees w p.file chain (Some p.frame) _ _ _ _ (h.parts.expr p e ss chain h.stands (k)) (λ v. alike trees w p.file chain (Some p.frame) _ _ (same-attribute sight.outlines w p.line v x.text) (kept_by w (respects-attribute w p.line v x.text)))
+agree-node tables trees w sight m n p ss chain h levels (tree.Expression-F.Expression::Index e i) k = agree_then trees w p.file chain (Some p.frame) _ _ _ _ (h.parts.expr p e ss chain h.stands (left _ _ (uses ss) (k))) (λ x. agree_then trees w p.file chain (Some p.frame) _ _ _ _ (h.parts.expr p i ss chain h.stands (right _ _ (uses ss) (k))) (λ j. alike trees w p.file chain (Some p.frame) _ _ (same-index sight.outlines w levels p.line x j) (kept_by w (respects-index w levels p.line x j))))
+agree-node tables trees w sight m n p ss chain h levels (tree.Slice e a b c) k = let r1 : Sub ((maybe_use (option_map in_expression a) chain) ++ ((maybe_use (option_map in_expression b) chain) ++ (maybe_use (option_map in_expression c) chain))) (uses ss) = right (in_expression e chain) ((maybe_use (option_map in_expression a) chain) ++ ((maybe_use (option_map in_expression b) chain) ++ (maybe_use (option_map in_expression c) chain))) (uses ss) k in let r2 : Sub ((maybe_use (option_map in_expression b) chain) ++ (maybe_use (option_map in_expression c) chain)) (uses ss) = right (maybe_use (option_map in_expression a) chain) ((maybe_use (option_map in_expression b) chain) ++ (maybe_use (option_map in_expression c) chain)) (uses ss) r1 in agree_then trees w p.file chain (Some p.frame) _ _ _ _ (h.parts.expr p e ss chain h.stands (left (in_expression e chain) ((maybe_use (option_map in_expression a) chain) ++ ((maybe_use (option_map in_expression b) chain) ++ (maybe_use (option_map in_expression c) chain))) (uses ss) k)) (λ x. agree_then trees w p.file chain (Some p.frame) _ _ _ _ (agree-maybe tables trees w sight m n p ss chain h a (left (maybe_use (option_map in_expression a) chain) ((maybe_use (option_map in_expression b) chain) ++ (maybe_use (option_map in_expression c) chain)) (uses ss) r1)) (λ i. agree_then trees w p.file chain (Some p.frame) _ _ _ _ (agree-maybe tables trees w sight m n p ss chain h b (left (maybe_use (option_map in_expression b) chain) (maybe_use (option_map in_expression c) chain) (uses ss) r2)) (λ j. agree_then trees w p.file chain (Some p.frame) _ _ _ _ (agree-maybe tables trees w sight m n p ss chain h c (right (maybe_use (option_map in_expression b) chain) (maybe_use (option_map in_expression c) chain) (uses ss) r2)) (λ l. alike trees w p.file chain (Some p.frame) _ _ (same-slice sight.outlines w p.line x i j l) (kept_by w (respects-slice w p.line x i j l))))))
 
 -- ---- statements
 
 pub agree-augment : (tables : Tables) (trees : Trees) (w : Setting) (sight : Sight trees w) (m n : Semantics) (p : Site) (ss : List Statement) (chain : List ℕ) → Scene tables trees w m n p ss chain → (levels : ℕ) (op : BinaryOperator) (e : Expression) (x : TargetForm) → Sub (target_level x chain) (uses ss) → Sub (in_expression e chain) (uses ss) → Agree trees w p.file chain (Some p.frame) (augment (by_places tables (with_outlines sight.outlines w)) (with_outlines sight.outlines w) levels m p op e x) (augment (by_names w) w levels n p op e x)
 agree-augment tables trees w sight m n p ss chain h levels op e (tree.Target-F.Target::Name x) k l = agree_then trees w p.file chain (Some p.frame) _ _ _ _ (see_read tables trees w sight h.known.resolved p x ss chain h.stands (first _ _ (uses ss) k)) (λ u. agree_then trees w p.file chain (Some p.frame) _ _ _ _ (h.parts.expr p e ss chain h.stands (l)) (λ v. agree_then trees w p.file chain (Some p.frame) _ _ _ _ (alike trees w p.file chain (Some p.frame) _ _ (same-augmented sight.outlines w levels p.line op u v) (keeps-augmented w levels p.line op u v)) (λ z. agree_bind tables trees w h.known.resolved p x z ss chain h.stands (first _ _ (uses ss) k))))
-agree-augment tables trees w sight m n p ss chain h levels op e (tree.Target-F.Target::Index b i) k l = agree_then trees w p.file chain (Some p.frame) _ _ _ _ (h.parts.parts p b i ss chain h.stands (left _ _ (uses ss) (k)) (right _ _ (uses ss) (k))) (λ r. agree_then trees w p.file chain (Some p.frame) _ _ _ _ (h.parts.expr p e ss chain h.stands (l)) (λ v. agree_then trees w p.file chain (Some p.frame) _ _ _ _ (alike trees w p.file chain (Some p.frame) _ _ (same-augmented sight.outlines w levels p.line op r.old v) (keeps-augmented w levels p.line op r.old v)) (λ z. alike trees w p.file chain (Some p.frame) _ _ (same-set_index sight.outlines w levels p.line r.base r.index z) (keeps-set_index w levels p.line r.base r.index z))))
+agree-augment tables trees w sight m n p ss chain h levels op e (tree.Target-F.Target::Index b i) k l = agree_then trees w p.file chain (Some p.frame) _ _ _ _ (h.parts.parts p b i ss chain h.stands (left _ _ (uses ss) (k)) (right _ _ (uses ss) (k))) (λ r. agree_then trees w p.file chain (Some p.frame) _ _ _ _ (h.parts.expr p e ss chain h.stands (l)) (λ v. agree_then trees w p.file chain (Some p.frame) _ _ _ _ (alike trees w p.file chain (Some p.frame) _ _ (same-augmented sight.outlines w levels p.line op r.old v) (keeps-augmented w levels p.line op r.old v)) (λ z. alike trees w p.file chain (Some p.frame) _ _ (same-set_index sight.outlines w levels p.line r.base r.index z) (kept_by w (respects-set_index w levels p.line r.base r.index z)))))
 agree-augment tables trees w sight m n p ss chain h levels op e (tree.Target-F.Target::Tuple ts) k l = agree_fail (Unit {0}) trees w p.file chain (Some p.frame) code.BadType p.line
 agree-augment tables trees w sight m n p ss chain h levels op e (tree.Target-F.Target::List ts) k l = agree_fail (Unit {0}) trees w p.file chain (Some p.frame) code.BadType p.line
 
@@ -79,11 +80,11 @@ pub agree-arms : (tables : Tables) (trees : Trees) (w : Setting) (sight : Sight 
 agree-arms tables trees w sight m n p ss chain h [] a b k r = r
 agree-arms tables trees w sight m n p ss chain h (x ∷ more) a b k r =
     let l : Sub (in_expression (out-Arm x).condition chain ++ all_uses in_statement (out-Arm x).body chain) (uses ss) = by _ _ (uses ss) (arm_opened x chain) (left _ _ (uses ss) (k)) in
-    agree_then trees w p.file chain (Some p.frame) _ _ _ _ (agree_then trees w p.file chain (Some p.frame) _ _ _ _ (h.parts.expr p (out-Arm x).condition ss chain h.stands (left _ _ (uses ss) (l))) (λ v. alike trees w p.file chain (Some p.frame) _ _ (same-is_true sight.outlines w v) (keeps-is_true w v))) (λ t. agree_if trees w p.file chain (Some p.frame) t _ _ _ _ (agree_block trees w p.file chain (Some p.frame) (λ x. Sub (in_statement x chain) (uses ss)) _ _ (λ x j. h.parts.stmt p x ss chain h.stands j) (out-Arm x).body (every in_statement (out-Arm x).body chain (uses ss) (right _ _ (uses ss) (l)))) (agree-arms tables trees w sight m n p ss chain h more a b (right _ _ (uses ss) (k)) r))
+    agree_then trees w p.file chain (Some p.frame) _ _ _ _ (agree_then trees w p.file chain (Some p.frame) _ _ _ _ (h.parts.expr p (out-Arm x).condition ss chain h.stands (left _ _ (uses ss) (l))) (λ v. alike trees w p.file chain (Some p.frame) _ _ (same-is_true sight.outlines w v) (kept_by w (respects-is_true w v)))) (λ t. agree_if trees w p.file chain (Some p.frame) t _ _ _ _ (agree_block trees w p.file chain (Some p.frame) (λ x. Sub (in_statement x chain) (uses ss)) _ _ (λ x j. h.parts.stmt p x ss chain h.stands j) (out-Arm x).body (every in_statement (out-Arm x).body chain (uses ss) (right _ _ (uses ss) (l)))) (agree-arms tables trees w sight m n p ss chain h more a b (right _ _ (uses ss) (k)) r))
 
 pub agree-loop : (tables : Tables) (trees : Trees) (w : Setting) (sight : Sight trees w) (m n : Semantics) (p : Site) (ss : List Statement) (chain : List ℕ) → Scene tables trees w m n p ss chain → (t : Target) (body : List Statement) (v : Value) → Sub (in_target t chain) (uses ss) → Sub (all_uses in_statement body chain) (uses ss) → Agree trees w p.file chain (Some p.frame) (loop (by_places tables (with_outlines sight.outlines w)) (with_outlines sight.outlines w) m p t body v) (loop (by_names w) w n p t body v)
 agree-loop tables trees w sight m n p ss chain h t body v k l =
-    agree_then trees w p.file chain (Some p.frame) _ _ _ _ (alike_quiet trees w p.file chain (Some p.frame) _ _ (same-iterate sight.outlines w p.line v) (quiet.keeps_iterate w p.line v)) (λ c. agree_then trees w p.file chain (Some p.frame) _ _ _ _ (agree_turns trees w p.file chain (Some p.frame) _ _ c 0 (λ i. agree_then trees w p.file chain (Some p.frame) _ _ _ _ (alike trees w p.file chain (Some p.frame) _ _ (same-take_item sight.outlines w p.line v i) (keeps-take_item w p.line v i)) (λ x. agree_then trees w p.file chain (Some p.frame) _ _ _ _ (agree-to_target tables trees w sight m n p ss chain h t x k) (λ _. agree_block trees w p.file chain (Some p.frame) (λ x. Sub (in_statement x chain) (uses ss)) _ _ (λ x j. h.parts.stmt p x ss chain h.stands j) body (every in_statement body chain (uses ss) (l)))))) (λ f. agree_then trees w p.file chain (Some p.frame) _ _ _ _ (agree_quiet trees w p.file chain (Some p.frame) _ (quiet.keeps_leave v)) (λ _. agree_give trees w p.file chain (Some p.frame) f)))
+    agree_then trees w p.file chain (Some p.frame) _ _ _ _ (alike_quiet trees w p.file chain (Some p.frame) _ _ (same-iterate sight.outlines w p.line v) (quiet.keeps_iterate w p.line v)) (λ c. agree_then trees w p.file chain (Some p.frame) _ _ _ _ (agree_turns trees w p.file chain (Some p.frame) _ _ c 0 (λ i. agree_then trees w p.file chain (Some p.frame) _ _ _ _ (alike trees w p.file chain (Some p.frame) _ _ (same-take_item sight.outlines w p.line v i) (kept_by w (respects-take_item w p.line v i))) (λ x. agree_then trees w p.file chain (Some p.frame) _ _ _ _ (agree-to_target tables trees w sight m n p ss chain h t x k) (λ _. agree_block trees w p.file chain (Some p.frame) (λ x. Sub (in_statement x chain) (uses ss)) _ _ (λ x j. h.parts.stmt p x ss chain h.stands j) body (every in_statement body chain (uses ss) (l)))))) (λ f. agree_then trees w p.file chain (Some p.frame) _ _ _ _ (agree_quiet trees w p.file chain (Some p.frame) _ (quiet.keeps_leave v)) (λ _. agree_give trees w p.file chain (Some p.frame) f)))
 
 pub agree-load_name : (tables : Tables) (trees : Trees) (w : Setting) (sight : Sight trees w) (m n : Semantics) (p : Site) (ss : List Statement) (chain : List ℕ) → Scene tables trees w m n p ss chain → (o : Option Published) (x : LoadedName) → Contains (uses ss) (Named x.local chain) → Agree trees w p.file chain (Some p.frame) (load_name (by_places tables (with_outlines sight.outlines w)) p o x) (load_name (by_names w) p o x)
 agree-load_name tables trees w sight m n p ss chain h o x k = agree_then trees w p.file chain (Some p.frame) _ _ _ _ (agree_quiet trees w p.file chain (Some p.frame) _ (quiet.keeps_found code.NoName p.line (option_and_then (λ q. global_of x.loaded.text q.globals) o))) (λ v. agree_bind tables trees w h.known.resolved p x.local v ss chain h.stands k)

@@ -18,8 +18,10 @@ use Rattle.star_meaning.specs.Program.{Setting, seen}
 use Rattle.star_meaning.specs.Run.{Action, Done, Failed, Outcome, State, and_then, build, check, fail, give, make, pay, settled}
 use Rattle.star_meaning.specs.Values.{check_key, new_dict, new_text}
 use Rattle.star_meaning.proofs.Stays as stays
+use Rattle.star_meaning.proofs.Invariants.{Invariant, Respects}
+use Rattle.star_meaning.proofs.Keeps.{kept, kept_by}
 use Rattle.star_once.specs.Keys.{Differ, IsThere, KeysDiffer, LeadsToFixed}
-use Rattle.star_once.proofs.Keeps.{Keeps, make_differs}
+use Rattle.star_once.proofs.Keeps.{make_differs, once, once_by}
 use Rattle.star_once.proofs.Keys.{Stay, there_stays}
 use Rattle.star_once.proofs.BoundArguments.{IsText}
 use Rattle.star_once.proofs.Stores.{stays_seen}
@@ -56,8 +58,8 @@ plain_after : {A : Type 0} (w : Setting) (s : State) (o : Outcome A) → Held w 
 plain_after w s (Done x t) h k = (h, stays_seen w s t k, tt)
 plain_after w s (Failed f lines) h k = tt
 
-pub plain : {A : Type 0} (w : Setting) (m : Action A) → Keeps w m → stays.Keeps m → (s : State) → KeysDiffer w s → After w s Some_answer (m s)
-plain w m k l s h = plain_after w s (m s) (k.holds s h) (l.holds s)
+pub plain : {A : Type 0} (w : Setting) (m : Action A) → ((inv : Invariant w) → Respects inv m) → (s : State) → KeysDiffer w s → After w s Some_answer (m s)
+plain w m k s h = plain_after w s (m s) ((once_by (k (once w))).holds s h) ((kept_by w (k (kept w false))).stays.holds s)
 
 pub given_now : {A : Type 0} (w : Setting) (s : State) (P : State → A → Type 0) (x : A) → KeysDiffer w s → P s x → After w s P (give x s)
 given_now w s P x h p = (h, (λ v c e f. e), p)

@@ -12,10 +12,9 @@ use Rattle.star_meaning.specs.Arguments.{Named, EvaluatedArgument, Plain, Star, 
 use Rattle.star_meaning.specs.Program.{Setting, seen}
 use Rattle.star_meaning.specs.Run.{State, check, found, give, pay, ◌>>=◌}
 use Rattle.star_meaning.specs.Values.{BuiltInFunction, Content, Held, Nothing, Nowhere, Number, Truth, content, held, text_of}
-use Rattle.star_meaning.proofs.KeepsArguments as base
 use Rattle.star_once.specs.Keys.{KeysDiffer}
 use Rattle.star_once.proofs.After.{After, Some_answer, after_then, check_after, given_now, pay_same, plain}
-use Rattle.star_once.proofs.KeepsArguments.{keeps-star_count, keeps-take_star}
+use Rattle.star_meaning.proofs.KeepsArguments.{respects-star_count, respects-take_star}
 use Rattle.star_once.proofs.Keys.{Stay}
 use Rattle.star_once.proofs.BoundArguments.{IsText, KeyIsText, NamedAll, NamedOnce, named_append, named_stays}
 
@@ -116,11 +115,11 @@ pub given_after : (w : Setting) (line : ℕ) (ps : List EvaluatedArgument) (s : 
 unfolding given
 given_after w line ps s h =
     after_then w s Some_answer (λ t g. NamedOnce (seen w t) g.named) (star_count w line (star_of ps) s) _
-    (plain w (star_count w line (star_of ps)) (keeps-star_count w line (star_of ps)) (base.keeps-star_count {q = false} w line (star_of ps)).stays s h)
+    (plain w (star_count w line (star_of ps)) (λ inv. respects-star_count w line (star_of ps)) s h)
     (λ n t k stay p. after_then w t (λ u ns. NamedAll (seen w u) ns) (λ u g. NamedOnce (seen w u) g.named) (star_star_names w line (star_star_of ps) t) _
     (names_after w line (star_star_of ps) t k)
     (λ names u l stays q. after_then w u Some_answer (λ v g. NamedOnce (seen w v) g.named) (take_star w line (star_of ps) n u) _
-    (plain w (take_star w line (star_of ps) n) (keeps-take_star w line (star_of ps) n) (base.keeps-take_star {q = false} w line (star_of ps) n).stays u l)
+    (plain w (take_star w line (star_of ps) n) (λ inv. respects-take_star w line (star_of ps) n) u l)
     (λ xs v m stayed r. after_then w v (λ x ns. NamedAll (seen w x) ns) (λ x g. NamedOnce (seen w x) g.named) (take_names line names v) _
     (taken_names w line names v m (named_stays (seen w u) (seen w v) stayed names q))
     (λ ns x o kept z. last_step w line (positional_of ps ++ xs) (named_of ps ++ ns) x o (named_append (seen w x) (named_of ps) ns (named_of_all (seen w x) ps) z)))))

@@ -18,7 +18,7 @@ use Rattle.star_meaning.specs.Arguments.{comes_twice, is_given}
 use Rattle.star_meaning.specs.Binding.{Names, One, BindingState, Rest, BoundArgument, also, bound_to, else_default, first_of_row, rest_of_row, argument_by, argument_of, shared, shares, step, takes_names, extra_keywords, value_named}
 use Rattle.star_data.specs.Data.{cell_of, text_in}
 use Rattle.star_once.specs.Keys.{Apart, ApartFrom, Differ, IsThere, LeadsToFixed}
-use Rattle.star_once.proofs.Keys.{Stay}
+use Rattle.star_once.proofs.Keys.{Stay, with_or_without}
 
 -- a value leads to a string
 abbrev pub IsText : (Value → Option Cell) → Value → List ℕ → Type 0
@@ -129,31 +129,23 @@ keys_stay look see k (n ∷ ns) (e ∷ es) h = (k e.0 (cell.Text n.name) h.0 tt,
 
 filter_named : (look : Value → Option Cell) (f : KeywordArgument → Bool) (ns : List KeywordArgument) → NamedAll look ns → NamedAll look (filter f ns)
 filter_named look f [] h = tt
-filter_named look f (n ∷ ns) h = by (f n) (filter_named look f ns h.1)
-  where
-    by : (b : Bool) → NamedAll look (filter f ns) → NamedAll look (if b then n ∷ filter f ns else filter f ns)
-    by true rest = (h.0, rest)
-    by false rest = rest
+filter_named look f (n ∷ ns) h =
+    let rest = filter_named look f ns h.1 in
+    with_or_without (λ ms. NamedAll look ms) (f n) n (filter f ns) (h.0, rest) rest
 
 not_given : (t : List ℕ) (f : KeywordArgument → Bool) (ns : List KeywordArgument) → is_given t ns ≡ false → is_given t (filter f ns) ≡ false
 not_given t f [] h = refl
 not_given t f (n ∷ ns) h =
     let two = neither (same_name n.name t) (is_given t ns) h in
-    by (f n) two.0 (not_given t f ns two.1)
-  where
-    by : (b : Bool) → same_name n.name t ≡ false → is_given t (filter f ns) ≡ false → is_given t (if b then n ∷ filter f ns else filter f ns) ≡ false
-    by true one rest = ap (λ b. b || is_given t (filter f ns)) one ∙ rest
-    by false one rest = rest
+    let rest = not_given t f ns two.1 in
+    with_or_without (λ ms. is_given t ms ≡ false) (f n) n (filter f ns) (ap (λ b. b || is_given t (filter f ns)) two.0 ∙ rest) rest
 
 filter_once : (f : KeywordArgument → Bool) (ns : List KeywordArgument) → comes_twice ns ≡ false → comes_twice (filter f ns) ≡ false
 filter_once f [] h = refl
 filter_once f (n ∷ ns) h =
     let two = neither (is_given n.name ns) (comes_twice ns) h in
-    by (f n) (not_given n.name f ns two.0) (filter_once f ns two.1)
-  where
-    by : (b : Bool) → is_given n.name (filter f ns) ≡ false → comes_twice (filter f ns) ≡ false → comes_twice (if b then n ∷ filter f ns else filter f ns) ≡ false
-    by true one rest = ap (λ b. b || comes_twice (filter f ns)) one ∙ rest
-    by false one rest = rest
+    let rest = filter_once f ns two.1 in
+    with_or_without (λ ms. comes_twice ms ≡ false) (f n) n (filter f ns) (ap (λ b. b || comes_twice (filter f ns)) (not_given n.name f ns two.0) ∙ rest) rest
 
 -- the shares of a step
 abbrev StepOnce : (Value → Option Cell) → Option (List (Name × BoundArgument) × BindingState) → Type 0

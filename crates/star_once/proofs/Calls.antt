@@ -20,22 +20,20 @@ use Rattle.star_meaning.specs.Semantics.{Semantics}
 use Rattle.star_meaning.specs.Pairs.{dict_of, pairs_count, pairs_of}
 use Rattle.star_meaning.specs.Program.{Setting, Variables, seen}
 use Rattle.star_meaning.specs.Run.{Done, Failed, Outcome, State, all_of, each, found, give, pay, ◌>>=◌}
-use Rattle.star_meaning.proofs.KeepsArguments as base_arguments
 use Rattle.star_meaning.proofs.KeepsBinding as base
-use Rattle.star_meaning.proofs.KeepsPairs as base_pairs
 use Rattle.star_meaning.proofs.Stays as stays
 use Rattle.star_once.specs.Keys.{KeysDiffer}
 use Rattle.star_once.proofs.After.{After, Some_answer, after_then, given_now, held_then, plain}
 use Rattle.star_once.proofs.Dicts.{dict_of_differs, named_dict, pairs_of_after}
 use Rattle.star_once.proofs.Arguments.{given_after}
-use Rattle.star_once.proofs.Keeps.{AllKeep, Keeps, KeepsWhere, VariablesKeep, keeps}
-use Rattle.star_once.proofs.KeepsArguments.{keeps-none_or_one}
-use Rattle.star_once.proofs.KeepsBuiltIns.{keeps-call_abs, keeps-call_all, keeps-call_any, keeps-call_best, keeps-call_bool, keeps-call_enumerate, keeps-call_fail, keeps-call_int, keeps-call_len, keeps-call_list, keeps-call_print, keeps-call_range, keeps-call_repr, keeps-call_reversed, keeps-call_sorted, keeps-call_str, keeps-call_tuple, keeps-call_type, keeps-call_zip}
-use Rattle.star_once.proofs.KeepsCallee.{keeps-callee}
+use Rattle.star_once.proofs.Keeps.{AllKeep, Keeps, KeepsWhere, VariablesKeep, keeps, once_by}
+use Rattle.star_meaning.proofs.KeepsArguments.{respects-none_or_one}
+use Rattle.star_meaning.proofs.KeepsBuiltIns.{respects-call_abs, respects-call_all, respects-call_any, respects-call_best, respects-call_bool, respects-call_enumerate, respects-call_fail, respects-call_int, respects-call_len, respects-call_list, respects-call_print, respects-call_range, respects-call_repr, respects-call_reversed, respects-call_sorted, respects-call_str, respects-call_tuple, respects-call_type, respects-call_zip}
+use Rattle.star_meaning.proofs.KeepsCallee.{respects-callee}
 use Rattle.star_once.proofs.KeepsCalls.{keeps-pass, keeps-run_body}
-use Rattle.star_once.proofs.KeepsMethods.{keeps-call_method}
-use Rattle.star_once.proofs.KeepsPairs.{keeps-pairs_count}
-use Rattle.star_once.proofs.KeepsValues.{keeps-new_tuple}
+use Rattle.star_meaning.proofs.KeepsMethods.{respects-call_method}
+use Rattle.star_meaning.proofs.KeepsPairs.{respects-pairs_count}
+use Rattle.star_meaning.proofs.KeepsValues.{respects-new_tuple}
 use Rattle.star_once.proofs.BoundArguments.{NamedAll, NamedOnce, ShareOnce, SharesOnce, bound_once, named_stays, shares_stay}
 use Rattle.star_once.proofs.Stores.{stays_seen}
 use Rattle.star_once.proofs.Writes as writes
@@ -44,7 +42,7 @@ use Rattle.star_once.proofs.Writes as writes
 
 made_differs : (w : Setting) (line : ℕ) (x : BoundArgument) (s : State) → KeysDiffer w s → ShareOnce (seen w s) x → writes.Held w (build_argument line x s)
 made_differs w line (One v) s h o = h
-made_differs w line (Rest xs) s h o = (keeps-new_tuple {w = w} line xs).holds s h
+made_differs w line (Rest xs) s h o = (once_by (respects-new_tuple {w = w} line xs)).holds s h
 made_differs w line (Names ns) s h o = named_dict w line ns s h o.0 o.1
 
 with_stay : {A : Type 0} (w : Setting) (s : State) (o : Outcome A) → writes.Held w o → stays.Preserved s o → After w s Some_answer o
@@ -85,9 +83,9 @@ run_keeps w vs m p f d shares k l = record { holds = λ s h o. held_then w s Som
 dict_differs : (w : Setting) (levels line : ℕ) (g : Arguments) (s : State) → KeysDiffer w s → NamedAll (seen w s) g.named → writes.Held w (call_dict w levels line g s)
 dict_differs w levels line g s h n =
     held_then w s Some_answer (none_or_one line g.positional s) _
-    (plain w (none_or_one line g.positional) (keeps-none_or_one line g.positional) (base_arguments.keeps-none_or_one {q = false} line g.positional).stays s h)
+    (plain w (none_or_one line g.positional) (λ inv. respects-none_or_one line g.positional) s h)
     (λ x t k stay p. held_then w t Some_answer (pairs_count w line x t) _
-    (plain w (pairs_count w line x) (keeps-pairs_count w line x) (base_pairs.keeps-pairs_count {q = false} w line x).stays t k)
+    (plain w (pairs_count w line x) (λ inv. respects-pairs_count w line x) t k)
     (λ c u l stays q. held_then w u _ (pairs_of w line x c u) (λ ps. dict_of w levels line ps g.named)
     (pairs_of_after w line x c u l)
     (λ ps v m stayed r. dict_of_differs w levels line ps g.named v m r
@@ -95,27 +93,27 @@ dict_differs w levels line g s h n =
 
 built_in_differs : (w : Setting) (levels line : ℕ) (b : BuiltIn) (g : Arguments) (s : State) → KeysDiffer w s → NamedAll (seen w s) g.named → writes.Held w (call_built_in w levels line b g s)
 unfolding call_built_in
-built_in_differs w levels line built_in.Abs g s h n = (keeps-call_abs w line g).holds s h
-built_in_differs w levels line built_in.All g s h n = (keeps-call_all w line g).holds s h
-built_in_differs w levels line built_in.Any g s h n = (keeps-call_any w line g).holds s h
-built_in_differs w levels line built_in.Bool g s h n = (keeps-call_bool w line g).holds s h
+built_in_differs w levels line built_in.Abs g s h n = (once_by (respects-call_abs w line g)).holds s h
+built_in_differs w levels line built_in.All g s h n = (once_by (respects-call_all w line g)).holds s h
+built_in_differs w levels line built_in.Any g s h n = (once_by (respects-call_any w line g)).holds s h
+built_in_differs w levels line built_in.Bool g s h n = (once_by (respects-call_bool w line g)).holds s h
 built_in_differs w levels line built_in.Dict g s h n = dict_differs w levels line g s h n
-built_in_differs w levels line built_in.Enumerate g s h n = (keeps-call_enumerate w line g).holds s h
-built_in_differs w levels line built_in.Fail g s h n = (keeps-call_fail w levels line g).holds s h
-built_in_differs w levels line built_in.Int g s h n = (keeps-call_int w line g).holds s h
-built_in_differs w levels line built_in.Len g s h n = (keeps-call_len w line g).holds s h
-built_in_differs w levels line built_in.List g s h n = (keeps-call_list w line g).holds s h
-built_in_differs w levels line built_in.Max g s h n = (keeps-call_best w levels line is_gt g).holds s h
-built_in_differs w levels line built_in.Min g s h n = (keeps-call_best w levels line is_lt g).holds s h
-built_in_differs w levels line built_in.Print g s h n = (keeps-call_print w levels line g).holds s h
-built_in_differs w levels line built_in.Range g s h n = (keeps-call_range w line g).holds s h
-built_in_differs w levels line built_in.Repr g s h n = (keeps-call_repr w levels line g).holds s h
-built_in_differs w levels line built_in.Reversed g s h n = (keeps-call_reversed w line g).holds s h
-built_in_differs w levels line built_in.Sorted g s h n = (keeps-call_sorted w line g).holds s h
-built_in_differs w levels line built_in.Str g s h n = (keeps-call_str w levels line g).holds s h
-built_in_differs w levels line built_in.Tuple g s h n = (keeps-call_tuple w line g).holds s h
-built_in_differs w levels line built_in.Type g s h n = (keeps-call_type w line g).holds s h
-built_in_differs w levels line built_in.Zip g s h n = (keeps-call_zip w line g).holds s h
+built_in_differs w levels line built_in.Enumerate g s h n = (once_by (respects-call_enumerate w line g)).holds s h
+built_in_differs w levels line built_in.Fail g s h n = (once_by (respects-call_fail w levels line g)).holds s h
+built_in_differs w levels line built_in.Int g s h n = (once_by (respects-call_int w line g)).holds s h
+built_in_differs w levels line built_in.Len g s h n = (once_by (respects-call_len w line g)).holds s h
+built_in_differs w levels line built_in.List g s h n = (once_by (respects-call_list w line g)).holds s h
+built_in_differs w levels line built_in.Max g s h n = (once_by (respects-call_best w levels line is_gt g)).holds s h
+built_in_differs w levels line built_in.Min g s h n = (once_by (respects-call_best w levels line is_lt g)).holds s h
+built_in_differs w levels line built_in.Print g s h n = (once_by (respects-call_print w levels line g)).holds s h
+built_in_differs w levels line built_in.Range g s h n = (once_by (respects-call_range w line g)).holds s h
+built_in_differs w levels line built_in.Repr g s h n = (once_by (respects-call_repr w levels line g)).holds s h
+built_in_differs w levels line built_in.Reversed g s h n = (once_by (respects-call_reversed w line g)).holds s h
+built_in_differs w levels line built_in.Sorted g s h n = (once_by (respects-call_sorted w line g)).holds s h
+built_in_differs w levels line built_in.Str g s h n = (once_by (respects-call_str w levels line g)).holds s h
+built_in_differs w levels line built_in.Tuple g s h n = (once_by (respects-call_tuple w line g)).holds s h
+built_in_differs w levels line built_in.Type g s h n = (once_by (respects-call_type w line g)).holds s h
+built_in_differs w levels line built_in.Zip g s h n = (once_by (respects-call_zip w line g)).holds s h
 
 found_call : (w : Setting) (m : Semantics) (p : Site) (f : Function) (d : Definition) (o : Option (List (Name × BoundArgument))) (s : State) → AllKeep w m → KeysDiffer w s → ((xs : List (Name × BoundArgument)) → o ≡ Some xs → SharesOnce (seen w s) xs) → writes.Held w ((found code.Args p.line o >>= m.call p f d) s)
 found_call w m p f d None s k h a = tt
@@ -124,10 +122,10 @@ found_call w m p f d (Some xs) s k h a = (k.call p f d xs).holds s h (a xs refl)
 called_differs : (w : Setting) (levels : ℕ) (m : Semantics) (p : Site) (c : Callee) (g : Arguments) (s : State) → AllKeep w m → KeysDiffer w s → NamedOnce (seen w s) g.named → writes.Held w (called w levels m p c g s)
 called_differs w levels m p (AFunction f d) g s k h n = found_call w m p f d (bound_to d.parameters f.defaults g) s k h (bound_once (seen w s) d.parameters f.defaults g n)
 called_differs w levels m p (ABuiltIn b) g s k h n = built_in_differs w levels p.line b g s h n.0
-called_differs w levels m p (AMethod b x) g s k h n = (keeps-call_method w levels p.line b x g).holds s h
+called_differs w levels m p (AMethod b x) g s k h n = (once_by (respects-call_method w levels p.line b x g)).holds s h
 
 given_called : (w : Setting) (levels : ℕ) (m : Semantics) (p : Site) (ps : List EvaluatedArgument) (c : Callee) → AllKeep w m → Keeps w (given w p.line ps >>= λ g. called w levels m p c g)
 given_called w levels m p ps c k = record { holds = λ s h. held_then w s _ (given w p.line ps s) (λ g. called w levels m p c g) (given_after w p.line ps s h) (λ g t i stay n. called_differs w levels m p c g t k i n) }
 
 pub keeps-call_node : (w : Setting) (levels : ℕ) (m : Semantics) (p : Site) (f : Expression) (es : List Argument) → AllKeep w m → Keeps w (call_node w levels m p f es)
-keeps-call_node w levels m p f es k = search (keeps, keeps-pass, keeps-callee, given_called) depth 14
+keeps-call_node w levels m p f es k = search (keeps, once_by, keeps-pass, respects-callee, given_called) depth 14

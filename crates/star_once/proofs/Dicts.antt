@@ -14,14 +14,11 @@ use Rattle.star_meaning.specs.Pairs.{Pairs, check_pair, dict_of, pair_of, pairs_
 use Rattle.star_meaning.specs.Program.{Setting, seen}
 use Rattle.star_meaning.specs.Run.{State, check, each, give, pay, seeing, ◌>>=◌}
 use Rattle.star_meaning.specs.Values.{Content, Held, check_key, content, held, new_dict, place_in, take_items}
-use Rattle.star_meaning.proofs.Keeps as base_keeps
-use Rattle.star_meaning.proofs.KeepsPairs as base
-use Rattle.star_meaning.proofs.KeepsValues as base_values
+use Rattle.star_meaning.proofs.Invariants.{respects_each}
 use Rattle.star_once.specs.Keys.{Differ, IsThere, KeysDiffer}
 use Rattle.star_once.proofs.After.{After, AllThere, Some_answer, after_then, all_stay, check_after, check_key_after, check_key_same, differ_there, given_now, held_then, new_dict_differs, new_text_after, pay_same, plain, with_entry_differs}
-use Rattle.star_once.proofs.Keeps.{keeps_each}
-use Rattle.star_once.proofs.KeepsPairs.{keeps-pair_of}
-use Rattle.star_once.proofs.KeepsValues.{keeps-take_items}
+use Rattle.star_meaning.proofs.KeepsPairs.{respects-pair_of}
+use Rattle.star_meaning.proofs.KeepsValues.{respects-take_items}
 use Rattle.star_once.proofs.Keys.{differ_stays, there_stays}
 use Rattle.star_once.proofs.BoundArguments.{IsText, KeyIsText, KeysAre, NamedAll, named_stays, names_differ, text_there}
 use Rattle.star_once.proofs.Writes as writes
@@ -105,9 +102,9 @@ taken_after w line (e ∷ es) s h t =
 other_pairs : (w : Setting) (line : ℕ) (x : Value) (n : ℕ) (s : State) → KeysDiffer w s → After w s (λ t ps. PairsThere (seen w t) ps) ((take_items w line x n >>= λ xs. each (pair_of w line) xs >>= λ ps. give (record { are_keys = false; pairs = ps })) s)
 other_pairs w line x n s h =
     after_then w s Some_answer (λ t ps. PairsThere (seen w t) ps) (take_items w line x n s) (λ xs. each (pair_of w line) xs >>= λ ps. give (record { are_keys = false; pairs = ps }))
-    (plain w (take_items w line x n) (keeps-take_items w line x n) (base_values.keeps-take_items {q = false} w line x n).stays s h)
+    (plain w (take_items w line x n) (λ inv. respects-take_items w line x n) s h)
     (λ xs u k stay p. after_then w u Some_answer (λ t ps. PairsThere (seen w t) ps) (each (pair_of w line) xs u) (λ ps. give (record { are_keys = false; pairs = ps }))
-    (plain w (each (pair_of w line) xs) (keeps_each (pair_of w line) xs (keeps-pair_of w line)) (base_keeps.keeps_each {q = false} (pair_of w line) xs (λ y. base.keeps-pair_of {q = false} w line y)).stays u k)
+    (plain w (each (pair_of w line) xs) (λ inv. respects_each (pair_of w line) xs (respects-pair_of w line)) u k)
     (λ ps v l stays q. given_now w v (λ t ps. PairsThere (seen w t) ps) (record { are_keys = false; pairs = ps }) l (λ c. absurd (let no : ⊥ = cc in no))))
 
 dict_pairs : (w : Setting) (line : ℕ) (es : List (Value × Value)) (s : State) → KeysDiffer w s → Differ (seen w s) es → After w s (λ t ps. PairsThere (seen w t) ps) ((taken_entries line es >>= λ ps. give (record { are_keys = true; pairs = ps })) s)

@@ -9,7 +9,6 @@ use Rattle.star_store.specs.declared.values.Function.{Function}
 use Rattle.star_store.specs.declared.range.Range.{Range}
 use Rattle.star_store.specs.declared.names.Method.{Method}
 use Rattle.star_store.specs.declared.arena.write.Change.{Change}
-use Rattle.star_store.specs.declared.fault.StoreFault.{StoreFault}
 use Rattle.star_store.specs.Store.{bound, bound_cell, changed, closed_in, is_container, look, made, opened_in}
 use Rattle.star_store.specs.Spend.{Spend, Spent, Enough, Lacks}
 use Rattle.star_tree.specs.declared.tree.Expression.{Expression}
@@ -21,14 +20,14 @@ use Rattle.star_meaning.specs.declared.fault.FaultCode.{FaultCode}
 use Rattle.star_meaning.specs.declared.fault.FaultCode.TheVariants as code
 use Rattle.star_meaning.specs.declared.site.Site.{Site}
 use Rattle.star_meaning.specs.declared.site.Flow.{Flow}
-use Rattle.star_meaning.specs.declared.site.Flow.TheVariants as flow
-use Rattle.star_meaning.specs.Run.{State, Outcome, Done, Failed, Action, and_then, ◌>>=◌, give, fail, pay, check, found, code_of, agreed, settled, visiting, seeing, storing, make, build, each, all_of, collect, until, add_line}
+use Rattle.star_meaning.specs.Run.{State, Outcome, Done, Failed, Action, and_then, ◌>>=◌, give, fail, pay, check, found, settled, visiting, seeing, storing, make, build, each, all_of, add_line}
 use Rattle.star_meaning.specs.Program.{Setting, Variables, seen}
 use Rattle.star_meaning.specs.Values.{change, count_of, iterate, leave}
 use Rattle.star_meaning.specs.Binding.{BoundArgument}
-use Rattle.star_meaning.specs.Semantics.{Semantics, block, then_go, then_turn, turns, repeat}
+use Rattle.star_meaning.specs.Semantics.{Semantics, block, turns, repeat}
 use Rattle.star_meaning.specs.Calls.{activate, deactivate}
 use Rattle.star_meaning.proofs.Stays as stays
+use Rattle.star_meaning.proofs.Invariants.{Invariant, Respects, respects_all_of, respects_block, respects_each, respects_repeat, respects_turns}
 use Rattle.star_meaning.proofs.Quiet.{open_cell, close_cell}
 use Rattle.star_once.specs.Keys.{Differ, KeysDiffer}
 use Rattle.star_once.proofs.BoundArguments.{SharesOnce}
@@ -118,28 +117,6 @@ pub keeps_build : {w : Setting} (line cost : ℕ) (c : Cell) → Keeps w (make c
 unfolding build
 keeps_build line cost c k = keeps_then _ _ (keeps_pay line cost) (λ _. k)
 
--- ---- loops
-
-pub keeps_each : {w : Setting} {A B : Type 0} (f : A → Action B) (xs : List A) → ((x : A) → Keeps w (f x)) → Keeps w (each f xs)
-keeps_each {B = B} f [] k = keeps_give {A = List B} []
-keeps_each {B = B} f (x ∷ xs) k = keeps_then _ _ (k x) (λ y. keeps_then _ _ (keeps_each f xs k) (λ ys. keeps_give (y ∷ ys)))
-
-pub keeps_all_of : {w : Setting} {A : Type 0} (f : A → Action (Unit {0})) (xs : List A) → ((x : A) → Keeps w (f x)) → Keeps w (all_of f xs)
-keeps_all_of f [] k = keeps_give {A = Unit {0}} tt
-keeps_all_of f (x ∷ xs) k = keeps_then _ _ (k x) (λ _. keeps_all_of f xs k)
-
-pub keeps_collect : {w : Setting} {B : Type 0} (f : ℕ → Action B) (n i : ℕ) → ((i : ℕ) → Keeps w (f i)) → Keeps w (collect f n i)
-keeps_collect {B = B} f zero i k = keeps_give {A = List B} []
-keeps_collect {B = B} f (suc n) i k = keeps_then _ _ (k i) (λ y. keeps_then _ _ (keeps_collect f n (i + 1) k) (λ ys. keeps_give (y ∷ ys)))
-
-pub keeps_until : {w : Setting} (f : ℕ → Action Bool) (n i : ℕ) → ((i : ℕ) → Keeps w (f i)) → Keeps w (until f n i)
-keeps_until f zero i k = keeps_give false
-keeps_until f (suc n) i k = keeps_then _ _ (k i) (λ stop. keeps_if stop _ _ (keeps_give true) (keeps_until f n (i + 1) k))
-
-pub keeps_agreed : {w : Setting} {A : Type 0} (line : ℕ) (r : Result A StoreFault) → Keeps w (agreed line r)
-keeps_agreed {A = A} line (Ok x) = keeps_give x
-keeps_agreed {A = A} line (Err f) = keeps_fail A (code_of f) line
-
 settled_differs : {A : Type 0} (w : Setting) (line : ℕ) (s : State) (o : Spent A) → KeysDiffer w s → Held w (settled line o s)
 settled_differs w line s (Enough x left) h = h
 settled_differs w line s (Lacks f left) h = tt
@@ -197,32 +174,6 @@ pub keeps_deactivate : {w : Setting} → Keeps w deactivate
 unfolding deactivate
 keeps_deactivate = record { holds = λ s h. h }
 
--- ---- statements and turns
-
-pub keeps_then_go : {w : Setting} (rest : Action Flow) (f : Flow) → Keeps w rest → Keeps w (then_go rest f)
-keeps_then_go rest flow.Next k = k
-keeps_then_go rest flow.Break k = keeps_give _
-keeps_then_go rest flow.Continue k = keeps_give _
-keeps_then_go rest (flow.Return v) k = keeps_give _
-
-pub keeps_block : {w : Setting} {A : Type 0} (f : A → Action Flow) (xs : List A) → ((x : A) → Keeps w (f x)) → Keeps w (block f xs)
-keeps_block f [] k = keeps_give _
-keeps_block f (x ∷ xs) k = keeps_then _ _ (k x) (λ y. keeps_then_go _ y (keeps_block f xs k))
-
-pub keeps_then_turn : {w : Setting} (rest : Action Flow) (f : Flow) → Keeps w rest → Keeps w (then_turn rest f)
-keeps_then_turn rest flow.Next k = k
-keeps_then_turn rest flow.Break k = keeps_give _
-keeps_then_turn rest flow.Continue k = k
-keeps_then_turn rest (flow.Return v) k = keeps_give _
-
-pub keeps_turns : {w : Setting} (f : ℕ → Action Flow) (n i : ℕ) → ((i : ℕ) → Keeps w (f i)) → Keeps w (turns f n i)
-keeps_turns f zero i k = keeps_give _
-keeps_turns f (suc n) i k = keeps_then _ _ (k i) (λ y. keeps_then_turn _ y (keeps_turns f n (i + 1) k))
-
-pub keeps_repeat : {w : Setting} (f : ℕ → Action (Unit {0})) (n i : ℕ) → ((i : ℕ) → Keeps w (f i)) → Keeps w (repeat f n i)
-keeps_repeat f zero i k = keeps_give {A = Unit {0}} tt
-keeps_repeat f (suc n) i k = keeps_then _ _ (k i) (λ _. keeps_repeat f n (i + 1) k)
-
 -- ---- what holds only where something else holds before, which depends on the state
 
 pub record KeepsWhere {A : Type 0} (w : Setting) (P : State → Type 0) (m : Action A) : Type 0 where
@@ -263,4 +214,52 @@ keeps_assign m k = k.assign
 pub keeps_parts : {w : Setting} (m : Semantics) → AllKeep w m → (p : Site) (e i : Expression) → Keeps w (m.parts p e i)
 keeps_parts m k = k.parts
 
-pub ruleset keeps = (refl, keeps_then, keeps_give, keeps_fail, keeps_if, keeps_found, keeps_pay, keeps_seeing, keeps_check, keeps_make_text, keeps_make_tuple, keeps_make_list, keeps_make_range, keeps_make_bound, keeps_make_frame, keeps_make_function, keeps_make_none, keeps_build, keeps_each, keeps_all_of, keeps_collect, keeps_until, keeps_agreed, keeps_visiting, keeps_bound, keeps_change, keeps_iterate, keeps_leave, keeps_activate, keeps_deactivate, keeps_add_line, keeps_block, keeps_turns, keeps_repeat, keeps_read, keeps_bind, keeps_frame, keeps_expr, keeps_stmt, keeps_assign, keeps_parts)
+pub keeps_while : {A : Type 0} (w : Setting) (line : ℕ) (v : Value) (m : ℕ → Action A) → ((n : ℕ) → Keeps w (m n)) → Keeps w (iterate w line v >>= λ n. m n >>= λ x. leave v)
+keeps_while w line v m k = keeps_then _ _ (keeps_iterate w line v) (λ n. keeps_then _ _ (k n) (λ x. keeps_leave v))
+
+pub keeps_looping : {A : Type 0} (w : Setting) (line : ℕ) (v : Value) (m : ℕ → Action A) → ((n : ℕ) → Keeps w (m n)) → Keeps w (iterate w line v >>= λ n. m n >>= λ x. leave v >>= λ _. give x)
+keeps_looping w line v m k = keeps_then _ _ (keeps_iterate w line v) (λ n. keeps_then _ _ (k n) (λ x. keeps_then _ _ (keeps_leave v) (λ _. keeps_give x)))
+
+-- that keys differ is an invariant
+abbrev pub once : (w : Setting) → Invariant w
+once w = record {
+  Kept = λ {A} m. Keeps w m;
+  joins = keeps_then;
+  gives = keeps_give;
+  fails = keeps_fail;
+  pays = keeps_pay;
+  sees = λ f same k. keeps_seeing f k;
+  visits = λ line f same k. keeps_visiting line f;
+  makes_text = keeps_make_text;
+  makes_tuple = keeps_make_tuple;
+  makes_list = keeps_make_list;
+  makes_empty = keeps_make_none;
+  makes_range = keeps_make_range;
+  makes_bound = keeps_make_bound;
+  changes = keeps_change w;
+  adds_line = keeps_add_line;
+  iterates = keeps_while w;
+  loops = keeps_looping w;
+}
+
+pub once_by : {w : Setting} {A : Type 0} {m : Action A} → Respects (once w) m → Keeps w m
+once_by k = k.kept
+
+-- ---- loops
+
+pub keeps_each : {w : Setting} {A B : Type 0} (f : A → Action B) (xs : List A) → ((x : A) → Keeps w (f x)) → Keeps w (each f xs)
+keeps_each f xs k = once_by (respects_each f xs (λ x. record { kept = k x }))
+
+pub keeps_all_of : {w : Setting} {A : Type 0} (f : A → Action (Unit {0})) (xs : List A) → ((x : A) → Keeps w (f x)) → Keeps w (all_of f xs)
+keeps_all_of f xs k = once_by (respects_all_of f xs (λ x. record { kept = k x }))
+
+pub keeps_block : {w : Setting} {A : Type 0} (f : A → Action Flow) (xs : List A) → ((x : A) → Keeps w (f x)) → Keeps w (block f xs)
+keeps_block f xs k = once_by (respects_block f xs (λ x. record { kept = k x }))
+
+pub keeps_turns : {w : Setting} (f : ℕ → Action Flow) (n i : ℕ) → ((i : ℕ) → Keeps w (f i)) → Keeps w (turns f n i)
+keeps_turns f n i k = once_by (respects_turns f n i (λ j. record { kept = k j }))
+
+pub keeps_repeat : {w : Setting} (f : ℕ → Action (Unit {0})) (n i : ℕ) → ((i : ℕ) → Keeps w (f i)) → Keeps w (repeat f n i)
+keeps_repeat f n i k = once_by (respects_repeat f n i (λ j. record { kept = k j }))
+
+pub ruleset keeps = (refl, keeps_then, keeps_give, keeps_fail, keeps_if, keeps_found, keeps_pay, keeps_seeing, keeps_check, keeps_make_text, keeps_make_tuple, keeps_make_list, keeps_make_range, keeps_make_bound, keeps_make_frame, keeps_make_function, keeps_make_none, keeps_build, keeps_each, keeps_all_of, keeps_visiting, keeps_bound, keeps_change, keeps_iterate, keeps_leave, keeps_activate, keeps_deactivate, keeps_add_line, keeps_block, keeps_turns, keeps_repeat, keeps_read, keeps_bind, keeps_frame, keeps_expr, keeps_stmt, keeps_assign, keeps_parts)

@@ -7,16 +7,16 @@ use Rattle.star_meaning.specs.Program.{Setting}
 use Rattle.star_meaning.specs.Values.{Content, Held}
 use Rattle.std.proofs.Common.{ℕ}
 use Rattle.star_meaning.specs.Statements.{augment_content, augmented}
-use Rattle.star_once.proofs.Keeps.{keeps, Keeps}
-use Rattle.star_once.proofs.KeepsValues.{keeps-with_content, keeps-guard}
+use Rattle.star_once.proofs.Keeps.{keeps, Keeps, once_by}
+use Rattle.star_meaning.proofs.KeepsValues.{respects-guard}
 use Rattle.star_once.proofs.KeepsOperators.{keeps-operate}
-use Rattle.star_once.proofs.KeepsPairs.{keeps-update_with}
-use Rattle.star_once.proofs.KeepsListMethods.{keeps-extend}
+use Rattle.star_meaning.proofs.KeepsPairs.{respects-update_with}
+use Rattle.star_meaning.proofs.KeepsListMethods.{respects-extend}
 
 pub keeps-augment_content : (w : Setting) (levels : ℕ) (line : ℕ) (a3 : BinaryOperator) (x : Value) (y : Value) (a6 : Content) → Keeps w (augment_content w levels line a3 x y a6)
-keeps-augment_content w levels line binary.Add x y (Held (cell.List xs)) = search (keeps, keeps-extend) depth 14
-keeps-augment_content w levels line binary.BitOr x y (Held (cell.Dict es)) = search (keeps, keeps-guard, keeps-update_with) depth 14
+keeps-augment_content w levels line binary.Add x y (Held (cell.List xs)) = search (keeps, once_by, respects-extend) depth 14
+keeps-augment_content w levels line binary.BitOr x y (Held (cell.Dict es)) = search (keeps, once_by, respects-guard, respects-update_with) depth 14
 keeps-augment_content w levels line op x y c = search (keeps, keeps-operate) depth 14
 
 pub keeps-augmented : (w : Setting) (levels : ℕ) (line : ℕ) (op : BinaryOperator) (x : Value) (y : Value) → Keeps w (augmented w levels line op x y)
-keeps-augmented w levels line op x y = search (keeps, keeps-with_content, keeps-augment_content) depth 14
+keeps-augmented w levels line op x y = search (keeps, keeps-augment_content) depth 14

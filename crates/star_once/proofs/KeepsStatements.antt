@@ -18,24 +18,24 @@ use Rattle.star_meaning.specs.Semantics.{Semantics}
 use Rattle.std.proofs.Common.{ℕ, List, [], ◌∷◌, Option, Some, None}
 use Rattle.star_meaning.specs.Run.{Action}
 use Rattle.star_meaning.specs.Statements.{augment, arms, loop_turn, loop, load_name, returned, statement}
-use Rattle.star_once.proofs.Keeps.{keeps, Keeps, AllKeep, VariablesKeep}
-use Rattle.star_once.proofs.KeepsValues.{keeps-take_item, keeps-is_true}
-use Rattle.star_once.proofs.KeepsSubscript.{keeps-index, keeps-set_index}
+use Rattle.star_once.proofs.Keeps.{keeps, Keeps, AllKeep, VariablesKeep, once_by}
+use Rattle.star_meaning.proofs.KeepsValues.{respects-take_item, respects-is_true}
+use Rattle.star_meaning.proofs.KeepsSubscript.{respects-index, respects-set_index}
 use Rattle.star_once.proofs.KeepsTargets.{keeps-to_target}
 use Rattle.star_once.proofs.KeepsExpressions.{keeps-new_function}
 use Rattle.star_once.proofs.KeepsEntries.{keeps-augmented}
 
 pub keeps-augment : (vs : Variables) (w : Setting) (levels : ℕ) (m : Semantics) (p : Site) (op : BinaryOperator) (e : Expression) (a7 : TargetForm) → VariablesKeep w vs → AllKeep w m → Keeps w (augment vs w levels m p op e a7)
 keeps-augment vs w levels m p op e (tree.Target-F.Target::Name n) k0 k1 = search (keeps, keeps-augmented) depth 14
-keeps-augment vs w levels m p op e (tree.Target-F.Target::Index b i) k0 k1 = search (keeps, keeps-index, keeps-set_index, keeps-augmented) depth 14
+keeps-augment vs w levels m p op e (tree.Target-F.Target::Index b i) k0 k1 = search (keeps, once_by, respects-index, respects-set_index, keeps-augmented) depth 14
 keeps-augment vs w levels m p op e _ k0 k1 = search keeps depth 14
 
 pub keeps-arms : (w : Setting) (m : Semantics) (p : Site) (a3 : List Arm) (otherwise : Action Flow) → AllKeep w m → Keeps w otherwise → Keeps w (arms w m p a3 otherwise)
 keeps-arms w m p [] otherwise k0 k1 = search keeps depth 14
-keeps-arms w m p (a ∷ more) otherwise k0 k1 = let h1 : (z3 : Site) → Keeps w (arms w m z3 more otherwise) = λ z3. keeps-arms w m z3 more otherwise k0 k1 in search (keeps, keeps-is_true, h1) depth 14
+keeps-arms w m p (a ∷ more) otherwise k0 k1 = let h1 : (z3 : Site) → Keeps w (arms w m z3 more otherwise) = λ z3. keeps-arms w m z3 more otherwise k0 k1 in search (keeps, once_by, respects-is_true, h1) depth 14
 
 pub keeps-loop_turn : (vs : Variables) (w : Setting) (m : Semantics) (p : Site) (t : Target) (body : List Statement) (v : Value) (i : ℕ) → VariablesKeep w vs → AllKeep w m → Keeps w (loop_turn vs w m p t body v i)
-keeps-loop_turn vs w m p t body v i k0 k1 = search (keeps, keeps-take_item, keeps-to_target) depth 14
+keeps-loop_turn vs w m p t body v i k0 k1 = search (keeps, once_by, respects-take_item, keeps-to_target) depth 14
 
 pub keeps-loop : (vs : Variables) (w : Setting) (m : Semantics) (p : Site) (t : Target) (body : List Statement) (v : Value) → VariablesKeep w vs → AllKeep w m → Keeps w (loop vs w m p t body v)
 keeps-loop vs w m p t body v k0 k1 = search (keeps, keeps-loop_turn) depth 14

@@ -25,6 +25,7 @@ use Rattle.star_plan.proofs.Outcomes.{never}
 use Rattle.star_plan.proofs.Seen.{ran-is, result-sound}
 use Rattle.star_plan.proofs.Stay.{result-from}
 use Rattle.star_once.specs.Names.{GlobalsStandOnce, NamesDiffer}
+use Rattle.star_once.proofs.Keys.{with_or_without}
 
 -- a name is none of these
 abbrev Free : List ℕ → List (List ℕ) → Type 0
@@ -48,19 +49,15 @@ differ (n ∷ ns) free = (not_there n ns free.0, differ ns free.1)
 
 filter_free : (n : List ℕ) (f : List ℕ → Bool) (ns : List (List ℕ)) → Free n ns → Free n (filter f ns)
 filter_free n f [] free = tt
-filter_free n f (m ∷ ms) free = by (f m) (filter_free n f ms free.1)
-  where
-    by : (b : Bool) → Free n (filter f ms) → Free n (if b then m ∷ filter f ms else filter f ms)
-    by true rest = (free.0, rest)
-    by false rest = rest
+filter_free n f (m ∷ ms) free =
+    let rest = filter_free n f ms free.1 in
+    with_or_without (λ ns. Free n ns) (f m) m (filter f ms) (free.0, rest) rest
 
 filter_all : (f : List ℕ → Bool) (ns : List (List ℕ)) → AllFree ns → AllFree (filter f ns)
 filter_all f [] free = tt
-filter_all f (n ∷ ns) free = by (f n) (filter_free n f ns free.0) (filter_all f ns free.1)
-  where
-    by : (b : Bool) → Free n (filter f ns) → AllFree (filter f ns) → AllFree (if b then n ∷ filter f ns else filter f ns)
-    by true one rest = (one, rest)
-    by false one rest = rest
+filter_all f (n ∷ ns) free =
+    let rest = filter_all f ns free.1 in
+    with_or_without (λ ms. AllFree ms) (f n) n (filter f ns) (filter_free n f ns free.0, rest) rest
 
 not_same : (b : Bool) → not b ≡ true → b ≡ true → ⊥
 not_same true h k = let bad : ⊥ = cc in bad

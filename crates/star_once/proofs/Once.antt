@@ -26,6 +26,7 @@ use Rattle.star_once.specs.Laws.{DifferentKeysStandOnce, FilesKeepKeys, FrozenKe
 use Rattle.star_once.proofs.Keys.{differ_stays, once}
 use Rattle.star_once.proofs.Runs.{file_keeps, meaning_keeps, names_keep}
 use Rattle.star_once.proofs.Writes as writes
+use Rattle.star_plan.proofs.Rows.{get_set_other}
 
 ended : {A : Type 0} (w : Setting) (o : Outcome A) (x : A) (t : State) → writes.Held w o → o ≡ Done x t → KeysDiffer w t
 ended w o x t h e = subst (writes.Held w) e h
@@ -95,13 +96,6 @@ set_same [] i x y h = absurd (let no : ⊥ = cc in no)
 set_same (z ∷ xs) zero x y h = cc
 set_same (z ∷ xs) (suc i) x y h = set_same xs i x y h
 
-set_other : {A : Type 0} (xs : List A) (i j : ℕ) (x : A) → (j ≡ i → ⊥) → slice_get (slice_set xs i x) j ≡ slice_get xs j
-set_other [] i j x k = refl
-set_other (z ∷ xs) zero zero x k = absurd (k refl)
-set_other (z ∷ xs) zero (suc j) x k = refl
-set_other (z ∷ xs) (suc i) zero x k = refl
-set_other (z ∷ xs) (suc i) (suc j) x k = set_other xs i j x (λ e. k (ap suc e))
-
 none_more : (n j : ℕ) (q : Published) → slice_get (replicate n None) j ≡ Some (Some q) → ⊥
 none_more zero j q h = let no : ⊥ = cc in no
 none_more (suc n) zero q h = let no : ⊥ = cc in no
@@ -132,7 +126,7 @@ put_cells home p shelf j at c true e h =
     ap (λ (z : Published). cell_at z.cells at) one ∙ r.2
 put_cells home p shelf j at c false e h =
     let r = published (slice_get (slice_set (widened (home + 1) shelf) home (Some p)) j) at c h in
-    let there : slice_get shelf j ≡ Some (Some r.0) = wide (home + 1 - length shelf) shelf j r.0 (sym (set_other (widened (home + 1) shelf) home j (Some p) (λ same. differ j home e same)) ∙ r.1) in
+    let there : slice_get shelf j ≡ Some (Some r.0) = wide (home + 1 - length shelf) shelf j r.0 (sym (get_set_other (widened (home + 1) shelf) home j (Some p) (λ same. differ j home e same)) ∙ r.1) in
     ap (λ o. cell_at (published_cells o) at) there ∙ r.2
   where
     differ : (m n : ℕ) → nat_eq m n ≡ false → m ≡ n → ⊥

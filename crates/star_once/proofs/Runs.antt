@@ -17,16 +17,17 @@ use Rattle.star_once.specs.Keys.{Differ}
 use Rattle.star_once.proofs.After.{held_then, new_dict_differs}
 use Rattle.star_once.proofs.Calls.{keeps-call_node, run_keeps}
 use Rattle.star_once.proofs.Dicts.{fresh_entries_after}
-use Rattle.star_once.proofs.Keeps.{AllKeep, Keeps, VariablesKeep, keeps, keeps_each, keeps_fail, keeps_pay, keeps_then}
+use Rattle.star_once.proofs.Keeps.{AllKeep, Keeps, VariablesKeep, keeps, keeps_each, keeps_fail, keeps_pay, keeps_then, once_by}
 use Rattle.star_once.proofs.KeepsComprehensions.{keeps-dict_comprehension, keeps-list_comprehension}
 use Rattle.star_once.proofs.KeepsExpressions.{keeps-entry_of, keeps-maybe, keeps-new_function}
-use Rattle.star_once.proofs.KeepsMethods.{keeps-attribute}
+use Rattle.star_meaning.proofs.KeepsMethods.{respects-attribute}
 use Rattle.star_once.proofs.KeepsModule.{keeps-global_text}
-use Rattle.star_once.proofs.KeepsOperators.{keeps-compared, keeps-operate, keeps-prefix}
+use Rattle.star_meaning.proofs.KeepsOperators.{respects-compared, respects-prefix}
+use Rattle.star_once.proofs.KeepsOperators.{keeps-operate}
 use Rattle.star_once.proofs.KeepsStatements.{keeps-statement}
-use Rattle.star_once.proofs.KeepsSubscript.{keeps-index, keeps-slice}
+use Rattle.star_meaning.proofs.KeepsSubscript.{respects-index, respects-slice}
 use Rattle.star_once.proofs.KeepsTargets.{keeps-parts_node, keeps-target_node}
-use Rattle.star_once.proofs.KeepsValues.{keeps-is_true, keeps-new_list, keeps-new_text, keeps-new_tuple}
+use Rattle.star_meaning.proofs.KeepsValues.{respects-is_true, respects-new_list, respects-new_text, respects-new_tuple}
 use Rattle.star_once.proofs.KeepsVariables.{keeps-bind_name, keeps-new_frame, keeps-read_name}
 use Rattle.star_once.proofs.Writes as writes
 
@@ -44,23 +45,23 @@ keeps-display w levels m p es k = record { holds = λ s h. joined w (each (entry
 keeps-node : (vs : Variables) (w : Setting) (levels : ℕ) (m : Semantics) (p : Site) (a5 : ExpressionForm) → VariablesKeep w vs → AllKeep w m → Keeps w (node vs w levels m p a5)
 keeps-node vs w levels m p (tree.Expression-F.Expression::Name n) k0 k1 = search keeps depth 14
 keeps-node vs w levels m p (tree.Int n) k0 k1 = search keeps depth 14
-keeps-node vs w levels m p (tree.Text t) k0 k1 = search (keeps, keeps-new_text) depth 14
-keeps-node vs w levels m p (tree.Expression-F.Expression::Tuple es) k0 k1 = search (keeps, keeps-new_tuple) depth 14
-keeps-node vs w levels m p (tree.Expression-F.Expression::List es) k0 k1 = search (keeps, keeps-new_list) depth 14
+keeps-node vs w levels m p (tree.Text t) k0 k1 = search (keeps, once_by, respects-new_text) depth 14
+keeps-node vs w levels m p (tree.Expression-F.Expression::Tuple es) k0 k1 = search (keeps, once_by, respects-new_tuple) depth 14
+keeps-node vs w levels m p (tree.Expression-F.Expression::List es) k0 k1 = search (keeps, once_by, respects-new_list) depth 14
 keeps-node vs w levels m p (tree.Dict es) k0 k1 = keeps-display w levels m p es k1
 keeps-node vs w levels m p (tree.ListComprehension at e cs) k0 k1 = search (keeps, keeps-list_comprehension) depth 14
 keeps-node vs w levels m p (tree.DictComprehension at e cs) k0 k1 = search (keeps, keeps-dict_comprehension) depth 14
-keeps-node vs w levels m p (tree.Unary op e) k0 k1 = search (keeps, keeps-prefix) depth 14
+keeps-node vs w levels m p (tree.Unary op e) k0 k1 = search (keeps, once_by, respects-prefix) depth 14
 keeps-node vs w levels m p (tree.Binary op a b) k0 k1 = search (keeps, keeps-operate) depth 14
-keeps-node vs w levels m p (tree.Compare c a b) k0 k1 = search (keeps, keeps-compared) depth 14
-keeps-node vs w levels m p (tree.And a b) k0 k1 = search (keeps, keeps-is_true) depth 14
-keeps-node vs w levels m p (tree.Or a b) k0 k1 = search (keeps, keeps-is_true) depth 14
-keeps-node vs w levels m p (tree.Conditional c a b) k0 k1 = search (keeps, keeps-is_true) depth 14
+keeps-node vs w levels m p (tree.Compare c a b) k0 k1 = search (keeps, once_by, respects-compared) depth 14
+keeps-node vs w levels m p (tree.And a b) k0 k1 = search (keeps, once_by, respects-is_true) depth 14
+keeps-node vs w levels m p (tree.Or a b) k0 k1 = search (keeps, once_by, respects-is_true) depth 14
+keeps-node vs w levels m p (tree.Conditional c a b) k0 k1 = search (keeps, once_by, respects-is_true) depth 14
 keeps-node vs w levels m p (tree.Lambda at ps e) k0 k1 = search (keeps, keeps-new_function) depth 14
 keeps-node vs w levels m p (tree.Call f es) k0 k1 = search (keeps, keeps-call_node) depth 14
-keeps-node vs w levels m p (tree.Attribute e n) k0 k1 = search (keeps, keeps-attribute) depth 14
-keeps-node vs w levels m p (tree.Expression-F.Expression::Index e i) k0 k1 = search (keeps, keeps-index) depth 14
-keeps-node vs w levels m p (tree.Slice e a b c) k0 k1 = search (keeps, keeps-slice, keeps-maybe) depth 14
+keeps-node vs w levels m p (tree.Attribute e n) k0 k1 = search (keeps, once_by, respects-attribute) depth 14
+keeps-node vs w levels m p (tree.Expression-F.Expression::Index e i) k0 k1 = search (keeps, once_by, respects-index) depth 14
+keeps-node vs w levels m p (tree.Slice e a b c) k0 k1 = search (keeps, once_by, respects-slice, keeps-maybe) depth 14
 
 pub names_keep : (w : Setting) → VariablesKeep w (by_names w)
 names_keep w = record { read = keeps-read_name w; bind = keeps-bind_name w; frame = keeps-new_frame w }

@@ -55,8 +55,8 @@ fn dict_contains(
     Ok(machine.place_in(setting, dict, value).is_some())
 }
 
-/// Whether a string is a substring of another one. `BadType` if it is not a string. No value is opened, so no levels are
-/// needed.
+/// Whether a string is a substring of another one. `BadType` if it is not a string. It opens no value, so it needs no
+/// levels.
 fn has_text(
     machine: &mut Machine,
     setting: &Setting,

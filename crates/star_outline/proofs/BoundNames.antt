@@ -68,26 +68,20 @@ of_condition e = ap clause_step (ap out-Clause (sym (c.rolls-If e)) ∙ out-roll
 
 -- ---- statements
 
-abbrev pub form_level : form.Form-F Form Arm Statement → Names
-form_level l = bound_by arms_names block_names l
-
 -- (a clause with a form comes first, so that the last one is read at each form by itself)
-form_rolled : (l : form.Form-F Form Arm Statement) → form_names (roll-Form l) ≡ form_level l
+form_rolled : (l : form.Form-F Form Arm Statement) → form_names (roll-Form l) ≡ bound_by arms_names block_names l
 form_rolled (form.Expression e) = fold-roll-Form Names Names Names bound_step arm_step names_step (form.Expression e)
 form_rolled l = fold-roll-Form Names Names Names bound_step arm_step names_step l
 
-pub form_opened : (f : Form) → form_names f ≡ form_level (out-Form f)
+pub form_opened : (f : Form) → form_names f ≡ bound_by arms_names block_names (out-Form f)
 form_opened f = ap form_names (sym (roll-out-Form f)) ∙ form_rolled (out-Form f)
 
-abbrev pub loads_level : form.Form-F Form Arm Statement → Names
-loads_level l = loads_by arms_loaded loaded_names l
-
 -- (a clause with a form comes first, so that the last one is read at each form by itself)
-loads_rolled : (l : form.Form-F Form Arm Statement) → form_loaded (roll-Form l) ≡ loads_level l
+loads_rolled : (l : form.Form-F Form Arm Statement) → form_loaded (roll-Form l) ≡ loads_by arms_loaded loaded_names l
 loads_rolled (form.Expression e) = fold-roll-Form Names Names Names loads_step arm_step names_step (form.Expression e)
 loads_rolled l = fold-roll-Form Names Names Names loads_step arm_step names_step l
 
-pub loads_opened : (f : Form) → form_loaded f ≡ loads_level (out-Form f)
+pub loads_opened : (f : Form) → form_loaded f ≡ loads_by arms_loaded loaded_names (out-Form f)
 loads_opened f = ap form_loaded (sym (roll-out-Form f)) ∙ loads_rolled (out-Form f)
 
 -- statements of two parts

@@ -2,8 +2,8 @@
 use Rattle.std.proofs.Common.{◌≡◌, ◌<◌, ◌≤◌, ◌+◌, ℕ, List, [], ◌∷◌, ◌++◌, Some, None, refl, ap, sym, ◌∙◌, length, map, drop, append-nil, ◌⊎◌, inl, inr}
 use Rattle.std.proofs.Math.ListN.{get_or}
 use Rattle.std.proofs.lemmas.List.{append_assoc}
-use Rattle.star_tree.specs.declared.tree.Argument.{Argument, out-Argument, roll-Argument, roll-out-Argument, para-roll-Argument}
-use Rattle.star_tree.specs.declared.tree.Clause.{Clause, out-Clause, roll-Clause, roll-out-Clause, para-roll-Clause}
+use Rattle.star_tree.specs.declared.tree.Argument.{Argument, roll-Argument, para-roll-Argument}
+use Rattle.star_tree.specs.declared.tree.Clause.{Clause, roll-Clause, para-roll-Clause}
 use Rattle.star_tree.specs.declared.tree.Clauses.{Clauses, out-Clauses, roll-out-Clauses, para-roll-Clauses}
 use Rattle.star_tree.specs.declared.tree.Entry.{Entry, out-Entry, roll-out-Entry, para-roll-Entry}
 use Rattle.star_tree.specs.declared.tree.Expression.{Expression, out-Expression, roll-Expression, roll-out-Expression, para-roll-Expression}
@@ -70,9 +70,6 @@ argument_rolled : (l : ArgumentForm) → in_argument (roll-Argument l) ≡ argum
 argument_rolled (tree.Positional e) = para-roll-Argument Found Found Found Found Found Found Found argument_found clause_found expression_found parameter_found target_found clauses_found entry_found (tree.Positional e)
 argument_rolled l = para-roll-Argument Found Found Found Found Found Found Found argument_found clause_found expression_found parameter_found target_found clauses_found entry_found l
 
-pub argument_opened : (x : Argument) → in_argument x ≡ argument_level (out-Argument x)
-argument_opened x = ap in_argument (sym (roll-out-Argument x)) ∙ argument_rolled (out-Argument x)
-
 abbrev pub clause_level : ClauseForm → Found
 clause_level (tree.For t e) = and (in_target t) (in_expression e)
 clause_level (tree.If e) = in_expression e
@@ -80,9 +77,6 @@ clause_level (tree.If e) = in_expression e
 clause_rolled : (l : ClauseForm) → in_clause (roll-Clause l) ≡ clause_level l
 clause_rolled (tree.For t e) = para-roll-Clause Found Found Found Found Found Found Found argument_found clause_found expression_found parameter_found target_found clauses_found entry_found (tree.For t e)
 clause_rolled (tree.If e) = para-roll-Clause Found Found Found Found Found Found Found argument_found clause_found expression_found parameter_found target_found clauses_found entry_found (tree.If e)
-
-pub clause_opened : (x : Clause) → in_clause x ≡ clause_level (out-Clause x)
-clause_opened x = ap in_clause (sym (roll-out-Clause x)) ∙ clause_rolled (out-Clause x)
 
 abbrev pub parameter_level : ParameterForm → Found
 parameter_level (tree.Plain n) = nothing

@@ -49,9 +49,6 @@ target e = out-Target e
 abbrev pub clause : Clause → ClauseForm
 clause e = out-Clause e
 
-abbrev pub form : Form → StatementForm
-form e = out-Form e
-
 -- the position and the form of a statement
 abbrev pub position_of : Statement → Position
 position_of s = (out-Statement s).position

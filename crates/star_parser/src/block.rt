@@ -1,6 +1,7 @@
 //! The readers of statements that hold others, and of a whole file. Begin at `file`.
 
-ghost use Rattle.star_syntax.specs.Grammar.{first, run, statement as at_statement};
+ghost use Rattle.std.specs.Prelude.{length};
+ghost use Rattle.star_syntax.specs.Grammar.{first, rounds, run, statement as at_statement};
 ghost use Rattle.star_syntax.specs.Expressions as expressions;
 ghost use Rattle.star_syntax.specs.Statements as spec;
 ghost use Rattle.star_syntax.specs.Language.{Blocks, Finds, Gives, Parsed, reads, rule};
@@ -29,11 +30,8 @@ fn indent(leaves: &[ValuedToken]) -> Option<((), &[ValuedToken])>
     ensures { Finds (first (λ t. spec.is_indent t.word) leaves.now) result }
 {
     match leaves {
-        [leaf, rest @ ..] => match &leaf.word {
-            TokenValue::Indent => Some(((), rest)),
-            _ => None,
-        },
-        [] => None,
+        [leaf, rest @ ..] if matches!(&leaf.word, TokenValue::Indent) => Some(((), rest)),
+        _ => None,
     }
 }
 
@@ -41,11 +39,8 @@ fn outdent(leaves: &[ValuedToken]) -> Option<((), &[ValuedToken])>
     ensures { Finds (first (λ t. spec.is_outdent t.word) leaves.now) result }
 {
     match leaves {
-        [leaf, rest @ ..] => match &leaf.word {
-            TokenValue::Outdent => Some(((), rest)),
-            _ => None,
-        },
-        [] => None,
+        [leaf, rest @ ..] if matches!(&leaf.word, TokenValue::Outdent) => Some(((), rest)),
+        _ => None,
     }
 }
 
@@ -53,11 +48,8 @@ fn end(leaves: &[ValuedToken]) -> Option<((), &[ValuedToken])>
     ensures { Finds (first (λ t. spec.is_end t.word) leaves.now) result }
 {
     match leaves {
-        [leaf, rest @ ..] => match &leaf.word {
-            TokenValue::End => Some(((), rest)),
-            _ => None,
-        },
-        [] => None,
+        [leaf, rest @ ..] if matches!(&leaf.word, TokenValue::End) => Some(((), rest)),
+        _ => None,
     }
 }
 
@@ -85,16 +77,19 @@ impl<F: Fn(Global, u128, &[ValuedToken]) -> Read<'_, Items<Statement>>> Nested<F
         readers.simple(leaves)
     }
 
-    /// `Statement {Statement}`
-    #[tactic(auto, unfolding(star_syntax::specs::Statements::body))]
-    fn body<'a>(&self, leaves: &'a [ValuedToken]) -> Read<'a, Items<Statement>>
+    /// `{Statement}`, after the statements that are found so far.
+    #[tactic(auto, using(star_syntax::proofs::Rounds::turns))]
+    fn statements_after<'a>(
+        &self,
+        mut found: Items<Statement>,
+        leaves: &'a [ValuedToken],
+    ) -> Read<'a, Items<Statement>>
         requires { Blocks self.now.depth (F.pre self.now.statement) (F.post self.now.statement) }
-        ensures { Gives (reads self.now.depth spec.body leaves.now) result }
+        ensures { Gives (rounds spec.append (run rule self.now.depth at_statement) (length leaves.now)
+            found leaves.now) result }
     {
-        let Some((mut found, mut rest)) = self.nested(leaves)? else {
-            return Ok(None);
-        };
-        for _turn in 0..rest.len() {
+        let mut rest = leaves;
+        for _turn in 0..leaves.len() {
             let Some((next, after)) = self.nested(rest)? else {
                 return Ok(Some((found, rest)));
             };
@@ -102,6 +97,18 @@ impl<F: Fn(Global, u128, &[ValuedToken]) -> Read<'_, Items<Statement>>> Nested<F
             rest = after;
         }
         Ok(Some((found, rest)))
+    }
+
+    /// `Statement {Statement}`
+    #[tactic(auto, unfolding(star_syntax::specs::Statements::body))]
+    fn body<'a>(&self, leaves: &'a [ValuedToken]) -> Read<'a, Items<Statement>>
+        requires { Blocks self.now.depth (F.pre self.now.statement) (F.post self.now.statement) }
+        ensures { Gives (reads self.now.depth spec.body leaves.now) result }
+    {
+        let Some((found, rest)) = self.nested(leaves)? else {
+            return Ok(None);
+        };
+        self.statements_after(found, rest)
     }
 
     /// `NEWLINE INDENT Statement {Statement} OUTDENT`
@@ -190,7 +197,7 @@ impl<F: Fn(Global, u128, &[ValuedToken]) -> Read<'_, Items<Statement>>> Nested<F
     }
 
     /// `'if' Test ':' Suite {'elif' Test ':' Suite}`
-    #[tactic(auto, unfolding(star_syntax::specs::Statements::arms))]
+    #[tactic(auto, unfolding(star_syntax::specs::Statements::arms), using(star_syntax::proofs::Rounds::turns))]
     fn arms<'a>(&self, leaves: &'a [ValuedToken]) -> Read<'a, Items<Arm>>
         requires { Blocks self.now.depth (F.pre self.now.statement) (F.post self.now.statement) }
         ensures { Gives (reads self.now.depth spec.arms leaves.now) result }
@@ -366,16 +373,7 @@ impl<F: Fn(Global, u128, &[ValuedToken]) -> Read<'_, Items<Statement>>> Nested<F
         requires { Blocks self.now.depth (F.pre self.now.statement) (F.post self.now.statement) }
         ensures { Gives (reads self.now.depth spec.statements leaves.now) result }
     {
-        let mut found = Items::new(self.alloc);
-        let mut rest = leaves;
-        for _turn in 0..rest.len() {
-            let Some((next, after)) = self.nested(rest)? else {
-                return Ok(Some((found, rest)));
-            };
-            found.append(next)?;
-            rest = after;
-        }
-        Ok(Some((found, rest)))
+        self.statements_after(Items::new(self.alloc), leaves)
     }
 
     /// `File = {Statement} END`

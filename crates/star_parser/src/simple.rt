@@ -30,11 +30,8 @@ pub fn newline(leaves: &[ValuedToken]) -> Option<((), &[ValuedToken])>
     ensures { Finds (first (λ t. spec.is_newline t.word) leaves.now) result }
 {
     match leaves {
-        [leaf, rest @ ..] => match &leaf.word {
-            TokenValue::Newline => Some(((), rest)),
-            _ => None,
-        },
-        [] => None,
+        [leaf, rest @ ..] if matches!(&leaf.word, TokenValue::Newline) => Some(((), rest)),
+        _ => None,
     }
 }
 
@@ -87,10 +84,7 @@ fn augmenting(leaves: &[ValuedToken]) -> Option<(BinaryOperator, &[ValuedToken])
     ensures { Finds (first (λ t. spec.augmenting_word t.word) leaves.now) result }
 {
     match leaves {
-        [leaf, rest @ ..] => match augmenting_word(&leaf.word) {
-            Some(operator) => Some((operator, rest)),
-            None => None,
-        },
+        [leaf, rest @ ..] => Some((augmenting_word(&leaf.word)?, rest)),
         [] => None,
     }
 }
@@ -227,7 +221,7 @@ impl Simple {
     }
 
     /// `{',' [name '='] string}`
-    #[tactic(auto, unfolding(star_syntax::specs::Statements::all_loaded))]
+    #[tactic(auto, unfolding(star_syntax::specs::Statements::all_loaded), using(star_syntax::proofs::Rounds::turns))]
     fn all_loaded<'a>(&self, leaves: &'a [ValuedToken]) -> Read<'a, Items<LoadedName>>
         ensures { Gives (reads self.now.depth spec.all_loaded leaves.now) result }
     {
@@ -395,7 +389,7 @@ impl Simple {
     }
 
     /// `Small {';' Small}`
-    #[tactic(auto, unfolding(star_syntax::specs::Statements::smalls))]
+    #[tactic(auto, unfolding(star_syntax::specs::Statements::smalls), using(star_syntax::proofs::Rounds::turns))]
     fn smalls<'a>(&self, leaves: &'a [ValuedToken]) -> Read<'a, Items<Statement>>
         ensures { Gives (reads self.now.depth spec.smalls leaves.now) result }
     {

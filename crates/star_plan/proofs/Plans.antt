@@ -1,17 +1,12 @@
 -- One plan for files.
-use Rattle.std.proofs.Common.{arith, ◌≡◌, ◌≢◌, ◌<◌, ℕ, zero, suc, List, [], ◌∷◌, ◌++◌, map, length, slice_index_or, Option, Some, None, Ok, Err, refl, ap, sym, subst, ◌∙◌, ◌⊎◌, inl, inr}
+use Rattle.std.proofs.Common.{◌≡◌, ◌≢◌, ℕ, List, [], ◌∷◌, ◌++◌, map, Option, Some, None, Ok, Err, refl, ap, sym, subst, ◌∙◌, inl, inr}
 use Rattle.std.specs.Prelude.{Contains}
 use Rattle.std.specs.List.{flat_map}
 use Rattle.std.specs.Option.{option_map}
-use Rattle.std.specs.Ordering.{nat_cmp, ordering_reverse}
-use Rattle.std.proofs.lemmas.Cmp.{nat_list_cmp_total}
-use Rattle.std.specs.Cmp.Lexicographic.{slice_cmp}
-use Rattle.std.specs.declared.cmp.Ordering.TheVariants.{Less, Greater}
-use Rattle.std.proofs.lemmas.Bool.{cases_order}
-use Rattle.std.proofs.lemmas.Map.Keys.{Less-from_sorted}
 use Rattle.star_label.specs.Files.{File, IsOrdered, label_at, text_at}
-use Rattle.star_label.specs.Label.{Reads, label_text, package_of}
-use Rattle.star_label.proofs.Colons.{tails}
+use Rattle.star_label.specs.Label.{package_of}
+use Rattle.star_label.proofs.Colons.{one_label}
+use Rattle.star_label.proofs.Ordered.{one_file}
 use Rattle.star_lex.specs.declared.token.SyntaxFault.{SyntaxFault}
 use Rattle.star_lex.specs.declared.token.SyntaxFault.TheVariants as syntax_fault
 use Rattle.star_tree.specs.declared.tree.Statement.{Statement}
@@ -31,53 +26,6 @@ use Rattle.star_plan.proofs.Rows.{same_rows}
 use Rattle.star_plan.specs.Plan.{Plan, Reading, OfText, OfNames, Sound, Faulty, loaded, loads_in, read_of}
 use Rattle.star_plan.specs.Reached.{IsReached, root, load}
 use Rattle.star_plan.specs.Reading.{IsPlanOf, IsPrelude, IsRead, statements_in}
-
-key : (files : List File) (n : ℕ) → n < length files → slice_index_or (map (λ f. f.0) files) n [] ≡ label_at files n
-key [] n h = absurd (let no : ⊥ = omega arith in no)
-key (f ∷ fs) zero h = refl
-key (f ∷ fs) (suc n) h = key fs n (omega arith)
-
-count : (files : List File) → length (map (λ f. f.0) files) ≡ length files
-count [] = refl
-count (f ∷ fs) = ap suc (count fs)
-
-not_below : (a : List ℕ) → slice_cmp nat_cmp a a ≡ Less → ⊥
-not_below a h = let u : Less ≡ Greater = sym h ∙ (nat_list_cmp_total.antisymm a a ∙ ap ordering_reverse h) in let no : ⊥ = cc in no
-
-apart : (files : List File) (i j : ℕ) → IsOrdered files → i < j → j < length files → label_at files i ≡ label_at files j → ⊥
-apart files i j ordered less short e =
-    let keys : List (List ℕ) = map (λ f. f.0) files in
-    let within : j < length keys = omega (arith, count files) in
-    let up : slice_cmp nat_cmp (slice_index_or keys i []) (slice_index_or keys j []) ≡ Less = Less-from_sorted (slice_cmp nat_cmp) keys i j [] ordered less within in
-    let same : slice_index_or keys i [] ≡ slice_index_or keys j [] = key files i (omega arith) ∙ (e ∙ sym (key files j short)) in
-    not_below (slice_index_or keys j []) (subst (λ z. slice_cmp nat_cmp z (slice_index_or keys j []) ≡ Less) same up)
-
-one_file : (files : List File) (i j : ℕ) → IsOrdered files → i < length files → j < length files → label_at files i ≡ label_at files j → i ≡ j
-one_file files i j ordered h k e = by_order (cases_order i j)
-  where
-    by_order : ((i ≡ j) ⊎ ((i < j) ⊎ (j < i))) → i ≡ j
-    by_order (inl same) = same
-    by_order (inr (inl less)) = absurd (apart files i j ordered less k e)
-    by_order (inr (inr less)) = absurd (apart files j i ordered less h (sym e))
-
-abbrev slash : ℕ
-slash = 47
-
-abbrev colon : ℕ
-colon = 58
-
-differ : (xs ys : List ℕ) → slash ∷ xs ≡ colon ∷ ys → ⊥
-differ xs ys e = let heads : slash ≡ colon = cc in let no : ⊥ = omega arith in no
-
--- a module string is one label
-one_label : (here text p n q m : List ℕ) → Reads here text p n → Reads here text q m → label_text p n ≡ label_text q m
-one_label here text p n q m a b = pick a.form b.form
-  where
-    pick : ((text ≡ label_text p n) ⊎ ((text ≡ 58 ∷ n) × (p ≡ here))) → ((text ≡ label_text q m) ⊎ ((text ≡ 58 ∷ m) × (q ≡ here))) → label_text p n ≡ label_text q m
-    pick (inl e) (inl f) = sym e ∙ f
-    pick (inl e) (inr (f, g)) = absurd (differ (47 ∷ (p ++ 58 ∷ n)) m (sym e ∙ f))
-    pick (inr (e, g)) (inl f) = absurd (differ (47 ∷ (q ++ 58 ∷ m)) n (sym f ∙ e))
-    pick (inr (e, g)) (inr (f, h)) = ap (λ z. label_text z n) (g ∙ sym h) ∙ ap (label_text q) (tails 58 n m (sym e ∙ f))
 
 one_lead : (files : List File) (here text : List ℕ) → IsOrdered files → (l k : LoadTarget) → LeadsTo files here text l → LeadsTo files here text k → l ≡ k
 one_lead files here text ordered (lead.File n) (lead.File m) (p, s, a, less, at) (q, t, b, short, is) = ap lead.File (one_file files n m ordered less short (at ∙ (one_label here text p s q t a b ∙ sym is)))

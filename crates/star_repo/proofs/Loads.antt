@@ -1,7 +1,7 @@
 -- Which labels load statements name.
-use Rattle.std.proofs.Common.{◌≡◌, ◌⊎◌, inl, inr, ℕ, List, ◌∷◌, ◌++◌, ap, sym, ◌∙◌, subst, Ok, Err, arith}
+use Rattle.std.proofs.Common.{◌≡◌, ◌⊎◌, inl, inr, ℕ, List, ◌++◌, subst, Ok, Err}
 use Rattle.std.specs.Prelude.{◌↔◌, Result}
-use Rattle.star_label.specs.Label.{Reads, label_text}
+pub use Rattle.star_label.proofs.Colons.{one_label}
 use Rattle.star_lex.specs.declared.token.SyntaxFault.{SyntaxFault}
 use Rattle.star_lex.specs.declared.token.SyntaxFault.TheVariants.{Memory}
 use Rattle.star_parser.specs.Sources.{Parses}
@@ -22,28 +22,6 @@ named_front here xs ys m h = (h.0, in_front h.0 xs ys h.1, h.2, h.3, h.4, h.5)
 
 pub named_back : (here : List ℕ) (xs ys : List Written) (m : List ℕ) → IsNamed here ys m → IsNamed here (xs ++ ys) m
 named_back here xs ys m h = (h.0, in_back h.0 xs ys h.1, h.2, h.3, h.4, h.5)
-
-abbrev slash : ℕ
-slash = 47
-
-abbrev colon : ℕ
-colon = 58
-
-differ : (xs ys : List ℕ) → slash ∷ xs ≡ colon ∷ ys → ⊥
-differ xs ys e = let heads : slash ≡ colon = cc in let no : ⊥ = omega arith in no
-
-rest_of : (x : ℕ) (xs ys : List ℕ) → x ∷ xs ≡ x ∷ ys → xs ≡ ys
-rest_of x xs ys e = cc
-
--- a module string is one label
-pub one_label : (here text p n q m : List ℕ) → Reads here text p n → Reads here text q m → label_text p n ≡ label_text q m
-one_label here text p n q m a b = pick a.form b.form
-  where
-    pick : ((text ≡ label_text p n) ⊎ ((text ≡ 58 ∷ n) × (p ≡ here))) → ((text ≡ label_text q m) ⊎ ((text ≡ 58 ∷ m) × (q ≡ here))) → label_text p n ≡ label_text q m
-    pick (inl e) (inl f) = sym e ∙ f
-    pick (inl e) (inr (f, g)) = absurd (differ (47 ∷ (p ++ 58 ∷ n)) m (sym e ∙ f))
-    pick (inr (e, g)) (inl f) = absurd (differ (47 ∷ (q ++ 58 ∷ m)) n (sym f ∙ e))
-    pick (inr (e, g)) (inr (f, h)) = ap (λ z. label_text z n) (g ∙ sym h) ∙ ap (label_text q) (rest_of 58 n m (sym e ∙ f))
 
 one_tree : (text : List ℕ) (a b : Tree) → Parses text (Ok a) → Parses text (Ok b) → a ≡ b
 one_tree text a b h k =

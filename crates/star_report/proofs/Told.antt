@@ -2,13 +2,9 @@
 use Rattle.std.proofs.Common.{arith, ◌≡◌, ◌+◌, ◌⊎◌, inl, inr, ℕ, zero, suc, Bool, true, false, not, ◌&&◌, List, [], ◌∷◌, length, map, Option, Some, None, refl, ap, sym, subst, ◌∙◌, if◌then◌else◌}
 use Rattle.std.specs.Prelude.{Contains, fold, is_some}
 use Rattle.std.specs.List.{filter}
-use Rattle.std.specs.Ordering.{match_ordering, nat_cmp}
-use Rattle.std.specs.Cmp.Lexicographic.{slice_cmp}
-use Rattle.std.specs.declared.cmp.Ordering.{Ordering}
-use Rattle.std.specs.declared.cmp.Ordering.TheVariants.{Less, Equal, Greater}
 use Rattle.std.specs.Str.{bytes_eq}
 use Rattle.std.proofs.lemmas.Slice.Eq.{bytes_eq-Decides}
-use Rattle.serde_json.specs.Data.{Data, Members, member, no_members, put}
+use Rattle.serde_json.specs.Data.{Data, Members, no_members}
 use Rattle.serde_json.specs.Find.{get_member}
 use Rattle.serde_json.proofs.Views.{get_member-put, get_member-put_other}
 use Rattle.star_scope.specs.Loads.{is_private}
@@ -16,6 +12,7 @@ use Rattle.star_report.specs.Laws.{AreToldOnce, NoneDropped, NoneTwice}
 use Rattle.star_once.specs.Names.{GlobalsStandOnce, NamesDiffer}
 use Rattle.star_data.specs.Counts.{member_count}
 use Rattle.star_data.specs.Data.{on_shelf}
+use Rattle.star_data.proofs.Rising.{count_new}
 use Rattle.star_report.specs.Values.{global_data, is_opaque, opaque_names, put_some, shown_values, with_value}
 
 -- ---- names
@@ -159,15 +156,6 @@ none_dropped f names name = record {
     own d (inr it) = it
 
 -- ---- as many
-
-count_new : (k : List ℕ) (d : Data) (ms : Members) → get_member k ms ≡ None → member_count (put k d ms) ≡ suc (member_count ms)
-count_new k d no_members none = refl
-count_new k d (member l e ms) none = turn (slice_cmp nat_cmp k l) none (count_new k d ms)
-  where
-    turn : (o : Ordering) → match_ordering o (get_member k ms) (Some e) (get_member k ms) ≡ None → (get_member k ms ≡ None → member_count (put k d ms) ≡ suc (member_count ms)) → member_count (match_ordering o (member k d (member l e ms)) (member l d ms) (member l e (put k d ms))) ≡ suc (suc (member_count ms))
-    turn Less is rest = refl
-    turn Equal is rest = absurd (let no : ⊥ = cc in no)
-    turn Greater is rest = ap suc (rest is)
 
 module _ (f : List ℕ → Option Data) where
   -- none of these names has a member yet

@@ -24,7 +24,7 @@ use Rattle.star_tree.specs.declared.tree.Name.{Name}
 use Rattle.star_scope.specs.declared.conflicts.Bound.{Bound}
 use Rattle.star_scope.specs.Bound.{Binds}
 use Rattle.star_scope.specs.Conflicts.{Bindings, all_of, arm_bindings, arm_step, arms_bindings, form_bindings, form_step, loaded_binding, nothing, shared, statement_bindings, statement_step, statements_bindings, target_bindings, target_step, targets_bindings}
-use Rattle.star_scope.proofs.Bindings.{bind_both}
+use Rattle.star_scope.proofs.Bindings.{bind_both, bind_none}
 
 -- a turn of a loop that adds the bindings of a list's items, and its end
 pub binds_turn : {A : Type 0} (one : A → Bindings) (each : List A → Bindings) (next : (xs : List A) (x : A) → each (xs ++ x ∷ []) ≡ each xs ++ one x)
@@ -90,9 +90,12 @@ step_of : (l : form.Form-F Form Arm Statement) → form_bindings (roll-Form l) �
 step_of l = fold-roll-Form Bindings Bindings Bindings form_step arm_step statement_step l
 
 -- a statement that binds nothing
-pub of_others : (f : Form) → ((e : Expression) × (f ≡ v.Expression e)) ⊎ ((f ≡ v.Pass) ⊎ ((f ≡ v.Break) ⊎ ((f ≡ v.Continue) ⊎ ((e : Option Expression) × (f ≡ v.Return e))))) → form_bindings f ≡ []
+of_others : (f : Form) → ((e : Expression) × (f ≡ v.Expression e)) ⊎ ((f ≡ v.Pass) ⊎ ((f ≡ v.Break) ⊎ ((f ≡ v.Continue) ⊎ ((e : Option Expression) × (f ≡ v.Return e))))) → form_bindings f ≡ []
 of_others f (inl (e, is)) = ap form_bindings (is ∙ sym (v.rolls-Expression e)) ∙ step_of (form.Expression e)
 of_others f (inr (inl is)) = ap form_bindings (is ∙ sym v.rolls-Pass) ∙ step_of form.Pass
 of_others f (inr (inr (inl is))) = ap form_bindings (is ∙ sym v.rolls-Break) ∙ step_of form.Break
 of_others f (inr (inr (inr (inl is)))) = ap form_bindings (is ∙ sym v.rolls-Continue) ∙ step_of form.Continue
 of_others f (inr (inr (inr (inr (e, is))))) = ap form_bindings (is ∙ sym (v.rolls-Return e)) ∙ step_of (form.Return e)
+
+pub bind_others : (f : Form) (b : Bound) → ((e : Expression) × (f ≡ v.Expression e)) ⊎ ((f ≡ v.Pass) ⊎ ((f ≡ v.Break) ⊎ ((f ≡ v.Continue) ⊎ ((e : Option Expression) × (f ≡ v.Return e))))) → Binds (form_bindings f) b b
+bind_others f b is = subst (λ bs. Binds bs b b) (sym (of_others f is)) (bind_none b)

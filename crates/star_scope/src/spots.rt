@@ -88,6 +88,24 @@ fn far_at(far: &[Option<Spot>], token: usize) -> Option<Spot>
     }
 }
 
+/// The spot of an entry at a token, beside the row of the spots too large for entries.
+#[inline(always)]
+#[tactic(auto, unfolding(crate::specs::Spots::spot_in))]
+fn spot_in(entry: Entry, far: &[Option<Spot>], token: usize) -> Option<Spot>
+    ensures { result ≡ spot_in entry (spot_at far.now token) }
+{
+    match entry {
+        Entry::Frame { up, slot } => Some(Spot::Frame {
+            up: up as usize,
+            slot: slot as usize,
+        }),
+        Entry::Prelude => Some(Spot::Prelude),
+        Entry::Outermost => Some(Spot::Outermost),
+        Entry::Far => far_at(far, token),
+        Entry::Empty => None,
+    }
+}
+
 impl Spots {
     /// A table with no spots.
     #[tactic(auto, unfolding(crate::specs::Spots::spots_of))]
@@ -112,16 +130,11 @@ impl Spots {
     pub fn get(&self, token: usize) -> Option<Spot>
         ensures { result ≡ spot_at self.now token }
     {
-        match entry_at(self.entries.as_slice(), token) {
-            Entry::Frame { up, slot } => Some(Spot::Frame {
-                up: up as usize,
-                slot: slot as usize,
-            }),
-            Entry::Prelude => Some(Spot::Prelude),
-            Entry::Outermost => Some(Spot::Outermost),
-            Entry::Far => far_at(self.far.as_slice(), token),
-            Entry::Empty => None,
-        }
+        spot_in(
+            entry_at(self.entries.as_slice(), token),
+            self.far.as_slice(),
+            token,
+        )
     }
 
     /// Records the spot of the name at a token. Another spot at the same token is refused with `AllocError`. Only a

@@ -4,7 +4,7 @@ use Rattle.std.specs.Prelude.{All, Contains, MatchOption, OnOk, Result, Ok, Err,
 use denote.Ref.{Bor}
 use Rattle.std.specs.List.{HoldsAt}
 use Rattle.std.proofs.lemmas.Bool.{cases_eq, cases_lt}
-use Rattle.std.proofs.lemmas.List.{get_or-set_other, get_or-set_same, get_or_append_left, get_or_push, length-set}
+use Rattle.std.proofs.lemmas.List.{get_or_default, get_or-set_other, get_or-set_same, get_or_append_left, get_or_push, length-set}
 use Rattle.std.proofs.lemmas.List.Elements.{All-push, Contains-append_left, Contains-push, Contains-push_cases}
 use Rattle.std.proofs.lemmas.List.Sums.{sum_by-set}
 use Rattle.std.proofs.lemmas.Option.{get_or_from_slice_get, slice_get-get_or, slice_get_past, slice_get_within}
@@ -40,6 +40,11 @@ left_one n marks todo inside clear =
     let more = length-append todo (n ∷ []) in
     omega (arith, s, one, none, more)
 
+-- a mark that was read, and is not set
+pub unmarked : (marks : List Bool) (n : ℕ) (mark : Bool) → mark ≡ get_or marks n mark → mark ≡ false → get_or marks n false ≡ false
+unmarked marks n true is unset = absurd (let no : ⊥ = cc in no)
+unmarked marks n false is unset = sym is
+
 pub marked_new : (n : ℕ) (marks : List Bool) (todo : List ℕ) → n < length marks → get_or marks n false ≡ false → IsMarkedMore n marks todo (slice_set marks n true) (todo ++ n ∷ [])
 marked_new n marks todo inside clear = record {
   size = length-set marks n true;
@@ -69,6 +74,13 @@ pub passes_more : (marks : List Bool) (its : List ℕ) (from place x : ℕ) → 
 passes_more marks its from place x before here marked i m low less at = by_cases (cases_eq i place)
     (λ e. let both : Some m ≡ Some x = sym at ∙ (ap (slice_get its) e ∙ here) in let same : m ≡ x = cc in subst (IsMarked marks) (sym same) marked)
     (λ ne. before i m low (omega (arith, less, ne)) at)
+
+-- the same, of marks and a first place that were read
+pub passes_read : (marks read : List Bool) (its passed : List ℕ) (n from place : ℕ) → read ≡ marks → n < length passed → from ≡ get_or passed n from
+    → Passes read its from place → Passes marks its (passed_of passed n) place
+passes_read marks read its passed n from place same inside is passes =
+    let start : from ≡ passed_of passed n = is ∙ get_or_default passed n from 0 inside in
+    λ i m low less at. subst (λ ms. IsMarked ms m) same (passes i m (subst (λ x. x ≤ i) (sym start) low) less at)
 
 module _ (needs : Needs) (marks : List Bool) (passed : List ℕ) (rows : List (List ℕ)) (todo aside : List ℕ) (n place : ℕ) (ns : List ℕ)
     (inside : n < length passed) (has : NeedsAll needs n ns) (passes : Passes marks ns (passed_of passed n) place)

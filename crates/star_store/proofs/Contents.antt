@@ -11,7 +11,7 @@ use Rattle.star_store.specs.declared.values.Cell.{Cell}
 use Rattle.star_store.specs.declared.values.Cell.TheVariants as cell
 use Rattle.star_store.specs.declared.content.Atom.{Atom}
 use Rattle.star_store.specs.declared.content.Atom.TheVariants as atom
-use Rattle.star_store.specs.Content.{KeepsKeys, after, atom_in, content, content_cell, content_each, content_value, join, only_atom, same_atom, same_content}
+use Rattle.star_store.specs.Content.{KeepsKeys, after, atom_in, content, content_cell, content_each, content_row, content_value, join, only_atom, same_atom, same_content}
 use Rattle.star_store.specs.Key.{all_pass, is_key, key_cell, key_value, same_key, same_key_cell, same_key_items, same_key_place, same_key_value}
 
 pub content_at_none : (look : Value → Option Cell) (v : Value) → content look 0 v ≡ None
@@ -22,6 +22,12 @@ pub content_at : (look : Value → Option Cell) (n : ℕ) (v : Value) → 0 < n 
 unfolding content
 content_at look zero v h = absurd (omega arith)
 content_at look (suc n) v h = ap (λ k. content_value look (content look k) v) (let e : n ≡ suc n - 1 = omega arith in e)
+
+-- the content of a tuple
+pub content_items : (look : Value → Option Cell) (n : ℕ) (v : Value) (h a : ℕ) (xs : List Value) → 0 < n → v ≡ value.Ref h a → look v ≡ Some (cell.Tuple xs) → content look n v ≡ content_row (content look (n - 1)) xs
+content_items look n v h a xs deep is read =
+    let f = content look (n - 1) in
+    content_at look n v deep ∙ ap (content_value look f) is ∙ ap (content_cell f) (ap look (sym is) ∙ read)
 
 -- one atom is the whole content
 pub only_atom_is : (look : Value → Option Cell) (n : ℕ) (v : Value) (a : Atom) → 0 < n → only_atom look v ≡ Some a → content look n v ≡ Some (a ∷ [])

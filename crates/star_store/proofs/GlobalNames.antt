@@ -1,18 +1,18 @@
 -- Names that ascend, and the result of a search among them.
-use Rattle.std.proofs.Common.{◌≡◌, ℕ, ◌<◌, ◌≤◌, zero, suc, Bool, true, false, List, [], ◌∷◌, length, get_or, map, inl, inr, Option, Some, None, Ok, Err, String, string_bytes, refl, ap, sym, ◌∙◌, arith, if◌then◌else◌}
+use Rattle.std.proofs.Common.{◌≡◌, ℕ, ◌+◌, ◌<◌, ◌≤◌, zero, suc, true, false, List, [], ◌∷◌, length, get_or, map, inl, inr, Option, Some, None, Ok, Err, String, string_bytes, refl, ap, sym, ◌∙◌, arith}
 use Rattle.std.specs.List.{AllByRecursion}
 use Rattle.std.specs.declared.alloc.Global.{Global}
 use Rattle.std.specs.declared.cmp.Ordering.{Ordering}
 use Rattle.std.specs.declared.cmp.Ordering.TheVariants.{Less, Equal, Greater}
-use Rattle.std.specs.Ordering.{is_eq, is_lt, nat_cmp, ordering_index}
+use Rattle.std.specs.Ordering.{is_eq, is_lt, nat_cmp, ordering_index, ordering_reverse}
 use Rattle.std.specs.Cmp.Lexicographic.{slice_cmp}
 use Rattle.std.specs.List.Sorted.{IsBinarySearchResult, IsNonDecreasingBy, IsStrictlySortedBy}
 use Rattle.std.proofs.lemmas.Cmp.{nat_list_cmp_total}
 use Rattle.std.proofs.lemmas.Map.Lookups.{exact_bytes}
+use Rattle.std.proofs.lemmas.List.Sorted.{searchable_from_sorted}
 use Rattle.std.proofs.lemmas.Map.Keys.{Less-from_sorted}
 use Rattle.std.proofs.lemmas.Map.Text.{is_eq-slice_cmp}
-use Rattle.std.proofs.Math.Nat.{eq-or-lt_of_le}
-use Rattle.std.proofs.lemmas.Bool.{cases_lt}
+use Rattle.std.proofs.lemmas.Bool.{cases_lt, cond-false, cond-true}
 use Rattle.star_store.specs.declared.values.Value.{Value}
 use Rattle.star_store.specs.Store.{ascend, global_of}
 
@@ -82,16 +82,8 @@ earlier gs i j d s h k =
     let low : i < length gs = omega arith in
     rw (← key_is gs i d low, ← key_is gs j d k) (Less-from_sorted order (names gs) i j [] s h below)
 
-choose : (b : Bool) (x : Value) (o : Option Value) → b ≡ false → (if b then Some x else o) ≡ o
-choose true x o h = cc
-choose false x o h = refl
-
-taken : (b : Bool) (x : Value) (o : Option Value) → b ≡ true → (if b then Some x else o) ≡ Some x
-taken true x o h = refl
-taken false x o h = cc
-
 skipped : (name : List ℕ) (x : Global_) (xs : List Global_) → is_eq (asked name x) ≡ false → global_of name (pairs (x ∷ xs)) ≡ global_of name (pairs xs)
-skipped name x xs h = choose _ x.1 (global_of name (pairs xs)) (sym (is_eq-slice_cmp (string_bytes x.0) name) ∙ h)
+skipped name x xs h = cond-false _ (Some x.1) (global_of name (pairs xs)) (sym (is_eq-slice_cmp (string_bytes x.0) name) ∙ h)
 
 tail : (x : Global_) (xs : List Global_) → ascend (names (x ∷ xs)) → ascend (names xs)
 unfolding IsStrictlySortedBy
@@ -99,7 +91,7 @@ tail x xs s = s.1
 
 found_at : (name : List ℕ) (gs : List Global_) (n : ℕ) (d : Global_) → ascend (names gs) → n < length gs → order (key gs n d) name ≡ Equal → global_of name (pairs gs) ≡ Some (get_or gs n d).1
 found_at name [] n d s h e = absurd (omega arith)
-found_at name (x ∷ xs) zero d s h e = taken _ x.1 (global_of name (pairs xs)) (sym (is_eq-slice_cmp (string_bytes x.0) name) ∙ ap is_eq e)
+found_at name (x ∷ xs) zero d s h e = cond-true _ (Some x.1) (global_of name (pairs xs)) (sym (is_eq-slice_cmp (string_bytes x.0) name) ∙ ap is_eq e)
 found_at name (x ∷ xs) (suc n) d s h e =
     let before : order (string_bytes x.0) (key xs n d) ≡ Less = earlier (x ∷ xs) 0 (suc n) d s (omega arith) h in
     let apart : asked name x ≡ Less = ap (order (string_bytes x.0)) (sym (exact_bytes (key xs n d) name e)) ∙ before in
@@ -111,21 +103,10 @@ missed name (x ∷ xs) d h = skipped name x xs (h 0 (omega arith)) ∙ missed na
 
 -- ---- the search
 
-at_most : (o : Ordering) → ordering_index o ≤ 2
-at_most Less = omega arith
-at_most Equal = omega arith
-at_most Greater = omega arith
-
-rises : (a b l : List ℕ) (o : Ordering) → order a b ≡ Less → order b l ≡ o → ordering_index (order a l) ≤ ordering_index o
-rises a b l Less h e = rw (nat_list_cmp_total.trans a b l h e) (omega arith)
-rises a b l Equal h e = let k : order a l ≡ Less = ap (order a) (sym (exact_bytes b l e)) ∙ h in rw k (omega arith)
-rises a b l Greater h e = at_most (order a l)
-
 non_decreasing : (gs : List Global_) (l : List ℕ) → ascend (names gs) → IsNonDecreasingBy (λ g. ordering_index (asked l g)) gs
-non_decreasing gs l s = λ i j d h k. elim (eq-or-lt_of_le h) [
-  | inl e ↦ rw e (omega arith)
-  | inr lt ↦ rises (key gs i d) (key gs j d) l (order (key gs j d) l) (earlier gs i j d s lt k) refl
-]
+non_decreasing gs l s =
+    searchable_from_sorted nat_list_cmp_total (λ g. string_bytes g.0) gs l
+    (λ k d a b. ap is_lt (nat_list_cmp_total.antisymm (key gs (k + 1) d) (key gs k d) ∙ ap ordering_reverse (earlier gs k (k + 1) d s (omega arith) b)))
 
 pub found : (name : List ℕ) (gs : List Global_) (i : ℕ) (d : Global_) → ascend (names gs) → IsBinarySearchResult (asked name) gs (Ok i) → i < length gs → Some (get_or gs i d).1 ≡ global_of name (pairs gs)
 found name gs i d s h b = sym (found_at name gs i d s b (h d))

@@ -1,10 +1,12 @@
 -- Keys at a number of levels, by the number below it.
-use Rattle.std.proofs.Common.{◌≡◌, ℕ, zero, suc, ◌+◌, ◌-◌, if◌then◌else◌, ◌<◌, Bool, false, Option, refl, ap, arith}
+use Rattle.std.proofs.Common.{◌≡◌, ℕ, zero, suc, ◌+◌, ◌-◌, if◌then◌else◌, ◌<◌, ◌≤◌, nat_lt, Bool, false, List, Option, Some, refl, ap, sym, ◌∙◌, arith}
 use Rattle.star_store.specs.declared.values.Value.{Value}
+use Rattle.star_store.specs.declared.values.Value.TheVariants as value
 use Rattle.star_store.specs.declared.values.Cell.{Cell}
-use Rattle.star_store.specs.Key.{is_key, key_value, same_key, same_key_value, all_pass, check, check_value}
+use Rattle.star_store.specs.declared.values.Cell.TheVariants as cell
+use Rattle.star_store.specs.Key.{is_key, key_value, same_key, same_key_value, all_pass, check, check_cell, check_each, check_value}
 use Rattle.star_store.specs.Spend.{Lacks, visited}
-use Rattle.star_store.specs.declared.fault.StoreFault.TheVariants.{Deep}
+use Rattle.star_store.specs.declared.fault.StoreFault.TheVariants.{Deep, Steps}
 
 pub is_key_at_none : (look : Value → Option Cell) (v : Value) → is_key look 0 v ≡ false
 unfolding is_key
@@ -39,3 +41,12 @@ pub check_at : (look : Value → Option Cell) (levels : ℕ) (v : Value) (n : �
 unfolding check
 check_at look zero v n h = absurd (omega arith)
 check_at look (suc levels) v n h = ap (λ k. visited (check_value look (check look k) v) n) (let e : levels ≡ suc levels - 1 = omega arith in e)
+
+-- the check of a tuple, whose visit was paid
+pub check_items : (look : Value → Option Cell) (levels n : ℕ) (v : Value) (h a : ℕ) (xs : List Value) → 0 < levels → 1 ≤ n → v ≡ value.Ref h a → look v ≡ Some (cell.Tuple xs)
+    → check look levels v n ≡ check_each (check look (levels - 1)) xs (n - 1)
+check_items look levels n v h a xs deep paid is read =
+    let f = check look (levels - 1) in
+    let rich : nat_lt n 1 ≡ false = grind arith in
+    check_at look levels v n deep ∙ ap (λ b. if b then Lacks Steps n else check_value look f v (n - 1)) rich
+    ∙ ap (λ w. check_value look f w (n - 1)) is ∙ ap (λ c. check_cell f c (n - 1)) (ap look (sym is) ∙ read)

@@ -1,13 +1,13 @@
 -- Tables of published stores: their rows, and the places of their keys in an index.
-use Rattle.std.proofs.Common.{◌≡◌, ℕ, zero, suc, ◌+◌, ◌<◌, ◌≤◌, nat_eq, nat_lt, Bool, true, false, cond, ◌&&◌, ◌||◌, List, [], ◌∷◌, ◌++◌, length, get_or, set, map, drop, Option, Some, None, slice_get, position, refl, ap, sym, subst, ◌∙◌, arith}
+use Rattle.std.proofs.Common.{◌≡◌, ℕ, zero, suc, ◌+◌, ◌<◌, ◌≤◌, nat_eq, nat_lt, Bool, true, false, cond, ◌&&◌, ◌||◌, List, [], ◌∷◌, ◌++◌, length, get_or, set, map, drop, Option, Some, None, slice_get, position, refl, ap, sym, subst, ◌∙◌, arith, inl, inr}
 use Rattle.std.specs.List.{list_all, list_any}
 use Rattle.std.specs.Option.{option_map}
 use Rattle.std.specs.Cmp.Lexicographic.{pointwise}
-use Rattle.std.proofs.lemmas.Bool.{and_parts, eqb-false, eqb-true, ltb-false, ne_eqb}
-use Rattle.std.proofs.lemmas.List.{drop_more}
+use Rattle.std.proofs.lemmas.Bool.{and_parts, cases_lt, eqb-false, eqb-true, ltb-false, ne_eqb}
+use Rattle.std.proofs.lemmas.List.{drop_more, get_or-set_other, get_or-set_same, length-set}
 use Rattle.std.proofs.lemmas.List.Folds.{list_any-append}
 use Rattle.std.proofs.lemmas.List.Quantifiers.{position-Some}
-use Rattle.std.proofs.lemmas.Option.{slice_get_past}
+use Rattle.std.proofs.lemmas.Option.{slice_get-get_or, slice_get_past}
 use Rattle.star_store.specs.declared.values.Value.{Value}
 use Rattle.star_store.specs.declared.values.Value.TheVariants as value
 use Rattle.star_store.specs.declared.values.Cell.{Cell}
@@ -141,16 +141,13 @@ same_test : (atoms content : List Atom) → pointwise same_atom atoms content �
 same_test atoms content e contents = position_same (pointwise same_atom atoms) (pointwise same_atom content) contents (λ k. contents_alike.congr atoms content k e)
 
 get_set : {X : Type 0} (xs : List X) (i : ℕ) (x : X) → i < length xs → slice_get (set xs i x) i ≡ Some x
-get_set [] i x h = absurd (omega arith)
-get_set (y ∷ ys) zero x h = refl
-get_set (y ∷ ys) (suc i) x h = get_set ys i x (omega arith)
+get_set xs i x h = slice_get-get_or (set xs i x) i x (omega (arith, h, length-set xs i x)) ∙ ap Some (get_or-set_same xs i x x h)
 
 get_other : {X : Type 0} (xs : List X) (at i : ℕ) (x : X) → (i ≡ at → ⊥) → slice_get (set xs at x) i ≡ slice_get xs i
-get_other [] at i x n = refl
-get_other (y ∷ ys) zero zero x n = absurd (n refl)
-get_other (y ∷ ys) zero (suc i) x n = refl
-get_other (y ∷ ys) (suc at) zero x n = refl
-get_other (y ∷ ys) (suc at) (suc i) x n = get_other ys at i x (λ e. n (ap suc e))
+get_other xs at i x n = elim (cases_lt i (length xs)) [
+  | inl low ↦ slice_get-get_or (set xs at x) i x (omega (arith, low, length-set xs at x)) ∙ ap Some (get_or-set_other xs at i x x n) ∙ sym (slice_get-get_or xs i x low)
+  | inr high ↦ slice_get_past (set xs at x) i (omega (arith, high, length-set xs at x)) ∙ sym (slice_get_past xs i high)
+]
 
 row_more : (row : List ℕ) (at i : ℕ) → has (row ++ at ∷ []) i ≡ (has row i || (nat_eq at i && true))
 row_more row at i = list_any-append (λ j. nat_eq j i) row (at ∷ []) ∙ ap (λ (b : Bool). has row i || b) (or_false (nat_eq at i) ∙ sym (and_true (nat_eq at i)))

@@ -65,12 +65,9 @@ after xs o = option_map (λ ks. xs ++ ks) o
 abbrev pub IsPut : List Atom → Option (List Atom) → List Atom → Bool → Type 0
 IsPut old o new whole = after old o ≡ (if whole then Some new else None)
 
--- the content of a key that is not a tuple, and that of a row of items, if this many levels may be opened in them
+-- the content of a key that is not a tuple
 abbrev pub atom_content : (Value → Option Cell) → Value → Option (List Atom)
 atom_content look v = option_map (λ a. a ∷ []) (only_atom look v)
-
-abbrev pub row_content : (Value → Option Cell) → ℕ → List Value → Option (List Atom)
-row_content look levels xs = content_row (content look levels) xs
 
 -- whether two atoms are equal
 abbrev pub same_atom : Atom → Atom → Bool

@@ -53,64 +53,39 @@ built_in_name built_in.Tuple = codes "tuple"
 built_in_name built_in.Type = codes "type"
 built_in_name built_in.Zip = codes "zip"
 
--- the name of a method
-abbrev pub method_name : Method → List ℕ
-method_name method.ListAppend = codes "append"
-method_name method.ListClear = codes "clear"
-method_name method.ListExtend = codes "extend"
-method_name method.ListIndex = codes "index"
-method_name method.ListInsert = codes "insert"
-method_name method.ListPop = codes "pop"
-method_name method.ListRemove = codes "remove"
-method_name method.DictClear = codes "clear"
-method_name method.DictGet = codes "get"
-method_name method.DictItems = codes "items"
-method_name method.DictKeys = codes "keys"
-method_name method.DictPop = codes "pop"
-method_name method.DictPopitem = codes "popitem"
-method_name method.DictSetdefault = codes "setdefault"
-method_name method.DictUpdate = codes "update"
-method_name method.DictValues = codes "values"
-method_name method.StringEndswith = codes "endswith"
-method_name method.StringFind = codes "find"
-method_name method.StringFormat = codes "format"
-method_name method.StringJoin = codes "join"
-method_name method.StringLower = codes "lower"
-method_name method.StringLstrip = codes "lstrip"
-method_name method.StringReplace = codes "replace"
-method_name method.StringRstrip = codes "rstrip"
-method_name method.StringSplit = codes "split"
-method_name method.StringStartswith = codes "startswith"
-method_name method.StringStrip = codes "strip"
-method_name method.StringUpper = codes "upper"
+-- the names of a method: that of the type of its receiver, and its own
+abbrev pub method_names : Method → List ℕ × List ℕ
+method_names method.ListAppend = (codes "list", codes "append")
+method_names method.ListClear = (codes "list", codes "clear")
+method_names method.ListExtend = (codes "list", codes "extend")
+method_names method.ListIndex = (codes "list", codes "index")
+method_names method.ListInsert = (codes "list", codes "insert")
+method_names method.ListPop = (codes "list", codes "pop")
+method_names method.ListRemove = (codes "list", codes "remove")
+method_names method.DictClear = (codes "dict", codes "clear")
+method_names method.DictGet = (codes "dict", codes "get")
+method_names method.DictItems = (codes "dict", codes "items")
+method_names method.DictKeys = (codes "dict", codes "keys")
+method_names method.DictPop = (codes "dict", codes "pop")
+method_names method.DictPopitem = (codes "dict", codes "popitem")
+method_names method.DictSetdefault = (codes "dict", codes "setdefault")
+method_names method.DictUpdate = (codes "dict", codes "update")
+method_names method.DictValues = (codes "dict", codes "values")
+method_names method.StringEndswith = (codes "string", codes "endswith")
+method_names method.StringFind = (codes "string", codes "find")
+method_names method.StringFormat = (codes "string", codes "format")
+method_names method.StringJoin = (codes "string", codes "join")
+method_names method.StringLower = (codes "string", codes "lower")
+method_names method.StringLstrip = (codes "string", codes "lstrip")
+method_names method.StringReplace = (codes "string", codes "replace")
+method_names method.StringRstrip = (codes "string", codes "rstrip")
+method_names method.StringSplit = (codes "string", codes "split")
+method_names method.StringStartswith = (codes "string", codes "startswith")
+method_names method.StringStrip = (codes "string", codes "strip")
+method_names method.StringUpper = (codes "string", codes "upper")
 
--- the type of a method's receiver
 abbrev pub receiver_type : Method → List ℕ
-receiver_type method.ListAppend = codes "list"
-receiver_type method.ListClear = codes "list"
-receiver_type method.ListExtend = codes "list"
-receiver_type method.ListIndex = codes "list"
-receiver_type method.ListInsert = codes "list"
-receiver_type method.ListPop = codes "list"
-receiver_type method.ListRemove = codes "list"
-receiver_type method.DictClear = codes "dict"
-receiver_type method.DictGet = codes "dict"
-receiver_type method.DictItems = codes "dict"
-receiver_type method.DictKeys = codes "dict"
-receiver_type method.DictPop = codes "dict"
-receiver_type method.DictPopitem = codes "dict"
-receiver_type method.DictSetdefault = codes "dict"
-receiver_type method.DictUpdate = codes "dict"
-receiver_type method.DictValues = codes "dict"
-receiver_type method.StringEndswith = codes "string"
-receiver_type method.StringFind = codes "string"
-receiver_type method.StringFormat = codes "string"
-receiver_type method.StringJoin = codes "string"
-receiver_type method.StringLower = codes "string"
-receiver_type method.StringLstrip = codes "string"
-receiver_type method.StringReplace = codes "string"
-receiver_type method.StringRstrip = codes "string"
-receiver_type method.StringSplit = codes "string"
-receiver_type method.StringStartswith = codes "string"
-receiver_type method.StringStrip = codes "string"
-receiver_type method.StringUpper = codes "string"
+receiver_type m = (method_names m).0
+
+abbrev pub method_name : Method → List ℕ
+method_name m = (method_names m).1

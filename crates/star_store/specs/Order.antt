@@ -1,7 +1,5 @@
 -- The order of values, over stores that do not change, by the levels and the steps that are left.
-use denote.Ref.{Bor}
 use Rattle.std.specs.Prelude.{ℕ, zero, suc, ◌+◌, min, Bool, true, false, List, length, Option, Some, slice_get, if◌then◌else◌}
-use Rattle.std.specs.Option.{option_copied}
 use Rattle.std.specs.Ordering.{int_cmp, nat_cmp}
 use Rattle.std.specs.declared.cmp.Ordering.{Ordering}
 use Rattle.std.specs.declared.cmp.Ordering.TheVariants.{Less, Equal, Greater}
@@ -62,12 +60,6 @@ unfoldable pub order : (Value → Option Cell) → ℕ → Value → Value → S
 order look zero x y = λ n. Lacks Deep n
 order look (suc levels) x y = visited (order_values look (same look levels) (order look levels) x y)
 
--- two values, two cells, and two rows of items, if this many levels may be opened in them
-abbrev pub ordered_values : (Value → Option Cell) → ℕ → Value → Value → Spend Ordering
-ordered_values look levels x y = order_values look (same look levels) (order look levels) x y
-
-abbrev pub ordered_cells : (Value → Option Cell) → ℕ → Option (Bor Cell) → Option (Bor Cell) → Spend Ordering
-ordered_cells look levels c d = order_cells (same look levels) (order look levels) (option_copied c) (option_copied d)
-
+-- two rows of items, if this many levels may be opened in them
 abbrev pub ordered_items : (Value → Option Cell) → ℕ → List Value → List Value → Spend Ordering
 ordered_items look levels xs ys = order_items (same look levels) (order look levels) xs ys

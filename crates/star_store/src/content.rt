@@ -12,7 +12,7 @@ ghost use Rattle.std.specs.Cmp.Rules.{hashing};
 ghost use Rattle.std.specs.Hash as fed;
 ghost use Rattle.std.specs.Option.{option_map};
 ghost use Rattle.std.proofs.Common.{rules};
-ghost use Rattle.star_store.specs.Content.{ContentsStay, IsPut, KeysHaveContents, SameKeysHaveOneContent, atom_content, content, only_atom, row_content, same_atom};
+ghost use Rattle.star_store.specs.Content.{ContentsStay, IsPut, KeysHaveContents, SameKeysHaveOneContent, atom_content, content, only_atom, same_atom};
 ghost use Rattle.star_store.specs.Index.{far_home};
 ghost use Rattle.star_store.specs.Key.{key_levels};
 ghost use Rattle.star_store.specs.Scalars.{content_hashed, contents_alike, hashed, hashed_alike, hashed_as_equal, is_of, is_only, of_alike, scalar_atom};
@@ -251,9 +251,10 @@ pub fn content(
     Ok(Some(KeyContent { atoms }))
 }
 
-/// Adds the content of a key, and says whether there is one.
+/// Adds the content of a key, and says whether there is one: that of a tuple is how many items there are, and then
+/// their contents.
 #[cycle(put_content)]
-#[tactic(auto, using(crate::proofs::Contents::content_at, crate::proofs::Contents::content_at_none))]
+#[tactic(auto, using(crate::proofs::Contents::content_at, crate::proofs::Contents::content_at_none, crate::proofs::Contents::row_added))]
 fn put_content<'a>(
     arena: &'a Arena,
     homes: &'a Homes<'a>,
@@ -269,7 +270,15 @@ fn put_content<'a>(
     }
     match value {
         Value::Ref { .. } => match arena.read(homes, value) {
-            Some(Cell::Tuple(items)) => put_index(arena, homes, levels - 1, items, atoms),
+            Some(Cell::Tuple(items)) => {
+                atoms.push(Atom::Row(items.len()))?;
+                for item in items.as_slice() {
+                    if !put_content(arena, homes, levels - 1, *item, atoms)? {
+                        return Ok(false);
+                    }
+                }
+                Ok(true)
+            }
             _ => put_atom(arena, homes, value, atoms),
         },
         _ => put_atom(arena, homes, value, atoms),
@@ -290,28 +299,6 @@ fn put_atom(
         return Ok(false);
     };
     atoms.push(key.scalar.atom()?)?;
-    Ok(true)
-}
-
-/// Adds how many items there are and then their contents, and says whether all have one.
-#[cycle(put_content)]
-#[tactic(auto, using(crate::proofs::Contents::row_added))]
-fn put_index<'a>(
-    arena: &'a Arena,
-    homes: &'a Homes<'a>,
-    levels: u32,
-    items: &'a Values,
-    atoms: &mut Vec<Atom>,
-) -> Result<bool, AllocError>
-    ensures { IfOk result (λ whole. IsPut atoms.old.items (row_content (look arena.now homes.now) levels items.now)
-        atoms.new.items whole) }
-{
-    atoms.push(Atom::Row(items.len()))?;
-    for item in items.as_slice() {
-        if !put_content(arena, homes, levels, *item, atoms)? {
-            return Ok(false);
-        }
-    }
     Ok(true)
 }
 

@@ -1,7 +1,8 @@
 //! The defaults of a function.
 
-ghost use Rattle.std.specs.Prelude.{◌≡◌, length, slice_get, IfOk};
+ghost use Rattle.std.specs.Prelude.{◌≡◌, List, length, slice_get, IfOk};
 ghost use Rattle.star_store.specs.Defaults.{shared_row};
+ghost use Rattle.star_store.specs.declared.values.Value.{Value as AnyValue};
 
 use crate::values::Value;
 use std::alloc::AllocError;
@@ -15,10 +16,6 @@ pub struct Defaults {
 }
 
 impl Model for Defaults {
-    ghost use Rattle.std.specs.Prelude.{List};
-    ghost use Rattle.star_store.specs.Defaults.{shared_row};
-    ghost use Rattle.star_store.specs.declared.values.Value.{Value as AnyValue};
-
     ghost Value = { List AnyValue };
 
     ghost view = { λ d. shared_row d.values };

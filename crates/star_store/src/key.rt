@@ -6,7 +6,7 @@ ghost use Rattle.star_store.specs.Content.{only_atom};
 ghost use Rattle.star_store.specs.Scalars.{is_only};
 ghost use Rattle.star_store.specs.Spend.{Spends};
 ghost use Rattle.star_store.specs.Store.{look};
-ghost use Rattle.star_store.specs.Key.{check, check_each, is_key, key_levels, place_of, same_key, same_key_items, same_key_place, value_of};
+ghost use Rattle.star_store.specs.Key.{check, is_key, key_levels, place_of, same_key, same_key_items, value_of};
 
 use crate::arena::{Arena, Homes};
 use crate::budget::Budget;
@@ -97,28 +97,13 @@ fn same_key_items<'a>(
         return false;
     }
     for i in 0..count {
-        if !same_key_place(arena, homes, levels, xs, ys, i) {
-            return false;
+        if let (Some(x), Some(y)) = (xs.get(i), ys.get(i)) {
+            if !same_key(arena, homes, levels, x, y) {
+                return false;
+            }
         }
     }
     true
-}
-
-#[cycle(same_key)]
-fn same_key_place<'a>(
-    arena: &'a Arena,
-    homes: &'a Homes<'a>,
-    levels: u32,
-    xs: &'a Values,
-    ys: &'a Values,
-    i: usize,
-) -> bool
-    ensures { result ≡ same_key_place (same_key (look arena.now homes.now) levels) xs.now ys.now i }
-{
-    match (xs.get(i), ys.get(i)) {
-        (Some(x), Some(y)) => same_key(arena, homes, levels, x, y),
-        _ => true,
-    }
 }
 
 /// Checks that a value is a key: None, a bool, an int, a string or a tuple of keys, else `BadType`. It visits the value
@@ -160,29 +145,16 @@ fn check<'a>(
         Value::NoneValue | Value::Bool(_) | Value::Int(_) => Ok(()),
         Value::Ref { .. } => match arena.read(homes, value) {
             Some(Cell::Text(_)) => Ok(()),
-            Some(Cell::Tuple(items)) => check_each(arena, homes, levels - 1, steps, items),
+            Some(Cell::Tuple(items)) => {
+                for item in items.as_slice() {
+                    check(arena, homes, levels - 1, steps, *item)?;
+                }
+                Ok(())
+            }
             _ => Err(StoreFault::BadType),
         },
         Value::Builtin(_) => Err(StoreFault::BadType),
     }
-}
-
-#[cycle(check)]
-fn check_each<'a>(
-    arena: &'a Arena,
-    homes: &'a Homes<'a>,
-    levels: u32,
-    steps: &mut u64,
-    items: &'a Values,
-) -> Result<(), StoreFault>
-    ensures answer { Spends (check_each (check (look arena.now homes.now) levels) items.now steps.old)
-        result steps.new }
-    ensures less { steps.new ≤ steps.old }
-{
-    for item in items.as_slice() {
-        check(arena, homes, levels, steps, *item)?;
-    }
-    Ok(())
 }
 
 /// The place of the entry with this key.

@@ -30,10 +30,6 @@ pub struct KeyIndex {
 }
 
 impl Model for KeyIndex {
-    ghost use Rattle.std.specs.Prelude.{List};
-    ghost use Rattle.star_store.specs.Index.{Covers};
-    ghost use Rattle.star_store.specs.declared.content.Atom.{Atom as AnyAtom};
-
     ghost Value = { List (List AnyAtom) };
 
     ghost view = { λ i. i.keys };

@@ -104,75 +104,54 @@ impl BuiltIn {
 }
 
 impl Method {
+    /// The name of the receiver's type, and the name after the dot.
+    fn names(self) -> (&'static str, &'static str)
+        ensures receiver { result.0.now ≡ receiver_type self }
+        ensures name { result.1.now ≡ method_name self }
+    {
+        match self {
+            Method::ListAppend => ("list", "append"),
+            Method::ListClear => ("list", "clear"),
+            Method::ListExtend => ("list", "extend"),
+            Method::ListIndex => ("list", "index"),
+            Method::ListInsert => ("list", "insert"),
+            Method::ListPop => ("list", "pop"),
+            Method::ListRemove => ("list", "remove"),
+            Method::DictClear => ("dict", "clear"),
+            Method::DictGet => ("dict", "get"),
+            Method::DictItems => ("dict", "items"),
+            Method::DictKeys => ("dict", "keys"),
+            Method::DictPop => ("dict", "pop"),
+            Method::DictPopitem => ("dict", "popitem"),
+            Method::DictSetdefault => ("dict", "setdefault"),
+            Method::DictUpdate => ("dict", "update"),
+            Method::DictValues => ("dict", "values"),
+            Method::StringEndswith => ("string", "endswith"),
+            Method::StringFind => ("string", "find"),
+            Method::StringFormat => ("string", "format"),
+            Method::StringJoin => ("string", "join"),
+            Method::StringLower => ("string", "lower"),
+            Method::StringLstrip => ("string", "lstrip"),
+            Method::StringReplace => ("string", "replace"),
+            Method::StringRstrip => ("string", "rstrip"),
+            Method::StringSplit => ("string", "split"),
+            Method::StringStartswith => ("string", "startswith"),
+            Method::StringStrip => ("string", "strip"),
+            Method::StringUpper => ("string", "upper"),
+        }
+    }
+
     /// The name after the dot.
     pub fn name(self) -> &'static str
         ensures { result.now ≡ method_name self }
     {
-        match self {
-            Method::ListAppend => "append",
-            Method::ListClear => "clear",
-            Method::ListExtend => "extend",
-            Method::ListIndex => "index",
-            Method::ListInsert => "insert",
-            Method::ListPop => "pop",
-            Method::ListRemove => "remove",
-            Method::DictClear => "clear",
-            Method::DictGet => "get",
-            Method::DictItems => "items",
-            Method::DictKeys => "keys",
-            Method::DictPop => "pop",
-            Method::DictPopitem => "popitem",
-            Method::DictSetdefault => "setdefault",
-            Method::DictUpdate => "update",
-            Method::DictValues => "values",
-            Method::StringEndswith => "endswith",
-            Method::StringFind => "find",
-            Method::StringFormat => "format",
-            Method::StringJoin => "join",
-            Method::StringLower => "lower",
-            Method::StringLstrip => "lstrip",
-            Method::StringReplace => "replace",
-            Method::StringRstrip => "rstrip",
-            Method::StringSplit => "split",
-            Method::StringStartswith => "startswith",
-            Method::StringStrip => "strip",
-            Method::StringUpper => "upper",
-        }
+        self.names().1
     }
 
     /// The name of the receiver's type.
     pub fn receiver(self) -> &'static str
         ensures { result.now ≡ receiver_type self }
     {
-        match self {
-            Method::ListAppend => "list",
-            Method::ListClear => "list",
-            Method::ListExtend => "list",
-            Method::ListIndex => "list",
-            Method::ListInsert => "list",
-            Method::ListPop => "list",
-            Method::ListRemove => "list",
-            Method::DictClear => "dict",
-            Method::DictGet => "dict",
-            Method::DictItems => "dict",
-            Method::DictKeys => "dict",
-            Method::DictPop => "dict",
-            Method::DictPopitem => "dict",
-            Method::DictSetdefault => "dict",
-            Method::DictUpdate => "dict",
-            Method::DictValues => "dict",
-            Method::StringEndswith => "string",
-            Method::StringFind => "string",
-            Method::StringFormat => "string",
-            Method::StringJoin => "string",
-            Method::StringLower => "string",
-            Method::StringLstrip => "string",
-            Method::StringReplace => "string",
-            Method::StringRstrip => "string",
-            Method::StringSplit => "string",
-            Method::StringStartswith => "string",
-            Method::StringStrip => "string",
-            Method::StringUpper => "string",
-        }
+        self.names().0
     }
 }

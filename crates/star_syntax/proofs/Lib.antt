@@ -1,4 +1,5 @@
 pub mod Alone
+pub mod Depths
 pub mod ExpressionTable
 pub mod ExpressionsInOrder
 pub mod Forms

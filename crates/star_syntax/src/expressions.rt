@@ -11,7 +11,19 @@ use sqlite_items::{Boxed, Items};
 use star_tree::tree::{Expression, Parameter, Target};
 use std::alloc::Global;
 
+/// The readers of expressions, with others nested in them no deeper than a depth.
+macro_rules! grammar {
+    ($alloc:expr, $depth:expr) => {
+        Grammar {
+            alloc: $alloc,
+            depth: $depth,
+            expression,
+        }
+    };
+}
+
 /// An expression of a level, with others nested in it no deeper than `depth`.
+#[tactic(auto, using(crate::proofs::Depths::depths))]
 pub fn expression(
     alloc: Global,
     depth: u128,
@@ -23,11 +35,7 @@ pub fn expression(
     if depth == 0 {
         return Ok(None);
     }
-    let grammar = Grammar {
-        alloc,
-        depth: depth - 1,
-        expression,
-    };
+    let grammar = grammar!(alloc, depth - 1);
     match level {
         Level::Test => grammar.any_test(leaves),
         Level::Or => grammar.disjunction(leaves),
@@ -41,12 +49,7 @@ pub fn expression(
 pub fn tests_at(alloc: Global, depth: u128, leaves: &[ValuedToken]) -> Read<'_, Boxed<Expression>>
     ensures { Gives (reads depth spec.tests leaves.now) result }
 {
-    let grammar = Grammar {
-        alloc,
-        depth,
-        expression,
-    };
-    grammar.tests(leaves)
+    grammar!(alloc, depth).tests(leaves)
 }
 
 /// The parameters of a definition, with their parentheses.
@@ -57,22 +60,12 @@ pub fn parameters_at(
 ) -> Read<'_, Items<Parameter>>
     ensures { Gives (reads depth spec.parameters_in_parentheses leaves.now) result }
 {
-    let grammar = Grammar {
-        alloc,
-        depth,
-        expression,
-    };
-    grammar.parameters_in_parentheses(leaves)
+    grammar!(alloc, depth).parameters_in_parentheses(leaves)
 }
 
 /// Targets, as those of a loop.
 pub fn targets_at(alloc: Global, depth: u128, leaves: &[ValuedToken]) -> Read<'_, Boxed<Target>>
     ensures { Gives (reads depth spec.targets leaves.now) result }
 {
-    let grammar = Grammar {
-        alloc,
-        depth,
-        expression,
-    };
-    grammar.targets(leaves)
+    grammar!(alloc, depth).targets(leaves)
 }

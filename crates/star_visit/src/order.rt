@@ -3,7 +3,7 @@
 ghost use Rattle.std.specs.Prelude.{◌≡◌, List, ◌≤◌};
 ghost use Rattle.star_store.specs.Store.{look};
 ghost use Rattle.star_store.specs.Spend.{Spends};
-ghost use Rattle.star_store.specs.Order.{bool_order, order, order_place, ordered_cells, ordered_items, ordered_values};
+ghost use Rattle.star_store.specs.Order.{bool_order, order, ordered_items};
 
 use crate::equal::same_place;
 use star_store::arena::{Arena, Homes};
@@ -50,28 +50,22 @@ fn ordered<'a>(
         return Err(StoreFault::Steps);
     }
     *steps -= 1;
-    order_values(arena, homes, levels - 1, steps, x, y)
-}
-
-#[cycle(order)]
-fn order_values<'a>(
-    arena: &'a Arena,
-    homes: &'a Homes<'a>,
-    levels: u32,
-    steps: &mut u64,
-    x: Value,
-    y: Value,
-) -> Result<Ordering, StoreFault>
-    ensures answer { Spends (ordered_values (look arena.now homes.now) levels x y steps.old) result steps.new }
-    ensures less { steps.new ≤ steps.old }
-{
     match (x, y) {
         (Value::Bool(b), Value::Bool(c)) => Ok(bool_order(b, c)),
         (Value::Int(m), Value::Int(n)) => Ok(m.cmp(&n)),
         (Value::Ref { .. }, Value::Ref { .. }) => {
-            let left = arena.read(homes, x);
-            let right = arena.read(homes, y);
-            order_cells(arena, homes, levels, steps, left, right)
+            match (arena.read(homes, x), arena.read(homes, y)) {
+                (Some(Cell::Text(t)), Some(Cell::Text(u))) => Ok(
+                    t.as_str().as_bytes().cmp(u.as_str().as_bytes()),
+                ),
+                (Some(Cell::Tuple(xs)), Some(Cell::Tuple(ys))) => {
+                    order_items(arena, homes, levels - 1, steps, xs, ys)
+                }
+                (Some(Cell::List(xs)), Some(Cell::List(ys))) => {
+                    order_items(arena, homes, levels - 1, steps, xs, ys)
+                }
+                _ => Err(StoreFault::BadType),
+            }
         }
         _ => Err(StoreFault::BadType),
     }
@@ -85,33 +79,6 @@ fn bool_order(b: bool, c: bool) -> Ordering
         (false, true) => Ordering::Less,
         (true, false) => Ordering::Greater,
         _ => Ordering::Equal,
-    }
-}
-
-#[cycle(order)]
-fn order_cells<'a>(
-    arena: &'a Arena,
-    homes: &'a Homes<'a>,
-    levels: u32,
-    steps: &mut u64,
-    left: Option<&'a Cell>,
-    right: Option<&'a Cell>,
-) -> Result<Ordering, StoreFault>
-    ensures answer { Spends (ordered_cells (look arena.now homes.now) levels left.entry right.entry steps.old) result
-        steps.new }
-    ensures less { steps.new ≤ steps.old }
-{
-    match (left, right) {
-        (Some(Cell::Text(t)), Some(Cell::Text(u))) => Ok(
-            t.as_str().as_bytes().cmp(u.as_str().as_bytes()),
-        ),
-        (Some(Cell::Tuple(xs)), Some(Cell::Tuple(ys))) => {
-            order_items(arena, homes, levels, steps, xs, ys)
-        }
-        (Some(Cell::List(xs)), Some(Cell::List(ys))) => {
-            order_items(arena, homes, levels, steps, xs, ys)
-        }
-        _ => Err(StoreFault::BadType),
     }
 }
 
@@ -131,28 +98,11 @@ fn order_items<'a>(
     let count = xs.len().min(ys.len());
     for i in 0..count {
         if !same_place(arena, homes, levels, steps, xs, ys, i)? {
-            return order_place(arena, homes, levels, steps, xs, ys, i);
+            return match (xs.get(i), ys.get(i)) {
+                (Some(x), Some(y)) => ordered(arena, homes, levels, steps, x, y),
+                _ => Ok(Ordering::Equal),
+            };
         }
     }
     Ok(xs.len().cmp(&ys.len()))
-}
-
-#[cycle(order)]
-fn order_place<'a>(
-    arena: &'a Arena,
-    homes: &'a Homes<'a>,
-    levels: u32,
-    steps: &mut u64,
-    xs: &'a Values,
-    ys: &'a Values,
-    i: usize,
-) -> Result<Ordering, StoreFault>
-    ensures answer { Spends (order_place (order (look arena.now homes.now) levels) xs.now ys.now i steps.old)
-        result steps.new }
-    ensures less { steps.new ≤ steps.old }
-{
-    match (xs.get(i), ys.get(i)) {
-        (Some(x), Some(y)) => ordered(arena, homes, levels, steps, x, y),
-        _ => Ok(Ordering::Equal),
-    }
 }

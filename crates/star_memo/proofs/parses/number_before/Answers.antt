@@ -1,6 +1,6 @@
 use Rattle.std.proofs.Common.{◌≡◌, ◌<◌, Some, ap, arith, length, rules, sym, ◌∙◌}
 use Rattle.star_label.specs.Files.{label_at}
-use Rattle.star_memo.proofs.Labels.{one_label}
+use Rattle.star_label.proofs.Ordered.{one_file}
 use Rattle.star_memo.proofs.parses.number_before.Goals as goal
 
 pub returns-then-eq-clause-each : goal.returns-then-eq-clause-each
@@ -9,4 +9,4 @@ returns-then-eq-clause-each c = λ m low e.
     let n = c.args.n in
     let inside : n < length before = omega (arith, c.len.ensures.len, c.if-n-len.true) in
     let same : label_at before n ≡ label_at c.args.files.now n = search rules in
-    ap Some (one_label before m n c.len.ensures.ordered low inside (e ∙ sym same))
+    ap Some (one_file before n m c.len.ensures.ordered inside low (same ∙ sym e))

@@ -3,7 +3,7 @@ use Rattle.std.specs.List.{flat_map}
 use Rattle.star_scope.specs.Bound.{Binds}
 use Rattle.star_scope.specs.Conflicts.{arm_bindings, arms_bindings, form_bindings, loaded_binding, statement_bindings, statements_bindings, target_bindings}
 use Rattle.star_scope.proofs.Bindings.{bind_none, bind_both}
-use Rattle.star_scope.proofs.BlockBindings.{binds_turn, binds_done, all_next, arm_opened, statement_opened, of_assigned, of_Load, of_If, of_For, of_Def, of_others}
+use Rattle.star_scope.proofs.BlockBindings.{binds_turn, binds_done, all_next, arm_opened, statement_opened, of_assigned, of_Load, of_If, of_For, of_Def, bind_others}
 use Rattle.star_scope.proofs.conflicts.+block.Goals as goal
 
 pub bind_arms-loop-arm-init : goal.bind_arms-loop-arm-init
@@ -11,8 +11,7 @@ bind_arms-loop-arm-init t c = bind_none c.args.bound.now
 
 pub bind_arms-loop-arm-preserved : goal.bind_arms-loop-arm-preserved
 bind_arms-loop-arm-preserved t c =
-    binds_turn arm_bindings arms_bindings (all_next arm_bindings) c.args.arms.now c.loop-arm.arm-index c.arm-item.result
-    c.args.bound.now c.loop-arm.bound c.bind_statements.new.bound c.loop-arm-test.true c.arm-item.is c.loop-arm.invariant
+    binds_turn arm_bindings arms_bindings (all_next arm_bindings) _ _ _ c.args.bound.now c.loop-arm.bound c.bind_statements.new.bound c.loop-arm-test.true c.arm-item.is c.loop-arm.invariant
     (subst (λ bs. Binds bs c.loop-arm.bound c.bind_statements.new.bound)
     (ap statements_bindings c.as_slice.ensures ∙ sym (arm_opened c.arm-item.result)) c.in_ok-bind_statements.ensures)
 
@@ -26,8 +25,7 @@ bind_statements-loop-statement-init t c = bind_none c.args.bound.now
 
 pub bind_statements-loop-statement-preserved : goal.bind_statements-loop-statement-preserved
 bind_statements-loop-statement-preserved t c =
-    binds_turn statement_bindings statements_bindings (all_next statement_bindings) c.args.statements.now c.loop-statement.statement-index c.statement-item.result
-    c.args.bound.now c.loop-statement.bound c.bind_form.new.bound c.loop-statement-test.true c.statement-item.is c.loop-statement.invariant
+    binds_turn statement_bindings statements_bindings (all_next statement_bindings) _ _ _ c.args.bound.now c.loop-statement.bound c.bind_form.new.bound c.loop-statement-test.true c.statement-item.is c.loop-statement.invariant
     (subst (λ bs. Binds bs c.loop-statement.bound c.bind_form.new.bound) (sym (statement_opened c.statement-item.result)) c.in_ok-bind_form.ensures)
 
 pub bind_statements-returns : goal.bind_statements-returns
@@ -64,24 +62,19 @@ bind_form-returns-in_ok-bind-in-Def t c =
     subst (λ bs. Binds bs c.args.bound.now c.bind.new.bound) (sym (ap form_bindings c.in-Def.is ∙ of_Def c.in-Def.name _ _)) c.in_ok-bind-in-Def.ensures
 
 pub bind_form-returns-in-Expression : goal.bind_form-returns-in-Expression
-bind_form-returns-in-Expression t c =
-    subst (λ bs. Binds bs c.args.bound.now c.args.bound.now) (sym (of_others c.args.form.now c.in-Expression.is)) (bind_none c.args.bound.now)
+bind_form-returns-in-Expression t c = bind_others c.args.form.now c.args.bound.now c.in-Expression.is
 
 pub bind_form-returns-in-Expression-2 : goal.bind_form-returns-in-Expression-2
-bind_form-returns-in-Expression-2 t c =
-    subst (λ bs. Binds bs c.args.bound.now c.args.bound.now) (sym (of_others c.args.form.now c.in-Expression.is)) (bind_none c.args.bound.now)
+bind_form-returns-in-Expression-2 t c = bind_others c.args.form.now c.args.bound.now c.in-Expression.is
 
 pub bind_form-returns-in-Expression-3 : goal.bind_form-returns-in-Expression-3
-bind_form-returns-in-Expression-3 t c =
-    subst (λ bs. Binds bs c.args.bound.now c.args.bound.now) (sym (of_others c.args.form.now c.in-Expression.is)) (bind_none c.args.bound.now)
+bind_form-returns-in-Expression-3 t c = bind_others c.args.form.now c.args.bound.now c.in-Expression.is
 
 pub bind_form-returns-in-Expression-4 : goal.bind_form-returns-in-Expression-4
-bind_form-returns-in-Expression-4 t c =
-    subst (λ bs. Binds bs c.args.bound.now c.args.bound.now) (sym (of_others c.args.form.now c.in-Expression.is)) (bind_none c.args.bound.now)
+bind_form-returns-in-Expression-4 t c = bind_others c.args.form.now c.args.bound.now c.in-Expression.is
 
 pub bind_form-returns-in-Expression-5 : goal.bind_form-returns-in-Expression-5
-bind_form-returns-in-Expression-5 t c =
-    subst (λ bs. Binds bs c.args.bound.now c.args.bound.now) (sym (of_others c.args.form.now c.in-Expression.is)) (bind_none c.args.bound.now)
+bind_form-returns-in-Expression-5 t c = bind_others c.args.form.now c.args.bound.now c.in-Expression.is
 
 pub bind_form-returns-in_ok-bind_target-in-Assign : goal.bind_form-returns-in_ok-bind_target-in-Assign
 bind_form-returns-in_ok-bind_target-in-Assign t c =

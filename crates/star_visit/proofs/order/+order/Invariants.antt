@@ -6,19 +6,10 @@ use Rattle.star_store.specs.Store.{look}
 use Rattle.star_visit.proofs.order.+order.Given as goal
 
 abbrev pub decreases-ordered : goal.decreases-ordered
-decreases-ordered l = 5 * l.levels
-
-abbrev pub decreases-order_values : goal.decreases-order_values
-decreases-order_values l = 5 * l.levels + 4
-
-abbrev pub decreases-order_cells : goal.decreases-order_cells
-decreases-order_cells l = 5 * l.levels + 3
+decreases-ordered l = 2 * l.levels
 
 abbrev pub decreases-order_items : goal.decreases-order_items
-decreases-order_items l = 5 * l.levels + 2
-
-abbrev pub decreases-order_place : goal.decreases-order_place
-decreases-order_place l = 5 * l.levels + 1
+decreases-order_items l = 2 * l.levels + 1
 
 abbrev pub invariant-order_items-loop-i : goal.invariant-order_items-loop-i
 invariant-order_items-loop-i l =

@@ -10,12 +10,7 @@ invariant_of-self g c =
     let there = rw (← c.self.view_is) at c.requires.there in
     let low : c.args.seat < length c.self.inside.loaders.items = omega (arith, there, length-map c.self.inside.loaders.items (loader_state c.self.inside.parents.items)) in (
       IsKept-from _ _ _ _ _ _ _ _ _
-          (StandsFor-begin _ _ _ _ _ _ _ _ c.self.invariant.0 c.args.seat c.args.target _ low c.index-loader.ensures
-          (rw (← c.self.view_is) at c.requires.free)
-          (rw (← c.self.view_is) at c.requires.fresh)
-          (rw (← c.self.view_is) at c.requires.known)
-          c.requires.reached
-          (rw (← c.self.view_is) at c.requires.loaded)),
+          (StandsFor-begin _ _ _ _ _ _ _ _ c.self.invariant.0 c.args.seat c.args.target _ _ c.self.view_is c.requires.there c.index-loader.ensures c.requires.free c.requires.fresh c.requires.known c.requires.reached c.requires.loaded),
       begun_more _ _ _ _ _ _ _ _ c.self.invariant.0 c.args.seat c.args.target _ low c.index-loader.ensures
           (rw (← c.self.view_is) at c.requires.free)
           (rw (← c.self.view_is) at c.requires.fresh)
@@ -24,13 +19,5 @@ invariant_of-self g c =
 
 pub returns : goal.returns
 returns g c =
-    let there = rw (← c.self.view_is) at c.requires.there in
-    let low : c.args.seat < length c.self.inside.loaders.items = omega (arith, there, length-map c.self.inside.loaders.items (loader_state c.self.inside.parents.items)) in
-    rw (← c.self.view_is)
-    (StandsFor-is _ _ _ _ _ _ _ _ _
-    (StandsFor-begin _ _ _ _ _ _ _ _ c.self.invariant.0 c.args.seat c.args.target _ low c.index-loader.ensures
-    (rw (← c.self.view_is) at c.requires.free)
-    (rw (← c.self.view_is) at c.requires.fresh)
-    (rw (← c.self.view_is) at c.requires.known)
-    c.requires.reached
-    (rw (← c.self.view_is) at c.requires.loaded)))
+    StandsFor-is _ _ _ _ _ _ _ _ _
+    (StandsFor-begin _ _ _ _ _ _ _ _ c.self.invariant.0 c.args.seat c.args.target _ _ c.self.view_is c.requires.there c.index-loader.ensures c.requires.free c.requires.fresh c.requires.known c.requires.reached c.requires.loaded)

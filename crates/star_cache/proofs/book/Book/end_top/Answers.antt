@@ -1,6 +1,5 @@
-use Rattle.std.proofs.Common.{◌<◌, ◌∙◌, sym, arith, length}
-use Rattle.std.proofs.lemmas.List.{length-map}
-use Rattle.star_cache.specs.Rows.{loader_state, book_state}
+use Rattle.std.proofs.Common.{◌∙◌, sym, arith}
+use Rattle.star_cache.specs.Rows.{book_state}
 use Rattle.star_cache.proofs.Settle.{StandsFor-end, begun_same, known}
 use Rattle.star_cache.proofs.RowsLemmas.{StandsFor-is, IsKept-from}
 use Rattle.star_cache.proofs.book.Book.end_top.Goals as goal
@@ -26,13 +25,9 @@ index_mut-requires g c =
 
 pub invariant_of-self : goal.invariant_of-self
 invariant_of-self g c =
-    let there = rw (← c.self.view_is) at c.requires.there in
-    let low : c.args.seat < length c.self.inside.loaders.items = omega (arith, there, length-map c.self.inside.loaders.items (loader_state c.self.inside.parents.items)) in (
+    let there = rw (← c.self.view_is) at c.requires.there in (
       IsKept-from _ _ _ _ _ _ _ _ _
-          (StandsFor-end _ _ _ _ _ _ _ _ c.self.invariant.0 c.args.seat c.args.n c.args.entry _ _ low c.index-loader.ensures c.index-below.ensures
-          (rw (← c.self.view_is) at c.requires.free)
-          (rw (← c.self.view_is) at c.requires.on_top)
-          c.requires.ended.0 c.requires.ended.1 c.requires.ended.2),
+          (StandsFor-end _ _ _ _ _ _ _ _ c.self.invariant.0 c.args.seat c.args.n c.args.entry _ _ _ c.self.view_is c.requires.there c.index-loader.ensures c.index-below.ensures c.requires.free c.requires.on_top c.requires.ended.0 c.requires.ended.1 c.requires.ended.2),
       c.self.invariant.1 ∙ sym (begun_same _ _ _ (book_state c.self.inside.entries.items c.self.inside.parents.items c.self.inside.loaders.items) c.args.seat c.args.n c.args.entry c.self.invariant.0.lawful there
           (rw (← c.self.view_is) at c.requires.free)
           (rw (← c.self.view_is) at c.requires.on_top)
@@ -41,11 +36,5 @@ invariant_of-self g c =
 
 pub returns : goal.returns
 returns g c =
-    let there = rw (← c.self.view_is) at c.requires.there in
-    let low : c.args.seat < length c.self.inside.loaders.items = omega (arith, there, length-map c.self.inside.loaders.items (loader_state c.self.inside.parents.items)) in
-    rw (← c.self.view_is)
-    (StandsFor-is _ _ _ _ _ _ _ _ _
-    (StandsFor-end _ _ _ _ _ _ _ _ c.self.invariant.0 c.args.seat c.args.n c.args.entry _ _ low c.index-loader.ensures c.index-below.ensures
-    (rw (← c.self.view_is) at c.requires.free)
-    (rw (← c.self.view_is) at c.requires.on_top)
-    c.requires.ended.0 c.requires.ended.1 c.requires.ended.2))
+    StandsFor-is _ _ _ _ _ _ _ _ _
+    (StandsFor-end _ _ _ _ _ _ _ _ c.self.invariant.0 c.args.seat c.args.n c.args.entry _ _ _ c.self.view_is c.requires.there c.index-loader.ensures c.index-below.ensures c.requires.free c.requires.on_top c.requires.ended.0 c.requires.ended.1 c.requires.ended.2)
